@@ -1,0 +1,25 @@
+-- What a store keeps, and when that stands for a history. (Own rules.)
+use Rattle.std.specs.Prelude.{◌≡◌, ◌↔◌, ℕ, ℤ, ◌≤ℤ◌, List, length}
+use Rattle.ts_core.specs.Members.{Among, AllDistinct}
+use Rattle.ts_core.specs.Facts.{Fact}
+use Rattle.ts_core.specs.Settings.{Settings}
+use Rattle.ts_core.specs.History.{Event, History, settings_of, raw_mark, accepted, IsLawful}
+use Rattle.ts_core.specs.Latest.{latest_of}
+
+-- what a store keeps, as its calls show it
+pub record Kept : Type 0 where
+  pub settings : Settings
+  pub mark : ℤ
+  -- how many facts it has accepted, repeats counted
+  pub accepted : ℕ
+  -- the raw facts of all its columns
+  pub raw : List Fact
+
+-- what is kept stands for a history: from the raw mark on, just the latest fact of each id, once
+pub record StandsFor (opening : Settings) (h : History) (kept : Kept) : Type 0 where
+  pub lawful : IsLawful opening h
+  pub settings : kept.settings ≡ settings_of opening h
+  pub mark : kept.mark ≡ raw_mark opening h
+  pub accepted : kept.accepted ≡ length (accepted h)
+  pub once : AllDistinct kept.raw
+  pub raw : (f : Fact) → Among f kept.raw ↔ (Among f (latest_of h) × (kept.mark ≤ℤ f.time))

@@ -1,0 +1,9 @@
+pub mod Times
+pub mod Members
+pub mod Facts
+pub mod Settings
+pub mod History
+pub mod Latest
+pub mod Kept
+pub mod Partials
+pub mod Texts

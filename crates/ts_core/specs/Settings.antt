@@ -1,0 +1,23 @@
+-- Retention and rollup rules, as the operator sets them.
+-- (InfluxData 1.8, downsampling and data retention; a rule stands for a retention policy with its continuous query.)
+use Rattle.std.specs.Prelude.{ℕ, ℤ, List, []}
+use Rattle.ts_core.specs.Facts.{Text}
+
+-- A rollup rule keeps aggregates of one measurement by time buckets and by the values of some tags.
+-- Interval, offset and duration are in nanoseconds; a duration of 0 is for ever.
+pub record Rule : Type 0 where
+  pub name : Text
+  pub measurement : Text
+  pub interval : ℤ
+  pub offset : ℤ
+  pub kept_tags : List Text
+  pub duration : ℕ
+
+-- how long raw points are kept (0 is for ever), and the rules in their order
+pub record Settings : Type 0 where
+  pub raw_duration : ℕ
+  pub rules : List Rule
+
+-- raw points for ever, no rules
+abbrev pub open_settings : Settings
+open_settings = record { raw_duration = 0; rules = [] }
