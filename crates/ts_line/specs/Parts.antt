@@ -1,0 +1,35 @@
+-- The parts of a line, and the facts that they tell.
+-- (InfluxData 1.8, line protocol reference, syntax: measurement, tag set, field set, timestamp.)
+use Rattle.std.specs.Prelude.{ℕ, ℤ, List, map}
+use Rattle.std.specs.FinMap as finmap
+use Rattle.ts_core.specs.Facts.{Text, text_cmp, Series, Column, Fact}
+
+-- a part of a line: where it starts, its bytes there, and the text that they spell
+pub record Piece : Type 0 where
+  pub start : ℕ
+  pub raw : Text
+  pub text : Text
+
+-- what a line says, part by part in the order of the line; of a repeated field key the value that stands last
+pub record Parts : Type 0 where
+  pub measurement : Piece
+  pub tags : List (Piece × Piece)
+  pub fields : List (Piece × ℤ)
+  pub time : ℤ
+
+abbrev pub tag_texts : Piece × Piece → Text × Text
+tag_texts t = (t.0.text, t.1.text)
+
+-- the series: the order of tags in the line doesn't matter
+abbrev pub series_of : Parts → Series
+series_of p = record {
+  measurement = p.measurement.text;
+  tags = finmap.entries (finmap.from_entries {R = text_cmp} (map tag_texts p.tags));
+}
+
+abbrev pub fact_of : Parts → Piece × ℤ → Fact
+fact_of p field = record { column = record { series = series_of p; field = field.0.text }; time = p.time; value = field.1 }
+
+-- one fact for each field
+abbrev pub facts_of : Parts → List Fact
+facts_of p = map (fact_of p) p.fields
