@@ -3,6 +3,12 @@
 //! It stands on nothing. It promises exact values: a `Time` is a valid time, a name is its bytes.
 #![tactic(auto)]
 
+mod field_name;
+mod key;
+mod settings;
 mod time;
 
+pub use field_name::FieldName;
+pub use key::Key;
+pub use settings::{Rule, Settings};
 pub use time::Time;
