@@ -1,0 +1,3 @@
+pub mod MembersLemmas
+pub mod Folds
+pub mod Groups
