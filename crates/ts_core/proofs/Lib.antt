@@ -1,1 +1,4 @@
+pub mod MembersLemmas
 pub mod PairTexts
+pub mod Folds
+pub mod Groups
