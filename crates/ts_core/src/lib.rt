@@ -3,11 +3,13 @@
 //! It stands on nothing. It promises exact values: a `Time` is a valid time, a name is its bytes.
 #![tactic(auto)]
 
+mod fact;
 mod field_name;
 mod key;
 mod settings;
 mod time;
 
+pub use fact::Fact;
 pub use field_name::FieldName;
 pub use key::Key;
 pub use settings::{Rule, Settings};
