@@ -1,7 +1,9 @@
 //! Readers and writers that give little, or fail once.
 use crate::{ReadAhead, ReadFault, Sink, Source};
+use std::alloc::Global;
 use std::io;
 use std::io::{Read, Write};
+use std::process::Abort;
 use std::test::Fail;
 
 // Gives one byte a call; one of its calls fails, and those after it go on.
@@ -56,6 +58,17 @@ impl Write for Narrow {
     fn flush(&mut self) -> io::Result<()> {
         Ok(())
     }
+}
+
+// One more turn, where all that was read ahead is used.
+fn turn<R: Read>(
+    rt: &impl Abort,
+    ahead: &mut ReadAhead<Global>,
+    source: &mut Source<R>,
+) -> Result<bool, ReadFault> {
+    assert!(rt; ahead.buffered().is_empty());
+    assert!(rt; !ahead.has_ended());
+    ahead.fill(source)
 }
 
 #[test]
@@ -113,12 +126,11 @@ fn reads_ahead_to_the_end(rt: HostRuntime) -> Result<(), Fail> {
     let mut source = source_of(b"ab", None);
     let mut ahead = ReadAhead::new(rt.alloc(), 3)?;
     for byte in [b'a', b'b'] {
-        assert!(rt; ahead.buffered().is_empty() && !ahead.has_ended());
-        assert!(rt; ahead.fill(&mut source).is_ok_and(|more| more));
+        assert!(rt; turn(&rt, &mut ahead, &mut source).is_ok_and(|more| more));
         assert_eq!(rt; ahead.buffered(), [byte].as_slice());
-        ahead.consume(1);
+        ahead.consume(ahead.buffered().len());
     }
-    assert!(rt; ahead.fill(&mut source).is_ok_and(|more| !more));
+    assert!(rt; turn(&rt, &mut ahead, &mut source).is_ok_and(|more| !more));
     assert!(rt; ahead.has_ended());
     Ok(())
 }
@@ -128,17 +140,17 @@ fn reads_ahead_as_much_as_there_is_room_for(rt: HostRuntime) -> Result<(), Fail>
     let bytes = vec![in rt.alloc(); 7; 70_000]?;
     let mut source = Source::new(bytes.as_slice());
     let mut ahead = ReadAhead::new(rt.alloc(), 9)?;
-    assert!(rt; ahead.fill(&mut source).is_ok_and(|more| more));
-    assert_eq!(rt; ahead.buffered().len(), 65_536);
-    ahead.consume(65_536);
-    assert!(rt; ahead.fill(&mut source).is_ok_and(|more| more));
-    assert_eq!(rt; ahead.buffered().len(), 4_464);
+    for size in [65_536, 4_464] {
+        assert!(rt; turn(&rt, &mut ahead, &mut source).is_ok_and(|more| more));
+        assert_eq!(rt; ahead.buffered().len(), size);
+        ahead.consume(ahead.buffered().len());
+    }
     Ok(())
 }
 
 #[test]
 fn reading_ahead_tells_why_it_stops(rt: HostRuntime) -> Result<(), Fail> {
-    // which read fails, the limit on turns, how many turns gave a byte, and why the next did not
+    // which read fails, the limit on turns, how many turns gave a byte, and whether the limit is why no more did
     for (fails_in, limit, turns, at_limit) in [
         (None, 2, 2, true),
         (None, 0, 0, true),
@@ -148,12 +160,10 @@ fn reading_ahead_tells_why_it_stops(rt: HostRuntime) -> Result<(), Fail> {
         let mut source = source_of(b"abcd", fails_in);
         let mut ahead = ReadAhead::new(rt.alloc(), limit)?;
         for _ in 0..turns {
-            assert!(rt; ahead.buffered().is_empty() && !ahead.has_ended());
-            assert!(rt; ahead.fill(&mut source).is_ok_and(|more| more));
+            assert!(rt; turn(&rt, &mut ahead, &mut source).is_ok_and(|more| more));
             ahead.consume(ahead.buffered().len());
         }
-        assert!(rt; ahead.buffered().is_empty() && !ahead.has_ended());
-        let fault = ahead.fill(&mut source).err();
+        let fault = turn(&rt, &mut ahead, &mut source).err();
         assert_eq!(rt; matches!(fault, Some(ReadFault::Turns)), at_limit);
         assert_eq!(rt; matches!(fault, Some(ReadFault::Device)), !at_limit);
         assert!(rt; !ahead.has_ended());
