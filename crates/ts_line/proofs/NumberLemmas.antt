@@ -1,5 +1,5 @@
 -- What a text of a number is to `parse`, and when its number is an integer or a time.
-use Rattle.std.proofs.Common.{◌≡◌, ◌↔◌, ℕ, ◌<◌, Bool, true, false, cond, not, ◌&&◌, eqb, List, [], ◌∷◌, length, sym, ap, refl, ◌∙◌, arith, ℤ, pos, neg_ℤ, ◌*ℤ◌, FitsSigned, w64, Option, Some, None, IsSome, IfSome, to_z, of_z}
+use Rattle.std.proofs.Common.{◌≡◌, ◌↔◌, ℕ, ◌<◌, Bool, true, false, cond, not, eqb, [], ◌∷◌, length, sym, ap, refl, ◌∙◌, arith, ℤ, pos, neg_ℤ, ◌*ℤ◌, FitsSigned, w64, Option, Some, None, IsSome, IfSome, to_z, of_z}
 use Rattle.std.specs.Char.{is_ascii_digit, digit_value}
 use Rattle.std.specs.List.{list_all}
 use Rattle.std.specs.Str.Parse.{AllDigits, IsNumeral, without_leading_sign, signed_digits_value}

@@ -1,9 +1,9 @@
 -- What names, integers, and times are read from.
-use Rattle.std.proofs.Common.{◌≡◌, ◌⊎◌, inl, inr, ℕ, ◌+◌, ◌-◌, ◌<◌, Bool, true, false, cond, not, ◌&&◌, ◌||◌, eqb, List, [], ◌∷◌, ◌++◌, length, take, get_or, sym, ap, refl, ◌∙◌, arith, ℤ, pos, neg_ℤ, ◌*ℤ◌, FitsSigned, w64, Option, Some, None, append_assoc}
+use Rattle.std.proofs.Common.{◌≡◌, inl, inr, ℕ, ◌+◌, ◌-◌, ◌<◌, Bool, true, false, cond, not, ◌&&◌, ◌||◌, eqb, [], ◌∷◌, ◌++◌, length, take, get_or, sym, ap, refl, ◌∙◌, arith, ℤ, pos, neg_ℤ, ◌*ℤ◌, FitsSigned, w64, Option, Some, None, append_assoc}
 use Rattle.std.specs.Char.{is_ascii_digit}
 use Rattle.std.specs.List.{list_all}
 use Rattle.std.specs.Str.Parse.{signed_digits_value}
-use Rattle.std.proofs.lemmas.Bool.{and_parts, and_from, or_left, or_right, ne_eqb, not_from_false, both_ways, eqb-true, eq-eqb, cond-true}
+use Rattle.std.proofs.lemmas.Bool.{and_parts, and_from, or_left, or_right, ne_eqb, not_from_false, both_ways, eqb-true, cond-true}
 use Rattle.std.proofs.lemmas.Bool.Decides.{nat_tests}
 use Rattle.std.proofs.lemmas.List.{take_at, take_all, take_more, length_push, get_or_push}
 use Rattle.std.proofs.lemmas.List.Folds.{list_all-append}

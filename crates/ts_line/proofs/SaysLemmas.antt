@@ -1,5 +1,5 @@
 -- What a line says is what is read of it, and its parts stand in it.
-use Rattle.std.proofs.Common.{◌≡◌, ℕ, ◌+◌, ◌-◌, ◌≤◌, Bool, true, false, cond, ◌||◌, ltb, List, [], ◌∷◌, ◌++◌, length, take, drop, slice_range, codes, bytes_eq, sym, ap, refl, subst, ◌∙◌, arith, ℤ, Option, Some, None, Result, Ok, Err, IfOk, append_assoc}
+use Rattle.std.proofs.Common.{◌≡◌, ℕ, ◌+◌, ◌-◌, false, ◌||◌, ltb, [], ◌∷◌, ◌++◌, length, slice_range, codes, bytes_eq, sym, ap, refl, subst, ◌∙◌, arith, ℤ, Some, Result, Ok, Err, IfOk, append_assoc}
 use Rattle.std.specs.Result.{result_ok}
 use Rattle.std.specs.Str.Parse.{signed_digits_value}
 use Rattle.std.proofs.lemmas.Bool.{le-ltb, ltb-false, or_parts, false_from_ne_true, both_ways}
@@ -10,7 +10,7 @@ use Rattle.ts_core.specs.Facts.{Text}
 use Rattle.ts_line.specs.declared.fault.LineFault.{LineFault}
 use Rattle.ts_line.specs.Parts.{Piece, Parts}
 use Rattle.ts_line.specs.Says.{Says, ArePartsOf, plain_piece, plain_parts}
-use Rattle.ts_line.specs.Reading.{◌>>=◌, split_first, name_at, value_and_time, line_of}
+use Rattle.ts_line.specs.Reading.{split_first, name_at, value_and_time, line_of}
 use Rattle.ts_line.proofs.SplitLemmas.{split_at, split_tells}
 use Rattle.ts_line.proofs.ReadLemmas.{name_others, bind_some, cond_not, name_read, name_tells, value_read, value_tells}
 

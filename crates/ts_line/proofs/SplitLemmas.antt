@@ -1,5 +1,5 @@
 -- Where a text is parted at a byte.
-use Rattle.std.proofs.Common.{◌≡◌, ℕ, ◌+◌, ◌<◌, Bool, true, false, cond, not, ◌&&◌, eqb, ltb, List, [], ◌∷◌, ◌++◌, length, take, drop, get_or, sym, ap, refl, ◌∙◌, arith, Option, Some, None, length-append}
+use Rattle.std.proofs.Common.{◌≡◌, ℕ, ◌+◌, ◌<◌, Bool, true, not, eqb, ltb, [], ◌∷◌, ◌++◌, length, drop, get_or, sym, ap, refl, ◌∙◌, arith, Some, None, length-append}
 use Rattle.std.specs.List.{list_all, position_or_len, before_first, after_first}
 use Rattle.std.proofs.lemmas.Bool.{and_parts, eq-eqb, eqb-true, lt-ltb, ltb-true, le-ltb, not-false}
 use Rattle.std.proofs.lemmas.List.{take_at, drop_at, drop-drop}
