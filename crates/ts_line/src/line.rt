@@ -1,5 +1,5 @@
 //! What a line says, part by part.
-ghost use Rattle.std.specs.Prelude.{◌≡◌};
+ghost use Rattle.std.specs.Prelude.{◌≡◌, [], length};
 
 use std::marker::Model;
 use std::slice;
@@ -125,16 +125,18 @@ impl<'a> Line<'a> {
         }
     }
 
-    /// The measurement.
+    /// The measurement. No tags stand beside it in the one form that is read so far.
     pub fn measurement(&self) -> &Part<'a>
-        ensures { result.now ≡ self.now.measurement }
+        ensures value { result.now ≡ self.now.measurement }
+        ensures untagged { self.now.tags ≡ [] }
     {
         &self.measurement
     }
 
-    /// The fields, in the order of the line.
+    /// The fields, in the order of the line: just one in the one form that is read so far.
     pub fn fields(&self) -> &[Field<'a>]
-        ensures { result.now ≡ self.now.fields }
+        ensures value { result.now ≡ self.now.fields }
+        ensures one { length result.now ≡ 1 }
     {
         slice::from_ref(&self.field)
     }
