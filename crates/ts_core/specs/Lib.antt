@@ -7,3 +7,5 @@ pub mod Latest
 pub mod Kept
 pub mod Partials
 pub mod Texts
+pub mod Devices
+pub mod ReadingAhead

@@ -6,11 +6,21 @@
 mod fact;
 mod field_name;
 mod key;
+mod read_ahead;
 mod settings;
+mod sink;
+mod source;
+mod tally;
 mod time;
 
 pub use fact::Fact;
 pub use field_name::FieldName;
 pub use key::Key;
+pub use read_ahead::{ReadAhead, ReadFault};
 pub use settings::{Rule, Settings};
+pub use sink::{Refused, Sink};
+pub use source::Source;
 pub use time::Time;
+
+#[cfg(test)]
+mod devices_tests;
