@@ -1,6 +1,7 @@
 //! The words of the store: times, names, facts and settings, with the definitions (specs/) that all
-//! other crates are proved against: facts, histories, what is latest, and what a store stands for.
-//! It stands on nothing. It promises exact values: a `Time` is a valid time, a name is its bytes.
+//! other crates are proved against: facts, histories, what is latest, and what a store stands for; and
+//! the devices that bytes come from and go to. It stands on nothing. It promises exact values: a `Time`
+//! is a valid time, a name is its bytes, and a device's failures, turns and ends are counted exactly.
 #![tactic(auto)]
 
 mod fact;

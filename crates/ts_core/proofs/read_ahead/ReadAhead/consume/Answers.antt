@@ -1,8 +1,7 @@
-use Rattle.std.proofs.Common.{◌≡◌, ℕ, ◌+◌, ◌-◌, ◌≤◌, List, [], ◌∷◌, ◌++◌, length, take, drop, slice_range, Option, None, Some, refl, sym, ap, ◌∙◌, subst, arith, append_assoc}
+use Rattle.std.proofs.Common.{◌≡◌, ℕ, ◌+◌, ◌-◌, ◌≤◌, List, length, take, drop, slice_range, Option, None, Some, sym, ap, ◌∙◌, subst, arith, append_assoc}
 use Rattle.std.proofs.lemmas.List.{drop-drop, drop-take, take-append-drop}
-use Rattle.std.proofs.Math.ListN.{length-take, length-drop}
+use Rattle.std.proofs.Math.ListN.{length-take}
 use Rattle.std.specs.Io.KnownBytes.{Consumes, prepend_known}
-use Rattle.ts_core.specs.Devices.{Input}
 use Rattle.ts_core.specs.ReadingAhead.{Ahead, pending}
 use Rattle.ts_core.proofs.read_ahead.ReadAhead.consume.Goals as goal
 
