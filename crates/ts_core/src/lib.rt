@@ -25,3 +25,5 @@ pub use time::Time;
 
 #[cfg(test)]
 mod devices_tests;
+#[cfg(test)]
+mod words_tests;

@@ -10,3 +10,6 @@ mod store;
 
 pub use fault::WriteFault;
 pub use store::Store;
+
+#[cfg(test)]
+mod tests;
