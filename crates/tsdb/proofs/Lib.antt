@@ -1,0 +1,5 @@
+pub mod LineScan
+pub mod NumberLemmas
+pub mod CommandLemmas
+pub mod Progress
+pub mod MachineLemmas

@@ -1,0 +1,19 @@
+use Rattle.std.proofs.Common.{◌≡◌, ◌+◌, ◌≤◌, ◌^◌}
+use Rattle.ts_core.specs.ReadingAhead.{EndIsEnd, bit, weight}
+use Rattle.tsdb.specs.LineReading.{to_come}
+use Rattle.tsdb.proofs.Progress.{Progress}
+use Rattle.tsdb.proofs.engine.run.Given as goal
+
+abbrev pub invariant-loop-lines : goal.invariant-loop-lines
+invariant-loop-lines g l = record {
+  progress : Progress l.initial.source.remaining (to_come l.lines l.source) l.initial.sink.contents l.sink.contents l.machine;
+  end : EndIsEnd l.lines.ahead l.source;
+  turns : l.source.turns ≡ l.initial.source.turns + l.lines.ahead.turns;
+  within : l.lines.ahead.turns ≤ 2 ^ 32;
+  ends : l.source.ends ≡ l.initial.source.ends + bit l.lines.ahead.ended;
+  reader : l.source.failures ≡ l.initial.source.failures;
+  writer : l.sink.failures ≡ l.initial.sink.failures;
+}
+
+abbrev pub decreases-loop-lines : goal.decreases-loop-lines
+decreases-loop-lines g l = weight l.lines.ahead

@@ -1,0 +1,67 @@
+-- The commands of a script, by their lines. (Own rule.)
+use Rattle.std.specs.Prelude.{ℕ, ℤ, pos, ◌-ℤ◌, int_le, List, length, drop, Bool, not, ◌&&◌, ◌||◌, ◌==◌, nat_eq, if◌then◌else◌, Option, Some, None, codes}
+use Rattle.std.specs.List.{list_all, starts_with, before_first, after_first}
+use Rattle.ts_core.specs.Facts.{Text}
+use Rattle.ts_line.specs.Numbers.{is_number}
+use Rattle.tsdb.specs.Numbers.{moment_in, moment_of}
+
+pub data Command : Type 0 where
+  -- nothing is asked: a blank line or a comment
+  Nothing : Command
+  -- the moment is this
+  At : ℤ → Command
+  -- a line to be written
+  Write : Text → Command
+  -- how many values of a measurement and a field stand from one time on and before another
+  Count : Text → Text → ℤ → ℤ → Command
+  -- the same, with a time that isn't valid or a range that is too long
+  CountFault : Command
+  -- any other line
+  Unknown : Command
+
+abbrev pub is_space : ℕ → Bool
+is_space b = b == 32
+
+-- nothing but spaces
+abbrev pub is_blank : Text → Bool
+is_blank line = list_all is_space line
+
+-- the first byte is #
+abbrev pub is_comment : Text → Bool
+is_comment line = starts_with nat_eq line (codes "#")
+
+-- at N, at Nunit
+unfoldable pub at_of : Option ℤ → Command
+at_of (Some t) = At t
+at_of None = Unknown
+
+-- a range has at most 2^63 - 1 nanoseconds
+unfoldable pub count_between : Text → Text → Option ℤ → Option ℤ → Command
+count_between m f (Some a) (Some b) = if int_le (b -ℤ a) (pos 9223372036854775807) then Count m f a b else CountFault
+count_between m f (Some a) None = CountFault
+count_between m f None b = CountFault
+
+-- count M F A B, parted by one space each: M and F aren't empty, A and B are numbers of nanoseconds
+unfoldable pub count_of_parts : Text → Text → Text → Text → Command
+count_of_parts m f a b =
+    if not (length m == 0) && not (length f == 0) && is_number a && is_number b
+    then count_between m f (moment_in (pos 1) a) (moment_in (pos 1) b) else Unknown
+
+abbrev pub word : Text → Text
+word = before_first is_space
+
+abbrev pub after_word : Text → Text
+after_word = after_first is_space
+
+unfoldable pub count_of : Text → Command
+count_of text =
+    count_of_parts (word text) (word (after_word text)) (word (after_word (after_word text))) (after_word (after_word (after_word text)))
+
+-- a command's name and one space, and then its rest
+unfoldable pub command_of : Text → Command
+command_of line =
+    if is_blank line || is_comment line then Nothing
+    else if starts_with nat_eq line (codes "at ") then at_of (moment_of (drop 3 line))
+    else if starts_with nat_eq line (codes "write ") then Write (drop 6 line)
+    else if starts_with nat_eq line (codes "count ") then count_of (drop 6 line)
+    else Unknown

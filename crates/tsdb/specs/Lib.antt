@@ -1,0 +1,11 @@
+pub mod Script
+pub mod Machine
+pub mod Commands
+pub mod Numbers
+pub mod Lines
+pub mod Replies
+pub mod RunFaults
+pub mod Serving
+pub mod CommandParts
+pub mod LineReading
+pub mod HeldLine

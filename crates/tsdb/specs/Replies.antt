@@ -1,0 +1,26 @@
+-- The answers to commands, by their texts. (Own rule; a fault is told by its number.)
+use Rattle.std.specs.Prelude.{ℕ, List, [], ◌∷◌, ◌++◌, codes}
+use Rattle.std.specs.Fmt.{decimal}
+use Rattle.ts_core.specs.Facts.{Text}
+use Rattle.ts_store.specs.declared.fault.WriteFault.{WriteFault}
+use Rattle.ts_store.specs.declared.fault.WriteFault.TheVariants as write
+use Rattle.tsdb.specs.declared.reply.Reply.{Reply}
+use Rattle.tsdb.specs.declared.reply.Reply.TheVariants.{Nothing, Done, Count, Unknown, BadRange, TooManyFacts, OutOfMemory}
+
+-- a text with the LF that ends its line
+abbrev pub line : Text → Text
+line text = text ++ 10 ∷ []
+
+abbrev pub text_of : Reply → Text
+text_of Nothing = []
+text_of Done = line (codes "ok")
+text_of (Count n) = line (decimal n)
+text_of Unknown = line (codes "fault 95")
+text_of BadRange = line (codes "fault 74 at 0")
+text_of TooManyFacts = line (codes "fault 52")
+text_of OutOfMemory = line (codes "fault memory")
+
+-- how a refused write is told
+abbrev pub refusal_of : WriteFault → Reply
+refusal_of write.TooManyFacts = TooManyFacts
+refusal_of write.OutOfMemory = OutOfMemory

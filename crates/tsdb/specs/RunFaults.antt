@@ -1,0 +1,33 @@
+-- The faults of a run: their texts, and the device that each tells of. (Own rule.)
+use Rattle.std.specs.Prelude.{ℕ, codes, Result, Ok, Err}
+use Rattle.ts_core.specs.Facts.{Text}
+use Rattle.ts_core.specs.declared.read_ahead.ReadFault.{ReadFault}
+use Rattle.ts_core.specs.declared.read_ahead.ReadFault.TheVariants as read
+use Rattle.tsdb.specs.declared.run_fault.RunFault.{RunFault}
+use Rattle.tsdb.specs.declared.run_fault.RunFault.TheVariants.{OutOfMemory, Reader, Writer, Turns}
+
+abbrev pub run_fault_text : RunFault → Text
+run_fault_text Reader = codes "fault 96"
+run_fault_text Writer = codes "fault 97"
+run_fault_text Turns = codes "fault 98"
+run_fault_text OutOfMemory = codes "fault memory"
+
+abbrev pub fault_of_read : ReadFault → RunFault
+fault_of_read read.Device = Reader
+fault_of_read read.Turns = Turns
+
+-- how much a run adds to its reader's failures
+abbrev pub one_if_reader : {T : Type 0} → Result T RunFault → ℕ
+one_if_reader (Ok x) = 0
+one_if_reader (Err OutOfMemory) = 0
+one_if_reader (Err Reader) = 1
+one_if_reader (Err Writer) = 0
+one_if_reader (Err Turns) = 0
+
+-- how much it adds to its writer's
+abbrev pub one_if_writer : {T : Type 0} → Result T RunFault → ℕ
+one_if_writer (Ok x) = 0
+one_if_writer (Err OutOfMemory) = 0
+one_if_writer (Err Reader) = 0
+one_if_writer (Err Writer) = 1
+one_if_writer (Err Turns) = 0

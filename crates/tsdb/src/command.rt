@@ -1,0 +1,137 @@
+//! The commands of a script and how they are read.
+ghost use Rattle.std.specs.Prelude.{◌≡◌, length, MatchOption, drop, true, false, nat_eq, ◌||◌};
+ghost use Rattle.std.specs.List.{starts_with};
+ghost use Rattle.tsdb.specs.Commands.{is_blank, is_comment, word, after_word, count_of, at_of, command_of, count_between};
+ghost use Rattle.tsdb.specs.Numbers.{moment_of};
+ghost use Rattle.tsdb.specs.CommandParts.{command_view};
+
+use crate::number::{Unit, is_number, moment_in, moment_of};
+use ts_core::Time;
+
+/// What a line asks for.
+#[derive(Clone, Copy, Drop)]
+pub enum Command<'a> {
+    /// Nothing: a blank line or a comment.
+    Nothing,
+    /// To have this moment from now on.
+    At(Time),
+    /// To write this line.
+    Write(&'a str),
+    /// To count the values of a measurement and a field from one time on and before another.
+    Count {
+        measurement: &'a str,
+        field: &'a str,
+        from: Time,
+        to: Time,
+    },
+    /// The same, with a time that isn't valid or a range that is too long.
+    CountFault,
+    /// Nothing that is known.
+    Unknown,
+}
+
+/// Whether the line has nothing but spaces.
+fn is_blank(line: &[u8]) -> bool
+    ensures { result ≡ is_blank line.now }
+{
+    line.iter().all(|b| *b == b' ')
+}
+
+/// Whether the line is blank or a comment.
+fn is_skipped(line: &[u8]) -> bool
+    ensures { result ≡ (is_blank line.now || is_comment line.now) }
+{
+    is_blank(line) || line.starts_with(b"#")
+}
+
+/// What stands behind the name, where the line begins with it.
+fn rest_behind<'a>(line: &'a str, name: &str) -> Option<&'a str>
+    ensures { MatchOption result (starts_with nat_eq line.now name.now ≡ false) (λ rest. (starts_with nat_eq line.now name.now ≡ true) × (rest.now ≡ drop (length name.now) line.now)) }
+{
+    line.strip_prefix(name)
+}
+
+/// The text before the first space and the text behind it; all and nothing where there is none.
+fn first_word(text: &str) -> (&str, &str)
+    ensures word { result.0.now ≡ word text.now }
+    ensures rest { result.1.now ≡ after_word text.now }
+{
+    match text.split_once(' ') {
+        Some((first, rest)) => (first, rest),
+        None => (text, ""),
+    }
+}
+
+#[tactic(auto, unfolding(crate::specs::Commands::at_of))]
+fn at(text: &str) -> Command<'_>
+    ensures { command_view result ≡ at_of (moment_of text.now) }
+{
+    match moment_of(text) {
+        Some(moment) => Command::At(moment),
+        None => Command::Unknown,
+    }
+}
+
+/// The count over a range, where both times are valid and it isn't too long.
+#[tactic(auto, unfolding(crate::specs::Commands::count_between))]
+fn count_between<'a>(
+    measurement: &'a str,
+    field: &'a str,
+    from: Option<Time>,
+    to: Option<Time>,
+) -> Command<'a>
+    ensures { command_view result ≡ count_between measurement.entry.now field.entry.now from to }
+{
+    let (Some(from), Some(to)) = (from, to) else {
+        return Command::CountFault;
+    };
+    if from < to && to.nanos().checked_sub(from.nanos()).is_none() {
+        return Command::CountFault;
+    }
+    Command::Count {
+        measurement,
+        field,
+        from,
+        to,
+    }
+}
+
+#[tactic(auto, unfolding(crate::specs::Commands::count_of, crate::specs::Commands::count_of_parts))]
+fn count(text: &str) -> Command<'_>
+    ensures { command_view result ≡ count_of text.now }
+{
+    let (measurement, rest) = first_word(text);
+    let (field, rest) = first_word(rest);
+    let (from, to) = first_word(rest);
+    if measurement.is_empty() || field.is_empty() || !is_number(from) || !is_number(to) {
+        return Command::Unknown;
+    }
+    count_between(
+        measurement,
+        field,
+        moment_in(Unit::Nanosecond, from),
+        moment_in(Unit::Nanosecond, to),
+    )
+}
+
+impl<'a> Command<'a> {
+    /// What the line asks for.
+    #[tactic(auto, unfolding(crate::specs::Commands::command_of))]
+    pub fn of(line: &'a str) -> Command<'a>
+        ensures { command_view result ≡ command_of line.entry.now }
+    {
+        if is_skipped(line.as_bytes()) {
+            return Command::Nothing;
+        }
+        if let Some(rest) = rest_behind(line, "at ") {
+            return at(rest);
+        }
+        if let Some(rest) = rest_behind(line, "write ") {
+            return Command::Write(rest);
+        }
+        if let Some(rest) = rest_behind(line, "count ") {
+            return count(rest);
+        }
+        Command::Unknown
+    }
+}

@@ -1,0 +1,85 @@
+//! The command line: what it asks for, and what is told where it asks for nothing that can be done.
+use clap::error::ErrorKind;
+use clap::{ArgMatches, Command, Error};
+use std::alloc::{AllocError, Global};
+use std::env;
+use std::rt::Env;
+
+const VERSION: &str = "0.1.0";
+
+const ABOUT: &str = "A time series database of integers, run by scripts";
+
+const SCRIPTS: &str = "\
+Scripts have one command a line; blank lines and lines that begin with # are passed over.
+
+  at N[UNIT]     sets the moment, at first 0. UNIT is ns, u, µ, ms, s, m, h, d or w; without
+                 one N is in nanoseconds of the Unix epoch.
+  write LINE     accepts a point, `M F=Vi` or `M F=Vi T`: measurement M, field F, integer V,
+                 time T in nanoseconds. Without T it has the moment. Prints ok.
+  count M F A B  prints how many points field F of measurement M has from time A on and before
+                 time B, in nanoseconds. A point that was written again counts once.
+
+What is wrong is printed as `fault` with its number, and the script goes on with its next line.
+
+Example:
+
+  printf 'write door opened=1i 5\\nwrite door opened=2i 8\\ncount door opened 0 8\\n' | tsdb replay
+
+prints ok, ok and 1.";
+
+/// Which exit status a command line has that asks for no replay.
+#[derive(Clone, Copy, Debug, Drop)]
+pub enum Told {
+    /// Help or the version was printed.
+    Done,
+    /// The standard output or error failed.
+    Device,
+    /// The command line is wrong, which was told on standard error.
+    Wrong,
+    /// No memory was found.
+    OutOfMemory,
+}
+
+fn program<'a>(alloc: Global) -> Result<Command<'a>, AllocError> {
+    let replay = Command::new(alloc, "replay")
+        .about("Runs a script from standard input, and prints its answers")
+        .after_help(SCRIPTS);
+    Command::new(alloc, "tsdb")
+        .version(VERSION)
+        .about(ABOUT)
+        .after_help(SCRIPTS)
+        .subcommand_required(true)
+        .arg_required_else_help(true)
+        .subcommand(replay)
+}
+
+fn parse<'a>(alloc: Global, words: &'a [String]) -> Result<ArgMatches<'a>, Error> {
+    program(alloc)?.try_get_matches_from(words)
+}
+
+/// Whether the command line asks for a replay. Where it doesn't, it is answered here.
+pub fn asks_for_replay(rt: &(impl Env + AllocGlobal + Print + Eprint)) -> Result<(), Told> {
+    let Ok(args) = env::args(rt) else {
+        let _ = eprintln!(rt; "tsdb: the command line can't be read as text");
+        return Err(Told::Wrong);
+    };
+    let words: Vec<String> = match args.collect(rt.alloc()) {
+        Ok(words) => words,
+        Err(_) => return Err(Told::OutOfMemory),
+    };
+    match parse(rt.alloc(), words.as_slice()) {
+        Ok(_) => Ok(()),
+        Err(error) => Err(tell(rt, &error)),
+    }
+}
+
+fn tell(rt: &(impl Print + Eprint), error: &Error) -> Told {
+    if error.kind() == ErrorKind::OutOfMemory {
+        return Told::OutOfMemory;
+    }
+    match error.print(rt) {
+        Err(_) => Told::Device,
+        Ok(()) if error.use_stderr() => Told::Wrong,
+        Ok(()) => Told::Done,
+    }
+}

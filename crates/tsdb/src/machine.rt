@@ -1,0 +1,99 @@
+//! The machine that a script runs.
+ghost use Rattle.std.specs.Prelude.{◌≡◌, ◌≤◌, ◌^◌, length};
+ghost use Rattle.tsdb.specs.CommandParts.{command_view};
+ghost use Rattle.tsdb.specs.Machine.{State, start};
+ghost use Rattle.tsdb.specs.Commands.{Write as WriteCommand};
+ghost use Rattle.tsdb.specs.Replies.{text_of, refusal_of};
+ghost use Rattle.tsdb.specs.Serving.{IsIn, Did, Stepped};
+
+use crate::command::Command;
+use crate::reply::Reply;
+use std::alloc::Allocator;
+use std::marker::Model;
+use std::str;
+use ts_core::{Settings, Time};
+use ts_line::{Precision, read_line};
+use ts_store::{Store, WriteFault};
+
+/// The moment that a script has set, and its store.
+#[derive(Drop)]
+pub struct Machine<A: Allocator> {
+    moment: Time,
+    store: Store<A>,
+}
+
+impl<A: Allocator> Model for Machine<A> {
+    ghost use Rattle.tsdb.specs.Serving.{Serving};
+
+    ghost Value = { Serving };
+
+    ghost view = { λ m. record { moment = m.moment; kept = m.store } };
+}
+
+impl<A: Allocator + Copy> Machine<A> {
+    /// A machine with an empty store, at the moment 0.
+    pub fn new(alloc: A) -> Machine<A>
+        ensures { IsIn start result }
+    {
+        Machine {
+            moment: Time::new(0).unwrap(),
+            store: Store::new(alloc, Settings::open(alloc)),
+        }
+    }
+
+    /// Answers a line of a script. Where no memory is found, nothing has happened.
+    pub fn serve(&mut self, line: &[u8]) -> Reply
+        requires { length line.now ≤ 2 ^ 17 }
+        ensures { (s : State) → IsIn s self.old → Stepped line.now s (text_of result) self.new }
+    {
+        match str::from_utf8(line) {
+            Ok(text) => self.apply(Command::of(text)),
+            Err(_) => Reply::Unknown,
+        }
+    }
+
+    /// Does what a command asks.
+    fn apply(&mut self, command: Command<'_>) -> Reply
+        ensures { (s : State) → IsIn s self.old → Did (command_view command.entry) s (text_of result) self.new }
+    {
+        match command {
+            Command::Nothing => Reply::Nothing,
+            Command::At(moment) => {
+                self.moment = moment;
+                Reply::Nothing
+            }
+            Command::Write(line) => self.write(line),
+            Command::Count {
+                measurement,
+                field,
+                from,
+                to,
+            } => Reply::Count(self.store.count(measurement, field, from, to)),
+            Command::CountFault => Reply::BadRange,
+            Command::Unknown => Reply::Unknown,
+        }
+    }
+
+    /// Writes a line to the store.
+    fn write(&mut self, text: &str) -> Reply
+        ensures { (s : State) → IsIn s self.old → Did (WriteCommand text.now) s (text_of result) self.new }
+    {
+        let Ok(line) = read_line(text, Precision::Nanoseconds, self.moment) else {
+            return Reply::Unknown;
+        };
+        match self.store.write(&line) {
+            Ok(()) => Reply::Done,
+            Err(fault) => refusal_of(fault),
+        }
+    }
+}
+
+/// How a refused write is told.
+fn refusal_of(fault: WriteFault) -> Reply
+    ensures { result ≡ refusal_of fault }
+{
+    match fault {
+        WriteFault::TooManyFacts => Reply::TooManyFacts,
+        WriteFault::OutOfMemory => Reply::OutOfMemory,
+    }
+}

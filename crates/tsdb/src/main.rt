@@ -1,0 +1,60 @@
+//! The program `tsdb`. It runs scripts from standard input (`tsdb replay`), and stands on all other crates.
+//! It promises, on `engine::run`: what it prints is what the definitions of specs/ say of the script, from
+//! the bytes read to the bytes written; and where a device fails, a beginning of it.
+#![tactic(auto)]
+
+mod chunk;
+mod command;
+mod command_line;
+mod engine;
+mod line_reader;
+mod machine;
+mod number;
+mod reply;
+mod run_fault;
+#[cfg(test)]
+mod tests;
+
+use command_line::Told;
+use run_fault::RunFault;
+use std::io;
+use std::process::ExitCode;
+use ts_core::{Sink, Source};
+
+fn main(rt: HostRuntime) -> ExitCode {
+    match command_line::asks_for_replay(&rt) {
+        Ok(()) => replay(&rt),
+        Err(Told::Done) => ExitCode::SUCCESS,
+        Err(Told::Device) => ExitCode::FAILURE,
+        Err(Told::Wrong) => ExitCode::from(2),
+        Err(Told::OutOfMemory) => ExitCode::from(3),
+    }
+}
+
+fn replay(rt: &(impl Input + Print + Eprint + AllocGlobal)) -> ExitCode {
+    let mut source = Source::new(rt.reader());
+    let mut sink = Sink::new(io::writer(rt));
+    match engine::run(rt.alloc(), &mut source, &mut sink) {
+        Ok(()) => ExitCode::SUCCESS,
+        Err(fault) => {
+            tell(rt, fault);
+            match fault {
+                RunFault::OutOfMemory => ExitCode::from(3),
+                RunFault::Reader | RunFault::Writer | RunFault::Turns => ExitCode::FAILURE,
+            }
+        }
+    }
+}
+
+/// One line on standard error: the fault's text, and what it means.
+fn tell(rt: &(impl Eprint + AllocGlobal), fault: RunFault) {
+    let mut text = String::new(rt.alloc());
+    let _ = fault.text_to(&mut text);
+    let meaning = match fault {
+        RunFault::Reader => "standard input could not be read",
+        RunFault::Writer => "standard output could not be written",
+        RunFault::Turns => "standard input did not end within 4294967296 reads",
+        RunFault::OutOfMemory => "there is no memory for reading the script",
+    };
+    let _ = eprintln!(rt; "{text}: {meaning}");
+}

@@ -1,0 +1,70 @@
+//! Why a script was not answered to its end.
+ghost use Rattle.std.specs.Prelude.{◌≡◌, ◌+◌, ◌≤◌, ◌++◌, length, IsOk, OnOk, string_bytes, string_len, string_capacity};
+ghost use Rattle.tsdb.specs.RunFaults.{run_fault_text};
+
+use std::alloc::{AllocError, Allocator};
+use ts_core::{ReadFault, Refused};
+
+/// Why a script was not answered to its end.
+#[derive(Clone, Copy, Debug, Drop)]
+pub enum RunFault {
+    /// No memory was found for reading.
+    OutOfMemory,
+    /// The reader failed (number 96).
+    Reader,
+    /// The writer failed (number 97).
+    Writer,
+    /// 2^32 reads saw no end (number 98).
+    Turns,
+}
+
+impl RunFault {
+    /// Appends its text. Where the room is there, it takes no memory.
+    pub fn text_to<A: Allocator>(&self, text: &mut String<A>) -> Result<(), AllocError>
+        ensures ok { OnOk result (string_bytes text.new ≡ string_bytes text.old ++ run_fault_text self.now) }
+        ensures room { string_len text.old + length (run_fault_text self.now) ≤ string_capacity text.old → IsOk result }
+    {
+        match self {
+            RunFault::Reader => text.push_str("fault 96"),
+            RunFault::Writer => text.push_str("fault 97"),
+            RunFault::Turns => text.push_str("fault 98"),
+            RunFault::OutOfMemory => text.push_str("fault memory"),
+        }
+    }
+}
+
+impl From<AllocError> for RunFault {
+    ghost use Rattle.std.specs.Prelude.{◌≡◌};
+    ghost use Rattle.tsdb.specs.declared.run_fault.RunFault.TheVariants.{OutOfMemory};
+
+    ghost from_gives = { λ _ e. e ≡ OutOfMemory };
+
+    fn from(_e: AllocError) -> RunFault {
+        RunFault::OutOfMemory
+    }
+}
+
+impl From<ReadFault> for RunFault {
+    ghost use Rattle.std.specs.Prelude.{◌≡◌};
+    ghost use Rattle.tsdb.specs.RunFaults.{fault_of_read};
+
+    ghost from_gives = { λ f e. e ≡ fault_of_read f };
+
+    fn from(fault: ReadFault) -> RunFault {
+        match fault {
+            ReadFault::Device => RunFault::Reader,
+            ReadFault::Turns => RunFault::Turns,
+        }
+    }
+}
+
+impl From<Refused> for RunFault {
+    ghost use Rattle.std.specs.Prelude.{◌≡◌};
+    ghost use Rattle.tsdb.specs.declared.run_fault.RunFault.TheVariants.{Writer};
+
+    ghost from_gives = { λ _ e. e ≡ Writer };
+
+    fn from(_e: Refused) -> RunFault {
+        RunFault::Writer
+    }
+}

@@ -1,0 +1,218 @@
+//! Scripts and their answers, and devices that fail in the middle.
+use crate::engine::run;
+use crate::run_fault::RunFault;
+use std::alloc::{AllocError, Global};
+use std::io;
+use std::io::{Read, Write};
+use std::test::Fail;
+use ts_core::{Sink, Source};
+
+const SCRIPT: &[u8] =
+    b"write m f=3i 5\nwrite m f=4i 5\nat 7\nwrite m f=9i\nwrite m f=1i 9\ncount m f 0 9\ncount m f 5 5\ncount m f 0 9223372036854775807\ncount m g 0 10\nhello\n";
+
+const ANSWERS: &[u8] = b"ok\nok\nok\nok\n2\n0\nfault 74 at 0\n0\nfault 95\n";
+
+// Gives so many bytes a call; one of its calls fails, and those after it go on.
+#[derive(Drop)]
+struct Giver<'a> {
+    bytes: &'a [u8],
+    most: usize,
+    fails_in: Option<usize>,
+}
+
+impl Read for Giver<'_> {
+    fn read(&mut self, buf: &mut [u8]) -> io::Result<usize> {
+        if self.fails_in == Some(0) {
+            self.fails_in = None;
+            return Err(io::ErrorKind::Other.into());
+        }
+        self.fails_in = self.fails_in.map(|n| n.saturating_sub(1));
+        let count = buf.len().min(self.most).min(self.bytes.len());
+        buf[..count].copy_from_slice(&self.bytes[..count]);
+        self.bytes = &self.bytes[count..];
+        Ok(count)
+    }
+}
+
+// Takes so many bytes a call; one of its calls fails, and those after it go on.
+#[derive(Drop)]
+struct Taker {
+    taken: Vec<u8>,
+    most: usize,
+    fails_in: Option<usize>,
+}
+
+impl Write for Taker {
+    fn write(&mut self, bytes: &[u8]) -> io::Result<usize> {
+        if self.fails_in == Some(0) {
+            self.fails_in = None;
+            return Err(io::ErrorKind::Other.into());
+        }
+        self.fails_in = self.fails_in.map(|n| n.saturating_sub(1));
+        let count = bytes.len().min(self.most);
+        self.taken.extend_from_slice(&bytes[..count])?;
+        Ok(count)
+    }
+
+    fn flush(&mut self) -> io::Result<()> {
+        Ok(())
+    }
+}
+
+// What a run of a script ends with, and what it wrote.
+fn run_on(
+    alloc: Global,
+    bytes: &[u8],
+    most_read: usize,
+    failing_read: Option<usize>,
+    most_written: usize,
+    failing_write: Option<usize>,
+) -> (Result<(), RunFault>, Vec<u8>) {
+    let mut source = Source::new(Giver {
+        bytes,
+        most: most_read,
+        fails_in: failing_read,
+    });
+    let mut sink = Sink::new(Taker {
+        taken: Vec::new(alloc),
+        most: most_written,
+        fails_in: failing_write,
+    });
+    let result = run(alloc, &mut source, &mut sink);
+    (result, sink.into_inner().taken)
+}
+
+fn answers(alloc: Global, script: &[u8]) -> Result<Vec<u8>, AllocError> {
+    let (result, taken) = run_on(alloc, script, 65_536, None, 65_536, None);
+    match result {
+        Ok(()) => Ok(taken),
+        Err(_) => Err(AllocError),
+    }
+}
+
+#[test]
+fn scripts_are_answered(rt: HostRuntime) -> Result<(), Fail> {
+    // a script, and what it prints
+    for (script, printed) in [
+        (SCRIPT, ANSWERS),
+        (b"".as_slice(), b"".as_slice()),
+        (b"\n   \n# a comment\n#\n".as_slice(), b"".as_slice()),
+        (
+            b"\t\n\r\n # x\n".as_slice(),
+            b"fault 95\nfault 95\nfault 95\n".as_slice(),
+        ),
+        (
+            b"write\nat\ncount\nwrite \nat \ncount ".as_slice(),
+            b"fault 95\nfault 95\nfault 95\nfault 95\nfault 95\nfault 95\n".as_slice(),
+        ),
+        (
+            b"at 1h30m\nat 5\xce\xbc\nat 1.5s\nat +5\nat 5 s\nat s\n".as_slice(),
+            b"fault 95\nfault 95\nfault 95\nfault 95\nfault 95\nfault 95\n".as_slice(),
+        ),
+        (
+            b"at 5\xc2\xb5\nwrite m f=1i\ncount m f 5000 5001".as_slice(),
+            b"ok\n1\n".as_slice(),
+        ),
+        (
+            b"at -0002ms\nwrite m f=1i\ncount m f -2000000 -0001999999".as_slice(),
+            b"ok\n1\n".as_slice(),
+        ),
+        (
+            b"at 9223372036854775806\nat 9223372036854775807\nat 15251w\n".as_slice(),
+            b"fault 95\nfault 95\n".as_slice(),
+        ),
+        (
+            b"at 2w\nwrite m f=1i\ncount m f 1209600000000000 1209600000000001".as_slice(),
+            b"ok\n1\n".as_slice(),
+        ),
+        (
+            b"count m f 0 00000000000000000000005\ncount m f -0 0\ncount m f 9 5\n".as_slice(),
+            b"0\n0\n0\n".as_slice(),
+        ),
+        (
+            b"count m f 99999999999999999999999 0\ncount m f 5 -9223372036854775807\n".as_slice(),
+            b"fault 74 at 0\nfault 74 at 0\n".as_slice(),
+        ),
+        (
+            b"count m f -1 9223372036854775806\ncount m f 0 9223372036854775806\ncount m f -2 9223372036854775806\n".as_slice(),
+            b"0\n0\nfault 74 at 0\n".as_slice(),
+        ),
+        (
+            b"count m f 9223372036854775806 -9223372036854775806\n".as_slice(),
+            b"0\n".as_slice(),
+        ),
+        (
+            b"count  m f 0 5\ncount m  0 5\ncount m f 0 5 \ncount m f 0\ncount m f 0 x\ncount m f 0 +5\n".as_slice(),
+            b"fault 95\nfault 95\nfault 95\nfault 95\nfault 95\nfault 95\n".as_slice(),
+        ),
+        (
+            b"write m f=1i 1\nwrite m f=\xff\nwrite m f=2i 2\ncount m f 0 9".as_slice(),
+            b"ok\nfault 95\nok\n2\n".as_slice(),
+        ),
+    ] {
+        let output = answers(rt.alloc(), script)?;
+        assert_eq!(rt; output.as_slice(), printed);
+    }
+    Ok(())
+}
+
+#[test]
+fn long_lines_are_refused(rt: HostRuntime) -> Result<(), Fail> {
+    // as many spaces as a line may have, and one more
+    for (count, printed) in [
+        (131_072, b"0\n".as_slice()),
+        (131_073, b"fault 95\n0\n".as_slice()),
+    ] {
+        let mut script = vec![in rt.alloc(); b' '; count]?;
+        script.extend_from_slice(b"\ncount m f 0 9\n")?;
+        let output = answers(rt.alloc(), &script)?;
+        assert_eq!(rt; output.as_slice(), printed);
+    }
+    Ok(())
+}
+
+#[test]
+fn slow_devices_are_served(rt: HostRuntime) {
+    let (result, taken) = run_on(rt.alloc(), SCRIPT, 1, None, 1, None);
+    assert!(rt; result.is_ok());
+    assert_eq!(rt; taken.as_slice(), ANSWERS);
+}
+
+#[test]
+fn failed_reads_are_told(rt: HostRuntime) {
+    // each byte is a read, and the end is one more
+    for failing in 0..=SCRIPT.len() {
+        let (result, taken) = run_on(rt.alloc(), SCRIPT, 1, Some(failing), 65_536, None);
+        assert!(rt; matches!(&result, Err(RunFault::Reader)), "at {failing}");
+        assert!(rt; ANSWERS.starts_with(taken.as_slice()), "at {failing}");
+    }
+}
+
+#[test]
+fn failed_writes_are_told(rt: HostRuntime) {
+    // each byte is a write
+    for failing in 0..ANSWERS.len() {
+        let (result, taken) = run_on(rt.alloc(), SCRIPT, 65_536, None, 1, Some(failing));
+        assert!(rt; matches!(&result, Err(RunFault::Writer)), "at {failing}");
+        assert_eq!(rt; taken.len(), failing);
+        assert!(rt; ANSWERS.starts_with(taken.as_slice()), "at {failing}");
+    }
+    let (result, taken) = run_on(rt.alloc(), SCRIPT, 65_536, None, 0, None);
+    assert!(rt; matches!(&result, Err(RunFault::Writer)));
+    assert!(rt; taken.is_empty());
+}
+
+#[test]
+fn faults_have_texts(rt: HostRuntime) -> Result<(), Fail> {
+    for (fault, text) in [
+        (RunFault::Reader, "fault 96"),
+        (RunFault::Writer, "fault 97"),
+        (RunFault::Turns, "fault 98"),
+        (RunFault::OutOfMemory, "fault memory"),
+    ] {
+        let mut told = String::with_capacity(rt.alloc(), 12)?;
+        fault.text_to(&mut told)?;
+        assert_eq!(rt; told.as_str(), text);
+    }
+    Ok(())
+}
