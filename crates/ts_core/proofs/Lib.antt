@@ -1,3 +1,5 @@
 pub mod MembersLemmas
 pub mod Folds
 pub mod Groups
+pub mod AggregatesLemmas
+pub mod SoundLemmas

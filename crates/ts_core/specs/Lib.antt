@@ -7,3 +7,7 @@ pub mod Latest
 pub mod Kept
 pub mod Partials
 pub mod Texts
+pub mod Orders
+pub mod OrderLaws
+pub mod Aggregates
+pub mod MergeLaws

@@ -3,6 +3,12 @@
 //! It stands on nothing. It promises exact values: a `Time` is a valid time, a name is its bytes.
 #![tactic(auto)]
 
+mod aggregate;
+mod fold;
+mod partial;
 mod time;
 
+pub use aggregate::{Agg, Extremes};
+pub use fold::{aggregate_points, fold_points};
+pub use partial::Partial;
 pub use time::Time;
