@@ -11,3 +11,7 @@ pub mod Orders
 pub mod OrderLaws
 pub mod Aggregates
 pub mod MergeLaws
+pub mod Means
+pub mod Buckets
+pub mod Remainders
+pub mod SoundLaws

@@ -4,11 +4,17 @@
 #![tactic(auto)]
 
 mod aggregate;
+mod bucket;
 mod fold;
+mod means;
 mod partial;
+mod remainder;
 mod time;
 
 pub use aggregate::{Agg, Extremes};
+pub use bucket::bucket_index;
 pub use fold::{aggregate_points, fold_points};
+pub use means::{Frac, mean};
 pub use partial::Partial;
+pub use remainder::Remainder;
 pub use time::Time;
