@@ -271,3 +271,6 @@ impl Remainder for Agg {
 
     ghost possible_laws = { sound_laws };
 }
+
+#[cfg(test)]
+mod tests;
