@@ -1,5 +1,6 @@
 -- Owned texts, as their bytes.
 use Rattle.std.specs.Prelude.{List, [], ◌∷◌, String, string_bytes}
+use Rattle.std.specs.Borrow.{Bor}
 use Rattle.ts_core.specs.Facts.{Text}
 
 -- pairs of owned texts
