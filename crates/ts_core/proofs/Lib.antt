@@ -6,3 +6,8 @@ pub mod Places
 pub mod Sorted
 pub mod Ids
 pub mod Latests
+pub mod AggregatesLemmas
+pub mod MeansLemmas
+pub mod BucketsLemmas
+pub mod RemaindersLemmas
+pub mod EqualLemmas

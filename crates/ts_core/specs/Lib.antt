@@ -9,3 +9,11 @@ pub mod Partials
 pub mod Texts
 pub mod Devices
 pub mod ReadingAhead
+pub mod Orders
+pub mod OrderLaws
+pub mod Aggregates
+pub mod MergeLaws
+pub mod Means
+pub mod Buckets
+pub mod Remainders
+pub mod SoundLaws
