@@ -4,3 +4,5 @@ pub mod Folds
 pub mod Groups
 pub mod Ids
 pub mod Latests
+pub mod BucketsLemmas
+pub mod Places

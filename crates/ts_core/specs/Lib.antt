@@ -7,3 +7,10 @@ pub mod Latest
 pub mod Kept
 pub mod Partials
 pub mod Texts
+pub mod Buckets
+pub mod Tags
+pub mod Queries
+pub mod Marks
+pub mod Pieces
+pub mod Faults
+pub mod Plans
