@@ -6,3 +6,5 @@ pub mod Ids
 pub mod Latests
 pub mod BucketsLemmas
 pub mod Places
+pub mod Tests
+pub mod Validity

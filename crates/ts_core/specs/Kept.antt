@@ -3,7 +3,7 @@ use Rattle.std.specs.Prelude.{◌≡◌, ◌↔◌, ℕ, ℤ, ◌≤ℤ◌, List
 use Rattle.ts_core.specs.Members.{Among, AllDistinct}
 use Rattle.ts_core.specs.Facts.{Fact}
 use Rattle.ts_core.specs.Settings.{Settings}
-use Rattle.ts_core.specs.History.{History, settings_of, raw_mark, accepted, IsLawful}
+use Rattle.ts_core.specs.History.{Event, History, settings_of, raw_mark, accepted, IsLawful}
 use Rattle.ts_core.specs.Latest.{latest_of}
 
 -- what a store keeps, as its calls show it

@@ -1,6 +1,6 @@
 -- What is latest: of each id the fact that was accepted last. Nothing is ever taken out.
 -- (InfluxData 1.8, frequently asked questions, duplicate points: the newer field value wins.)
-use Rattle.std.specs.Prelude.{ℤ, not, if◌then◌else◌, List, [], ◌∷◌, Option, Some, None, filter}
+use Rattle.std.specs.Prelude.{ℤ, Bool, not, if◌then◌else◌, List, [], ◌∷◌, Option, Some, None, filter}
 use Rattle.ts_core.specs.Facts.{Fact, Id, id_of, same_id}
 use Rattle.ts_core.specs.History.{History, accepted}
 
