@@ -8,3 +8,4 @@ pub mod BucketsLemmas
 pub mod Places
 pub mod Tests
 pub mod Validity
+pub mod Walks
