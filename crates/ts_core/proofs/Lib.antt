@@ -9,3 +9,7 @@ pub mod Places
 pub mod Tests
 pub mod Validity
 pub mod Walks
+pub mod AggregatesLemmas
+pub mod SoundLemmas
+pub mod Plannable
+pub mod Covered

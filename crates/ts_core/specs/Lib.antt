@@ -14,3 +14,7 @@ pub mod Marks
 pub mod Pieces
 pub mod Faults
 pub mod Plans
+pub mod Orders
+pub mod OrderLaws
+pub mod Aggregates
+pub mod MergeLaws
