@@ -13,3 +13,4 @@ pub mod AggregatesLemmas
 pub mod SoundLemmas
 pub mod Plannable
 pub mod Covered
+pub mod WorkedAnswers

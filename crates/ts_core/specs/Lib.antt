@@ -18,3 +18,7 @@ pub mod Orders
 pub mod OrderLaws
 pub mod Aggregates
 pub mod MergeLaws
+pub mod Answers
+pub mod Means
+pub mod Ratios
+pub mod Fills
