@@ -22,3 +22,5 @@ pub mod Answers
 pub mod Means
 pub mod Ratios
 pub mod Fills
+pub mod Remainders
+pub mod SoundLaws
