@@ -22,3 +22,9 @@ pub mod GroupsInOrder
 pub mod RatiosLemmas
 pub mod AnswersLaws
 pub mod FillsLaws
+pub mod WorkedPieces
+pub mod WalkChecks
+pub mod WorkedPlans
+pub mod Fitting
+pub mod PiecesTogether
+pub mod RuleNames
