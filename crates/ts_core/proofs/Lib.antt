@@ -25,6 +25,5 @@ pub mod FillsLaws
 pub mod WorkedPieces
 pub mod WalkChecks
 pub mod WorkedPlans
-pub mod Fitting
 pub mod PiecesTogether
 pub mod RuleNames
