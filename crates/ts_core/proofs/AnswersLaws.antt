@@ -1,18 +1,17 @@
 -- The answer goes by what is in the list and not by its order, and an aggregate of a range is that of its two halves.
-use Rattle.std.proofs.Common.{◌≡◌, ℤ, ◌+ℤ◌, ◌*ℤ◌, ◌≤ℤ◌, ◌<ℤ◌, int_lt, Bool, true, false, cond, ◌&&◌, not, List, [], ◌∷◌, map, filter, refl, sym, ◌∙◌, ap, ap₂, arith, inl, inr, subst, true≢false}
+use Rattle.std.proofs.Common.{◌≡◌, ℤ, ◌+ℤ◌, ◌*ℤ◌, ◌≤ℤ◌, int_lt, Bool, true, false, cond, ◌&&◌, not, List, [], ◌∷◌, map, filter, refl, sym, ◌∙◌, ap, ap₂, arith, true≢false}
 use Rattle.std.proofs.lemmas.Int.{ints, by_lt_z}
 use Rattle.ts_core.specs.Members.{Among, AllDistinct}
 use Rattle.ts_core.specs.Facts.{Text, Fact, is_within}
 use Rattle.ts_core.specs.Aggregates.{aggregate_of, aggregate_of_one, merged}
 use Rattle.ts_core.specs.MergeLaws.{aggregate_laws}
 use Rattle.ts_core.specs.Queries.{Query, is_selected, matches, group_of}
-use Rattle.ts_core.specs.Answers.{Row, Group, buckets_in, is_in_row, groups_of, answer_of}
+use Rattle.ts_core.specs.Answers.{buckets_in, is_in_row, groups_of, answer_of}
 use Rattle.ts_core.proofs.MembersLemmas.{Among-filter_passes, Among-filter_was, Among-filter_stays, AllDistinct-filter}
 use Rattle.ts_core.proofs.Folds.{fold-same, fold-split}
 use Rattle.ts_core.proofs.Tests.{and_parts, and_both, same_bool, lt_from, lt_true}
 use Rattle.ts_core.proofs.GroupsInOrder.{from_map, to_map, all_groups-same}
 use Rattle.ts_core.proofs.Covered.{within_true, within_below, within_above}
-
 
 -- ---- filters
 
@@ -79,9 +78,11 @@ second_half true a c b t u = by_lt_z t c
     and_false : (y : Bool) → (y && false) ≡ false
     and_false true = refl
     and_false false = refl
+
     and_true : (y : Bool) → (y && true) ≡ y
     and_true true = refl
     and_true false = refl
+
     not_lt : (y z : ℤ) → z ≤ℤ y → int_lt y z ≡ false
     not_lt y z l = elim (int_lt y z) as (λ b. int_lt y z ≡ b → b ≡ false) [ true ↦ λ e. absurd (let k = lt_from y z e in omega (arith, ints)) | false ↦ λ e. refl ] refl
 
