@@ -17,3 +17,12 @@ pub mod Means
 pub mod Buckets
 pub mod Remainders
 pub mod SoundLaws
+pub mod Tags
+pub mod Queries
+pub mod Marks
+pub mod Pieces
+pub mod Faults
+pub mod Plans
+pub mod Answers
+pub mod Ratios
+pub mod Fills
