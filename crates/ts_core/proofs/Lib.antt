@@ -4,3 +4,9 @@ pub mod Folds
 pub mod Groups
 pub mod Ids
 pub mod Latests
+pub mod AggregatesLemmas
+pub mod Cuts
+pub mod Moves
+pub mod StateLemmas
+pub mod Begins
+pub mod RunSteps

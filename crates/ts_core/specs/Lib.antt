@@ -7,3 +7,13 @@ pub mod Latest
 pub mod Kept
 pub mod Partials
 pub mod Texts
+pub mod Orders
+pub mod Aggregates
+pub mod Buckets
+pub mod Tags
+pub mod Marks
+pub mod RawFacts
+pub mod Cells
+pub mod StoreStates
+pub mod Runs
+pub mod Views
