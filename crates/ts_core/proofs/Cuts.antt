@@ -6,7 +6,7 @@ use Rattle.ts_core.specs.Settings.{Rule}
 use Rattle.ts_core.specs.Aggregates.{Aggregate, empty_aggregate, aggregate_of_one, merged, aggregate_of}
 use Rattle.ts_core.specs.RawFacts.{is_kept}
 use Rattle.ts_core.specs.Cells.{Cell, is_in_cell, total_of, frozen_of, live_of}
-use Rattle.ts_core.proofs.AggregatesLemmas.{aggregate_laws}
+use Rattle.ts_core.specs.MergeLaws.{aggregate_laws}
 use Rattle.ts_core.proofs.Folds.{fold-same, merge-left_comm}
 use Rattle.ts_core.proofs.MembersLemmas.{AllDistinct-filter, Among-filter_passes, Among-filter_was, Among-filter_stays}
 

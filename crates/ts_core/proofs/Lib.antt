@@ -5,8 +5,12 @@ pub mod Groups
 pub mod Ids
 pub mod Latests
 pub mod AggregatesLemmas
+pub mod SoundLemmas
 pub mod Cuts
 pub mod Moves
 pub mod StateLemmas
 pub mod Begins
 pub mod RunSteps
+pub mod Writes
+pub mod Lines
+pub mod Shown

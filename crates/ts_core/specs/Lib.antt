@@ -8,7 +8,9 @@ pub mod Kept
 pub mod Partials
 pub mod Texts
 pub mod Orders
+pub mod OrderLaws
 pub mod Aggregates
+pub mod MergeLaws
 pub mod Buckets
 pub mod Tags
 pub mod Marks

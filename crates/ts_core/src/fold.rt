@@ -1,0 +1,29 @@
+//! What a list of points adds up to.
+ghost use Rattle.std.specs.Prelude.{◌≡◌, ◌^◌, ◌≤◌, length};
+ghost use Rattle.ts_core.specs.Partials.{fold_by};
+ghost use Rattle.ts_core.specs.Aggregates.{aggregate_of_points, IsAggregateOfPoints};
+
+use crate::aggregate::Agg;
+use crate::partial::Partial;
+use crate::time::Time;
+
+/// What is kept of the points, in whatever order they stand.
+pub fn fold_points<P: Partial>(points: &[(Time, i64)]) -> P
+    requires { length points.now ≤ 2 ^ 62 }
+    ensures { result ≡ fold_by P.nil P.join (λ p. P.one p.0 p.1) points.now }
+{
+    let mut total = P::empty();
+    for point in points {
+        total = total.merge(P::single(point.0, point.1));
+    }
+    total
+}
+
+/// The aggregate of the points, in whatever order they stand.
+pub fn aggregate_points(points: &[(Time, i64)]) -> Agg
+    requires { length points.now ≤ 2 ^ 62 }
+    ensures fold { result ≡ aggregate_of_points points.now }
+    ensures words { IsAggregateOfPoints points.now result }
+{
+    fold_points::<Agg>(points)
+}
