@@ -7,6 +7,7 @@ use Rattle.ts_core.specs.Aggregates.{Aggregate, empty_aggregate, aggregate_of_on
 use Rattle.ts_core.specs.RawFacts.{is_kept}
 use Rattle.ts_core.specs.Cells.{Cell, is_in_cell, total_of, frozen_of, live_of}
 use Rattle.ts_core.specs.MergeLaws.{aggregate_laws}
+use Rattle.ts_core.proofs.Tests.{and_parts}
 use Rattle.ts_core.proofs.Folds.{fold-same, merge-left_comm}
 use Rattle.ts_core.proofs.MembersLemmas.{AllDistinct-filter, Among-filter_passes, Among-filter_was, Among-filter_stays}
 
@@ -16,10 +17,6 @@ one_fact f = aggregate_of_one f.time f.value
 -- of the facts that pass a test
 abbrev pub aggregate_where : (Fact → Bool) → List Fact → Aggregate
 aggregate_where p fs = aggregate_of (filter p fs)
-
-pub both_true : (a b : Bool) → a && b ≡ true → (a ≡ true) × (b ≡ true)
-both_true true b h = (refl, h)
-both_true false b h = absurd (true≢false (sym h))
 
 -- tests that agree on the list's members
 pub filter-agree : {X : Type 0} (p q : X → Bool) (xs : List X) → ((x : X) → Among x xs → p x ≡ q x) → filter p xs ≡ filter q xs
@@ -139,7 +136,7 @@ pub aggregate_where-held : (cut : Column → ℤ) (fs held : List Fact) → Hold
 aggregate_where-held cut fs held s d p =
     fold-same aggregate_laws one_fact (filter (λ (f : Fact). p f && is_kept cut f) fs) (filter p held)
     (AllDistinct-filter _ fs d) (AllDistinct-filter p _ s.once)
-    (λ f a. let t = both_true (p f) (is_kept cut f) (Among-filter_passes (λ (g : Fact). p g && is_kept cut g) f fs a) in
+    (λ f a. let t = and_parts (p f) (is_kept cut f) (Among-filter_passes (λ (g : Fact). p g && is_kept cut g) f fs a) in
     Among-filter_stays p f held (s.all f (Among-filter_was (λ (g : Fact). p g && is_kept cut g) f fs a) t.1) t.0)
     (λ f a. let n = s.only f (Among-filter_was p f held a) in
     Among-filter_stays (λ (g : Fact). p g && is_kept cut g) f fs n.0 (ap₂ (λ x y. x && y) (Among-filter_passes p f held a) n.1))

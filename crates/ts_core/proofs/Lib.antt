@@ -6,6 +6,10 @@ pub mod Ids
 pub mod Latests
 pub mod AggregatesLemmas
 pub mod SoundLemmas
+pub mod BucketsLemmas
+pub mod Places
+pub mod Tests
+pub mod Validity
 pub mod Cuts
 pub mod Moves
 pub mod StateLemmas
@@ -14,3 +18,7 @@ pub mod RunSteps
 pub mod Writes
 pub mod Lines
 pub mod Shown
+pub mod StepsLeft
+pub mod LowIndices
+pub mod NewStates
+pub mod RetentionRows

@@ -15,12 +15,13 @@ use Rattle.ts_core.specs.Cells.{Cell, cell_of, is_in_cell}
 use Rattle.ts_core.specs.StoreStates.{ColumnPoints, RuleCells, StoreState, StandsFor, HasCells, column_of, rule_of, lowest_of, facts_at, facts_of}
 use Rattle.ts_core.proofs.MembersLemmas.{AllDistinct-filter, Among-filter_passes, Among-filter_was, Among-filter_stays}
 use Rattle.ts_core.proofs.Latests.{latest-distinct}
+use Rattle.ts_core.proofs.Tests.{le_true, le_from}
 use Rattle.ts_core.proofs.Cuts.{aggregate_where, aggregate_where-agree, CutRises, passed_of, frozen_of-gains, aggregate_where-held, live_of-held, Holds}
 use Rattle.ts_core.proofs.Moves.{AllTwo, is_left, left_points, columns_left, IsMoved, moved, IsExpired, expired, closed}
-use Rattle.ts_core.proofs.StateLemmas.{AllTwo-all, AllTwo-map, all_as, cons_not, same_column-eq, is_waiting-not, earlier_mark-le, le_trans, le_is, is_le, Holds-raw_of, StandsFor-Holds, HasCells-as}
+use Rattle.ts_core.proofs.StateLemmas.{AllTwo-all, AllTwo-map, all_as, cons_not, same_column-eq, is_waiting-not, earlier_mark-le, le_trans, Holds-raw_of, StandsFor-Holds, HasCells-as}
 
 le_later : (a b t : ℤ) → a ≤ℤ b → int_le b t ≡ true → int_le a t ≡ true
-le_later a b t h k = le_is a t (le_trans a b t h (is_le b t k))
+le_later a b t h k = le_true a t (le_trans a b t h (le_from b t k))
 
 -- one column's cut rises from the earlier mark to the new
 cut_rises : (b w : Bool) (old mark t : ℤ) → old ≤ℤ mark → int_le (cond w old mark) t ≡ true → int_le (cond (b || w) old mark) t ≡ true

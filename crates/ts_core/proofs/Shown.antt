@@ -13,8 +13,9 @@ use Rattle.ts_core.specs.Aggregates.{merged}
 use Rattle.ts_core.specs.RawFacts.{kept_from, is_kept}
 use Rattle.ts_core.specs.StoreStates.{RuleCells, StoreState, StandsFor, HasCells, rule_of, lowest_of, facts_of}
 use Rattle.ts_core.specs.Views.{RuleTotals, HasTotals, Shows, totals_in, seen_of, seen_rule, seen_low}
+use Rattle.ts_core.proofs.Tests.{le_true, le_from}
 use Rattle.ts_core.proofs.Cuts.{total_of-parts, Holds}
-use Rattle.ts_core.proofs.StateLemmas.{is_kept-above, StandsFor-Holds, le_is, is_le}
+use Rattle.ts_core.proofs.StateLemmas.{is_kept-above, StandsFor-Holds}
 
 all_totals : (cut : Column → ℤ) (fs : List Fact) (rs : List RuleCells) → AllByRecursion (HasCells cut fs) rs → AllByRecursion (HasTotals fs) (map totals_in rs)
 all_totals cut fs [] a = tt
@@ -69,8 +70,8 @@ stands_raw opening h s st e =
       accepted = st.accepted;
       once = st.once;
       raw = λ f. (
-        λ a. let n = held.only f a in (n.0, subst (λ x. x ≤ℤ f.time) (sym raw) (is_le (raw_mark opening h) f.time n.1)),
-        λ a. held.all f a.0 (le_is (raw_mark opening h) f.time (subst (λ x. x ≤ℤ f.time) raw a.1)),
+        λ a. let n = held.only f a in (n.0, subst (λ x. x ≤ℤ f.time) (sym raw) (le_from (raw_mark opening h) f.time n.1)),
+        λ a. held.all f a.0 (le_true (raw_mark opening h) f.time (subst (λ x. x ≤ℤ f.time) raw a.1)),
       );
     }
 

@@ -14,7 +14,8 @@ use Rattle.ts_core.specs.RawFacts.{same_column, is_waiting, earlier_mark, kept_f
 use Rattle.ts_core.specs.StoreStates.{RuleCells, StoreState, StandsFor, HasCells, rule_of, lowest_of, facts_of}
 use Rattle.ts_core.proofs.Ids.{columns_total, exact_columns, equal_of}
 use Rattle.ts_core.proofs.MembersLemmas.{Among-filter_passes, Among-filter_was, Among-filter_stays}
-use Rattle.ts_core.proofs.Cuts.{both_true, Holds}
+use Rattle.ts_core.proofs.Tests.{and_parts, or_right, le_true}
+use Rattle.ts_core.proofs.Cuts.{Holds}
 use Rattle.ts_core.proofs.Moves.{AllTwo}
 
 -- ---- lists
@@ -64,16 +65,12 @@ same_column-refl c = ap is_eq (tied_itself columns_total c)
 pub same_column-eq : (c d : Column) → same_column c d ≡ true → c ≡ d
 same_column-eq c d h = exact_columns c d (equal_of (column_cmp c d) h)
 
-or_right : (a : Bool) → a || true ≡ true
-or_right true = refl
-or_right false = refl
-
 pub is_waiting-there : (c : Column) (ds : List Column) → Among c ds → is_waiting ds c ≡ true
 is_waiting-there c [] h = absurd h
 is_waiting-there c (d ∷ ds) h =
     ⊎_elim {C = same_column c d || is_waiting ds c ≡ true}
     (λ e. ap (λ b. b || is_waiting ds c) (ap (same_column c) (sym e) ∙ same_column-refl c))
-    (λ k. ap (λ b. same_column c d || b) (is_waiting-there c ds k) ∙ or_right (same_column c d)) h
+    (λ k. ap (λ b. same_column c d || b) (is_waiting-there c ds k) ∙ or_right (same_column c d) true refl) h
 
 pub is_waiting-not : (c : Column) (ds : List Column) → (Among c ds → ⊥) → is_waiting ds c ≡ false
 is_waiting-not c [] h = refl
@@ -87,12 +84,6 @@ is_waiting-not c (d ∷ ds) h =
 
 pub le_trans : (a b c : ℤ) → a ≤ℤ b → b ≤ℤ c → a ≤ℤ c
 le_trans a b c h k = omega (arith, ints)
-
-pub le_is : (a b : ℤ) → a ≤ℤ b → int_le a b ≡ true
-le_is a b h = grind (arith, ints)
-
-pub is_le : (a b : ℤ) → int_le a b ≡ true → a ≤ℤ b
-is_le a b h = grind (arith, ints)
 
 pub int_max-left : (a b : ℤ) → a ≤ℤ int_max a b
 int_max-left a b = omega (arith, ints, clamps)
@@ -117,8 +108,8 @@ earlier_mark-le opening (Step ended ∷ h) = earlier_mark-le opening h
 pub is_kept-above : (opening : Settings) (h : History) (waiting : List Column) (f : Fact) → raw_mark opening h ≤ℤ f.time → is_kept (kept_from opening h waiting) f ≡ true
 is_kept-above opening h waiting f m =
     elim (is_waiting waiting f.column) as (λ b. int_le (cond b (earlier_mark opening h) (raw_mark opening h)) f.time ≡ true) [
-      | true ↦ le_is (earlier_mark opening h) f.time (le_trans (earlier_mark opening h) (raw_mark opening h) f.time (earlier_mark-le opening h) m)
-      | false ↦ le_is (raw_mark opening h) f.time m
+      | true ↦ le_true (earlier_mark opening h) f.time (le_trans (earlier_mark opening h) (raw_mark opening h) f.time (earlier_mark-le opening h) m)
+      | false ↦ le_true (raw_mark opening h) f.time m
     ]
 
 -- ---- the raw facts, as one list
@@ -131,14 +122,14 @@ pub raw_of-Holds : (opening : Settings) (h : History) (waiting : List Column) (h
 raw_of-Holds opening h waiting held d r = record {
   once = d;
   all = λ f a k. (r f).1 (Among-filter_stays (is_raw_of opening h waiting f.column) f (latest_of h) a (ap₂ (λ x y. x && y) (same_column-refl f.column) k));
-  only = λ f a. let m = (r f).0 a in (Among-filter_was (is_raw_of opening h waiting f.column) f (latest_of h) m, (both_true _ _ (Among-filter_passes (is_raw_of opening h waiting f.column) f (latest_of h) m)).1);
+  only = λ f a. let m = (r f).0 a in (Among-filter_was (is_raw_of opening h waiting f.column) f (latest_of h) m, (and_parts _ _ (Among-filter_passes (is_raw_of opening h waiting f.column) f (latest_of h) m)).1);
 }
 
 pub Holds-raw_of : (opening : Settings) (h : History) (waiting : List Column) (held : List Fact) → Holds (kept_from opening h waiting) (latest_of h) held → (f : Fact)
     → (Among f held → Among f (raw_of opening h waiting f.column)) × (Among f (raw_of opening h waiting f.column) → Among f held)
 Holds-raw_of opening h waiting held s f = (
   λ a. let n = s.only f a in Among-filter_stays (is_raw_of opening h waiting f.column) f (latest_of h) n.0 (ap₂ (λ x y. x && y) (same_column-refl f.column) n.1),
-  λ m. s.all f (Among-filter_was (is_raw_of opening h waiting f.column) f (latest_of h) m) (both_true _ _ (Among-filter_passes (is_raw_of opening h waiting f.column) f (latest_of h) m)).1,
+  λ m. s.all f (Among-filter_was (is_raw_of opening h waiting f.column) f (latest_of h) m) (and_parts _ _ (Among-filter_passes (is_raw_of opening h waiting f.column) f (latest_of h) m)).1,
 )
 
 pub StandsFor-Holds : (opening : Settings) (h : History) (s : StoreState) → StandsFor opening h s → Holds (kept_from opening h s.waiting) (latest_of h) (facts_of s.columns)

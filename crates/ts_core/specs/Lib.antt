@@ -19,3 +19,7 @@ pub mod Cells
 pub mod StoreStates
 pub mod Runs
 pub mod Views
+pub mod Queries
+pub mod Pieces
+pub mod Faults
+pub mod Plans

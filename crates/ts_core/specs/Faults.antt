@@ -1,0 +1,100 @@
+-- The first fault of a list of pieces. (Own rules.)
+use Rattle.std.specs.Prelude.{ℕ, ◌+◌, ℤ, pos, ◌-ℤ◌, int_lt, int_le, Bool, ◌&&◌, ◌||◌, List, [], ◌∷◌, Option, Some, None, if◌then◌else◌}
+use Rattle.std.specs.Ordering.{int_eq}
+use Rattle.std.specs.Int.{int_rem_euclid}
+use Rattle.std.specs.List.{list_any, list_all}
+use Rattle.ts_core.specs.Facts.{Text, same_text}
+use Rattle.ts_core.specs.Settings.{Rule, Settings}
+use Rattle.ts_core.specs.Buckets.{bucket_of}
+use Rattle.ts_core.specs.Marks.{Marks, index_of}
+use Rattle.ts_core.specs.Queries.{Query}
+use Rattle.ts_core.specs.Pieces.{Source, Raw, Rollup, Piece, MarkedRule, Asked, asked, rule_named, start_of, tags_of}
+
+pub data Fault : Type 0 where
+  -- the pieces don't lead from the start of the range to its end
+  Gap : Fault
+  -- a raw piece starts below the raw mark
+  BelowMark : Fault
+  NoSuchRule : Fault
+  OtherMeasurement : Fault
+  -- an end isn't a boundary of the rule
+  OffBoundary : Fault
+  -- the first bucket lies below the rule's low index
+  BelowLow : Fault
+  -- the rule's buckets don't fit the query's
+  Straddles : Fault
+  -- the rule doesn't keep a tag that the query names
+  TagNotKept : Fault
+
+-- the number that a fault is answered by
+abbrev pub fault_number : Fault → ℕ
+fault_number Gap = 82
+fault_number BelowMark = 83
+fault_number NoSuchRule = 84
+fault_number OtherMeasurement = 85
+fault_number OffBoundary = 86
+fault_number BelowLow = 87
+fault_number Straddles = 88
+fault_number TagNotKept = 89
+
+-- ---- of one piece
+
+-- the next fault where all is well, else this one
+abbrev pub unless : Bool → Fault → Option Fault → Option Fault
+unless well fault next = if well then next else Some fault
+
+abbrev pub is_boundary : Rule → ℤ → Bool
+is_boundary r p = int_eq (start_of r (index_of r p)) p
+
+abbrev pub divides : Rule → Query → Bool
+divides r q = int_eq (int_rem_euclid q.interval r.interval) (pos 0) && int_eq (int_rem_euclid (q.offset -ℤ r.offset) r.interval) (pos 0)
+
+abbrev pub is_in_one_bucket : Query → ℤ → ℤ → Bool
+is_in_one_bucket q a b = int_eq (bucket_of a q.interval q.offset) (bucket_of (b -ℤ pos 1) q.interval q.offset)
+
+abbrev pub keeps : Rule → Text → Bool
+keeps r tag = list_any (same_text tag) r.kept_tags
+
+abbrev pub rule_fault : Query → Option MarkedRule → ℤ → ℤ → Option Fault
+rule_fault q None a b = Some NoSuchRule
+rule_fault q (Some r) a b =
+    unless (same_text r.rule.measurement q.measurement) OtherMeasurement
+    (unless (is_boundary r.rule a) OffBoundary
+    (unless (is_boundary r.rule b) OffBoundary
+    (unless (int_le r.low (index_of r.rule a)) BelowLow
+    (unless (divides r.rule q || is_in_one_bucket q a b) Straddles
+    (unless (list_all (keeps r.rule) (tags_of q)) TagNotKept None)))))
+
+abbrev pub source_fault : Asked → Source → ℤ → ℤ → Option Fault
+source_fault t Raw a b = unless (int_le t.mark a) BelowMark None
+source_fault t (Rollup name) a b = rule_fault t.query (rule_named name t.rules) a b
+
+abbrev pub piece_fault : Asked → Piece → Option Fault
+piece_fault t p = source_fault t p.source p.from p.to
+
+-- ---- of a list
+
+-- the first piece that doesn't join, or their number where the last doesn't reach the end
+abbrev pub gap_at : ℕ → ℤ → ℤ → List Piece → Option ℕ
+gap_at n a b [] = if int_eq a b then None else Some n
+gap_at n a b (p ∷ ps) = if int_eq p.from a && (int_lt p.from p.to && int_le p.to b) then gap_at (n + 1) p.to b ps else Some n
+
+abbrev pub or_fault : ℕ → Option Fault → Option (Fault × ℕ) → Option (Fault × ℕ)
+or_fault n None next = next
+or_fault n (Some fault) next = Some (fault, n)
+
+abbrev pub pieces_fault : Asked → ℕ → List Piece → Option (Fault × ℕ)
+pieces_fault t n [] = None
+pieces_fault t n (p ∷ ps) = or_fault n (piece_fault t p) (pieces_fault t (n + 1) ps)
+
+abbrev pub or_gap : Option ℕ → Option (Fault × ℕ) → Option (Fault × ℕ)
+or_gap None next = next
+or_gap (Some n) next = Some (Gap, n)
+
+-- gaps over the whole list, and then piece by piece
+abbrev pub fault_from : Asked → ℤ → List Piece → Option (Fault × ℕ)
+fault_from t a ps = or_gap (gap_at 0 a t.query.to ps) (pieces_fault t 0 ps)
+
+-- the first fault, and the number of its piece, from 0
+abbrev pub first_fault : Settings → Marks → Query → List Piece → Option (Fault × ℕ)
+first_fault s m q ps = fault_from (asked s m q) q.from ps

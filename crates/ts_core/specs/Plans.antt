@@ -1,0 +1,97 @@
+-- The plan of a query: the walk over good places, with neighbours joined. There is one plan, or none. (Own rules.)
+use Rattle.std.specs.Prelude.{◌≡◌, ℕ, ◌+◌, ◌<◌, ℤ, pos, negsuc, ◌+ℤ◌, ◌-ℤ◌, ◌≤ℤ◌, ◌<ℤ◌, Bool, true, false, ◌&&◌, List, [], ◌∷◌, Option, Some, None, slice_get, if◌then◌else◌}
+use Rattle.ts_core.specs.Facts.{Text, same_text}
+use Rattle.ts_core.specs.Settings.{Rule, Settings}
+use Rattle.ts_core.specs.Marks.{Marks, index_of}
+use Rattle.ts_core.specs.Queries.{Query}
+use Rattle.ts_core.specs.Pieces.{Source, Raw, Rollup, Piece, MarkedRule, Asked, asked, IsValidPiece, IsValidFrom}
+use Rattle.ts_core.specs.Faults.{Fault, piece_fault}
+
+-- ---- the walk
+
+-- a place is good where some list of valid pieces leads from there to the end of the range
+abbrev pub IsGood : Asked → ℤ → Type 0
+IsGood t p = (ps : List Piece) × IsValidFrom t p ps
+
+abbrev pub rollup_piece : Text → ℤ → ℤ → Piece
+rollup_piece name a b = record { source = Rollup name; from = a; to = b }
+
+-- the bucket of rule n that starts at p is a valid piece, and ends at a good place e
+pub record LeadsOn (t : Asked) (n : ℕ) (p e : ℤ) : Type 0 where
+  pub rule : MarkedRule
+  pub there : slice_get t.rules n ≡ Some rule
+  pub one : e ≡ p +ℤ rule.rule.interval
+  pub valid : IsValidPiece t (rollup_piece rule.rule.name p e)
+  pub good : IsGood t e
+
+-- rule n leads on, and none before it in the order of the settings
+pub record IsFirstToLead (t : Asked) (name : Text) (p e : ℤ) : Type 0 where
+  pub n : ℕ
+  pub leads : LeadsOn t n p e
+  pub named : leads.rule.rule.name ≡ name
+  pub first : (m : ℕ) (d : ℤ) → m < n → LeadsOn t m p d → ⊥
+
+-- the step of the walk from p to e: at or above the raw mark the rest is one raw piece, below it one bucket is taken, and then more
+abbrev pub Steps : Asked → ℤ → ℤ → Source → List Piece → Type 0 → Type 0
+Steps t p e Raw rest more = (t.mark ≤ℤ p) × (e ≡ t.query.to) × (rest ≡ [])
+Steps t p e (Rollup name) rest more = (p <ℤ t.mark) × IsFirstToLead t name p e × more
+
+-- the walk from p to the end of the range
+abbrev pub IsWalk : Asked → ℤ → List Piece → Type 0
+IsWalk t p [] = p ≡ t.query.to
+IsWalk t p (b ∷ bs) = (p <ℤ t.query.to) × (b.from ≡ p) × Steps t p b.to b.source bs (IsWalk t b.to bs)
+
+-- ---- joined
+
+abbrev pub is_same_rule : Source → Source → Bool
+is_same_rule Raw s = false
+is_same_rule (Rollup name) Raw = false
+is_same_rule (Rollup name) (Rollup other) = same_text name other
+
+abbrev pub is_faultless : Option Fault → Bool
+is_faultless None = true
+is_faultless (Some fault) = false
+
+-- the piece p drawn out to the end of b
+abbrev pub drawn : Piece → Piece → Piece
+drawn p b = record { source = p.source; from = p.from; to = b.to }
+
+-- from left to right, the next bucket of the same rule joins the piece as long as the joined piece is valid
+abbrev pub joined_onto : Asked → Piece → List Piece → List Piece
+joined_onto t p [] = p ∷ []
+joined_onto t p (b ∷ bs) =
+    if is_same_rule p.source b.source && is_faultless (piece_fault t (drawn p b))
+    then joined_onto t (drawn p b) bs
+    else (p ∷ joined_onto t b bs)
+
+abbrev pub joined : Asked → List Piece → List Piece
+joined t [] = []
+joined t (b ∷ bs) = joined_onto t b bs
+
+abbrev pub IsPlanOf : Asked → List Piece → Type 0
+IsPlanOf t ps = (bs : List Piece) × IsWalk t t.query.from bs × (ps ≡ joined t bs)
+
+abbrev pub IsPlan : Settings → Marks → Query → List Piece → Type 0
+IsPlan s m q ps = IsPlanOf (asked s m q) ps
+
+-- ---- the limit on what is searched
+
+-- z, and 0 where it is below 0
+abbrev pub at_least_none : ℤ → ℕ
+at_least_none (pos n) = n
+at_least_none (negsuc n) = 0
+
+-- the whole buckets of a rule from a to b: those after the bucket of a - 1 and before that of b
+abbrev pub whole_between : Rule → ℤ → ℤ → ℕ
+whole_between r a b = at_least_none ((index_of r b -ℤ index_of r (a -ℤ pos 1)) -ℤ pos 1)
+
+-- those of all rules of the query's measurement, in the range
+abbrev pub whole_buckets : List Rule → Query → ℕ
+whole_buckets [] q = 0
+whole_buckets (r ∷ rs) q = (if same_text r.measurement q.measurement then whole_between r q.from q.to else 0) + whole_buckets rs q
+
+-- more than 1,000,000 buckets would be searched
+pub record IsTooMany (s : Settings) (m : Marks) (q : Query) : Type 0 where
+  pub below : q.from <ℤ m.raw
+  pub some : q.from <ℤ q.to
+  pub many : 1000000 < whole_buckets s.rules q
