@@ -22,3 +22,6 @@ pub mod StepsLeft
 pub mod LowIndices
 pub mod NewStates
 pub mod RetentionRows
+pub mod Boundaries
+pub mod RowTests
+pub mod Assembled

@@ -23,3 +23,4 @@ pub mod Queries
 pub mod Pieces
 pub mod Faults
 pub mod Plans
+pub mod Assembly
