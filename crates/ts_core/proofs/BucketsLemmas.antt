@@ -1,9 +1,10 @@
--- A bucket is there, and it is one; later times have no earlier bucket.
-use Rattle.std.proofs.Common.{◌≡◌, ℕ, ℤ, pos, negsuc, ◌*◌, ◌/◌, ◌<◌, ◌+ℤ◌, ◌-ℤ◌, ◌*ℤ◌, ◌≤ℤ◌, ◌<ℤ◌, arith, refl, sym, ap, ◌∙◌, suc, subst, neg_ℤ, div-add-mod', mod-lt, zero-mul, zero}
+-- A bucket is there, and it is one.
+use Rattle.std.proofs.Common.{◌≡◌, ℕ, ℤ, pos, negsuc, ◌+◌, ◌*◌, ◌/◌, ◌%◌, ◌<◌, ◌≤◌, ◌+ℤ◌, ◌-ℤ◌, ◌*ℤ◌, ◌≤ℤ◌, ◌<ℤ◌, arith, refl, sym, ap, ◌∙◌, suc, subst, neg_ℤ, div-add-mod', mod-lt, zero-mul, zero}
 use Rattle.std.proofs.Common.{unsigned_abs}
 use Rattle.std.specs.Int.Signed.{≤ℤ_refl, yes_non_neg, pos-nat_abs}
-use Rattle.std.proofs.Math.IntN.{+ℤ-suc_ℤ, suc_ℤ-*ℤ, +ℤ_idr, +ℤ_one, negsuc-*ℤ-pos, pos-*ℤ-pos}
+use Rattle.std.proofs.Math.IntN.{+ℤ-suc_ℤ, suc_ℤ-*ℤ, +ℤ_idr}
 use Rattle.std.proofs.lemmas.Int.{ints, by_lt_z}
+use Rattle.std.proofs.Math.IntN.{negsuc-*ℤ-pos, pos-*ℤ-pos}
 use Rattle.std.specs.Int.{int_div_euclid}
 use Rattle.ts_core.specs.Buckets.{IsBucketOf, bucket_of}
 
@@ -30,20 +31,20 @@ bucket_of-is t o i h =
     let high = floor_high (t -ℤ o) i h in
     record { from_start = omega (arith, ints); before_end = omega (arith, ints) }
 
-pub IsBucket-from_index : (t i o k : ℤ) → pos 1 ≤ℤ i → k ≡ bucket_of t i o → IsBucketOf t i o k
-IsBucket-from_index t (pos i) o k h e = subst (IsBucketOf t (pos i) o) (sym e) (bucket_of-is t o i (omega (arith, ints)))
-IsBucket-from_index t (negsuc i) o k h e = absurd (omega (arith, ints))
+pub IsBucketOf-from_index : (t i o k : ℤ) → pos 1 ≤ℤ i → k ≡ bucket_of t i o → IsBucketOf t i o k
+IsBucketOf-from_index t (pos i) o k h e = subst (IsBucketOf t (pos i) o) (sym e) (bucket_of-is t o i (omega (arith, ints)))
+IsBucketOf-from_index t (negsuc i) o k h e = absurd (omega (arith, ints))
 
 -- ---- and there is one alone
 
-pub not_less : (x : ℤ) (n i : ℕ) → (x *ℤ pos i) ≤ℤ ((x +ℤ pos n) *ℤ pos i)
+not_less : (x : ℤ) (n i : ℕ) → (x *ℤ pos i) ≤ℤ ((x +ℤ pos n) *ℤ pos i)
 not_less x zero i = rw +ℤ_idr (≤ℤ_refl (x *ℤ pos i))
 not_less x (suc n) i =
     let ih = not_less x n i in
     let e : (x +ℤ pos (suc n)) *ℤ pos i ≡ (x +ℤ pos n) *ℤ pos i +ℤ pos i = ap (λ z. z *ℤ pos i) (+ℤ-suc_ℤ x (pos n)) ∙ suc_ℤ-*ℤ (x +ℤ pos n) (pos i) in
     rw e (omega (arith, ints))
 
-pub apart : (t o j k : ℤ) (i : ℕ) → IsBucketOf t (pos i) o j → IsBucketOf t (pos i) o k → j <ℤ k → ⊥
+apart : (t o j k : ℤ) (i : ℕ) → IsBucketOf t (pos i) o j → IsBucketOf t (pos i) o k → j <ℤ k → ⊥
 apart t o j k i a b l =
     let z : ℤ = k -ℤ (j +ℤ pos 1) in
     let low : pos 0 ≤ℤ z = omega (arith, ints) in
@@ -58,44 +59,3 @@ apart t o j k i a b l =
 pub bucket_unique : (t o j k : ℤ) (i : ℕ) → IsBucketOf t (pos i) o j → IsBucketOf t (pos i) o k → j ≡ k
 bucket_unique t o j k i a b =
     by_lt_z j k (λ l. absurd (apart t o j k i a b l)) (λ m. by_lt_z k j (λ l. absurd (apart t o k j i b a l)) (λ n. omega (arith, ints)))
-
--- ---- for any interval of 1 or more
-
-pub bucket_same : (t i o j k : ℤ) → pos 1 ≤ℤ i → IsBucketOf t i o j → IsBucketOf t i o k → j ≡ k
-bucket_same t (pos i) o j k h a b = bucket_unique t o j k i a b
-bucket_same t (negsuc i) o j k h a b = absurd (omega (arith, ints))
-
-pub bucket_is : (t i o : ℤ) → pos 1 ≤ℤ i → IsBucketOf t i o (bucket_of t i o)
-bucket_is t i o h = IsBucket-from_index t i o (bucket_of t i o) h refl
-
-pub one_more : (k i : ℤ) → (k +ℤ pos 1) *ℤ i ≡ (k *ℤ i) +ℤ i
-one_more k i = ap (λ z. z *ℤ i) (+ℤ_one k) ∙ suc_ℤ-*ℤ k i
-
-pub times_le : (j k i : ℤ) → pos 1 ≤ℤ i → j ≤ℤ k → (j *ℤ i) ≤ℤ (k *ℤ i)
-times_le j k (negsuc i) h l = absurd (omega (arith, ints))
-times_le j k (pos i) h l =
-    let z : ℤ = k -ℤ j in
-    let low : pos 0 ≤ℤ z = omega (arith, ints) in
-    let e : pos (unsigned_abs z) ≡ z = pos-nat_abs z (yes_non_neg low) in
-    let s : j +ℤ pos (unsigned_abs z) ≡ k = ap (λ x. j +ℤ x) e ∙ omega (arith, ints) in
-    subst (λ x. (j *ℤ pos i) ≤ℤ (x *ℤ pos i)) s (not_less j (unsigned_abs z) i)
-
-pub bucket_le : (t u i o : ℤ) → pos 1 ≤ℤ i → t ≤ℤ u → bucket_of t i o ≤ℤ bucket_of u i o
-bucket_le t u i o h l =
-    let j : ℤ = bucket_of t i o in
-    let k : ℤ = bucket_of u i o in
-    let a : IsBucketOf t i o j = bucket_is t i o h in
-    let b : IsBucketOf u i o k = bucket_is u i o h in
-    let p = a.from_start in
-    let q = b.before_end in
-    by_lt_z k j
-    (λ m. let n : (k +ℤ pos 1) ≤ℤ j = omega (arith, ints) in let x = times_le (k +ℤ pos 1) j i h n in absurd (omega (arith, ints)))
-    (λ m. m)
-
--- the start of a bucket lies in it
-pub bucket_of-start : (k i o : ℤ) → pos 1 ≤ℤ i → bucket_of ((k *ℤ i) +ℤ o) i o ≡ k
-bucket_of-start k i o h =
-    let e = one_more k i in
-    let t : ℤ = (k *ℤ i) +ℤ o in
-    let b : IsBucketOf t i o k = record { from_start = omega (arith, ints); before_end = omega (arith, ints) } in
-    bucket_same t i o (bucket_of t i o) k h (bucket_is t i o h) b

@@ -9,7 +9,7 @@ use Rattle.ts_core.specs.Times.{least_time}
 use Rattle.ts_core.specs.Settings.{Rule, Settings}
 use Rattle.ts_core.specs.History.{History, Line, Begin, Step, kept_since, raw_mark}
 use Rattle.ts_core.specs.Marks.{index_of, low_of, begins, IsGreatestOf, IsGreatestLeft, Outlasts}
-use Rattle.ts_core.proofs.BucketsLemmas.{bucket_le}
+use Rattle.ts_core.proofs.BucketsOrder.{bucket_le}
 use Rattle.ts_core.proofs.StateLemmas.{le_trans, int_max-left, int_max-right}
 
 -- ---- the greatest

@@ -10,7 +10,7 @@ use Rattle.ts_core.specs.Queries.{Query}
 use Rattle.ts_core.specs.Marks.{index_of}
 use Rattle.ts_core.specs.Pieces.{Source, Raw, Rollup, Piece, MarkedRule, Asked, HasIntervals, rule_named, start_of, IsBoundary, Divides, IsInOneBucket, RuleServes, SourceServes, IsValidPiece, Covers}
 use Rattle.ts_core.specs.Plans.{IsGood, rollup_piece, LeadsOn}
-use Rattle.ts_core.proofs.BucketsLemmas.{bucket_is, one_more, times_le, bucket_le, bucket_of-start}
+use Rattle.ts_core.proofs.BucketsOrder.{bucket_is, one_more, times_le, bucket_le, bucket_of-start}
 use Rattle.ts_core.proofs.Ids.{same_text-eq}
 
 -- ---- rules by number and by name

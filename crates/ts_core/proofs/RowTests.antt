@@ -12,7 +12,8 @@ use Rattle.ts_core.specs.Marks.{index_of}
 use Rattle.ts_core.specs.Queries.{Condition, Query, meets, is_selected, matches, group_of}
 use Rattle.ts_core.specs.Pieces.{MarkedRule, start_of, tags_of, RuleServes}
 use Rattle.ts_core.specs.Cells.{Cell, cell_of, is_rolled}
-use Rattle.ts_core.specs.Assembly.{same_group, is_in_row, stand_in}
+use Rattle.ts_core.specs.Answers.{same_group, is_in_row, bucket_in}
+use Rattle.ts_core.specs.Assembly.{stand_in}
 use Rattle.ts_core.proofs.Ids.{same_text-eq}
 use Rattle.ts_core.proofs.Tests.{and_parts, le_true, lt_true, same_text-refl}
 use Rattle.ts_core.proofs.Boundaries.{cell_start, within_cell, within_parts, one_bucket}
@@ -61,6 +62,10 @@ in_range sel sel' wq wq' grp grp' bkt bkt' true w' a b c d e =
 in_range sel sel' wq wq' grp grp' bkt bkt' false w' a b c d e =
     and_none ((sel && wq) && (grp && bkt)) ∙ sym (ap (λ x. ((sel' && wq') && (grp' && bkt')) && x) (sym c) ∙ and_none ((sel' && wq') && (grp' && bkt')))
 
+match_in_range : (sel sel' wq wq' w w' : Bool) → sel ≡ sel' → w ≡ w' → (w ≡ true → wq ≡ wq') → (sel && wq) && w ≡ (sel' && wq') && w'
+match_in_range sel sel' wq wq' true w' a c d = ap₂ (λ x y. x && y) (ap₂ (λ x y. x && y) a (d refl)) c
+match_in_range sel sel' wq wq' false w' a c d = and_none (sel && wq) ∙ sym (ap (λ x. (sel' && wq') && x) (sym c) ∙ and_none (sel' && wq'))
+
 pub wider : (a b c d t : ℤ) → c ≤ℤ a → b ≤ℤ d → is_within a b t ≡ true → is_within c d t ≡ true
 wider a b c d t h k w =
     let p = within_parts a b t w in
@@ -68,33 +73,57 @@ wider a b c d t h k w =
     let y : t <ℤ d = let m = p.1 in omega (arith, ints) in
     ap₂ (λ u v. u && v) (le_true c t x) (lt_true t d y)
 
--- what passes in a piece of a query's range
-abbrev pub in_piece : Query → List Text → ℤ → ℤ → ℤ → Fact → Bool
-in_piece q group k a b f = is_in_row q group k f && is_within a b f.time
+-- what a test passes from a on, before b
+abbrev pub in_part : (Fact → Bool) → ℤ → ℤ → Fact → Bool
+in_part test a b f = test f && is_within a b f.time
 
-pub same_row : (q : Query) (group : List Text) (k : ℤ) (r : MarkedRule) (a b : ℤ) → pos 1 ≤ℤ q.interval → pos 1 ≤ℤ r.rule.interval → RuleServes q r a b → q.from ≤ℤ a → b ≤ℤ q.to
-    → (f : Fact) → is_rolled r.rule f ≡ true → in_piece q group k a b f ≡ in_piece q group k a b (stand_in r.rule (cell_of r.rule f))
-same_row q group k r a b v w s h l f m =
-    let u : ℤ = cell_start r.rule f.time in
-    let column : Column = record { series = kept_series r.rule f; field = f.column.field } in
-    let tags = all_parts (λ tag. Among tag r.rule.kept_tags) q.group_tags (map (λ (c : Condition). c.tag) q.conditions) s.tags in
-    let name : f.column.series.measurement ≡ r.rule.measurement = same_text-eq f.column.series.measurement r.rule.measurement m in
-    let selected : is_selected q f.column ≡ is_selected q column =
-    ap₂ (λ x y. x && y) (ap (λ z. same_text z q.measurement && same_text f.column.field q.field) name) (same_meeting r.rule f q.conditions tags.1) in
-    let groups : same_group (group_of q f) group ≡ same_group (tag_values q.group_tags (kept_series r.rule f)) group = ap (λ z. same_group z group) (same_values r.rule f q.group_tags tags.0) in
-    let range : is_within a b f.time ≡ is_within a b u = within_cell r.rule a b f.time w s.starts s.ends in
-    in_range (is_selected q f.column) (is_selected q column) (is_within q.from q.to f.time) (is_within q.from q.to u)
-    (same_group (group_of q f) group) (same_group (tag_values q.group_tags (kept_series r.rule f)) group)
-    (int_eq (bucket_of f.time q.interval q.offset) k) (int_eq (bucket_of u q.interval q.offset) k) (is_within a b f.time) (is_within a b u)
-    selected groups range
-    (λ e. wider a b q.from q.to f.time h l e ∙ sym (wider a b q.from q.to u h l (sym range ∙ e)))
-    (λ e. let p = within_parts a b f.time e in ap (λ z. int_eq z k) (one_bucket r.rule q a b f.time w v s.starts s.fits p.0 p.1))
+-- ---- facts and their cells
 
--- what is in a row is of the query's measurement
-pub of_measurement : (q : Query) (group : List Text) (k a b : ℤ) (f : Fact) → in_piece q group k a b f ≡ true → same_text f.column.series.measurement q.measurement ≡ true
-of_measurement q group k a b f h =
-    let row : is_in_row q group k f ≡ true = (and_parts (is_in_row q group k f) (is_within a b f.time) h).0 in
-    let match : matches q f ≡ true = (and_parts (matches q f) _ row).0 in
-    let selected : is_selected q f.column ≡ true = (and_parts (is_selected q f.column) (is_within q.from q.to f.time) match).0 in
-    let of : is_of q.measurement q.field f.column ≡ true = (and_parts (is_of q.measurement q.field f.column) _ selected).0 in
+module _ (q : Query) (r : MarkedRule) (a b : ℤ) (v : pos 1 ≤ℤ q.interval) (w : pos 1 ≤ℤ r.rule.interval) (s : RuleServes q r a b) (h : q.from ≤ℤ a) (l : b ≤ℤ q.to) (f : Fact) (m : is_rolled r.rule f ≡ true) where
+  abbrev u : ℤ
+  u = cell_start r.rule f.time
+
+  abbrev cell_column : Column
+  cell_column = record { series = kept_series r.rule f; field = f.column.field }
+
+  tags_kept : AllByRecursion (λ tag. Among tag r.rule.kept_tags) q.group_tags × AllByRecursion (λ tag. Among tag r.rule.kept_tags) (map (λ (c : Condition). c.tag) q.conditions)
+  tags_kept = all_parts (λ tag. Among tag r.rule.kept_tags) q.group_tags (map (λ (c : Condition). c.tag) q.conditions) s.tags
+
+  selected : is_selected q f.column ≡ is_selected q cell_column
+  selected =
+      ap₂ (λ x y. x && y) (ap (λ z. same_text z q.measurement && same_text f.column.field q.field) (same_text-eq f.column.series.measurement r.rule.measurement m))
+      (same_meeting r.rule f q.conditions tags_kept.1)
+
+  range : is_within a b f.time ≡ is_within a b u
+  range = within_cell r.rule a b f.time w s.starts s.ends
+
+  in_query : is_within a b f.time ≡ true → is_within q.from q.to f.time ≡ is_within q.from q.to u
+  in_query e = wider a b q.from q.to f.time h l e ∙ sym (wider a b q.from q.to u h l (sym range ∙ e))
+
+  -- they are of one group
+  pub same_group_of : group_of q f ≡ group_of q (stand_in r.rule (cell_of r.rule f))
+  same_group_of = same_values r.rule f q.group_tags tags_kept.0
+
+  -- they match alike
+  pub same_match : in_part (matches q) a b f ≡ in_part (matches q) a b (stand_in r.rule (cell_of r.rule f))
+  same_match =
+      match_in_range (is_selected q f.column) (is_selected q cell_column) (is_within q.from q.to f.time) (is_within q.from q.to u) (is_within a b f.time) (is_within a b u) selected range in_query
+
+  -- they are in the same rows
+  pub same_row : (g : List Text) (k : ℤ) → in_part (is_in_row q g k) a b f ≡ in_part (is_in_row q g k) a b (stand_in r.rule (cell_of r.rule f))
+  same_row g k =
+      in_range (is_selected q f.column) (is_selected q cell_column) (is_within q.from q.to f.time) (is_within q.from q.to u)
+      (same_group (group_of q f) g) (same_group (tag_values q.group_tags (kept_series r.rule f)) g)
+      (int_eq (bucket_in q f.time) k) (int_eq (bucket_in q u) k) (is_within a b f.time) (is_within a b u)
+      selected (ap (λ z. same_group z g) same_group_of) range in_query
+      (λ e. let p = within_parts a b f.time e in ap (λ z. int_eq z k) (one_bucket r.rule q a b f.time w v s.starts s.fits p.0 p.1))
+
+-- what matches is of the query's measurement
+pub matches-measurement : (q : Query) (f : Fact) → matches q f ≡ true → same_text f.column.series.measurement q.measurement ≡ true
+matches-measurement q f match =
+    let chosen : is_selected q f.column ≡ true = (and_parts (is_selected q f.column) (is_within q.from q.to f.time) match).0 in
+    let of : is_of q.measurement q.field f.column ≡ true = (and_parts (is_of q.measurement q.field f.column) _ chosen).0 in
     (and_parts (same_text f.column.series.measurement q.measurement) _ of).0
+
+pub in_row-matches : (q : Query) (g : List Text) (k : ℤ) (f : Fact) → is_in_row q g k f ≡ true → matches q f ≡ true
+in_row-matches q g k f h = (and_parts (matches q f) _ h).0

@@ -1,9 +1,10 @@
 -- The plan of a query: the walk over good places, with neighbours joined. There is one plan, or none. (Own rules.)
-use Rattle.std.specs.Prelude.{◌≡◌, ℕ, ◌+◌, ◌<◌, ℤ, pos, negsuc, ◌+ℤ◌, ◌-ℤ◌, ◌≤ℤ◌, ◌<ℤ◌, Bool, true, false, ◌&&◌, List, [], ◌∷◌, Option, Some, None, slice_get, if◌then◌else◌}
+use Rattle.std.specs.Prelude.{◌≡◌, ℕ, ◌+◌, ◌<◌, ℤ, pos, ◌+ℤ◌, ◌-ℤ◌, ◌≤ℤ◌, ◌<ℤ◌, Bool, true, false, ◌&&◌, List, [], ◌∷◌, Option, Some, None, slice_get, if◌then◌else◌}
 use Rattle.ts_core.specs.Facts.{Text, same_text}
 use Rattle.ts_core.specs.Settings.{Rule, Settings}
 use Rattle.ts_core.specs.Marks.{Marks, index_of}
 use Rattle.ts_core.specs.Queries.{Query}
+use Rattle.ts_core.specs.Answers.{at_least_none}
 use Rattle.ts_core.specs.Pieces.{Source, Raw, Rollup, Piece, MarkedRule, Asked, asked, IsValidPiece, IsValidFrom}
 use Rattle.ts_core.specs.Faults.{Fault, piece_fault}
 
@@ -75,11 +76,6 @@ abbrev pub IsPlan : Settings → Marks → Query → List Piece → Type 0
 IsPlan s m q ps = IsPlanOf (asked s m q) ps
 
 -- ---- the limit on what is searched
-
--- z, and 0 where it is below 0
-abbrev pub at_least_none : ℤ → ℕ
-at_least_none (pos n) = n
-at_least_none (negsuc n) = 0
 
 -- the whole buckets of a rule from a to b: those after the bucket of a - 1 and before that of b
 abbrev pub whole_between : Rule → ℤ → ℤ → ℕ

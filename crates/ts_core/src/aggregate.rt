@@ -1,11 +1,15 @@
 //! Count, sum and extremes of points.
-ghost use Rattle.std.specs.Prelude.{◌≡◌, ◌↔◌, ℕ, ◌+◌, ◌*◌, ◌^◌, ◌≤◌, ℤ, unsigned_abs, IsNone, option_map};
+ghost use Rattle.std.specs.Prelude.{◌≡◌, ◌↔◌, ℕ, ◌+◌, ◌*◌, ◌^◌, ◌≤◌, ℤ, pos, ◌*ℤ◌, unsigned_abs, IsTrue, IsNone, IsSome, IfSome, option_map};
+ghost use Rattle.std.specs.declared.cmp.Ordering.{Ordering};
 ghost use Rattle.std.specs.Ordering.{int_cmp};
 ghost use Rattle.ts_core.specs.Orders.{lesser, down_cmp, early_cmp, late_cmp};
-ghost use Rattle.ts_core.specs.Aggregates.{Aggregate, empty_aggregate, aggregate_of_one, merged, merged_extremes, extremes_of_both};
+ghost use Rattle.ts_core.specs.Aggregates.{Aggregate, empty_aggregate, aggregate_of_one, merged, merged_extremes, extremes_of_both, IsSpread, IsSound};
 ghost use Rattle.ts_core.specs.MergeLaws.{aggregate_laws};
+ghost use Rattle.ts_core.specs.SoundLaws.{sound_laws};
+ghost use Rattle.ts_core.specs.Remainders.{AreBeyond, LiesInside, inner_rest, IsDetermined};
 
 use crate::partial::Partial;
+use crate::remainder::Remainder;
 use crate::time::Time;
 use std::marker::Model;
 
@@ -75,6 +79,18 @@ fn later(a: (Time, i64), b: (Time, i64)) -> (Time, i64)
     }
 }
 
+fn is_earlier(a: (Time, i64), b: (Time, i64)) -> bool
+    ensures { IsTrue result ↔ (early_cmp a b ≡ Ordering.Less) }
+{
+    a.0 < b.0 || (a.0 == b.0 && a.1 > b.1)
+}
+
+fn is_later(a: (Time, i64), b: (Time, i64)) -> bool
+    ensures { IsTrue result ↔ (late_cmp a b ≡ Ordering.Less) }
+{
+    a.0 > b.0 || (a.0 == b.0 && a.1 > b.1)
+}
+
 impl Extremes {
     fn both(self, other: Extremes) -> Extremes
         ensures { result ≡ extremes_of_both self other }
@@ -86,6 +102,32 @@ impl Extremes {
             last: later(self.last, other.last),
         }
     }
+
+    fn are_beyond(&self, part: &Extremes) -> bool
+        ensures { IsTrue result ↔ AreBeyond self.now part.now }
+    {
+        if self.min >= part.min || part.max >= self.max {
+            return false;
+        }
+        is_earlier(self.first, part.first) && is_later(self.last, part.last)
+    }
+
+    fn are_spread(&self, count: u64, sum: i128) -> bool
+        requires { count ≤ 2 ^ 62 }
+        ensures { IsTrue result ↔ IsSpread count sum self.now }
+    {
+        if count == 0 {
+            return false;
+        }
+        times(count, self.min) <= sum && sum <= times(count, self.max)
+    }
+}
+
+fn times(count: u64, value: i64) -> i128
+    requires { count ≤ 2 ^ 62 }
+    ensures { result ≡ pos count *ℤ value }
+{
+    i128::from(count) * i128::from(value)
 }
 
 fn merge_extremes(a: Option<Extremes>, b: Option<Extremes>) -> Option<Extremes>
@@ -99,6 +141,24 @@ fn merge_extremes(a: Option<Extremes>, b: Option<Extremes>) -> Option<Extremes>
 }
 
 impl Agg {
+    fn without_inner(self, part: Agg) -> Option<Agg>
+        ensures inside { IsSome result ↔ LiesInside part self }
+        ensures rest { IfSome result (λ rest. rest ≡ inner_rest self part) }
+    {
+        let whole = self.extremes?;
+        let inner = part.extremes?;
+        let count = self.count.saturating_sub(part.count);
+        let sum = self.sum - part.sum;
+        if !whole.are_beyond(&inner) || !whole.are_spread(count, sum) {
+            return None;
+        }
+        Some(Agg {
+            count,
+            sum,
+            extremes: self.extremes,
+        })
+    }
+
     /// The sum of the values, 0 of none.
     pub fn sum(&self) -> i128
         ensures value { result ≡ self.now.sum }
@@ -193,3 +253,24 @@ impl Partial for Agg {
 
     ghost laws = { aggregate_laws };
 }
+
+impl Remainder for Agg {
+    ghost possible = { IsSound };
+
+    ghost determined = { IsDetermined };
+
+    fn without(self, part: Agg) -> Option<Agg> {
+        if part.count == 0 {
+            Some(self)
+        } else if part == self {
+            Some(Agg::empty())
+        } else {
+            self.without_inner(part)
+        }
+    }
+
+    ghost possible_laws = { sound_laws };
+}
+
+#[cfg(test)]
+mod tests;

@@ -2,7 +2,7 @@ use Rattle.std.proofs.Common.{rules, arith, ◌≡◌, ap, ap₂, sym, ◌∙◌
 use Rattle.std.specs.Int.{w128}
 use Rattle.std.proofs.lemmas.Int.{ints}
 use Rattle.ts_core.specs.Aggregates.{Aggregate, merged}
-use Rattle.ts_core.proofs.SoundLemmas.{IsSound-parts, merged-parts}
+use Rattle.ts_core.specs.SoundLaws.{IsSound-parts, merged-parts}
 use Rattle.ts_core.proofs.aggregate.AggPartial.merge.Goals as goal
 
 pub invariant_of-result : goal.invariant_of-result

@@ -1,13 +1,14 @@
 -- What may be the aggregate of some points, merged, may be so again.
-use Rattle.std.proofs.Common.{◌≡◌, ℕ, zero, suc, ◌+◌, ◌*◌, ◌<◌, ◌≤◌, ℤ, pos, negsuc, ◌+ℤ◌, ◌*ℤ◌, ◌≤ℤ◌, refl, sym, ◌∙◌, ap, subst, arith, zero-add, Option, Some, None, MatchOption, int_cmp}
+use Rattle.std.proofs.Common.{◌≡◌, ℕ, zero, suc, ◌+◌, ◌*◌, ◌<◌, ◌≤◌, ℤ, pos, negsuc, neg_ℤ, unsigned_abs, ◌+ℤ◌, ◌*ℤ◌, ◌≤ℤ◌, refl, sym, ◌∙◌, ap, subst, arith, zero-add, Option, Some, None, MatchOption, int_cmp}
 use Rattle.std.specs.Cmp.{int_cmp_total}
 use Rattle.std.specs.Int.Signed.{≤ℤ_refl}
 use Rattle.std.proofs.lemmas.Int.{ints}
 use Rattle.std.proofs.lemmas.Map.Lookups.{exact_signed}
-use Rattle.std.proofs.Math.IntN.{suc_ℤ-*ℤ, zero-*ℤ, +ℤ_idl}
+use Rattle.std.proofs.Math.IntN.{suc_ℤ-*ℤ, zero-*ℤ, +ℤ_idl, pos-*ℤ-pos, pos-*ℤ-negsuc}
 use Rattle.ts_core.specs.declared.aggregate.Extremes.{Extremes}
 use Rattle.ts_core.specs.Orders.{lesser, down_cmp}
 use Rattle.ts_core.specs.OrderLaws.{lesser-left, lesser-right, exact_down, down_total, le_from_IsUpto}
+use Rattle.ts_core.specs.Remainders.{PossibleLaws}
 use Rattle.ts_core.specs.Aggregates.{Aggregate, empty_aggregate, aggregate_of_one, extremes_of_both, merged_extremes, merged, IsSpread, IsSound}
 
 -- ---- products
@@ -93,3 +94,25 @@ IsSound-parts a b s x h k p q =
 pub merged-parts : (a b : Aggregate) (s : ℤ) (x : Option Extremes) → s ≡ a.sum +ℤ b.sum → x ≡ merged_extremes a.extremes b.extremes
     → record { count = a.count + b.count; sum = s; extremes = x } ≡ merged a b
 merged-parts a b s x p q = λ i. record { count = a.count + b.count; sum = p i; extremes = q i }
+
+pub sound_laws : PossibleLaws IsSound empty_aggregate aggregate_of_one merged
+sound_laws = record { of_none = refl; of_one = IsSound-one; of_both = IsSound-merged }
+
+-- without points it is the empty one
+pub empty_by_count : (a : Aggregate) → IsSound a → a.count ≡ 0 → a ≡ empty_aggregate
+empty_by_count a s e =
+    elim a.extremes as (λ x. MatchOption x (a ≡ empty_aggregate) (IsSpread a.count a.sum) → a ≡ empty_aggregate) [
+      | None ↦ λ h. h
+      | Some x ↦ λ h. absurd (let n = h.some in omega arith)
+    ] s
+
+-- the sum of so many 64-bit values
+pub spread_bound : (n : ℕ) (s : ℤ) (e : Extremes) → IsSpread n s e → negsuc 9223372036854775807 ≤ℤ e.min → e.max ≤ℤ pos 9223372036854775808 → unsigned_abs s ≤ n * 9223372036854775808
+spread_bound n s e h low high =
+    let a = times_le n (negsuc 9223372036854775807) e.min low in
+    let b = times_le n e.max (pos 9223372036854775808) high in
+    let c : pos n *ℤ negsuc 9223372036854775807 ≡ neg_ℤ (pos (n * 9223372036854775808)) = pos-*ℤ-negsuc n 9223372036854775807 in
+    let d : pos n *ℤ pos 9223372036854775808 ≡ pos (n * 9223372036854775808) = pos-*ℤ-pos n 9223372036854775808 in
+    let p = h.at_least in
+    let q = h.at_most in
+    omega (arith, ints)

@@ -1,0 +1,99 @@
+-- Worked examples of answers and of filling, computed.
+use Rattle.std.proofs.Common.{◌≡◌, ℕ, ℤ, pos, negsuc, List, [], ◌∷◌, refl, false}
+use Rattle.ts_core.specs.Facts.{Text, Series, Column, Fact}
+use Rattle.ts_core.specs.Latest.{latest}
+use Rattle.ts_core.specs.Queries.{Query, Condition}
+use Rattle.ts_core.specs.Answers.{answer_of, buckets_in}
+use Rattle.ts_core.specs.Fills.{Function, Count, Sum, Min, Max, First, Last, Mean, Value, Null, Number, Fraction, Fill, NullFill, NoneFill, PreviousFill, NumberFill, FilledRow, FilledGroup, filled}
+
+-- ---- words
+
+m : Text
+m = 109 ∷ []
+
+f : Text
+f = 102 ∷ []
+
+a : Text
+a = 97 ∷ []
+
+one : Text
+one = 49 ∷ []
+
+two : Text
+two = 50 ∷ []
+
+abbrev fact : List (Text × Text) → ℤ → ℤ → Fact
+fact tags t v = record { column = record { series = record { measurement = 109 ∷ []; tags = tags }; field = 102 ∷ [] }; time = t; value = v }
+
+abbrev asks : ℤ → ℤ → ℤ → ℤ → List Text → Query
+asks from to interval offset groups = record { measurement = 109 ∷ []; field = 102 ∷ []; conditions = []; from = from; to = to; interval = interval; offset = offset; group_tags = groups }
+
+abbrev row : ℤ → List Value → FilledRow
+row start values = record { start = start; values = values }
+
+abbrev group : List Text → List FilledRow → FilledGroup
+group values rows = record { values = values; rows = rows }
+
+abbrev n : ℕ → Value
+n k = Number (pos k)
+
+abbrev over : ℤ → ℕ → Value
+over k d = Fraction (record { numerator = k; denominator = d })
+
+-- ---- f=1 at 0 and f=4 at 20, by 10 ns from 0 to 30
+
+abbrev few : List Fact
+few = fact [] (pos 20) (pos 4) ∷ fact [] (pos 0) (pos 1) ∷ []
+
+abbrev thirty : Query
+thirty = asks (pos 0) (pos 30) (pos 10) (pos 0) []
+
+null_filled : filled NullFill (Sum ∷ Count ∷ []) (answer_of few thirty) ≡ group [] (row (pos 0) (n 1 ∷ n 1 ∷ []) ∷ row (pos 10) (Null ∷ n 0 ∷ []) ∷ row (pos 20) (n 4 ∷ n 1 ∷ []) ∷ []) ∷ []
+null_filled = refl
+
+number_filled : filled (NumberFill (negsuc 0)) (Sum ∷ Count ∷ []) (answer_of few thirty) ≡ group [] (row (pos 0) (n 1 ∷ n 1 ∷ []) ∷ row (pos 10) (Number (negsuc 0) ∷ Number (negsuc 0) ∷ []) ∷ row (pos 20) (n 4 ∷ n 1 ∷ []) ∷ []) ∷ []
+number_filled = refl
+
+previous_filled : filled PreviousFill (Sum ∷ Count ∷ []) (answer_of few thirty) ≡ group [] (row (pos 0) (n 1 ∷ n 1 ∷ []) ∷ row (pos 10) (n 1 ∷ n 1 ∷ []) ∷ row (pos 20) (n 4 ∷ n 1 ∷ []) ∷ []) ∷ []
+previous_filled = refl
+
+none_filled : filled NoneFill (Sum ∷ Count ∷ []) (answer_of few thirty) ≡ group [] (row (pos 0) (n 1 ∷ n 1 ∷ []) ∷ row (pos 20) (n 4 ∷ n 1 ∷ []) ∷ []) ∷ []
+none_filled = refl
+
+mean_filled : filled (NumberFill (pos 7)) (Mean ∷ []) (answer_of few thirty) ≡ group [] (row (pos 0) (over (pos 1) 1 ∷ []) ∷ row (pos 10) (over (pos 7) 1 ∷ []) ∷ row (pos 20) (over (pos 4) 1 ∷ []) ∷ []) ∷ []
+mean_filled = refl
+
+-- ---- two points at one time: the greatest value is the first and the last
+
+abbrev tied : List Fact
+tied = fact ((97 ∷ [], 50 ∷ []) ∷ []) (pos 3) (pos 9) ∷ fact ((97 ∷ [], 49 ∷ []) ∷ []) (pos 3) (pos 2) ∷ []
+
+tied_together : filled NullFill (First ∷ Last ∷ []) (answer_of tied (asks (pos 0) (pos 10) (pos 10) (pos 0) [])) ≡ group [] (row (pos 0) (n 9 ∷ n 9 ∷ []) ∷ []) ∷ []
+tied_together = refl
+
+tied_apart : filled NullFill (First ∷ Last ∷ []) (answer_of tied (asks (pos 0) (pos 10) (pos 10) (pos 0) ((97 ∷ []) ∷ [])))
+    ≡ group ((49 ∷ []) ∷ []) (row (pos 0) (n 2 ∷ n 2 ∷ []) ∷ []) ∷ group ((50 ∷ []) ∷ []) (row (pos 0) (n 9 ∷ n 9 ∷ []) ∷ []) ∷ []
+tied_apart = refl
+
+-- ---- the greatest values together are more than 64 bits hold
+
+great : filled NullFill (Sum ∷ Mean ∷ []) (answer_of (fact [] (pos 2) (pos 9223372036854775807) ∷ fact [] (pos 1) (pos 9223372036854775807) ∷ []) (asks (pos 0) (pos 10) (pos 10) (pos 0) []))
+    ≡ group [] (row (pos 0) (n 18446744073709551614 ∷ over (pos 9223372036854775807) 1 ∷ []) ∷ []) ∷ []
+great = refl
+
+-- ---- buckets of 18 minutes, 12 minutes before the hour, and of a second at the greatest time
+
+eighteen_minutes : filled NullFill (Count ∷ []) (answer_of (fact [] (pos 0) (pos 1) ∷ []) (asks (pos 0) (pos 360000000000) (pos 1080000000000) (negsuc 719999999999) [])) ≡ group [] (row (negsuc 719999999999) (n 1 ∷ []) ∷ []) ∷ []
+eighteen_minutes = refl
+
+last_second : filled NoneFill (Count ∷ []) (answer_of (fact [] (pos 9223372036854775806) (pos 1) ∷ []) (asks (pos 9223372031854775806) (pos 9223372036854775807) (pos 1000000000) (pos 0) []))
+    ≡ group [] (row (pos 9223372036000000000) (n 1 ∷ []) ∷ []) ∷ []
+last_second = refl
+
+-- an empty range, and a query that nothing matches
+no_buckets : buckets_in (asks (pos 5) (pos 5) (pos 5) (pos 0) []) ≡ []
+no_buckets = refl
+
+no_groups : answer_of [] (asks (pos 0) (pos 10) (pos 5) (pos 0) []) ≡ []
+no_groups = refl

@@ -1,0 +1,74 @@
+use Rattle.std.proofs.Common.{rules, arith, ◌≡◌, ◌∙◌, ap, sym, true, false, true≢false, Some, ℕ, ◌+◌, ◌-◌, ◌*◌, ◌≤◌, ℤ, ◌-ℤ◌, to_z, of_z, w64, SFits, unsigned_abs, refl}
+use Rattle.std.specs.Int.{w128}
+use Rattle.std.proofs.lemmas.Int.{ints}
+use Rattle.ts_core.specs.Aggregates.{Aggregate}
+use Rattle.ts_core.specs.SoundLaws.{spread_bound}
+use Rattle.ts_core.proofs.RemaindersLemmas.{beyond_from, spread_from, sound_at, LiesInside_from}
+use Rattle.ts_core.proofs.aggregate.Agg.without_inner.Goals.{then-not-are_beyond-via-then-not-are_beyond, then-not-are_beyond-via-else-not-are_beyond+then-not-are_spread}
+use Rattle.ts_core.proofs.aggregate.Agg.without_inner.Goals as goal
+
+pub returns-then-not-are_beyond-clause-inside : goal.returns-then-not-are_beyond-clause-inside
+returns-then-not-are_beyond-clause-inside c =
+    let whole = ap (λ (a : Aggregate). a.extremes) (sym c.self.view_is) ∙ c.in_ok-whole.was in
+    let part = ap (λ (a : Aggregate). a.extremes) (sym c.part.view_is) ∙ c.in_ok-inner.was in
+    let a = ap (λ (x : Aggregate). x.count) c.self.view_is in
+    let b = ap (λ (x : Aggregate). x.count) c.part.view_is in
+    let e = ap (λ (x : Aggregate). x.sum) c.self.view_is in
+    let f = ap (λ (x : Aggregate). x.sum) c.part.view_is in
+    let h = c.self.invariant.1 in
+    let k = c.part.invariant.1 in
+    let m = c.self.invariant.0 in
+    let n = c.part.invariant.0 in
+    let count : c.saturating_sub-count.result ≡ c.args.self.count - c.args.part.count = c.saturating_sub-count.ensures ∙ (λ i. a i - b i) in
+    let sum : to_z w128 (of_z w128 (to_z w128 (of_z w128 c.self.inside.sum) -ℤ to_z w128 (of_z w128 c.part.inside.sum))) ≡ c.args.self.sum -ℤ c.args.part.sum = omega (arith, ints) in (
+      λ t. absurd (true≢false (sym t)),
+      λ l. elim c.then-not-are_beyond.branch [
+        | then-not-are_beyond-via-then-not-are_beyond w ↦ absurd (true≢false (sym (c.are_beyond.ensures.1 (beyond_from c.args.self c.args.part _ _ _ _ whole part count sum l)) ∙ w.if-not-are_beyond.true))
+        | then-not-are_beyond-via-else-not-are_beyond+then-not-are_spread w ↦ absurd (true≢false (sym (w.are_spread.ensures.1 (spread_from c.args.self c.args.part _ _ _ _ whole part count sum l)) ∙ w.if-not-are_spread.true))
+      ],
+    )
+
+pub invariant_of-result : goal.invariant_of-result
+invariant_of-result c =
+    let m = c.self.invariant.0 in
+    let e = c.saturating_sub-count.ensures in
+    let low : SFits w64 c.in_ok-whole.whole.min = search rules in
+    let high : SFits w64 c.in_ok-whole.whole.max = search rules in
+    let s = c.are_spread.ensures.0 c.if-not-are_spread.false in (
+      omega arith,
+      spread_bound _ _ c.in_ok-whole.whole s (omega (arith, ints)) (omega (arith, ints)),
+      sound_at _ _ c.self.inside.extremes c.in_ok-whole.whole c.in_ok-whole.was s,
+    )
+
+pub returns-clause-inside : goal.returns-clause-inside
+returns-clause-inside c =
+    let whole = ap (λ (a : Aggregate). a.extremes) (sym c.self.view_is) ∙ c.in_ok-whole.was in
+    let part = ap (λ (a : Aggregate). a.extremes) (sym c.part.view_is) ∙ c.in_ok-inner.was in
+    let a = ap (λ (x : Aggregate). x.count) c.self.view_is in
+    let b = ap (λ (x : Aggregate). x.count) c.part.view_is in
+    let e = ap (λ (x : Aggregate). x.sum) c.self.view_is in
+    let f = ap (λ (x : Aggregate). x.sum) c.part.view_is in
+    let h = c.self.invariant.1 in
+    let k = c.part.invariant.1 in
+    let m = c.self.invariant.0 in
+    let n = c.part.invariant.0 in
+    let count : c.saturating_sub-count.result ≡ c.args.self.count - c.args.part.count = c.saturating_sub-count.ensures ∙ (λ i. a i - b i) in
+    let sum : to_z w128 (of_z w128 (to_z w128 (of_z w128 c.self.inside.sum) -ℤ to_z w128 (of_z w128 c.part.inside.sum))) ≡ c.args.self.sum -ℤ c.args.part.sum = omega (arith, ints) in
+    let beyond = c.are_beyond.ensures.0 c.if-not-are_beyond.false in
+    let spread = c.are_spread.ensures.0 c.if-not-are_spread.false in
+    (λ _. LiesInside_from c.args.self c.args.part _ _ _ _ whole part count sum beyond spread, λ _. refl)
+
+pub returns-clause-rest : goal.returns-clause-rest
+returns-clause-rest c =
+    let a = ap (λ (x : Aggregate). x.count) c.self.view_is in
+    let b = ap (λ (x : Aggregate). x.count) c.part.view_is in
+    let e = ap (λ (x : Aggregate). x.sum) c.self.view_is in
+    let f = ap (λ (x : Aggregate). x.sum) c.part.view_is in
+    let h = c.self.invariant.1 in
+    let k = c.part.invariant.1 in
+    let m = c.self.invariant.0 in
+    let n = c.part.invariant.0 in
+    let count : c.saturating_sub-count.result ≡ c.args.self.count - c.args.part.count = c.saturating_sub-count.ensures ∙ (λ i. a i - b i) in
+    let sum : to_z w128 (of_z w128 (to_z w128 (of_z w128 c.self.inside.sum) -ℤ to_z w128 (of_z w128 c.part.inside.sum))) ≡ c.args.self.sum -ℤ c.args.part.sum = omega (arith, ints) in
+    let x = ap (λ (a : Aggregate). a.extremes) c.self.view_is in
+    λ i. record { count = count i; sum = sum i; extremes = x i }

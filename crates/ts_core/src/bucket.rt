@@ -1,0 +1,13 @@
+//! Buckets of time.
+ghost use Rattle.std.specs.Prelude.{◌≡◌, ◌^◌, ◌≤◌, pos, ◌≤ℤ◌, unsigned_abs};
+ghost use Rattle.ts_core.specs.Buckets.{IsBucketOf, bucket_of};
+
+/// The index of the bucket that holds `t`, of buckets of interval `i` with offset `o`, in nanoseconds.
+pub fn bucket_index(t: i128, i: i64, o: i64) -> i128
+    requires interval { pos 1 ≤ℤ i }
+    requires bound { unsigned_abs t ≤ 2 ^ 126 }
+    ensures bucket { IsBucketOf t i o result }
+    ensures index { result ≡ bucket_of t i o }
+{
+    (t - i128::from(o)).div_euclid(i128::from(i))
+}
