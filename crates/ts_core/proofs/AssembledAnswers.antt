@@ -1,8 +1,8 @@
 -- The whole answer: what valid pieces give of a view that shows a history is the answer over all points ever accepted.
-use Rattle.std.proofs.Common.{◌≡◌, ℕ, zero, suc, ◌<◌, ◌==◌, ℤ, pos, Bool, true, false, cond, not, ◌&&◌, List, [], ◌∷◌, ◌++◌, filter, map, length, refl, sym, ap, ap₂, ◌∙◌, subst, inl, inr, ◌⊎◌, ⊎_elim, ◌≤ℤ◌, ◌<ℤ◌, true≢false, int_le, int_lt, arith, Option, Some, None}
+use Rattle.std.proofs.Common.{◌≡◌, ℕ, ◌<◌, ◌==◌, ℤ, Bool, true, false, not, ◌&&◌, List, [], ◌∷◌, filter, map, length, refl, sym, ap, ap₂, ◌∙◌, subst, inl, inr, ◌⊎◌, ⊎_elim, ◌≤ℤ◌, ◌<ℤ◌, true≢false, arith, Option}
 use Rattle.std.proofs.lemmas.Int.{ints, by_lt_z}
 use Rattle.std.specs.List.{AllByRecursion}
-use Rattle.ts_core.specs.Members.{Among, AllDistinct}
+use Rattle.ts_core.specs.Members.{Among}
 use Rattle.ts_core.specs.Facts.{Text, Fact, is_within}
 use Rattle.ts_core.specs.Aggregates.{Aggregate, aggregate_of}
 use Rattle.ts_core.specs.MergeLaws.{aggregate_laws}
@@ -10,8 +10,8 @@ use Rattle.ts_core.specs.Settings.{Rule, Settings}
 use Rattle.ts_core.specs.History.{History}
 use Rattle.ts_core.specs.Latest.{latest_of}
 use Rattle.ts_core.specs.Queries.{Query, is_selected, matches, group_of}
-use Rattle.ts_core.specs.Answers.{Row, Group, buckets_in, all_groups, groups_of, row_of, rows_of, answer_of}
-use Rattle.ts_core.specs.Pieces.{Source, Raw, Rollup, Piece, asked, start_of, HasIntervals, SourceServes, IsValidPiece, Covers, IsValid}
+use Rattle.ts_core.specs.Answers.{Group, buckets_in, all_groups, groups_of, row_of, rows_of, answer_of}
+use Rattle.ts_core.specs.Pieces.{Source, Raw, Rollup, Piece, asked, HasIntervals, SourceServes, IsValidPiece, Covers, IsValid}
 use Rattle.ts_core.specs.Cells.{Cell, same_cell, cell_of, is_rolled, is_in_cell, total_of}
 use Rattle.ts_core.specs.StoreStates.{StoreState, StandsFor, facts_of}
 use Rattle.ts_core.specs.Views.{RuleTotals, Seen, Shows, seen_of}

@@ -1,9 +1,9 @@
 -- What valid pieces give of a row is the aggregate over all latest facts, as if none had ever been dropped.
-use Rattle.std.proofs.Common.{◌≡◌, ℤ, pos, Bool, true, false, cond, not, ◌&&◌, List, [], ◌∷◌, filter, map, refl, sym, ap, ap₂, ◌∙◌, subst, inl, inr, ◌⊎◌, ◌≤ℤ◌, ◌<ℤ◌, true≢false, int_le, int_lt, arith, Option, Some, None}
+use Rattle.std.proofs.Common.{◌≡◌, ℤ, pos, Bool, true, false, cond, ◌&&◌, List, [], ◌∷◌, filter, refl, sym, ap, ap₂, ◌∙◌, subst, inl, inr, ◌≤ℤ◌, ◌<ℤ◌, int_le, int_lt, arith, Option}
 use Rattle.std.proofs.lemmas.Int.{ints, by_lt_z}
 use Rattle.std.specs.List.{AllByRecursion}
 use Rattle.std.specs.Ordering.{int_eq}
-use Rattle.ts_core.specs.Members.{Among, AllDistinct}
+use Rattle.ts_core.specs.Members.{Among}
 use Rattle.ts_core.specs.Facts.{Text, Fact, is_within}
 use Rattle.ts_core.specs.Partials.{fold_by}
 use Rattle.ts_core.specs.Aggregates.{Aggregate, empty_aggregate, merged, aggregate_of}
@@ -11,13 +11,13 @@ use Rattle.ts_core.specs.MergeLaws.{aggregate_laws}
 use Rattle.ts_core.specs.Settings.{Rule, Settings}
 use Rattle.ts_core.specs.History.{History, accepted}
 use Rattle.ts_core.specs.Latest.{latest_of}
-use Rattle.ts_core.specs.Queries.{Query, is_selected, matches, group_of}
+use Rattle.ts_core.specs.Queries.{Query, is_selected, group_of}
 use Rattle.ts_core.specs.Answers.{same_group, is_in_row, bucket_in}
-use Rattle.ts_core.specs.Pieces.{Source, Raw, Rollup, Piece, asked, start_of, HasIntervals, SourceServes, IsValidPiece, Covers, IsValid}
-use Rattle.ts_core.specs.Cells.{Cell, same_cell, cell_of, is_rolled, is_in_cell, total_of}
+use Rattle.ts_core.specs.Pieces.{Source, Raw, Rollup, Piece, asked, HasIntervals, SourceServes, IsValidPiece, Covers, IsValid}
+use Rattle.ts_core.specs.Cells.{Cell, same_cell, cell_of, is_rolled, is_in_cell}
 use Rattle.ts_core.specs.StoreStates.{facts_of}
-use Rattle.ts_core.specs.Views.{RuleTotals, Seen, HasTotals, Shows}
-use Rattle.ts_core.specs.Assembly.{stand_in, rule_shown, in_piece, totals_given, aggregate_given, assembled}
+use Rattle.ts_core.specs.Views.{RuleTotals, Seen, Shows}
+use Rattle.ts_core.specs.Assembly.{stand_in, rule_shown, totals_given, aggregate_given, assembled}
 use Rattle.ts_core.proofs.MembersLemmas.{AllDistinct-filter, Among-filter_passes, Among-filter_was, Among-filter_stays, filter-none}
 use Rattle.ts_core.proofs.Folds.{fold-same}
 use Rattle.ts_core.proofs.Groups.{fold-groups}

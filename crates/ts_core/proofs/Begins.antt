@@ -1,14 +1,14 @@
 -- A begin leaves what the columns hold, and both parts of each cell.
-use Rattle.std.proofs.Common.{◌≡◌, ℕ, ℤ, Bool, true, false, cond, List, [], ◌∷◌, map, refl, sym, ◌∙◌, ap, ap₂, subst, true≢false, int_le, ◌≤ℤ◌}
+use Rattle.std.proofs.Common.{◌≡◌, ℤ, true, false, cond, List, [], ◌∷◌, map, refl, sym, ◌∙◌, ap, ap₂, subst, true≢false, int_le, ◌≤ℤ◌}
 use Rattle.std.specs.Int.{int_max}
 use Rattle.ts_core.specs.Members.{Among, AllDistinct}
 use Rattle.ts_core.specs.Facts.{Column, Fact}
-use Rattle.ts_core.specs.Settings.{Rule, Settings}
-use Rattle.ts_core.specs.History.{Event, History, Line, Begin, Step, IsRunOpen, settings_of, kept_since, raw_mark}
+use Rattle.ts_core.specs.Settings.{Settings}
+use Rattle.ts_core.specs.History.{History, Begin, IsRunOpen, settings_of, kept_since, raw_mark}
 use Rattle.ts_core.specs.Latest.{latest_of}
-use Rattle.ts_core.specs.Marks.{Marks, index_of, low_of, marks_of}
+use Rattle.ts_core.specs.Marks.{Marks, index_of, low_of}
 use Rattle.ts_core.specs.RawFacts.{is_waiting, earlier_mark, kept_from, is_kept}
-use Rattle.ts_core.specs.Cells.{Cell, cell_of}
+use Rattle.ts_core.specs.Cells.{cell_of}
 use Rattle.ts_core.specs.StoreStates.{RuleCells, StoreState, StandsFor, HasCells, column_of, rule_of, lowest_of, facts_of}
 use Rattle.ts_core.proofs.Cuts.{CutsAgree, frozen_of-agree, live_of-agree, Holds-agree}
 use Rattle.ts_core.proofs.Moves.{AllTwo, IsRaised, begun}

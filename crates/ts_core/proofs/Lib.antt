@@ -39,3 +39,4 @@ pub mod RowTests
 pub mod PieceCells
 pub mod AssembledRows
 pub mod AssembledAnswers
+pub mod ColumnFacts

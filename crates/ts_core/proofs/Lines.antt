@@ -1,10 +1,10 @@
 -- A line of several facts, put one by one.
-use Rattle.std.proofs.Common.{◌≡◌, ℕ, ℤ, List, [], ◌∷◌, ◌++◌, length, map, refl, sym, ◌∙◌, ap, subst, ◌≤◌, ◌^◌}
+use Rattle.std.proofs.Common.{◌≡◌, ℤ, List, [], ◌∷◌, ◌++◌, length, map, refl, sym, ◌∙◌, ap, subst, ◌≤◌, ◌^◌}
 use Rattle.std.specs.List.{AllByRecursion}
 use Rattle.ts_core.specs.Members.{Among}
 use Rattle.ts_core.specs.Facts.{Series, Column, Fact}
 use Rattle.ts_core.specs.Settings.{Settings}
-use Rattle.ts_core.specs.History.{Event, History, Line, Begin, Step, put_before, accepted, raw_mark, MayBeTaken, IsLawful}
+use Rattle.ts_core.specs.History.{History, Line, put_before, accepted, raw_mark, MayBeTaken, IsLawful}
 use Rattle.ts_core.specs.Latest.{latest}
 use Rattle.ts_core.specs.RawFacts.{kept_from}
 use Rattle.ts_core.specs.StoreStates.{ColumnPoints, RuleCells, StoreState, StandsFor, HasCells, column_of, facts_of}

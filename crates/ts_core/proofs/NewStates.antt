@@ -1,9 +1,9 @@
 -- A store with nothing in it stands for the empty history.
-use Rattle.std.proofs.Common.{◌≡◌, ℕ, ℤ, List, [], ◌∷◌, map, refl, sym, ◌∙◌, ap, ap₂, subst, false, true, true≢false}
+use Rattle.std.proofs.Common.{◌≡◌, ℤ, List, [], ◌∷◌, map, refl, sym, ap, subst, false, true, true≢false}
 use Rattle.std.specs.List.{AllByRecursion}
-use Rattle.ts_core.specs.Members.{Among, AllDistinct}
-use Rattle.ts_core.specs.Facts.{Column, Fact}
-use Rattle.ts_core.specs.Settings.{Rule, Settings}
+use Rattle.ts_core.specs.Members.{AllDistinct}
+use Rattle.ts_core.specs.Facts.{Column}
+use Rattle.ts_core.specs.Settings.{Settings}
 use Rattle.ts_core.specs.Marks.{low_of, marks_of}
 use Rattle.ts_core.specs.Aggregates.{empty_aggregate}
 use Rattle.ts_core.specs.RawFacts.{kept_from}

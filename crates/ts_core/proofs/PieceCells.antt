@@ -1,5 +1,5 @@
 -- The rule that a piece names, with the cells that serve the query there.
-use Rattle.std.proofs.Common.{◌≡◌, ℤ, pos, Bool, true, false, cond, ◌&&◌, List, [], ◌∷◌, map, refl, sym, ap, ap₂, ◌∙◌, subst, ◌≤ℤ◌, Option, Some, None, is_eq}
+use Rattle.std.proofs.Common.{◌≡◌, ℤ, pos, true, false, cond, List, [], ◌∷◌, map, refl, sym, ap, ap₂, ◌∙◌, subst, ◌≤ℤ◌, Option, Some, None, is_eq}
 use Rattle.std.specs.List.{AllByRecursion}
 use Rattle.std.specs.Ordering.{ordering_then, int_cmp}
 use Rattle.std.specs.Cmp.{IsTotalOrder, int_cmp_total}
@@ -8,12 +8,12 @@ use Rattle.std.specs.FinMap.{slice_cmp-IsAntisymmetric}
 use Rattle.std.proofs.lemmas.Cmp.{on_total, then_total, lists_total, nat_list_cmp_total, tied_itself}
 use Rattle.std.proofs.lemmas.Map.Lookups.{CmpEqualImpliesEq, exact_pairs, exact_bytes, exact_signed}
 use Rattle.ts_core.specs.Facts.{Text, text_cmp, same_text, Fact, is_within}
-use Rattle.ts_core.specs.Settings.{Rule, Settings}
+use Rattle.ts_core.specs.Settings.{Settings}
 use Rattle.ts_core.specs.History.{History}
 use Rattle.ts_core.specs.Latest.{latest_of}
 use Rattle.ts_core.specs.Marks.{index_of}
 use Rattle.ts_core.specs.Queries.{Query, matches}
-use Rattle.ts_core.specs.Pieces.{Source, Raw, Rollup, MarkedRule, marked_rules, asked, rule_named, start_of, HasIntervals, RuleServes, SourceServes}
+use Rattle.ts_core.specs.Pieces.{Rollup, MarkedRule, marked_rules, asked, rule_named, start_of, HasIntervals, RuleServes, SourceServes}
 use Rattle.ts_core.specs.Cells.{Cell, cell_cmp, same_cell, is_rolled}
 use Rattle.ts_core.specs.Views.{RuleTotals, Seen, HasTotals, Shows, seen_rule, seen_low}
 use Rattle.ts_core.specs.Assembly.{rule_shown}

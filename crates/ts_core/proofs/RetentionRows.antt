@@ -1,17 +1,23 @@
--- Marks, raw facts, cells and steps of small histories, computed.
-use Rattle.std.proofs.Common.{◌≡◌, ℕ, zero, suc, ◌+◌, ◌*◌, ℤ, pos, negsuc, Bool, true, false, List, [], ◌∷◌, length, refl, Some}
+-- Marks, raw facts, cells, steps and answers of small histories, computed.
+use Rattle.std.proofs.Common.{◌≡◌, ℕ, zero, suc, ◌+◌, ◌*◌, ℤ, pos, negsuc, true, false, List, [], ◌∷◌, length, refl, Some, None}
 use Rattle.ts_core.specs.Times.{greatest_time}
-use Rattle.ts_core.specs.Facts.{Text, Series, Column, Fact}
+use Rattle.ts_core.specs.Facts.{Text, Column}
 use Rattle.ts_core.specs.Settings.{Rule, Settings}
 use Rattle.ts_core.specs.History.{Event, History, Line, Begin, Step}
 use Rattle.ts_core.specs.Latest.{latest_of}
 use Rattle.ts_core.specs.Buckets.{bucket_of}
-use Rattle.ts_core.specs.Aggregates.{Aggregate, empty_aggregate, aggregate_of_one, merged}
-use Rattle.ts_core.specs.Marks.{Marks, marks_of}
+use Rattle.ts_core.specs.Aggregates.{Aggregate, empty_aggregate}
+use Rattle.ts_core.specs.Marks.{marks_of}
 use Rattle.ts_core.specs.RawFacts.{kept_from, raw_of}
 use Rattle.ts_core.specs.Cells.{Cell, total_of, frozen_of, live_of}
-use Rattle.ts_core.specs.StoreStates.{RuleCells, StoreState}
+use Rattle.ts_core.specs.StoreStates.{StoreState}
 use Rattle.ts_core.specs.Runs.{steps_left}
+use Rattle.ts_core.specs.Views.{Seen}
+use Rattle.ts_core.specs.Queries.{Query}
+use Rattle.ts_core.specs.Answers.{Row, Group}
+use Rattle.ts_core.specs.Pieces.{Raw, Rollup, Piece}
+use Rattle.ts_core.specs.Faults.{BelowMark, first_fault}
+use Rattle.ts_core.specs.Assembly.{assembled_answer}
 
 -- ---- buckets
 
@@ -181,3 +187,56 @@ live_moved = refl
 
 replaced_point : total_of by_host second_minute (latest_of (line a 100 (pos 8) ∷ line a 100 (pos 0) ∷ line a 90 (pos 3) ∷ [])) ≡ of_points 2 (pos 11) (pos 3) 90 (pos 3) 100 (pos 8)
 replaced_point = refl
+
+-- ---- an answer put together: two minutes from cells, since no raw point is left, and a minute of raw points
+
+-- the minutes of the three points, as the rule's cells show them
+abbrev minute_total : Cell → Aggregate
+minute_total k = total_of by_host k (latest_of three_points)
+
+abbrev minute_cell : ℤ → Text → Cell
+minute_cell n h = record { index = n; field = v; group = h ∷ [] }
+
+abbrev after_run : Seen
+after_run = record {
+  settings = two_minutes;
+  marks = marks_of two_minutes three_points;
+  columns = record { column = column a; points = [] } ∷ record { column = column b; points = [] } ∷ [];
+  rules = record { rule = by_host; low = negsuc 153722867; cells = minute_cell (pos 0) a ∷ minute_cell (pos 1) a ∷ minute_cell (pos 1) b ∷ []; total = minute_total } ∷ [];
+}
+
+-- from the epoch on for three minutes, by minute
+abbrev three_minutes : List Text → Query
+three_minutes group_tags = record { measurement = cpu; field = v; conditions = []; from = pos 0; to = pos 180000000000; interval = pos 60000000000; offset = pos 0; group_tags = group_tags }
+
+abbrev two_and_one : List Piece
+two_and_one =
+    record { source = Rollup by_host.name; from = pos 0; to = pos 120000000000 }
+    ∷ record { source = Raw; from = pos 120000000000; to = pos 180000000000 }
+    ∷ []
+
+-- of each row its start, its count and its sum
+abbrev counts_of : List Row → List (ℤ × ℕ × ℤ)
+counts_of [] = []
+counts_of (r ∷ rs) = (r.start, r.aggregate.count, r.aggregate.sum) ∷ counts_of rs
+
+abbrev counts_by_group : List Group → List (List Text × List (ℤ × ℕ × ℤ))
+counts_by_group [] = []
+counts_by_group (g ∷ gs) = (g.values, counts_of g.rows) ∷ counts_by_group gs
+
+put_together : counts_by_group (assembled_answer after_run (three_minutes []) two_and_one)
+    ≡ ([], (pos 0, 1, pos 5) ∷ (pos 60000000000, 2, pos 8) ∷ (pos 120000000000, 0, pos 0) ∷ []) ∷ []
+put_together = refl
+
+by_hosts : counts_by_group (assembled_answer after_run (three_minutes (host ∷ [])) two_and_one)
+    ≡ (a ∷ [], (pos 0, 1, pos 5) ∷ (pos 60000000000, 1, pos 7) ∷ (pos 120000000000, 0, pos 0) ∷ [])
+    ∷ (b ∷ [], (pos 0, 0, pos 0) ∷ (pos 60000000000, 1, pos 1) ∷ (pos 120000000000, 0, pos 0) ∷ [])
+    ∷ []
+by_hosts = refl
+
+-- the pieces have no fault, and a raw piece below the mark has one
+no_fault : first_fault two_minutes (marks_of two_minutes three_points) (three_minutes []) two_and_one ≡ None
+no_fault = refl
+
+below_mark : first_fault two_minutes (marks_of two_minutes three_points) (three_minutes []) (record { source = Raw; from = pos 0; to = pos 180000000000 } ∷ []) ≡ Some (BelowMark, 0)
+below_mark = refl

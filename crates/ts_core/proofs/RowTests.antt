@@ -1,5 +1,5 @@
 -- A fact is in a row of a query just where its cell is, in a range where the cells of the rule serve the query.
-use Rattle.std.proofs.Common.{◌≡◌, ℤ, pos, Bool, true, false, cond, not, ◌&&◌, List, [], ◌∷◌, ◌++◌, map, zip, refl, sym, ap, ap₂, ◌∙◌, subst, inl, inr, ◌⊎◌, ⊎_elim, ◌≤ℤ◌, ◌<ℤ◌, true≢false, int_le, int_lt, arith}
+use Rattle.std.proofs.Common.{◌≡◌, ℤ, pos, Bool, true, false, cond, not, ◌&&◌, List, [], ◌∷◌, ◌++◌, map, zip, refl, sym, ap, ap₂, ◌∙◌, ◌⊎◌, ⊎_elim, ◌≤ℤ◌, ◌<ℤ◌, true≢false, arith}
 use Rattle.std.proofs.lemmas.Int.{ints}
 use Rattle.std.specs.List.{AllByRecursion, list_all}
 use Rattle.std.specs.Ordering.{int_eq}
@@ -7,11 +7,9 @@ use Rattle.ts_core.specs.Members.{Among}
 use Rattle.ts_core.specs.Facts.{Text, same_text, Series, Column, Fact, is_of, is_within}
 use Rattle.ts_core.specs.Settings.{Rule}
 use Rattle.ts_core.specs.Tags.{value_among, tag_value, tag_values}
-use Rattle.ts_core.specs.Buckets.{bucket_of}
-use Rattle.ts_core.specs.Marks.{index_of}
 use Rattle.ts_core.specs.Queries.{Condition, Query, meets, is_selected, matches, group_of}
-use Rattle.ts_core.specs.Pieces.{MarkedRule, start_of, tags_of, RuleServes}
-use Rattle.ts_core.specs.Cells.{Cell, cell_of, is_rolled}
+use Rattle.ts_core.specs.Pieces.{MarkedRule, RuleServes}
+use Rattle.ts_core.specs.Cells.{cell_of, is_rolled}
 use Rattle.ts_core.specs.Answers.{same_group, is_in_row, bucket_in}
 use Rattle.ts_core.specs.Assembly.{stand_in}
 use Rattle.ts_core.proofs.Ids.{same_text-eq}
@@ -28,8 +26,8 @@ kept_value s (x ∷ xs) tag m =
     elim (same_text x tag) as (λ b. same_text x tag ≡ b → cond b (tag_value s x) rest ≡ tag_value s tag) [
       | true ↦ λ e. ap (tag_value s) (same_text-eq x tag e)
       | false ↦ λ e. ⊎_elim {C = rest ≡ tag_value s tag}
-        (λ k. absurd (true≢false (sym (ap (λ y. same_text x y) k ∙ same_text-refl x) ∙ e)))
-        (λ k. kept_value s xs tag k) m
+          (λ k. absurd (true≢false (sym (ap (λ y. same_text x y) k ∙ same_text-refl x) ∙ e)))
+          (λ k. kept_value s xs tag k) m
     ] refl
 
 abbrev kept_series : Rule → Fact → Series

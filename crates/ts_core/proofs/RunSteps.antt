@@ -1,15 +1,14 @@
 -- The steps of a run: one moves a column, whose facts below the mark go from the live parts to the frozen ones; one
 -- removes cells below the low index; the last one ends the run.
-use Rattle.std.proofs.Common.{◌≡◌, ℕ, ℤ, Bool, true, false, cond, not, ◌&&◌, ◌||◌, List, [], ◌∷◌, ◌++◌, filter, map, refl, sym, ◌∙◌, ap, ap₂, subst, inl, inr, true≢false, int_le, int_lt, ◌≤ℤ◌, arith}
-use Rattle.std.proofs.lemmas.Int.{ints}
+use Rattle.std.proofs.Common.{◌≡◌, ℤ, Bool, true, false, cond, not, ◌&&◌, ◌||◌, List, [], ◌∷◌, ◌++◌, filter, map, refl, sym, ◌∙◌, ap, ap₂, subst, inr, true≢false, int_le, ◌≤ℤ◌}
 use Rattle.std.specs.List.{AllByRecursion}
 use Rattle.ts_core.specs.Members.{Among, AllDistinct}
-use Rattle.ts_core.specs.Facts.{Series, Column, Fact}
+use Rattle.ts_core.specs.Facts.{Column, Fact}
 use Rattle.ts_core.specs.Settings.{Rule, Settings}
-use Rattle.ts_core.specs.History.{Event, History, Line, Begin, Step, IsRunOpen, raw_mark, accepted}
+use Rattle.ts_core.specs.History.{History, Step, IsRunOpen, raw_mark, accepted}
 use Rattle.ts_core.specs.Latest.{latest_of}
 use Rattle.ts_core.specs.Marks.{Marks}
-use Rattle.ts_core.specs.Aggregates.{Aggregate, merged}
+use Rattle.ts_core.specs.Aggregates.{merged}
 use Rattle.ts_core.specs.RawFacts.{same_column, is_waiting, earlier_mark, kept_from, is_kept}
 use Rattle.ts_core.specs.Cells.{Cell, cell_of, is_in_cell}
 use Rattle.ts_core.specs.StoreStates.{ColumnPoints, RuleCells, StoreState, StandsFor, HasCells, column_of, rule_of, lowest_of, facts_at, facts_of}
@@ -18,7 +17,7 @@ use Rattle.ts_core.proofs.Latests.{latest-distinct}
 use Rattle.ts_core.proofs.Tests.{le_true, le_from}
 use Rattle.ts_core.proofs.Cuts.{aggregate_where, aggregate_where-agree, CutRises, passed_of, frozen_of-gains, aggregate_where-held, live_of-held, Holds}
 use Rattle.ts_core.proofs.Moves.{AllTwo, is_left, left_points, columns_left, IsMoved, moved, IsExpired, expired, closed}
-use Rattle.ts_core.proofs.StateLemmas.{AllTwo-all, AllTwo-map, all_as, cons_not, same_column-eq, is_waiting-not, earlier_mark-le, le_trans, Holds-raw_of, StandsFor-Holds, HasCells-as}
+use Rattle.ts_core.proofs.StateLemmas.{AllTwo-all, AllTwo-map, cons_not, same_column-eq, is_waiting-not, earlier_mark-le, le_trans, Holds-raw_of, StandsFor-Holds, HasCells-as}
 
 le_later : (a b t : ℤ) → a ≤ℤ b → int_le b t ≡ true → int_le a t ≡ true
 le_later a b t h k = le_true a t (le_trans a b t h (le_from b t k))
@@ -175,11 +174,11 @@ expire_stands opening h s after st t =
       rules = sym (AllTwo-map IsExpired rule_of rule_of (λ r y k. k.rule) s.rules after t) ∙ st.rules;
       lows = sym (AllTwo-map IsExpired lowest_of lowest_of (λ r y k. k.low) s.rules after t) ∙ st.lows;
       rolled = AllTwo-all IsExpired (HasCells cut fs) (HasCells cut fs) (λ r y k p. HasCells-as cut fs r y k.rule k.low (record {
-          once = k.once;
-          there = λ f a m l. k.stays (cell_of r.rule f) l (p.there f a m l);
-          frozen = λ q l. ap (λ x. x.frozen) (k.parts q l) ∙ p.frozen q l;
-          live = λ q l. ap (λ x. x.live) (k.parts q l) ∙ p.live q l;
-        })) s.rules after t st.rolled;
+        once = k.once;
+        there = λ f a m l. k.stays (cell_of r.rule f) l (p.there f a m l);
+        frozen = λ q l. ap (λ x. x.frozen) (k.parts q l) ∙ p.frozen q l;
+        live = λ q l. ap (λ x. x.live) (k.parts q l) ∙ p.live q l;
+      })) s.rules after t st.rolled;
     }
 
 -- ---- the run ends

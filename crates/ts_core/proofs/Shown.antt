@@ -1,18 +1,17 @@
 -- What stands for a history shows it; and while no column waits, it stands in the form of raw facts alone.
-use Rattle.std.proofs.Common.{◌≡◌, ℤ, Bool, true, false, List, [], ◌∷◌, map, refl, sym, ◌∙◌, ap, ap₂, subst, ◌≤ℤ◌, int_le}
+use Rattle.std.proofs.Common.{◌≡◌, ℤ, true, false, List, [], ◌∷◌, map, refl, sym, ◌∙◌, ap, ap₂, subst, ◌≤ℤ◌}
 use Rattle.std.specs.List.{AllByRecursion}
-use Rattle.ts_core.specs.Members.{Among}
 use Rattle.ts_core.specs.Facts.{Column, Fact}
 use Rattle.ts_core.specs.Settings.{Settings}
-use Rattle.ts_core.specs.History.{Event, History, Line, Begin, Step, IsRunOpen, raw_mark}
+use Rattle.ts_core.specs.History.{History, Line, Begin, Step, IsRunOpen, raw_mark}
 use Rattle.ts_core.specs.Latest.{latest_of}
 use Rattle.ts_core.specs.Kept.{Kept}
 use Rattle.ts_core.specs.Kept as first
 use Rattle.ts_core.specs.Marks.{Marks}
 use Rattle.ts_core.specs.Aggregates.{merged}
-use Rattle.ts_core.specs.RawFacts.{kept_from, is_kept}
+use Rattle.ts_core.specs.RawFacts.{kept_from}
 use Rattle.ts_core.specs.StoreStates.{RuleCells, StoreState, StandsFor, HasCells, rule_of, lowest_of, facts_of}
-use Rattle.ts_core.specs.Views.{RuleTotals, HasTotals, Shows, totals_in, seen_of, seen_rule, seen_low}
+use Rattle.ts_core.specs.Views.{HasTotals, Shows, totals_in, seen_of, seen_rule, seen_low}
 use Rattle.ts_core.proofs.Tests.{le_true, le_from}
 use Rattle.ts_core.proofs.Cuts.{total_of-parts, Holds}
 use Rattle.ts_core.proofs.StateLemmas.{is_kept-above, StandsFor-Holds}

@@ -1,17 +1,17 @@
 -- What standing for a history says in the words that moves need, and lists taken member by member.
-use Rattle.std.proofs.Common.{◌≡◌, ℕ, ℤ, Bool, true, false, cond, not, ◌&&◌, ◌||◌, List, [], ◌∷◌, map, filter, refl, sym, ◌∙◌, ap, ap₂, subst, inl, inr, ◌⊎◌, ⊎_elim, true≢false, int_le, ◌≤ℤ◌, arith, is_eq}
+use Rattle.std.proofs.Common.{◌≡◌, ℤ, Bool, true, false, cond, ◌&&◌, ◌||◌, List, [], ◌∷◌, map, refl, sym, ◌∙◌, ap, ap₂, subst, inl, inr, ◌⊎◌, ⊎_elim, int_le, ◌≤ℤ◌, arith, is_eq}
 use Rattle.std.proofs.lemmas.Int.{ints, clamps}
 use Rattle.std.proofs.lemmas.Cmp.{tied_itself}
-use Rattle.std.specs.List.{AllByRecursion, list_any}
+use Rattle.std.specs.List.{AllByRecursion}
 use Rattle.std.specs.Int.{int_max}
 use Rattle.ts_core.specs.Members.{Among, AllDistinct}
 use Rattle.ts_core.specs.Times.{least_time}
 use Rattle.ts_core.specs.Facts.{Column, Fact, column_cmp}
-use Rattle.ts_core.specs.Settings.{Rule, Settings}
-use Rattle.ts_core.specs.History.{Event, History, Line, Begin, Step, settings_of, kept_since, raw_mark}
+use Rattle.ts_core.specs.Settings.{Settings}
+use Rattle.ts_core.specs.History.{History, Line, Begin, Step, settings_of, kept_since, raw_mark}
 use Rattle.ts_core.specs.Latest.{latest_of}
 use Rattle.ts_core.specs.RawFacts.{same_column, is_waiting, earlier_mark, kept_from, is_kept, raw_of}
-use Rattle.ts_core.specs.StoreStates.{RuleCells, StoreState, StandsFor, HasCells, rule_of, lowest_of, facts_of}
+use Rattle.ts_core.specs.StoreStates.{RuleCells, StoreState, StandsFor, HasCells, facts_of}
 use Rattle.ts_core.proofs.Ids.{columns_total, exact_columns, equal_of}
 use Rattle.ts_core.proofs.MembersLemmas.{Among-filter_passes, Among-filter_was, Among-filter_stays}
 use Rattle.ts_core.proofs.Tests.{and_parts, or_right, le_true}

@@ -1,7 +1,7 @@
 -- A begin lets all columns wait, each step of a run lowers what is left by one, and a write leaves it.
-use Rattle.std.proofs.Common.{◌≡◌, ℕ, ℤ, ◌+◌, ◌-◌, ◌/◌, ◌<◌, ◌≤◌, Bool, true, false, cond, List, [], ◌∷◌, ◌++◌, length, map, filter, arith, refl, sym, ap, ap₂, ◌∙◌, int_lt}
+use Rattle.std.proofs.Common.{◌≡◌, ℕ, ℤ, ◌+◌, ◌-◌, ◌<◌, true, cond, List, [], ◌∷◌, ◌++◌, length, filter, arith, refl, sym, ap, ap₂, ◌∙◌, int_lt}
 use Rattle.std.proofs.lemmas.List.{length-map}
-use Rattle.ts_core.specs.Facts.{Series, Column, Fact}
+use Rattle.ts_core.specs.Facts.{Series, Column}
 use Rattle.ts_core.specs.Cells.{Cell}
 use Rattle.ts_core.specs.StoreStates.{ColumnPoints, RuleCells, StoreState, column_of}
 use Rattle.ts_core.specs.Runs.{turns_of, expired_count, turns_left, steps_left}

@@ -1,18 +1,17 @@
 -- An accepted fact changes what one column holds, and the live part of one cell of each rule.
-use Rattle.std.proofs.Common.{◌≡◌, ℕ, ℤ, Bool, true, false, cond, not, ◌&&◌, List, [], ◌∷◌, filter, map, refl, sym, ◌∙◌, ap, ap₂, subst, inl, inr, ◌⊎◌, ⊎_elim, true≢false, int_le, ◌≤ℤ◌, Option, Some, None, length, ◌+◌, arith, add-one, suc}
-use Rattle.std.specs.List.{AllByRecursion}
-use Rattle.ts_core.specs.Members.{Among, AllDistinct}
+use Rattle.std.proofs.Common.{◌≡◌, ℤ, Bool, true, false, cond, not, ◌&&◌, List, [], ◌∷◌, filter, map, refl, sym, ◌∙◌, ap, ap₂, subst, inl, inr, ◌⊎◌, ⊎_elim, true≢false, int_le, ◌≤ℤ◌, None, length, ◌+◌, add-one}
+use Rattle.ts_core.specs.Members.{Among}
 use Rattle.ts_core.specs.Facts.{Series, Column, Fact, Id, id_of, same_id}
 use Rattle.ts_core.specs.Settings.{Rule, Settings}
-use Rattle.ts_core.specs.History.{Event, History, Line, Begin, Step, accepted, raw_mark, IsLawful}
-use Rattle.ts_core.specs.Latest.{others, latest, latest_of, value_at}
-use Rattle.ts_core.specs.Aggregates.{Aggregate, merged, aggregate_of}
+use Rattle.ts_core.specs.History.{History, Line, accepted, IsLawful}
+use Rattle.ts_core.specs.Latest.{others, latest, value_at}
+use Rattle.ts_core.specs.Aggregates.{merged, aggregate_of}
 use Rattle.ts_core.specs.RawFacts.{kept_from, is_kept}
 use Rattle.ts_core.specs.Cells.{Cell, cell_of, is_rolled, is_in_cell, total_of, frozen_of, live_of}
 use Rattle.ts_core.specs.StoreStates.{ColumnPoints, RuleCells, StoreState, StandsFor, HasCells, column_of, rule_of, lowest_of, facts_of}
 use Rattle.ts_core.proofs.MembersLemmas.{Among-filter_passes, Among-filter_was, Among-filter_stays, filter-filter}
 use Rattle.ts_core.proofs.Ids.{same_id-eq}
-use Rattle.ts_core.proofs.Latests.{not_false, latest-distinct, others-new}
+use Rattle.ts_core.proofs.Latests.{latest-distinct, others-new}
 use Rattle.ts_core.proofs.Cuts.{one_fact, aggregate_where, Holds, live_of-held}
 use Rattle.ts_core.proofs.Moves.{AllTwo, FactsToo, ColumnsToo, IsWritten, written}
 use Rattle.ts_core.proofs.StateLemmas.{AllTwo-all, AllTwo-map, is_kept-above, Holds-raw_of, StandsFor-Holds, HasCells-as}
@@ -108,9 +107,9 @@ written_cells cut fs f after raw held r y t p =
           (λ q. t.stays (cell_of r.rule g) (p.there g (Among-filter_was (is_other f) g (latest fs) q) m l)) a;
       frozen = λ k l. t.frozen k l ∙ p.frozen k l ∙ sym (frozen_of-stays cut fs f raw r.rule k);
       live = λ k l. elim (is_in_cell r.rule k f) as (λ b. is_in_cell r.rule k f ≡ b → (y.parts k).live ≡ live_of cut r.rule k (latest (f ∷ fs))) [
-          | true ↦ λ e. t.live_here k l e ∙ sym (live_of-held cut (latest (f ∷ fs)) (facts_of after) held (latest-distinct (f ∷ fs)) r.rule k)
-          | false ↦ λ e. t.live_elsewhere k l e ∙ p.live k l ∙ sym (live_of-stays cut fs f r.rule k e)
-        ] refl;
+        | true ↦ λ e. t.live_here k l e ∙ sym (live_of-held cut (latest (f ∷ fs)) (facts_of after) held (latest-distinct (f ∷ fs)) r.rule k)
+        | false ↦ λ e. t.live_elsewhere k l e ∙ p.live k l ∙ sym (live_of-stays cut fs f r.rule k e)
+      ] refl;
     })
 
 -- a line of one fact
