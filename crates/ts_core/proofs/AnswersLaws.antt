@@ -13,13 +13,12 @@ use Rattle.ts_core.proofs.Tests.{and_parts, and_both, same_bool, lt_from, lt_tru
 use Rattle.ts_core.proofs.GroupsInOrder.{from_map, to_map, all_groups-same}
 use Rattle.ts_core.proofs.Covered.{within_true, within_below, within_above}
 
-
 -- ---- filters
 
-filter_same : {X : Type 0} (p q : X → Bool) → ((x : X) → p x ≡ q x) → (xs : List X) → filter p xs ≡ filter q xs
+pub filter_same : {X : Type 0} (p q : X → Bool) → ((x : X) → p x ≡ q x) → (xs : List X) → filter p xs ≡ filter q xs
 filter_same p q h xs = λ i. filter (λ x. h x i) xs
 
-filter_both : {X : Type 0} (p q : X → Bool) (xs : List X) → filter p (filter q xs) ≡ filter (λ x. q x && p x) xs
+pub filter_both : {X : Type 0} (p q : X → Bool) (xs : List X) → filter p (filter q xs) ≡ filter (λ x. q x && p x) xs
 filter_both p q [] = refl
 filter_both p q (x ∷ xs) =
     elim (q x) as (λ b. filter p (cond b (x ∷ filter q xs) (filter q xs)) ≡ cond (b && p x) (x ∷ filter (λ y. q y && p y) xs) (filter (λ y. q y && p y) xs)) [
@@ -60,7 +59,7 @@ answer_of-alike q fs gs a =
 abbrev pub over_range : Query → ℤ → ℤ → Query
 over_range q a b = record q { from = a; to = b }
 
-first_half : (x : Bool) (a c b t : ℤ) → c ≤ℤ b → ((x && is_within a b t) && int_lt t c) ≡ (x && is_within a c t)
+pub first_half : (x : Bool) (a c b t : ℤ) → c ≤ℤ b → ((x && is_within a b t) && int_lt t c) ≡ (x && is_within a c t)
 first_half false a c b t u = refl
 first_half true a c b t u = by_lt_z t a
     (λ l. ap (λ z. z && int_lt t c) (within_below a b t l) ∙ sym (within_below a c t l))
@@ -68,7 +67,7 @@ first_half true a c b t u = by_lt_z t a
     (λ m. and_both _ _ (within_true a b t l (omega (arith, ints))) (lt_true t c m) ∙ sym (within_true a c t l m))
     (λ m. same_bool (is_within a b t && int_lt t c) (is_within a c t) (λ e. absurd (let k = lt_from t c (and_parts (is_within a b t) _ e).1 in omega (arith, ints))) (λ e. absurd (true≢false (sym e ∙ within_above a c t m)))))
 
-second_half : (x : Bool) (a c b t : ℤ) → a ≤ℤ c → ((x && is_within a b t) && not (int_lt t c)) ≡ (x && is_within c b t)
+pub second_half : (x : Bool) (a c b t : ℤ) → a ≤ℤ c → ((x && is_within a b t) && not (int_lt t c)) ≡ (x && is_within c b t)
 second_half false a c b t u = refl
 second_half true a c b t u = by_lt_z t c
     (λ m. ap (λ z. is_within a b t && not z) (lt_true t c m) ∙ and_false (is_within a b t) ∙ sym (within_below c b t m))
@@ -79,9 +78,11 @@ second_half true a c b t u = by_lt_z t c
     and_false : (y : Bool) → (y && false) ≡ false
     and_false true = refl
     and_false false = refl
+
     and_true : (y : Bool) → (y && true) ≡ y
     and_true true = refl
     and_true false = refl
+
     not_lt : (y z : ℤ) → z ≤ℤ y → int_lt y z ≡ false
     not_lt y z l = elim (int_lt y z) as (λ b. int_lt y z ≡ b → b ≡ false) [ true ↦ λ e. absurd (let k = lt_from y z e in omega (arith, ints)) | false ↦ λ e. refl ] refl
 

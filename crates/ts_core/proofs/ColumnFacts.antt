@@ -70,7 +70,7 @@ pub column-raw_of : (opening : Settings) (h : History) (s : StoreState) → Stan
 column-raw_of opening h s st c m f = (
   λ a. subst (λ x. Among f (raw_of opening h s.waiting x)) (facts_at-column c.column c.points f a) ((st.raw f).0 (facts_of-there s.columns c f m a)),
   λ a. let e : f.column ≡ c.column = raw_of-column opening h s.waiting c.column f a in
-  facts_of-here s.columns c f st.columns_once m e ((st.raw f).1 (subst (λ x. Among f (raw_of opening h s.waiting x)) (sym e) a)),
+      facts_of-here s.columns c f st.columns_once m e ((st.raw f).1 (subst (λ x. Among f (raw_of opening h s.waiting x)) (sym e) a)),
 )
 
 -- so it has as many points as raw facts

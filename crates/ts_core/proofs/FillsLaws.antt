@@ -1,6 +1,7 @@
 -- Filling changes no row that has data, and puts into each other row what its kind says.
 use Rattle.std.proofs.Common.{◌≡◌, ℕ, ℤ, ◌==◌, suc, zero, Bool, true, false, cond, not, List, [], ◌∷◌, ◌++◌, map, filter, length, refl, sym, ◌∙◌, ap, subst, inl, inr, ◌⊎◌, true≢false, Option, Some, None, arith}
 use Rattle.std.specs.Prelude.{slice_get}
+use Rattle.std.proofs.lemmas.Bool.Decides.{Decides-eqb}
 use Rattle.std.specs.List.{AllByRecursion}
 use Rattle.ts_core.specs.Members.{Among}
 use Rattle.ts_core.specs.Facts.{Fact}
@@ -121,8 +122,7 @@ none_counted [] h = refl
 none_counted (f ∷ fs) h = absurd (omega arith)
 
 zero_of : (n : ℕ) → not (n == 0) ≡ false → n ≡ 0
-zero_of zero h = refl
-zero_of (suc n) h = absurd (true≢false h)
+zero_of n h = elim (n == 0) as (λ b. (n == 0) ≡ b → not b ≡ false → n ≡ 0) [ true ↦ λ e _. (Decides-eqb n 0).0 e | false ↦ λ e k. absurd (true≢false k) ] refl h
 
 -- facts without data are none: what is shown of them under `null` is null, and 0 for COUNT
 pub no_data-empty : (start : ℤ) (fs : List Fact) → has_data (record { start = start; aggregate = aggregate_of fs }) ≡ false → aggregate_of fs ≡ empty_aggregate

@@ -128,8 +128,8 @@ to_map q g f (x ∷ fs) (inr h) e = inr (to_map q g f fs h e)
 pub groups_of-match : (q : Query) (facts : List Fact) (g : List Text) → Among g (groups_of q facts) ↔ HasMatch q facts g
 groups_of-match q facts g = (
   λ a.
-  let r = from_map q g (filter (matches q) facts) ((all_groups-among g (map (group_of q) (filter (matches q) facts))).0 a) in
-  record { fact = r.0; among = Among-filter_was (matches q) r.0 facts r.1; matching = Among-filter_passes (matches q) r.0 facts r.1; group = r.2 },
+      let r = from_map q g (filter (matches q) facts) ((all_groups-among g (map (group_of q) (filter (matches q) facts))).0 a) in
+      record { fact = r.0; among = Among-filter_was (matches q) r.0 facts r.1; matching = Among-filter_passes (matches q) r.0 facts r.1; group = r.2 },
   λ h. (all_groups-among g (map (group_of q) (filter (matches q) facts))).1 (to_map q g h.fact (filter (matches q) facts) (Among-filter_stays (matches q) h.fact facts h.among h.matching) h.group),
 )
 

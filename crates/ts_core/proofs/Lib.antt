@@ -22,6 +22,12 @@ pub mod GroupsInOrder
 pub mod RatiosLemmas
 pub mod AnswersLaws
 pub mod FillsLaws
+pub mod WorkedPieces
+pub mod WalkChecks
+pub mod WorkedPlans
+pub mod Fitting
+pub mod PiecesTogether
+pub mod RuleNames
 pub mod Cuts
 pub mod Moves
 pub mod StateLemmas
@@ -33,10 +39,10 @@ pub mod Shown
 pub mod StepsLeft
 pub mod LowIndices
 pub mod NewStates
-pub mod RetentionRows
+pub mod ColumnFacts
 pub mod Boundaries
 pub mod RowTests
 pub mod PieceCells
 pub mod AssembledRows
 pub mod AssembledAnswers
-pub mod ColumnFacts
+pub mod RetentionRows

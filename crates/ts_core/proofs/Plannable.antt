@@ -19,11 +19,11 @@ abbrev Decided : Asked → ℤ → Type 0
 Decided t p = ((bs : List Piece) × IsWalk t p bs) ⊎ (IsGood t p → ⊥)
 
 -- rule n, as it stands in the list, leads on to a good place by a valid bucket
-record Leads (t : Asked) (r : MarkedRule) (p : ℤ) : Type 0 where
-  valid : IsValidPiece t (rollup_piece r.rule.name p (p +ℤ r.rule.interval))
-  good : IsGood t (p +ℤ r.rule.interval)
+pub record Leads (t : Asked) (r : MarkedRule) (p : ℤ) : Type 0 where
+  pub valid : IsValidPiece t (rollup_piece r.rule.name p (p +ℤ r.rule.interval))
+  pub good : IsGood t (p +ℤ r.rule.interval)
 
-leads_of : (t : Asked) (n : ℕ) (r : MarkedRule) (p d : ℤ) → slice_get t.rules n ≡ Some r → LeadsOn t n p d → Leads t r p
+pub leads_of : (t : Asked) (n : ℕ) (r : MarkedRule) (p d : ℤ) → slice_get t.rules n ≡ Some r → LeadsOn t n p d → Leads t r p
 leads_of t n r p d e l =
     let q : Some l.rule ≡ Some r = sym l.there ∙ e in
     let k : l.rule ≡ r = cc in
@@ -39,17 +39,17 @@ valid_or_not t b =
     ] refl
 
 -- rules before number n don't lead on
-abbrev NoneBefore : Asked → ℤ → ℕ → Type 0
+abbrev pub NoneBefore : Asked → ℤ → ℕ → Type 0
 NoneBefore t p n = (m : ℕ) (d : ℤ) → m < n → LeadsOn t m p d → ⊥
 
-one_more : (t : Asked) (p : ℤ) (n : ℕ) → NoneBefore t p n → ((d : ℤ) → LeadsOn t n p d → ⊥) → NoneBefore t p (n + 1)
+pub one_more : (t : Asked) (p : ℤ) (n : ℕ) → NoneBefore t p n → ((d : ℤ) → LeadsOn t n p d → ⊥) → NoneBefore t p (n + 1)
 one_more t p n b h m d l k =
     by_lt_z (pos m) (pos n)
     (λ x. b m d (omega (arith, ints)) k)
     (λ x. let e : m ≡ n = omega (arith, ints) in h d (subst (λ z. LeadsOn t z p d) e k))
 
 -- the rules rs stand from number n on
-abbrev StandFrom : Asked → ℕ → List MarkedRule → Type 0
+abbrev pub StandFrom : Asked → ℕ → List MarkedRule → Type 0
 StandFrom t n rs = (m : ℕ) → slice_get t.rules (n + m) ≡ slice_get rs m
 
 none_leads : (t : Asked) (p : ℤ) (n : ℕ) → HasIntervals t → p <ℤ t.mark → p <ℤ t.query.to → StandFrom t n [] → NoneBefore t p n → IsGood t p → ⊥

@@ -1,27 +1,12 @@
 -- Worked examples of answers and of filling, computed.
-use Rattle.std.proofs.Common.{◌≡◌, ℕ, ℤ, pos, negsuc, List, [], ◌∷◌, refl, false}
+use Rattle.std.proofs.Common.{◌≡◌, ℕ, ◌*◌, ℤ, pos, negsuc, List, [], ◌∷◌, refl, false}
 use Rattle.ts_core.specs.Facts.{Text, Series, Column, Fact}
 use Rattle.ts_core.specs.Latest.{latest}
 use Rattle.ts_core.specs.Queries.{Query, Condition}
 use Rattle.ts_core.specs.Answers.{answer_of, buckets_in}
 use Rattle.ts_core.specs.Fills.{Function, Count, Sum, Min, Max, First, Last, Mean, Value, Null, Number, Fraction, Fill, NullFill, NoneFill, PreviousFill, NumberFill, FilledRow, FilledGroup, filled}
 
--- ---- words
-
-m : Text
-m = 109 ∷ []
-
-f : Text
-f = 102 ∷ []
-
-a : Text
-a = 97 ∷ []
-
-one : Text
-one = 49 ∷ []
-
-two : Text
-two = 50 ∷ []
+-- ---- words: measurement m, field f
 
 abbrev fact : List (Text × Text) → ℤ → ℤ → Fact
 fact tags t v = record { column = record { series = record { measurement = 109 ∷ []; tags = tags }; field = 102 ∷ [] }; time = t; value = v }
@@ -97,3 +82,36 @@ no_buckets = refl
 
 no_groups : answer_of [] (asks (pos 0) (pos 10) (pos 5) (pos 0) []) ≡ []
 no_groups = refl
+
+-- ---- one series whatever the order of its tags; a point written twice counts once, with the newer value
+
+newer_counts : filled NullFill (Sum ∷ []) (answer_of (latest (fact ((97 ∷ [], 50 ∷ []) ∷ (98 ∷ [], 49 ∷ []) ∷ []) (pos 5) (pos 3) ∷ fact ((97 ∷ [], 50 ∷ []) ∷ (98 ∷ [], 49 ∷ []) ∷ []) (pos 5) (pos 1) ∷ [])) (asks (pos 0) (pos 10) (pos 10) (pos 0) []))
+    ≡ group [] (row (pos 0) (n 3 ∷ []) ∷ []) ∷ []
+newer_counts = refl
+
+-- ---- cpu of two hosts: of a 5 at 10 s, 7 at 70 s, then 9 and 2 at 100 s; of b 1 at 70 s
+
+abbrev of_host : ℕ → ℕ → ℕ → Fact
+of_host name t v = record { column = record { series = record { measurement = 99 ∷ 112 ∷ 117 ∷ []; tags = (104 ∷ 111 ∷ 115 ∷ 116 ∷ [], name ∷ []) ∷ [] }; field = 118 ∷ [] }; time = pos (t * 1000000000); value = pos v }
+
+abbrev of_cpu : ℕ → ℕ → List Text → Query
+of_cpu from to groups = record { measurement = 99 ∷ 112 ∷ 117 ∷ []; field = 118 ∷ []; conditions = []; from = pos (from * 1000000000); to = pos (to * 1000000000); interval = pos 60000000000; offset = pos 0; group_tags = groups }
+
+abbrev hosts : List Fact
+hosts = of_host 97 100 2 ∷ of_host 97 100 9 ∷ of_host 98 70 1 ∷ of_host 97 70 7 ∷ of_host 97 10 5 ∷ []
+
+one_minute : filled NullFill (Count ∷ Sum ∷ Min ∷ Max ∷ First ∷ Last ∷ Mean ∷ []) (answer_of (latest hosts) (of_cpu 60 120 []))
+    ≡ group [] (row (pos 60000000000) (n 3 ∷ n 10 ∷ n 1 ∷ n 7 ∷ n 7 ∷ n 2 ∷ over (pos 10) 3 ∷ []) ∷ []) ∷ []
+one_minute = refl
+
+-- then 0 at 100 s, and then 8
+after_zero : filled NullFill (Min ∷ Max ∷ []) (answer_of (latest (of_host 97 100 0 ∷ hosts)) (of_cpu 60 120 [])) ≡ group [] (row (pos 60000000000) (n 0 ∷ n 7 ∷ []) ∷ []) ∷ []
+after_zero = refl
+
+after_eight : filled NullFill (Min ∷ Max ∷ []) (answer_of (latest (of_host 97 100 8 ∷ of_host 97 100 0 ∷ hosts)) (of_cpu 60 120 [])) ≡ group [] (row (pos 60000000000) (n 1 ∷ n 8 ∷ []) ∷ []) ∷ []
+after_eight = refl
+
+by_host : filled PreviousFill (Max ∷ []) (answer_of (latest (of_host 97 100 8 ∷ of_host 97 100 0 ∷ hosts)) (of_cpu 0 240 ((104 ∷ 111 ∷ 115 ∷ 116 ∷ []) ∷ [])))
+    ≡ group ((97 ∷ []) ∷ []) (row (pos 0) (n 5 ∷ []) ∷ row (pos 60000000000) (n 8 ∷ []) ∷ row (pos 120000000000) (n 8 ∷ []) ∷ row (pos 180000000000) (n 8 ∷ []) ∷ [])
+    ∷ group ((98 ∷ []) ∷ []) (row (pos 0) (Null ∷ []) ∷ row (pos 60000000000) (n 1 ∷ []) ∷ row (pos 120000000000) (n 1 ∷ []) ∷ row (pos 180000000000) (n 1 ∷ []) ∷ []) ∷ []
+by_host = refl
