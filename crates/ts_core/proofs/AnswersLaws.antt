@@ -1,12 +1,12 @@
 -- The answer goes by what is in the list and not by its order, and an aggregate of a range is that of its two halves.
-use Rattle.std.proofs.Common.{◌≡◌, ℤ, ◌+ℤ◌, ◌*ℤ◌, ◌≤ℤ◌, ◌<ℤ◌, int_lt, Bool, true, false, cond, ◌&&◌, not, List, [], ◌∷◌, map, filter, refl, sym, ◌∙◌, ap, ap₂, arith, inl, inr, subst, true≢false}
+use Rattle.std.proofs.Common.{◌≡◌, ℤ, ◌+ℤ◌, ◌*ℤ◌, ◌≤ℤ◌, int_lt, Bool, true, false, cond, ◌&&◌, not, List, [], ◌∷◌, map, filter, refl, sym, ◌∙◌, ap, ap₂, arith, true≢false}
 use Rattle.std.proofs.lemmas.Int.{ints, by_lt_z}
 use Rattle.ts_core.specs.Members.{Among, AllDistinct}
 use Rattle.ts_core.specs.Facts.{Text, Fact, is_within}
 use Rattle.ts_core.specs.Aggregates.{aggregate_of, aggregate_of_one, merged}
 use Rattle.ts_core.specs.MergeLaws.{aggregate_laws}
 use Rattle.ts_core.specs.Queries.{Query, is_selected, matches, group_of}
-use Rattle.ts_core.specs.Answers.{Row, Group, buckets_in, is_in_row, groups_of, answer_of}
+use Rattle.ts_core.specs.Answers.{buckets_in, is_in_row, groups_of, answer_of}
 use Rattle.ts_core.proofs.MembersLemmas.{Among-filter_passes, Among-filter_was, Among-filter_stays, AllDistinct-filter}
 use Rattle.ts_core.proofs.Folds.{fold-same, fold-split}
 use Rattle.ts_core.proofs.Tests.{and_parts, and_both, same_bool, lt_from, lt_true}

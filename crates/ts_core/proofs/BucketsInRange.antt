@@ -1,9 +1,8 @@
 -- The buckets of a query: just those in which some moment of the range lies, each once, in order.
-use Rattle.std.proofs.Common.{◌≡◌, ◌↔◌, ℕ, ℤ, pos, negsuc, ◌+ℤ◌, ◌-ℤ◌, ◌*ℤ◌, ◌≤ℤ◌, ◌<ℤ◌, int_lt, arith, refl, sym, ap, ◌∙◌, suc, zero, subst, List, [], ◌∷◌, ◌⊎◌, inl, inr, ⊎_elim, Bool, true, false, cond}
+use Rattle.std.proofs.Common.{◌≡◌, ◌↔◌, ℕ, ℤ, pos, negsuc, ◌+ℤ◌, ◌-ℤ◌, ◌*ℤ◌, ◌≤ℤ◌, ◌<ℤ◌, int_lt, arith, refl, sym, ap, ◌∙◌, suc, zero, subst, List, [], ◌∷◌, inl, inr, Bool, true, false, cond}
 use Rattle.std.specs.Int.Signed.{≤ℤ_refl}
 use Rattle.std.proofs.lemmas.Int.{ints, by_lt_z}
 use Rattle.ts_core.specs.Members.{Among, AllDistinct}
-use Rattle.ts_core.specs.Buckets.{IsBucketOf}
 use Rattle.ts_core.specs.Queries.{Query}
 use Rattle.ts_core.specs.Answers.{at_least_none, numbers_from, bucket_in, buckets_in}
 use Rattle.ts_core.proofs.BucketsOrder.{bucket_is, bucket_le, times_le, bucket_of-start}

@@ -1,5 +1,5 @@
 -- Valid pieces cover the range exactly once: each moment of it lies in one piece, and no other moment in any.
-use Rattle.std.proofs.Common.{◌≡◌, ℕ, ℤ, ◌≤ℤ◌, ◌<ℤ◌, int_le, int_lt, arith, refl, sym, ap, ◌∙◌, suc, List, [], ◌∷◌, length, filter, Bool, true, false, cond, ◌&&◌}
+use Rattle.std.proofs.Common.{◌≡◌, ℕ, ℤ, ◌≤ℤ◌, ◌<ℤ◌, int_le, int_lt, arith, refl, sym, ap, ◌∙◌, suc, List, [], ◌∷◌, length, filter, Bool, true, false, cond}
 use Rattle.std.proofs.lemmas.Int.{ints, by_lt_z}
 use Rattle.ts_core.specs.Facts.{is_within}
 use Rattle.ts_core.specs.Settings.{Settings}
@@ -20,10 +20,6 @@ within_above a b t l = elim (is_within a b t) as (λ x. is_within a b t ≡ x �
 -- the moment lies in the piece
 abbrev pub holds : ℤ → Piece → Bool
 holds t p = is_within p.from p.to t
-
-one_if : Bool → ℕ
-one_if true = 1
-one_if false = 0
 
 pub covers_once : (a b t : ℤ) (ps : List Piece) → Covers a b ps → length (filter (holds t) ps) ≡ cond (is_within a b t) 1 0
 covers_once a b t [] c =

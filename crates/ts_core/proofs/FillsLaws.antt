@@ -1,5 +1,5 @@
 -- Filling changes no row that has data, and puts into each other row what its kind says.
-use Rattle.std.proofs.Common.{◌≡◌, ℕ, ℤ, ◌==◌, suc, zero, Bool, true, false, cond, not, List, [], ◌∷◌, ◌++◌, map, filter, length, refl, sym, ◌∙◌, ap, subst, inl, inr, ◌⊎◌, true≢false, Option, Some, None, arith}
+use Rattle.std.proofs.Common.{◌≡◌, ℕ, ℤ, ◌==◌, suc, zero, true, false, cond, not, List, [], ◌∷◌, ◌++◌, map, filter, length, refl, sym, ◌∙◌, ap, subst, inl, inr, true≢false, Option, Some, None, arith}
 use Rattle.std.specs.Prelude.{slice_get}
 use Rattle.std.proofs.lemmas.Bool.Decides.{Decides-eqb}
 use Rattle.std.specs.List.{AllByRecursion}
@@ -8,7 +8,7 @@ use Rattle.ts_core.specs.Facts.{Fact}
 use Rattle.ts_core.specs.Aggregates.{Aggregate, aggregate_of, aggregate_of_one, empty_aggregate}
 use Rattle.ts_core.specs.MergeLaws.{aggregate_laws}
 use Rattle.ts_core.specs.Answers.{Row}
-use Rattle.ts_core.specs.Fills.{Function, Count, Fill, NullFill, NoneFill, PreviousFill, NumberFill, is_empty, value_of, number_value, has_data, shown, numbered, repeated, last_data, with_previous, filled_rows, FilledRow}
+use Rattle.ts_core.specs.Fills.{Function, Fill, NullFill, NoneFill, PreviousFill, NumberFill, value_of, number_value, has_data, shown, numbered, repeated, last_data, with_previous, filled_rows, FilledRow}
 use Rattle.ts_core.proofs.MembersLemmas.{Among-filter_passes, Among-filter_was, Among-filter_stays}
 use Rattle.ts_core.proofs.Folds.{fold-count}
 

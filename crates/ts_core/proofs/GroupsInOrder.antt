@@ -1,7 +1,6 @@
 -- The groups of an answer: just those that have a matching fact, each once, in byte order.
-use Rattle.std.proofs.Common.{◌≡◌, ◌↔◌, Bool, true, false, cond, ◌||◌, List, [], ◌∷◌, map, filter, refl, sym, ◌∙◌, ap, ap₂, subst, inl, inr, ◌⊎◌, ⊎_elim, true≢false, Option, Some, None, is_some, is_eq, Ordering, Less, Equal, Greater, T}
+use Rattle.std.proofs.Common.{◌≡◌, ◌↔◌, Bool, true, false, cond, ◌||◌, List, [], ◌∷◌, map, filter, refl, sym, ◌∙◌, ap, subst, inl, inr, true≢false, Option, Some, None, is_some, is_eq, Less, Equal, Greater, T}
 use Rattle.std.specs.Cmp.{IsTotalOrder}
-use Rattle.std.specs.Ordering.{eq_by_cmp}
 use Rattle.std.specs.List.{list_any}
 use Rattle.std.specs.FinMap.{slice_cmp-IsAntisymmetric}
 use Rattle.std.specs.FinMap.Entries.{by_order, put, find, is_sorted, is_sorted-put, find-put, is_some-find, same_entries}

@@ -25,7 +25,6 @@ pub mod FillsLaws
 pub mod WorkedPieces
 pub mod WalkChecks
 pub mod WorkedPlans
-pub mod Fitting
 pub mod PiecesTogether
 pub mod RuleNames
 pub mod Cuts

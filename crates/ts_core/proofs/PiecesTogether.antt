@@ -1,8 +1,7 @@
 -- What valid pieces hold of a row, put together, is the row: each fact of it is in just one piece.
-use Rattle.std.proofs.Common.{◌≡◌, ℤ, ◌≤ℤ◌, ◌<ℤ◌, int_lt, Bool, true, false, ◌&&◌, not, List, [], ◌∷◌, filter, refl, sym, ◌∙◌, ap, ap₂, arith, subst}
+use Rattle.std.proofs.Common.{◌≡◌, ℤ, ◌≤ℤ◌, int_lt, Bool, true, false, ◌&&◌, not, List, [], ◌∷◌, filter, refl, sym, ◌∙◌, ap, ap₂, arith}
 use Rattle.std.proofs.lemmas.Int.{ints, by_lt_z}
 use Rattle.std.specs.Ordering.{int_eq}
-use Rattle.ts_core.specs.Members.{Among}
 use Rattle.ts_core.specs.Facts.{Text, Fact, is_within}
 use Rattle.ts_core.specs.Settings.{Settings}
 use Rattle.ts_core.specs.Marks.{Marks}
@@ -15,7 +14,6 @@ use Rattle.ts_core.specs.Pieces.{Piece, Covers, IsValid}
 use Rattle.ts_core.proofs.MembersLemmas.{filter-none}
 use Rattle.ts_core.proofs.Folds.{fold-split}
 use Rattle.ts_core.proofs.Covered.{within_above, within_below}
-use Rattle.ts_core.proofs.Places.{covers_within}
 use Rattle.ts_core.proofs.AnswersLaws.{over_range, filter_both, filter_same, first_half, second_half}
 
 -- what the facts of a row in a part of the range add up to

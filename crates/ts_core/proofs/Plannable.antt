@@ -1,5 +1,5 @@
 -- There is a plan exactly where some list of pieces is valid: else no rule leads on, as far as the walk comes.
-use Rattle.std.proofs.Common.{◌≡◌, ◌↔◌, ℕ, ℤ, pos, ◌+◌, ◌<◌, ◌+ℤ◌, ◌-ℤ◌, ◌≤ℤ◌, ◌<ℤ◌, arith, refl, sym, ap, ◌∙◌, suc, zero, subst, unsigned_abs, List, [], ◌∷◌, Option, Some, None, ◌⊎◌, inl, inr, Bool, true, false, zero-add}
+use Rattle.std.proofs.Common.{◌≡◌, ◌↔◌, ℕ, ℤ, pos, ◌+◌, ◌<◌, ◌+ℤ◌, ◌-ℤ◌, ◌≤ℤ◌, ◌<ℤ◌, arith, refl, sym, ap, ◌∙◌, suc, zero, subst, unsigned_abs, List, [], ◌∷◌, Some, None, ◌⊎◌, inl, inr, zero-add}
 use Rattle.std.specs.Prelude.{slice_get}
 use Rattle.std.specs.Int.Signed.{yes_non_neg, pos-nat_abs}
 use Rattle.std.proofs.lemmas.Int.{ints, by_lt_z}
@@ -8,10 +8,10 @@ use Rattle.ts_core.specs.Settings.{Rule, Settings}
 use Rattle.ts_core.specs.Marks.{Marks}
 use Rattle.ts_core.specs.Queries.{Query}
 use Rattle.ts_core.specs.Pieces.{Raw, Piece, MarkedRule, marked_rules, Asked, asked, HasIntervals, IsValidPiece, IsValid}
-use Rattle.ts_core.specs.Faults.{Fault, piece_fault}
-use Rattle.ts_core.specs.Plans.{IsGood, rollup_piece, LeadsOn, IsWalk, joined, IsPlanOf, IsPlan}
+use Rattle.ts_core.specs.Faults.{piece_fault}
+use Rattle.ts_core.specs.Plans.{IsGood, rollup_piece, LeadsOn, IsWalk, joined, IsPlan}
 use Rattle.ts_core.proofs.Validity.{source_from, source_none}
-use Rattle.ts_core.proofs.Places.{SomeLead, good_leads, good_within}
+use Rattle.ts_core.proofs.Places.{good_leads, good_within}
 use Rattle.ts_core.proofs.Walks.{walk_valid, plan_valid, plan_same}
 
 -- a walk from p, or p isn't good

@@ -1,5 +1,5 @@
 -- Where names differ, a rule is found by its name: so pieces may name rules, and a planner may number them.
-use Rattle.std.proofs.Common.{◌≡◌, ℕ, ℤ, suc, zero, arith, refl, sym, ap, ap₂, ◌∙◌, subst, List, [], ◌∷◌, map, length, Option, Some, None, inl, inr, Bool, true, false, cond}
+use Rattle.std.proofs.Common.{◌≡◌, ℕ, ℤ, suc, zero, arith, refl, sym, ap, ◌∙◌, subst, List, [], ◌∷◌, map, length, Some, None, inl, inr, true, false, cond}
 use Rattle.std.specs.Prelude.{slice_get}
 use Rattle.ts_core.specs.Members.{Among, AllDistinct}
 use Rattle.ts_core.specs.Facts.{Text, same_text}

@@ -1,16 +1,15 @@
 -- Pieces without a fault are valid, and valid pieces have none.
-use Rattle.std.proofs.Common.{◌≡◌, ◌↔◌, ℕ, ℤ, pos, ◌+◌, ◌-ℤ◌, ◌<ℤ◌, int_le, int_lt, refl, sym, ap, ap₂, ◌∙◌, List, [], ◌∷◌, Option, Some, None, ◌⊎◌, Bool, true, false, cond, ◌&&◌, ◌||◌, inl, inr, true≢false}
+use Rattle.std.proofs.Common.{◌≡◌, ◌↔◌, ℕ, ℤ, pos, ◌+◌, ◌-ℤ◌, int_le, int_lt, refl, sym, ap, ap₂, ◌∙◌, List, [], ◌∷◌, Option, Some, None, ◌⊎◌, Bool, true, false, cond, ◌&&◌, ◌||◌, inl, inr, true≢false}
 use Rattle.std.specs.Ordering.{int_eq}
 use Rattle.std.specs.Int.{int_rem_euclid}
 use Rattle.std.proofs.lemmas.Bool.Decides.{Decides-int_eq}
-use Rattle.std.specs.List.{AllByRecursion, list_all}
-use Rattle.ts_core.specs.Facts.{same_text}
+use Rattle.std.specs.List.{AllByRecursion}
 use Rattle.ts_core.specs.Settings.{Rule, Settings}
 use Rattle.ts_core.specs.Buckets.{bucket_of}
 use Rattle.ts_core.specs.Marks.{Marks, index_of}
 use Rattle.ts_core.specs.Queries.{Query}
 use Rattle.ts_core.specs.Pieces.{Source, Raw, Rollup, Piece, MarkedRule, Asked, asked, rule_named, start_of, Divides, IsInOneBucket, tags_of, RuleServes, SourceServes, IsValidPiece, Covers, IsValidFrom, IsValid}
-use Rattle.ts_core.specs.Faults.{Fault, Gap, NoSuchRule, unless, is_boundary, divides, is_in_one_bucket, keeps, rule_fault, source_fault, piece_fault, gap_at, or_fault, pieces_fault, or_gap, fault_from, first_fault}
+use Rattle.ts_core.specs.Faults.{Fault, Gap, NoSuchRule, unless, divides, is_in_one_bucket, rule_fault, source_fault, piece_fault, gap_at, or_fault, pieces_fault, or_gap, fault_from, first_fault}
 use Rattle.ts_core.proofs.Tests.{and_parts, and_both, or_cases, or_left, or_right, le_from, le_true, lt_from, lt_true, same_text-from_eq, all_among, among_all}
 use Rattle.ts_core.proofs.Ids.{same_text-eq}
 

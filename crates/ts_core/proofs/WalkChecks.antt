@@ -1,18 +1,17 @@
 -- A test that some buckets are the walk of a plan, for where the rules before the taken one have no valid bucket at all.
-use Rattle.std.proofs.Common.{◌≡◌, ℕ, ℤ, ◌+◌, ◌<◌, ◌+ℤ◌, ◌≤ℤ◌, ◌<ℤ◌, int_lt, int_le, arith, refl, sym, ap, ◌∙◌, suc, zero, subst, List, [], ◌∷◌, Option, Some, None, ◌⊎◌, inl, inr, Bool, true, false, cond, ◌&&◌, not, true≢false, zero-add}
+use Rattle.std.proofs.Common.{◌≡◌, ℕ, ℤ, ◌+◌, ◌+ℤ◌, ◌<ℤ◌, int_lt, int_le, arith, refl, sym, ap, ◌∙◌, suc, subst, List, [], ◌∷◌, Some, Bool, true, false, cond, ◌&&◌, not, true≢false, zero-add}
 use Rattle.std.specs.Prelude.{slice_get}
 use Rattle.std.specs.Ordering.{int_eq}
-use Rattle.std.proofs.lemmas.Int.{ints, by_lt_z}
 use Rattle.std.proofs.lemmas.Bool.Decides.{Decides-int_eq}
 use Rattle.ts_core.specs.Facts.{Text, same_text}
 use Rattle.ts_core.specs.Pieces.{Source, Raw, Rollup, Piece, MarkedRule, Asked, HasIntervals, IsValidPiece}
-use Rattle.ts_core.specs.Faults.{Fault, piece_fault}
+use Rattle.ts_core.specs.Faults.{piece_fault}
 use Rattle.ts_core.specs.Plans.{IsGood, rollup_piece, LeadsOn, IsFirstToLead, Steps, IsWalk, is_faultless}
 use Rattle.ts_core.proofs.Tests.{and_parts, lt_from, le_from}
 use Rattle.ts_core.proofs.Ids.{same_text-eq}
 use Rattle.ts_core.proofs.Validity.{source_from, source_none}
 use Rattle.ts_core.proofs.Walks.{walk_valid, faultless_none}
-use Rattle.ts_core.proofs.Plannable.{Leads, leads_of, NoneBefore, one_more, StandFrom}
+use Rattle.ts_core.proofs.Plannable.{leads_of, NoneBefore, one_more, StandFrom}
 
 -- the bucket of the rule at p has no fault
 abbrev is_open : Asked → MarkedRule → ℤ → Bool

@@ -1,16 +1,12 @@
 -- The plan of a query is valid, it is one alone, and it is there wherever some list of pieces is valid.
-use Rattle.std.proofs.Common.{◌≡◌, ◌↔◌, ℕ, ℤ, pos, negsuc, ◌+◌, ◌<◌, ◌≤◌, ◌+ℤ◌, ◌-ℤ◌, ◌≤ℤ◌, ◌<ℤ◌, arith, refl, sym, ap, ap₂, ◌∙◌, suc, zero, subst, List, [], ◌∷◌, Option, Some, None, ◌⊎◌, inl, inr, Bool, true, false, cond, ◌&&◌, true≢false}
+use Rattle.std.proofs.Common.{◌≡◌, ℕ, ℤ, pos, ◌<◌, ◌+ℤ◌, ◌≤ℤ◌, ◌<ℤ◌, arith, refl, sym, ap, ap₂, ◌∙◌, subst, List, [], ◌∷◌, Option, Some, None, Bool, true, false, cond, ◌&&◌, true≢false}
 use Rattle.std.specs.Prelude.{slice_get}
-use Rattle.std.specs.Int.Signed.{≤ℤ_refl}
 use Rattle.std.proofs.lemmas.Int.{ints, by_lt_z}
 use Rattle.std.specs.List.{AllByRecursion}
 use Rattle.ts_core.specs.Facts.{Text}
-use Rattle.ts_core.specs.Settings.{Rule, Settings}
-use Rattle.ts_core.specs.Marks.{Marks}
-use Rattle.ts_core.specs.Queries.{Query}
-use Rattle.ts_core.specs.Pieces.{Source, Raw, Rollup, Piece, MarkedRule, Asked, asked, HasIntervals, SourceServes, IsValidPiece, Covers, IsValidFrom, IsValid}
+use Rattle.ts_core.specs.Pieces.{Source, Raw, Rollup, Piece, MarkedRule, Asked, HasIntervals, SourceServes, IsValidPiece, Covers, IsValidFrom}
 use Rattle.ts_core.specs.Faults.{Fault, piece_fault}
-use Rattle.ts_core.specs.Plans.{IsGood, rollup_piece, LeadsOn, IsFirstToLead, Steps, IsWalk, is_same_rule, is_faultless, drawn, joined_onto, joined, IsPlanOf, IsPlan}
+use Rattle.ts_core.specs.Plans.{IsFirstToLead, Steps, IsWalk, is_same_rule, is_faultless, drawn, joined_onto, joined, IsPlanOf}
 use Rattle.ts_core.proofs.Tests.{and_parts}
 use Rattle.ts_core.proofs.Validity.{source_from}
 use Rattle.ts_core.proofs.Places.{rule_wide, good_within}

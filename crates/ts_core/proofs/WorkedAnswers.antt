@@ -1,10 +1,10 @@
 -- Worked examples of answers and of filling, computed.
-use Rattle.std.proofs.Common.{◌≡◌, ℕ, ◌*◌, ℤ, pos, negsuc, List, [], ◌∷◌, refl, false}
-use Rattle.ts_core.specs.Facts.{Text, Series, Column, Fact}
+use Rattle.std.proofs.Common.{◌≡◌, ℕ, ◌*◌, ℤ, pos, negsuc, List, [], ◌∷◌, refl}
+use Rattle.ts_core.specs.Facts.{Text, Fact}
 use Rattle.ts_core.specs.Latest.{latest}
-use Rattle.ts_core.specs.Queries.{Query, Condition}
+use Rattle.ts_core.specs.Queries.{Query}
 use Rattle.ts_core.specs.Answers.{answer_of, buckets_in}
-use Rattle.ts_core.specs.Fills.{Function, Count, Sum, Min, Max, First, Last, Mean, Value, Null, Number, Fraction, Fill, NullFill, NoneFill, PreviousFill, NumberFill, FilledRow, FilledGroup, filled}
+use Rattle.ts_core.specs.Fills.{Count, Sum, Min, Max, First, Last, Mean, Value, Null, Number, Fraction, NullFill, NoneFill, PreviousFill, NumberFill, FilledRow, FilledGroup, filled}
 
 -- ---- words: measurement m, field f
 

@@ -1,11 +1,11 @@
 -- Worked examples of marks, of valid pieces and of their first faults, computed.
-use Rattle.std.proofs.Common.{◌≡◌, ℕ, ℤ, pos, negsuc, List, [], ◌∷◌, Option, Some, None, refl, false}
+use Rattle.std.proofs.Common.{◌≡◌, ℕ, pos, negsuc, List, [], ◌∷◌, Option, Some, None, refl, false}
 use Rattle.ts_core.specs.Facts.{Text}
 use Rattle.ts_core.specs.Settings.{Rule, Settings}
 use Rattle.ts_core.specs.History.{Begin}
 use Rattle.ts_core.specs.Marks.{Marks, marks_of}
 use Rattle.ts_core.specs.Queries.{Query, Condition}
-use Rattle.ts_core.specs.Pieces.{Source, Raw, Rollup, Piece}
+use Rattle.ts_core.specs.Pieces.{Raw, Rollup, Piece}
 use Rattle.ts_core.specs.Faults.{Fault, Gap, BelowMark, NoSuchRule, OtherMeasurement, OffBoundary, BelowLow, Straddles, TagNotKept, first_fault}
 
 -- ---- words

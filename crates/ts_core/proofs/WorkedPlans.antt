@@ -1,5 +1,5 @@
 -- Worked examples of plans: each is the plan, and so the only one.
-use Rattle.std.proofs.Common.{◌≡◌, ℕ, zero, suc, ℤ, pos, ◌+◌, ◌*◌, ◌≤ℤ◌, ◌<ℤ◌, List, [], ◌∷◌, ◌++◌, true, refl, arith}
+use Rattle.std.proofs.Common.{◌≡◌, ℕ, zero, suc, pos, ◌+◌, ◌*◌, List, [], ◌∷◌, refl, arith}
 use Rattle.std.proofs.lemmas.Int.{ints}
 use Rattle.ts_core.specs.Settings.{Rule, Settings}
 use Rattle.ts_core.specs.Marks.{Marks, marks_of}
@@ -8,7 +8,7 @@ use Rattle.ts_core.specs.Queries.{Query}
 use Rattle.ts_core.specs.Pieces.{Piece, asked, HasIntervals}
 use Rattle.ts_core.specs.Plans.{IsPlan, whole_buckets}
 use Rattle.ts_core.proofs.Plannable.{has_intervals}
-use Rattle.ts_core.proofs.WalkChecks.{is_walk, is_walk-IsWalk}
+use Rattle.ts_core.proofs.WalkChecks.{is_walk-IsWalk}
 use Rattle.ts_core.proofs.WorkedPieces.{cpu, m1, asks, raw, rollup, by_minute, minute, two_minutes, at_200s}
 
 -- ---- below the raw mark the rule's buckets, and then raw points

@@ -1,6 +1,6 @@
 -- What is shown of an answer: a value for each function, and what stands for a bucket without data.
 -- (InfluxData 1.8, InfluxQL: GROUP BY time intervals and fill(). Own rules: COUNT under fill, and means as fractions.)
-use Rattle.std.specs.Prelude.{ℕ, ◌==◌, ℤ, pos, Bool, not, List, [], ◌∷◌, map, filter, Option, Some, None, if◌then◌else◌}
+use Rattle.std.specs.Prelude.{◌==◌, ℤ, pos, Bool, not, List, [], ◌∷◌, map, filter, Option, Some, None, if◌then◌else◌}
 use Rattle.ts_core.specs.declared.aggregate.Extremes.{Extremes}
 use Rattle.ts_core.specs.Facts.{Text}
 use Rattle.ts_core.specs.Aggregates.{Aggregate}
