@@ -6,7 +6,7 @@ pub mod Ids
 pub mod Latests
 pub mod BucketsLemmas
 pub mod BucketsOrder
-pub mod Places
+pub mod GoodPlaces
 pub mod Tests
 pub mod Validity
 pub mod Walks

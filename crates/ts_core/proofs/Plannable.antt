@@ -11,7 +11,7 @@ use Rattle.ts_core.specs.Pieces.{Raw, Piece, MarkedRule, marked_rules, Asked, as
 use Rattle.ts_core.specs.Faults.{piece_fault}
 use Rattle.ts_core.specs.Plans.{IsGood, rollup_piece, LeadsOn, IsWalk, joined, IsPlan}
 use Rattle.ts_core.proofs.Validity.{source_from, source_none}
-use Rattle.ts_core.proofs.Places.{good_leads, good_within}
+use Rattle.ts_core.proofs.GoodPlaces.{good_leads, good_within}
 use Rattle.ts_core.proofs.Walks.{walk_valid, plan_valid, plan_same}
 
 -- a walk from p, or p isn't good

@@ -9,7 +9,7 @@ use Rattle.ts_core.specs.Faults.{Fault, piece_fault}
 use Rattle.ts_core.specs.Plans.{IsFirstToLead, Steps, IsWalk, is_same_rule, is_faultless, drawn, joined_onto, joined, IsPlanOf}
 use Rattle.ts_core.proofs.Tests.{and_parts}
 use Rattle.ts_core.proofs.Validity.{source_from}
-use Rattle.ts_core.proofs.Places.{rule_wide, good_within}
+use Rattle.ts_core.proofs.GoodPlaces.{rule_wide, good_within}
 
 -- ---- the walk is valid, and stays so where it is joined
 
