@@ -7,6 +7,8 @@ pub mod Latest
 pub mod Kept
 pub mod Partials
 pub mod Texts
+pub mod Devices
+pub mod ReadingAhead
 pub mod Buckets
 pub mod Tags
 pub mod Queries
