@@ -1,5 +1,5 @@
 -- What points fold to is their aggregate in the field's words, and no other is.
-use Rattle.std.proofs.Common.{◌≡◌, ◌⊎◌, ℕ, ◌+◌, ◌<◌, ℤ, pos, ◌+ℤ◌, ◌*ℤ◌, ◌≤ℤ◌, ◌<ℤ◌, List, [], ◌∷◌, length, map, refl, sym, ◌∙◌, ap, subst, inl, inr, ⊎_elim, arith, one-add, zero-add, add_comm, add_assoc, Option, Some, None, MatchOption, Ordering, int_cmp}
+use Rattle.std.proofs.Common.{◌≡◌, ◌⊎◌, ◌+◌, ℤ, ◌+ℤ◌, ◌≤ℤ◌, ◌<ℤ◌, List, [], ◌∷◌, length, map, refl, sym, ◌∙◌, ap, subst, inl, inr, ⊎_elim, arith, one-add, Option, Some, None, MatchOption, Ordering, int_cmp}
 use Rattle.std.specs.List.{AllByRecursion}
 use Rattle.std.specs.Cmp.{IsTotalOrder, int_cmp_total}
 use Rattle.std.proofs.lemmas.Cmp.{upto}
@@ -8,9 +8,8 @@ use Rattle.std.proofs.lemmas.Map.Lookups.{CmpEqualImpliesEq, exact_signed}
 use Rattle.ts_core.specs.declared.aggregate.Extremes.{Extremes}
 use Rattle.ts_core.specs.Facts.{Fact}
 use Rattle.ts_core.specs.Members.{Among}
-use Rattle.ts_core.specs.Partials.{fold_by}
 use Rattle.ts_core.specs.Orders.{lesser, down_cmp, early_cmp, late_cmp}
-use Rattle.ts_core.specs.Aggregates.{Aggregate, empty_aggregate, extremes_of_one, aggregate_of_one, extremes_of_both, merged_extremes, merged, aggregate_of_points, aggregate_of, points_of, sum_of_points, AreReached, LiesWithin, AreExtremesOf, IsAggregateOfPoints, IsAggregateOf}
+use Rattle.ts_core.specs.Aggregates.{Aggregate, extremes_of_one, aggregate_of_one, merged_extremes, merged, aggregate_of_points, aggregate_of, points_of, sum_of_points, AreExtremesOf, IsAggregateOfPoints, IsAggregateOf}
 use Rattle.ts_core.specs.OrderLaws.{IsUpto, IsUpto-refl, lesser-left, lesser-right, lesser_one, exact_down, down_total, early_total, late_total, exact_early, exact_late, le_from_IsUpto, words_from_early, words_from_late}
 
 -- ---- an extreme of one more

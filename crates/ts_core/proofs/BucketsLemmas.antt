@@ -1,5 +1,5 @@
 -- A bucket is there, and it is one.
-use Rattle.std.proofs.Common.{◌≡◌, ℕ, ℤ, pos, negsuc, ◌+◌, ◌*◌, ◌/◌, ◌%◌, ◌<◌, ◌≤◌, ◌+ℤ◌, ◌-ℤ◌, ◌*ℤ◌, ◌≤ℤ◌, ◌<ℤ◌, arith, refl, sym, ap, ◌∙◌, suc, subst, neg_ℤ, div-add-mod', mod-lt, zero-mul, zero}
+use Rattle.std.proofs.Common.{◌≡◌, ℕ, ℤ, pos, negsuc, ◌*◌, ◌/◌, ◌<◌, ◌+ℤ◌, ◌-ℤ◌, ◌*ℤ◌, ◌≤ℤ◌, ◌<ℤ◌, arith, refl, sym, ap, ◌∙◌, suc, subst, neg_ℤ, div-add-mod', mod-lt, zero-mul, zero}
 use Rattle.std.proofs.Common.{unsigned_abs}
 use Rattle.std.specs.Int.Signed.{≤ℤ_refl, yes_non_neg, pos-nat_abs}
 use Rattle.std.proofs.Math.IntN.{+ℤ-suc_ℤ, suc_ℤ-*ℤ, +ℤ_idr}
@@ -44,17 +44,31 @@ not_less x (suc n) i =
     let e : (x +ℤ pos (suc n)) *ℤ pos i ≡ (x +ℤ pos n) *ℤ pos i +ℤ pos i = ap (λ z. z *ℤ pos i) (+ℤ-suc_ℤ x (pos n)) ∙ suc_ℤ-*ℤ (x +ℤ pos n) (pos i) in
     rw e (omega (arith, ints))
 
-apart : (t o j k : ℤ) (i : ℕ) → IsBucketOf t (pos i) o j → IsBucketOf t (pos i) o k → j <ℤ k → ⊥
-apart t o j k i a b l =
+-- one more of the first factor is one more of the second
+pub one_more_of : (j : ℤ) (i : ℕ) → (j +ℤ pos 1) *ℤ pos i ≡ j *ℤ pos i +ℤ pos i
+one_more_of j i = ap (λ z. z *ℤ pos i) (+ℤ-suc_ℤ j (pos 0)) ∙ suc_ℤ-*ℤ (j +ℤ pos 0) (pos i) ∙ ap (λ z. z *ℤ pos i +ℤ pos i) (+ℤ_idr j)
+
+pub times_above : (j k : ℤ) (i : ℕ) → j <ℤ k → ((j +ℤ pos 1) *ℤ pos i) ≤ℤ (k *ℤ pos i)
+times_above j k i l =
     let z : ℤ = k -ℤ (j +ℤ pos 1) in
     let low : pos 0 ≤ℤ z = omega (arith, ints) in
     let e : pos (unsigned_abs z) ≡ z = pos-nat_abs z (yes_non_neg low) in
     let m : ((j +ℤ pos 1) *ℤ pos i) ≤ℤ (((j +ℤ pos 1) +ℤ pos (unsigned_abs z)) *ℤ pos i) = not_less (j +ℤ pos 1) (unsigned_abs z) i in
     let s : (j +ℤ pos 1) +ℤ pos (unsigned_abs z) ≡ k = ap (λ x. (j +ℤ pos 1) +ℤ x) e ∙ omega (arith, ints) in
-    let n : ((j +ℤ pos 1) *ℤ pos i) ≤ℤ (k *ℤ pos i) = subst (λ x. ((j +ℤ pos 1) *ℤ pos i) ≤ℤ (x *ℤ pos i)) s m in
+    subst (λ x. ((j +ℤ pos 1) *ℤ pos i) ≤ℤ (x *ℤ pos i)) s m
+
+apart : (t o j k : ℤ) (i : ℕ) → IsBucketOf t (pos i) o j → IsBucketOf t (pos i) o k → j <ℤ k → ⊥
+apart t o j k i a b l =
+    let n = times_above j k i l in
     let p = a.before_end in
     let q = b.from_start in
     absurd (omega (arith, ints))
+
+-- a factor above 0 taken away
+pub times_cancel : (j k : ℤ) (i : ℕ) → 0 < i → j *ℤ pos i ≡ k *ℤ pos i → j ≡ k
+times_cancel j k i some e =
+    by_lt_z j k (λ l. absurd (let a = times_above j k i l in let b = one_more_of j i in omega (arith, ints)))
+    (λ m. by_lt_z k j (λ l. absurd (let a = times_above k j i l in let b = one_more_of k i in omega (arith, ints))) (λ n. omega (arith, ints)))
 
 pub bucket_unique : (t o j k : ℤ) (i : ℕ) → IsBucketOf t (pos i) o j → IsBucketOf t (pos i) o k → j ≡ k
 bucket_unique t o j k i a b =

@@ -1,5 +1,5 @@
 -- Aggregates are equal exactly where they are the same.
-use Rattle.std.proofs.Common.{◌≡◌, ◌↔◌, ℕ, ℤ, Bool, true, false, ◌&&◌, nat_eq, int_eq, refl, sym, ◌∙◌, ap, subst, true≢false, Option, Some, None, Ordering, Equal, int_cmp, is_eq}
+use Rattle.std.proofs.Common.{◌≡◌, ℤ, Bool, true, false, ◌&&◌, nat_eq, int_eq, refl, sym, ap, subst, true≢false, Option, Some, None, Ordering, Equal, int_cmp, is_eq}
 use Rattle.std.specs.Option.{option_eq}
 use Rattle.std.specs.Cmp.Derive.{both_true}
 use Rattle.std.proofs.lemmas.Bool.{eqb-true, eq-eqb}

@@ -1,5 +1,5 @@
 -- What the laws give of a fold: it goes by parts, and by what is in the list and not by the order.
-use Rattle.std.proofs.Common.{◌≡◌, ℕ, ◌+◌, ℤ, Bool, true, false, cond, not, List, [], ◌∷◌, ◌++◌, length, ◌⊎◌, filter, refl, sym, ◌∙◌, ap, inl, inr, subst, ⊎_elim, arith, one-add, zero-add, add_comm, add_assoc, get_or, take, ◌<◌, ◌≤◌, length-take}
+use Rattle.std.proofs.Common.{◌≡◌, ℕ, ◌+◌, ℤ, Bool, true, false, cond, not, List, [], ◌∷◌, ◌++◌, length, filter, refl, sym, ◌∙◌, ap, inl, inr, subst, ⊎_elim, arith, one-add, zero-add, add_comm, add_assoc, get_or, take, ◌<◌, ◌≤◌, length-take}
 use Rattle.std.proofs.lemmas.List.{take_more}
 use Rattle.ts_core.specs.Members.{Among, AllDistinct}
 use Rattle.ts_core.specs.Partials.{PartialLaws, fold_by}

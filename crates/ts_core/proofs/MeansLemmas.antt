@@ -1,6 +1,9 @@
--- The quotients by the greatest common divisor are the mean in lowest terms.
-use Rattle.std.proofs.Common.{◌≡◌, ℕ, ℤ, pos, negsuc, suc, zero, ◌+◌, ◌*◌, ◌/◌, ◌<◌, ◌≤◌, ◌*ℤ◌, arith, refl, sym, ap, ◌∙◌, subst, neg_ℤ, unsigned_abs, mul_assoc, mul_comm, pos_of_ne-zero, one-mul, mul-one, zero-mul}
-use Rattle.std.proofs.Math.Nat.{dvd-mul_right, mul-div_cancel', div-mul_cancel, mul-dvd-mul_right, dvd_of_mul-dvd-mul_right, pos_of_dvd_of_pos, one-dvd}
+-- The quotients by the greatest common divisor are the mean in lowest terms, and no other fraction is.
+use Rattle.std.proofs.Common.{inl, inr, ◌⊎◌, ⊎_elim, ◌≡◌, ℕ, ℤ, pos, negsuc, suc, zero, ◌+◌, ◌*◌, ◌/◌, ◌%◌, ◌<◌, ◌≤◌, ◌*ℤ◌, arith, refl, sym, ap, ◌∙◌, subst, neg_ℤ, unsigned_abs, pos_of_ne-zero, one-mul, zero-mul, div-add-mod', mod-lt}
+use Rattle.std.proofs.Math.Nat.{dvd-mul_left, dvd-mod_iff, dvd-add_iff_left, dvd_of_mul-dvd-mul_left, dvd-mul_right, eq-one_of_dvd-one, mul-div_cancel, mul-div_cancel', div-mul_cancel, mul-dvd-mul_right, dvd_of_mul-dvd-mul_right, pos_of_dvd_of_pos, one-dvd}
+use Rattle.std.proofs.lemmas.Nat.Gcd.{dvd_antisymm, dvd_of_mod-eq-zero, dvd-zero, dvd_refl}
+use Rattle.std.proofs.lemmas.Int.{unsigned_abs-mul}
+use Rattle.ts_core.proofs.BucketsLemmas.{times_cancel}
 use Rattle.std.proofs.Math.IntN.{negsuc-*ℤ-pos, pos-*ℤ-pos}
 use Rattle.std.specs.Int.{IsGcd, ◌∣◌}
 use Rattle.ts_core.specs.Means.{IsMean, signed_as_of}
@@ -53,3 +56,56 @@ pub IsMean-given : (sum n : ℤ) (m c g : ℕ) → 0 < c → IsGcd m c g → m �
 IsMean-given sum n m c g h k e f =
     let q = subst (λ x. IsGcd x c g) e k in
     subst (λ x. IsMean c sum x (c / g)) (sym (f ∙ ap (λ x. signed_as_of sum (x / g)) e)) (IsMean-from_quotients sum c g h q)
+
+-- ---- and there is one alone
+
+zero_or : (r : ℕ) → (r ≡ 0) ⊎ (0 < r)
+zero_or zero = inl refl
+zero_or (suc r) = inr (omega arith)
+
+divides_zero : (b a k : ℕ) → b ≡ 0 → IsGcd a b 1 → b ∣ a * k → b ∣ k
+divides_zero b a k e g d =
+    let one : a ∣ 1 = g.2 a (dvd_refl a) (subst (λ x. a ∣ x) (sym e) (dvd-zero a)) in
+    subst (λ x. b ∣ x) (ap (λ x. x * k) (eq-one_of_dvd-one one) ∙ one-mul k) d
+
+divides_step : (b a k : ℕ) → 0 < b → IsGcd a b 1 → b ∣ a * k → ((m : ℕ) → IsGcd b (a % b) 1 → a % b ∣ b * m → a % b ∣ m) → b ∣ k
+divides_step b a k some g d smaller =
+    let r : ℕ = a % b in
+    let q : ℕ = a / b in
+    let parts : r * k + b * (q * k) ≡ a * k = omega arith ∙ ap (λ x. x * k) (div-add-mod' a b) in
+    let rest : b ∣ r * k = (dvd-add_iff_left b {m = r * k} (dvd-mul_right b (q * k))).1 (subst (λ x. b ∣ x) (sym parts) d) in
+    let m : ℕ = (r * k) / b in
+    let same : b * m ≡ r * k = mul-div_cancel' b rest in
+    let coprime : IsGcd b r 1 = (one-dvd b, one-dvd r, λ e p t. g.2 e ((dvd-mod_iff e p).0 t) p) in
+    let t : r ∣ m = smaller m coprime (subst (λ x. r ∣ x) (sym same) (dvd-mul_right r k)) in
+    ⊎_elim {C = b ∣ k}
+    (λ (e : r ≡ 0). let one : b ≡ 1 = eq-one_of_dvd-one (g.2 b (dvd_of_mod-eq-zero b e) (dvd_refl b)) in subst (λ x. x ∣ k) (sym one) (one-dvd k))
+    (λ (l : 0 < r).
+    let back : m / r * r ≡ m = div-mul_cancel r t in
+    let product : (m / r) * (r * b) ≡ r * k = omega arith ∙ ap (λ x. b * x) back ∙ same in
+    dvd_of_mul-dvd-mul_left {k = r} b l (subst (λ x. r * b ∣ x) product (dvd-mul_left (r * b) (m / r))))
+    (zero_or r)
+
+-- what divides a product and has nothing in common with the first factor divides the second; n bounds the recursion
+divides : (n b : ℕ) → b ≤ n → (a k : ℕ) → IsGcd a b 1 → b ∣ a * k → b ∣ k
+divides zero b h a k g d = divides_zero b a k (omega arith) g d
+divides (suc n) zero h a k g d = divides_zero zero a k refl g d
+divides (suc n) (suc b) h a k g d =
+    divides_step (suc b) a k (omega arith) g d
+    (λ m c e. divides n (a % suc b) (let some : 0 < suc b = omega arith in let l : a % suc b < suc b = mod-lt a some in omega arith) (suc b) m c e)
+
+pub only_mean : (count : ℕ) (sum n m : ℤ) (d e : ℕ) → 0 < count → IsMean count sum n d → IsMean count sum m e → (n ≡ m) × (d ≡ e)
+only_mean count sum n m d e some f g =
+    let x : ℕ = unsigned_abs n in
+    let y : ℕ = unsigned_abs m in
+    let s : ℕ = unsigned_abs sum in
+    let a : x * count ≡ s * d = sym (unsigned_abs-mul n (pos count)) ∙ ap unsigned_abs f.exact ∙ unsigned_abs-mul sum (pos d) in
+    let b : y * count ≡ s * e = sym (unsigned_abs-mul m (pos count)) ∙ ap unsigned_abs g.exact ∙ unsigned_abs-mul sum (pos e) in
+    let left : (x * e) * count ≡ (s * d) * e = omega arith ∙ ap (λ z. z * e) a in
+    let right : (y * d) * count ≡ (s * e) * d = omega arith ∙ ap (λ z. z * d) b in
+    let both : (x * e) * count ≡ (y * d) * count = left ∙ omega arith ∙ sym right in
+    let cross : x * e ≡ y * d = sym (mul-div_cancel (x * e) some) ∙ ap (λ z. z / count) both ∙ mul-div_cancel (y * d) some in
+    let p : d ∣ e = divides d d (omega arith) x e f.lowest (subst (λ z. d ∣ z) (sym cross) (dvd-mul_left d y)) in
+    let q : e ∣ d = divides e e (omega arith) y d g.lowest (subst (λ z. e ∣ z) cross (dvd-mul_left e x)) in
+    let same : d ≡ e = dvd_antisymm p q in
+    (times_cancel n m count some (f.exact ∙ ap (λ z. sum *ℤ pos z) same ∙ sym g.exact), same)

@@ -1,11 +1,11 @@
 -- Where the rest of an aggregate is determined, and that it is then the aggregate of the others.
-use Rattle.std.proofs.Common.{◌≡◌, ◌≢◌, ℕ, ◌+◌, ◌-◌, ◌<◌, ℤ, pos, ◌+ℤ◌, ◌-ℤ◌, ◌<ℤ◌, Bool, true, false, cond, not, List, [], ◌∷◌, filter, refl, sym, ◌∙◌, ap, subst, arith, Option, Some, None, MatchOption, IsSome, IfSome, ⊎_elim, ◌⊎◌, inl, inr, Ordering, Less, int_cmp}
+use Rattle.std.proofs.Common.{◌≡◌, ℕ, ◌+◌, ◌-◌, ◌<◌, ℤ, ◌+ℤ◌, ◌-ℤ◌, ◌<ℤ◌, Bool, not, List, [], ◌∷◌, filter, refl, sym, ◌∙◌, ap, subst, arith, Option, Some, None, MatchOption, IsSome, IfSome, ⊎_elim, Ordering, Less, int_cmp}
 use Rattle.std.specs.Cmp.{IsTotalOrder, int_cmp_total, int_cmp_is}
 use Rattle.std.proofs.lemmas.Int.{ints}
 use Rattle.std.proofs.lemmas.Map.Lookups.{CmpEqualImpliesEq, exact_signed}
 use Rattle.ts_core.specs.declared.aggregate.Extremes.{Extremes}
 use Rattle.ts_core.specs.Partials.{PartialLaws, fold_by}
-use Rattle.ts_core.specs.Orders.{lesser, down_cmp, early_cmp, late_cmp}
+use Rattle.ts_core.specs.Orders.{lesser}
 use Rattle.ts_core.specs.OrderLaws.{lesser_one, lesser-before, not_itself, exact_down, down_total, early_total, late_total, exact_early, exact_late}
 use Rattle.ts_core.specs.Aggregates.{Aggregate, empty_aggregate, extremes_of_both, merged_extremes, merged, IsSpread, IsSound}
 use Rattle.ts_core.specs.MergeLaws.{aggregate_laws}

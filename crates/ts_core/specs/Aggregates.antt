@@ -85,7 +85,7 @@ IsAggregateOf fs a = IsAggregateOfPoints (points_of fs) a
 
 -- ---- what an aggregate may be
 
--- that many values of that sum can have these extremes, as far as each of them tells
+-- at least one value, and a sum that no value below the least or above the greatest makes up
 pub record IsSpread (count : ℕ) (sum : ℤ) (e : Extremes) : Type 0 where
   pub some : 0 < count
   pub at_least : (pos count *ℤ e.min) ≤ℤ sum

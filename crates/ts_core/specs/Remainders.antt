@@ -1,6 +1,5 @@
 -- What is left of an aggregate after a part is taken out, and where that is determined. (Own rules.)
-use Rattle.std.specs.Prelude.{◌≡◌, ◌⊎◌, ℕ, ◌-◌, ℤ, ◌-ℤ◌, ◌<ℤ◌, Option, Some, None}
-use Rattle.std.specs.declared.cmp.Ordering.{Ordering}
+use Rattle.std.specs.Prelude.{◌≡◌, ◌⊎◌, ◌-◌, ℤ, ◌-ℤ◌, ◌<ℤ◌, Option, Some, None}
 use Rattle.std.specs.declared.cmp.Ordering.TheVariants.{Less}
 use Rattle.ts_core.specs.declared.aggregate.Extremes.{Extremes}
 use Rattle.ts_core.specs.Orders.{early_cmp, late_cmp}

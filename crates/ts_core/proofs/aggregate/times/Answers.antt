@@ -1,4 +1,4 @@
-use Rattle.std.proofs.Common.{rules, arith, ◌^◌, ℤ, ◌≡◌, pos, ◌≤◌, ◌<◌, ◌*◌, ◌+◌, unsigned_abs, to_z, of_z, lit<}
+use Rattle.std.proofs.Common.{arith, ◌^◌, ℤ, ◌≤◌, unsigned_abs, to_z, of_z, lit<}
 use Rattle.std.specs.Int.{w128}
 use Rattle.std.proofs.lemmas.Int.{ints, fits_signed_mul}
 use Rattle.ts_core.proofs.aggregate.times.Goals as goal

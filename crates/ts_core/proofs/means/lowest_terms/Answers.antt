@@ -1,4 +1,4 @@
-use Rattle.std.proofs.Common.{rules, ◌≡◌, ℕ, ◌/◌, to_z, of_z, unsigned_abs, subst, sym, SFits, to_z-of_z, arith, ◌<◌}
+use Rattle.std.proofs.Common.{rules, ◌≡◌, ℕ, ◌/◌, to_z, of_z, unsigned_abs, subst, sym}
 use Rattle.std.specs.Int.{w128, IsGcd}
 use Rattle.ts_core.specs.Means.{IsMean, signed_as_of}
 use Rattle.ts_core.proofs.MeansLemmas.{IsMean-given}

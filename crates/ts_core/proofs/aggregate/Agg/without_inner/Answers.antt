@@ -1,4 +1,4 @@
-use Rattle.std.proofs.Common.{rules, arith, ◌≡◌, ◌∙◌, ap, sym, true, false, true≢false, Some, ℕ, ◌+◌, ◌-◌, ◌*◌, ◌≤◌, ℤ, ◌-ℤ◌, to_z, of_z, w64, SFits, unsigned_abs, refl}
+use Rattle.std.proofs.Common.{rules, arith, ◌≡◌, ◌∙◌, ap, sym, true≢false, ◌-◌, ◌-ℤ◌, to_z, of_z, w64, SFits, refl}
 use Rattle.std.specs.Int.{w128}
 use Rattle.std.proofs.lemmas.Int.{ints}
 use Rattle.ts_core.specs.Aggregates.{Aggregate}

@@ -1,4 +1,4 @@
-use Rattle.std.proofs.Common.{rules, arith, ◌≡◌, ap, ap₂, sym, ◌∙◌, ◌+◌, ◌*◌, ◌^◌, ◌≤◌, ◌+ℤ◌, to_z, of_z, unsigned_abs}
+use Rattle.std.proofs.Common.{arith, ◌≡◌, ap, ap₂, ◌∙◌, ◌+◌, ◌^◌, ◌≤◌, ◌+ℤ◌, to_z, of_z}
 use Rattle.std.specs.Int.{w128}
 use Rattle.std.proofs.lemmas.Int.{ints}
 use Rattle.ts_core.specs.Aggregates.{Aggregate, merged}

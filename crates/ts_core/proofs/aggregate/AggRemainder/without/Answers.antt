@@ -1,6 +1,6 @@
-use Rattle.std.proofs.Common.{◌≡◌, ◌∙◌, ap, sym, subst, refl, inl, inr, ⊎_elim, IsSome, true≢false}
+use Rattle.std.proofs.Common.{◌∙◌, ap, sym, subst, refl, inl, inr, ⊎_elim, IsSome, true≢false}
 use Rattle.ts_core.specs.Aggregates.{Aggregate, merged, IsSound}
-use Rattle.ts_core.specs.Remainders.{IsOnlyRest, IsDetermined}
+use Rattle.ts_core.specs.Remainders.{IsOnlyRest}
 use Rattle.ts_core.proofs.EqualLemmas.{same_aggregates, equal_aggregates_from}
 use Rattle.ts_core.proofs.RemaindersLemmas.{IsOnlyRest-all, rest_of_inner}
 use Rattle.ts_core.proofs.aggregate.AggRemainder.without.Goals as goal

@@ -1,4 +1,4 @@
-use Rattle.std.proofs.Common.{rules, ◌≡◌, ◌∙◌, ap₂, ℤ, to_z, of_z, w64, SFits, to_z-of_z, int_cmp}
+use Rattle.std.proofs.Common.{rules, ◌≡◌, ◌∙◌, ap₂, to_z, of_z, w64, SFits, to_z-of_z, int_cmp}
 use Rattle.ts_core.specs.Orders.{lesser, down_cmp}
 use Rattle.ts_core.proofs.aggregate.Extremes.both.Goals as goal
 
