@@ -1,0 +1,64 @@
+-- What pieces give of a view, put together to an answer: raw facts for some pieces, totals of cells for others.
+-- (Own rules.)
+use Rattle.std.specs.Prelude.{ℤ, pos, ◌+ℤ◌, ◌*ℤ◌, ◌==◌, Bool, not, ◌&&◌, List, [], ◌∷◌, ◌++◌, map, filter, zip, Option, Some, None, if◌then◌else◌}
+use Rattle.ts_core.specs.Facts.{Text, same_text, Fact, is_within}
+use Rattle.ts_core.specs.Partials.{fold_by}
+use Rattle.ts_core.specs.Aggregates.{Aggregate, empty_aggregate, merged, aggregate_of}
+use Rattle.ts_core.specs.Settings.{Rule}
+use Rattle.ts_core.specs.Queries.{Query, matches, group_of}
+use Rattle.ts_core.specs.Answers.{Row, Group, buckets_in, all_groups, is_in_row}
+use Rattle.ts_core.specs.Pieces.{Source, Raw, Rollup, Piece, start_of}
+use Rattle.ts_core.specs.Cells.{Cell}
+use Rattle.ts_core.specs.StoreStates.{facts_of}
+use Rattle.ts_core.specs.Views.{RuleTotals, Seen}
+
+-- a cell is asked as a fact would be that stands at the start of its bucket, in a series with the kept tags
+abbrev pub stand_in : Rule → Cell → Fact
+stand_in r k = record { column = record { series = record { measurement = r.measurement; tags = zip r.kept_tags k.group }; field = k.field }; time = start_of r k.index; value = pos 0 }
+
+-- the first rule of a name that is shown
+abbrev pub rule_shown : Text → List RuleTotals → Option RuleTotals
+rule_shown name [] = None
+rule_shown name (r ∷ rs) = if same_text r.rule.name name then Some r else rule_shown name rs
+
+-- a test of facts, in a piece's range
+abbrev pub in_piece : Piece → (Fact → Bool) → Fact → Bool
+in_piece p test f = test f && is_within p.from p.to f.time
+
+-- ---- rows
+
+-- the totals of the cells that pass
+abbrev pub totals_given : Option RuleTotals → (Fact → Bool) → Aggregate
+totals_given None test = empty_aggregate
+totals_given (Some r) test = fold_by empty_aggregate merged r.total (filter (λ (k : Cell). test (stand_in r.rule k)) r.cells)
+
+abbrev pub aggregate_given : Seen → Source → (Fact → Bool) → Aggregate
+aggregate_given seen Raw test = aggregate_of (filter test (facts_of seen.columns))
+aggregate_given seen (Rollup name) test = totals_given (rule_shown name seen.rules) test
+
+-- what all pieces give of a row
+abbrev pub assembled : Seen → Query → List Piece → List Text → ℤ → Aggregate
+assembled seen q pieces g k = fold_by empty_aggregate merged (λ (p : Piece). aggregate_given seen p.source (in_piece p (is_in_row q g k))) pieces
+
+-- ---- groups
+
+-- those of the cells that pass and have data
+abbrev pub cell_groups : Query → Option RuleTotals → (Fact → Bool) → List (List Text)
+cell_groups q None test = []
+cell_groups q (Some r) test = map (λ (k : Cell). group_of q (stand_in r.rule k)) (filter (λ (k : Cell). test (stand_in r.rule k) && not ((r.total k).count == 0)) r.cells)
+
+abbrev pub groups_given : Seen → Query → Source → (Fact → Bool) → List (List Text)
+groups_given seen q Raw test = map (group_of q) (filter test (facts_of seen.columns))
+groups_given seen q (Rollup name) test = cell_groups q (rule_shown name seen.rules) test
+
+abbrev pub assembled_groups : Seen → Query → List Piece → List (List Text)
+assembled_groups seen q [] = []
+assembled_groups seen q (p ∷ ps) = groups_given seen q p.source (in_piece p (matches q)) ++ assembled_groups seen q ps
+
+-- ---- the answer
+
+abbrev pub assembled_row : Seen → Query → List Piece → List Text → ℤ → Row
+assembled_row seen q pieces g k = record { start = (k *ℤ q.interval) +ℤ q.offset; aggregate = assembled seen q pieces g k }
+
+abbrev pub assembled_answer : Seen → Query → List Piece → List Group
+assembled_answer seen q pieces = map (λ g. record { values = g; rows = map (assembled_row seen q pieces g) (buckets_in q) }) (all_groups (assembled_groups seen q pieces))

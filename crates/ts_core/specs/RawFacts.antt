@@ -1,0 +1,36 @@
+-- Which facts a column still has as raw points: while a run is open, a column that waits keeps those of before it.
+-- (Own rules.)
+use Rattle.std.specs.Prelude.{ℤ, int_le, Bool, ◌&&◌, List, [], ◌∷◌, filter, if◌then◌else◌}
+use Rattle.std.specs.List.{list_any}
+use Rattle.std.specs.Ordering.{eq_by_cmp}
+use Rattle.ts_core.specs.Times.{least_time}
+use Rattle.ts_core.specs.Facts.{Column, column_cmp, Fact}
+use Rattle.ts_core.specs.Settings.{Settings}
+use Rattle.ts_core.specs.History.{History, Line, Begin, Step, raw_mark}
+use Rattle.ts_core.specs.Latest.{latest_of}
+
+abbrev pub same_column : Column → Column → Bool
+same_column = eq_by_cmp column_cmp
+
+-- the column is one of those that the open run hasn't moved yet
+abbrev pub is_waiting : List Column → Column → Bool
+is_waiting waiting c = list_any (same_column c) waiting
+
+-- the raw mark before the last begin
+abbrev pub earlier_mark : Settings → History → ℤ
+earlier_mark opening [] = least_time
+earlier_mark opening (Line facts ∷ h) = earlier_mark opening h
+earlier_mark opening (Begin now ∷ h) = raw_mark opening h
+earlier_mark opening (Step ended ∷ h) = earlier_mark opening h
+
+-- from where on a column still has its raw points
+abbrev pub kept_from : Settings → History → List Column → Column → ℤ
+kept_from opening h waiting c = if is_waiting waiting c then earlier_mark opening h else raw_mark opening h
+
+-- the fact is from the cut of its column on
+abbrev pub is_kept : (Column → ℤ) → Fact → Bool
+is_kept cut f = int_le (cut f.column) f.time
+
+-- the raw facts of a column
+abbrev pub raw_of : Settings → History → List Column → Column → List Fact
+raw_of opening h waiting c = filter (λ (f : Fact). same_column f.column c && is_kept (kept_from opening h waiting) f) (latest_of h)

@@ -1,0 +1,62 @@
+-- What a view of a store shows, and when it shows a history: the raw facts from the mark on, and the totals of cells.
+-- (Own rules.)
+use Rattle.std.specs.Prelude.{◌≡◌, ◌↔◌, ℤ, ◌≤ℤ◌, IsTrue, List, map}
+use Rattle.std.specs.List.{AllByRecursion}
+use Rattle.ts_core.specs.Members.{Among, AllDistinct}
+use Rattle.ts_core.specs.Facts.{Fact}
+use Rattle.ts_core.specs.Settings.{Rule, Settings}
+use Rattle.ts_core.specs.History.{History, settings_of, IsLawful}
+use Rattle.ts_core.specs.Latest.{latest_of}
+use Rattle.ts_core.specs.Marks.{Marks, marks_of}
+use Rattle.ts_core.specs.Aggregates.{Aggregate, merged}
+use Rattle.ts_core.specs.Cells.{Cell, cell_of, is_rolled, total_of}
+use Rattle.ts_core.specs.StoreStates.{ColumnPoints, column_of, facts_of, RuleCells, StoreState}
+
+-- a rule, its low index, the cells that are shown, and their totals
+pub record RuleTotals : Type 0 where
+  pub rule : Rule
+  pub low : ℤ
+  pub cells : List Cell
+  pub total : Cell → Aggregate
+
+pub record Seen : Type 0 where
+  pub settings : Settings
+  pub marks : Marks
+  pub columns : List ColumnPoints
+  pub rules : List RuleTotals
+
+abbrev pub seen_rule : RuleTotals → Rule
+seen_rule r = r.rule
+
+abbrev pub seen_low : RuleTotals → ℤ
+seen_low r = r.low
+
+-- from its low index on a rule shows the cell of each fact, with the total of its facts
+pub record HasTotals (facts : List Fact) (r : RuleTotals) : Type 0 where
+  pub once : AllDistinct r.cells
+  pub there : (f : Fact) → Among f facts → IsTrue (is_rolled r.rule f) → r.low ≤ℤ (cell_of r.rule f).index → Among (cell_of r.rule f) r.cells
+  pub totals : (k : Cell) → r.low ≤ℤ k.index → r.total k ≡ total_of r.rule k facts
+
+-- what is seen shows a history
+pub record Shows (opening : Settings) (h : History) (seen : Seen) : Type 0 where
+  pub lawful : IsLawful opening h
+  pub settings : seen.settings ≡ settings_of opening h
+  pub marks : seen.marks ≡ marks_of opening h
+  -- each latest fact has its column
+  pub columns_once : AllDistinct (map column_of seen.columns)
+  pub columns_there : (f : Fact) → Among f (latest_of h) → Among f.column (map column_of seen.columns)
+  -- from the raw mark on the columns have just the latest facts, each once
+  pub once : AllDistinct (facts_of seen.columns)
+  pub raw : (f : Fact) → seen.marks.raw ≤ℤ f.time → Among f (facts_of seen.columns) ↔ Among f (latest_of h)
+  -- the rules are those of the settings, and show their cells
+  pub rules : map seen_rule seen.rules ≡ seen.settings.rules
+  pub lows : map seen_low seen.rules ≡ seen.marks.lows
+  pub rolled : AllByRecursion (HasTotals (latest_of h)) seen.rules
+
+-- ---- what a store shows
+
+abbrev pub totals_in : RuleCells → RuleTotals
+totals_in r = record { rule = r.rule; low = r.low; cells = r.cells; total = λ k. merged (r.parts k).frozen (r.parts k).live }
+
+abbrev pub seen_of : StoreState → Seen
+seen_of s = record { settings = s.settings; marks = s.marks; columns = s.columns; rules = map totals_in s.rules }
