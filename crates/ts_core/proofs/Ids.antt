@@ -6,6 +6,7 @@ use Rattle.std.specs.FinMap.{slice_cmp-IsAntisymmetric}
 use Rattle.std.specs.Cmp.Lexicographic.{slice_cmp}
 use Rattle.std.proofs.lemmas.Cmp.{on_total, then_total, lists_total, nat_list_cmp_total, tied_itself, eq_by_cmp_equiv}
 use Rattle.std.proofs.lemmas.Map.Lookups.{CmpEqualImpliesEq, exact_pairs, exact_bytes, exact_signed}
+use Rattle.std.proofs.lemmas.Map.Text.{is_eq-slice_cmp}
 use Rattle.ts_core.specs.Facts.{Text, text_cmp, same_text, Series, Column, Fact, Id, tag_cmp, series_cmp, column_cmp, id_cmp, id_of, same_id}
 
 pub tags_total : IsTotalOrder tag_cmp
@@ -54,4 +55,4 @@ pub other_id : (i j : Id) → i ≢ j → same_id i j ≡ false
 other_id i j n = elim (same_id i j) as (λ b. same_id i j ≡ b → b ≡ false) [ true ↦ λ e. absurd (n (same_id-eq i j e)) | false ↦ λ e. refl ] refl
 
 pub same_text-eq : (s t : Text) → same_text s t ≡ true → s ≡ t
-same_text-eq s t h = exact_bytes s t (equal_of (text_cmp s t) h)
+same_text-eq s t h = exact_bytes s t (equal_of (text_cmp s t) (is_eq-slice_cmp s t ∙ h))

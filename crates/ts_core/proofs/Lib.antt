@@ -2,6 +2,8 @@ pub mod MembersLemmas
 pub mod PairTexts
 pub mod Folds
 pub mod Groups
+pub mod Places
+pub mod Sorted
 pub mod Ids
 pub mod Latests
 pub mod BucketsLemmas

@@ -1,8 +1,9 @@
 -- Tests that answer yes or no, and what they say.
-use Rattle.std.proofs.Common.{◌≡◌, ℤ, ◌<ℤ◌, ◌≤ℤ◌, int_le, int_lt, arith, refl, sym, ap, List, [], ◌∷◌, ◌⊎◌, Bool, true, false, ◌&&◌, ◌||◌, inl, inr, subst, true≢false, is_eq}
+use Rattle.std.proofs.Common.{◌≡◌, ℤ, ◌<ℤ◌, ◌≤ℤ◌, int_le, int_lt, arith, refl, sym, ap, ◌∙◌, List, [], ◌∷◌, ◌⊎◌, Bool, true, false, ◌&&◌, ◌||◌, inl, inr, subst, true≢false, is_eq}
 use Rattle.std.specs.List.{list_any, list_all, AllByRecursion}
 use Rattle.std.proofs.lemmas.Int.{ints}
 use Rattle.std.proofs.lemmas.Cmp.{nat_list_cmp_total, tied_itself}
+use Rattle.std.proofs.lemmas.Map.Text.{is_eq-slice_cmp}
 use Rattle.ts_core.specs.Members.{Among}
 use Rattle.ts_core.specs.Facts.{Text, same_text}
 use Rattle.ts_core.proofs.Ids.{same_text-eq}
@@ -48,7 +49,7 @@ same_bool false false f g = refl
 -- ---- texts
 
 pub same_text-refl : (s : Text) → same_text s s ≡ true
-same_text-refl s = ap is_eq (tied_itself nat_list_cmp_total s)
+same_text-refl s = sym (is_eq-slice_cmp s s) ∙ ap is_eq (tied_itself nat_list_cmp_total s)
 
 pub same_text-from_eq : (s t : Text) → s ≡ t → same_text s t ≡ true
 same_text-from_eq s t e = subst (λ z. same_text s z ≡ true) e (same_text-refl s)

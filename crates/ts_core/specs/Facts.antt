@@ -3,9 +3,10 @@
 use Rattle.std.specs.Prelude.{ℕ, ℤ, Bool, ◌&&◌, List, int_le, int_lt}
 use Rattle.std.specs.declared.cmp.Ordering.{Ordering}
 use Rattle.std.specs.Ordering.{ordering_then, eq_by_cmp, nat_cmp, int_cmp}
+use Rattle.std.specs.Str.{bytes_eq}
 use Rattle.std.specs.Cmp.Lexicographic.{slice_cmp}
 
--- a text is its bytes, compared byte by byte
+-- a text is its bytes, and is compared byte by byte
 abbrev pub Text : Type 0
 Text = List ℕ
 
@@ -13,7 +14,7 @@ abbrev pub text_cmp : Text → Text → Ordering
 text_cmp = slice_cmp nat_cmp
 
 abbrev pub same_text : Text → Text → Bool
-same_text = eq_by_cmp text_cmp
+same_text = bytes_eq
 
 -- a measurement with a tag set; the tags stand in byte order of their keys, each key once
 pub record Series : Type 0 where

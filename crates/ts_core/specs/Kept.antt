@@ -1,5 +1,5 @@
 -- What a store keeps, and when that stands for a history. (Own rules.)
-use Rattle.std.specs.Prelude.{◌≡◌, ◌↔◌, ℕ, ℤ, ◌≤ℤ◌, List, length}
+use Rattle.std.specs.Prelude.{◌≡◌, ◌↔◌, ℕ, ℤ, ◌≤ℤ◌, List, ◌∷◌, length}
 use Rattle.ts_core.specs.Members.{Among, AllDistinct}
 use Rattle.ts_core.specs.Facts.{Fact}
 use Rattle.ts_core.specs.Settings.{Settings}
@@ -23,3 +23,11 @@ pub record StandsFor (opening : Settings) (h : History) (kept : Kept) : Type 0 w
   pub accepted : kept.accepted ≡ length (accepted h)
   pub once : AllDistinct kept.raw
   pub raw : (f : Fact) → Among f kept.raw ↔ (Among f (latest_of h) × (kept.mark ≤ℤ f.time))
+
+-- whatever history is kept, this holds of it
+abbrev pub OfEachHistory : Kept → (History → Type 0) → Type 0
+OfEachHistory kept P = (opening : Settings) (h : History) → StandsFor opening h kept → P h
+
+-- an event goes by: what stood for a history stands for it with this event
+abbrev pub GoesOn : Kept → Event → Kept → Type 0
+GoesOn old event new = (opening : Settings) (h : History) → StandsFor opening h old → StandsFor opening (event ∷ h) new

@@ -1,7 +1,7 @@
 -- What is latest: of each id the fact that was accepted last. Nothing is ever taken out.
 -- (InfluxData 1.8, frequently asked questions, duplicate points: the newer field value wins.)
-use Rattle.std.specs.Prelude.{ℤ, Bool, not, if◌then◌else◌, List, [], ◌∷◌, Option, Some, None, filter}
-use Rattle.ts_core.specs.Facts.{Fact, Id, id_of, same_id}
+use Rattle.std.specs.Prelude.{ℕ, ℤ, not, if◌then◌else◌, List, [], ◌∷◌, length, Option, Some, None, filter}
+use Rattle.ts_core.specs.Facts.{Text, Fact, Id, id_of, same_id, is_asked}
 use Rattle.ts_core.specs.History.{History, accepted}
 
 -- the facts of other ids
@@ -20,3 +20,7 @@ latest_of h = latest (accepted h)
 abbrev pub value_at : List Fact → Id → Option ℤ
 value_at [] i = None
 value_at (f ∷ fs) i = if same_id i (id_of f) then Some f.value else value_at fs i
+
+-- how many latest facts a history has of a measurement and a field, from a on and before b
+abbrev pub count_of : History → Text → Text → ℤ → ℤ → ℕ
+count_of h measurement field a b = length (filter (is_asked measurement field a b) (latest_of h))

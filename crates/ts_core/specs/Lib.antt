@@ -24,3 +24,5 @@ pub mod Ratios
 pub mod Fills
 pub mod Remainders
 pub mod SoundLaws
+pub mod Devices
+pub mod ReadingAhead

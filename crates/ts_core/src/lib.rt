@@ -1,26 +1,41 @@
 //! The words of the store: times, names, facts and settings, with the definitions (specs/) that all
-//! other crates are proved against: facts, histories, what is latest, and what a store stands for.
-//! It stands on nothing. It promises exact values: a `Time` is a valid time, a name is its bytes.
+//! other crates are proved against: facts, histories, what is latest, and what a store stands for; and
+//! the devices that bytes come from and go to. It stands on nothing. It promises exact values: a `Time`
+//! is a valid time, a name is its bytes, and a device's failures, turns and ends are counted exactly.
 #![tactic(auto)]
 
 mod aggregate;
 mod bucket;
+mod fact;
 mod field_name;
 mod fold;
 mod key;
 mod means;
 mod partial;
+mod read_ahead;
 mod remainder;
 mod settings;
+mod sink;
+mod source;
+mod tally;
 mod time;
 
 pub use aggregate::{Agg, Extremes};
 pub use bucket::bucket_index;
+pub use fact::Fact;
 pub use field_name::FieldName;
 pub use fold::{aggregate_points, fold_points};
 pub use key::Key;
 pub use means::{Frac, mean};
 pub use partial::Partial;
+pub use read_ahead::{ReadAhead, ReadFault};
 pub use remainder::Remainder;
 pub use settings::{Rule, Settings};
+pub use sink::{Refused, Sink};
+pub use source::Source;
 pub use time::Time;
+
+#[cfg(test)]
+mod devices_tests;
+#[cfg(test)]
+mod words_tests;

@@ -1,2 +1,7 @@
 pub mod Parts
 pub mod Units
+pub mod FaultText
+pub mod Names
+pub mod Numbers
+pub mod Says
+pub mod Reading

@@ -2,7 +2,7 @@
 -- (InfluxData 1.8, line protocol reference, syntax: measurement, tag set, field set, timestamp.)
 use Rattle.std.specs.Prelude.{ℕ, ℤ, List, map}
 use Rattle.std.specs.FinMap as finmap
-use Rattle.ts_core.specs.Facts.{Text, text_cmp, Series, Column, Fact}
+use Rattle.ts_core.specs.Facts.{Text, text_cmp, Series, Fact}
 
 -- a part of a line: where it starts, its bytes there, and the text that they spell
 pub record Piece : Type 0 where

@@ -1,0 +1,79 @@
+//! A reader that counts its turns, its failures and its ends.
+ghost use Rattle.std.specs.Prelude.{◌≡◌, ◌+◌};
+ghost use Rattle.std.specs.Io.{ReadsAtMost};
+ghost use Rattle.std.specs.Io.KnownBytes.{ReadConsumes};
+ghost use Rattle.ts_core.specs.Devices.{one_if_err, one_if_stuck};
+
+use crate::tally::Tally;
+use std::io;
+use std::io::Read;
+use std::marker::Model;
+
+/// A reader, seen by the bytes that it has left and by what was asked of it. The counts are there for
+/// contracts alone.
+#[derive(Drop)]
+pub struct Source<R: Read> {
+    inner: R,
+    turns: Tally,
+    failures: Tally,
+    ends: Tally,
+}
+
+impl<R: Read> Model for Source<R> {
+    ghost use Rattle.ts_core.specs.Devices.{Input};
+
+    ghost Value = { Input };
+
+    ghost view = { λ s. record { remaining = R.remaining s.inner; turns = s.turns.count; failures = s.failures.count; ends = s.ends.count } };
+}
+
+impl<R: Read> Source<R> {
+    /// A source over this reader. Nothing is counted yet.
+    pub fn new(inner: R) -> Source<R>
+        ensures remaining { result.remaining ≡ R.remaining inner }
+        ensures turns { result.turns ≡ 0 }
+        ensures failures { result.failures ≡ 0 }
+        ensures ends { result.ends ≡ 0 }
+    {
+        Source {
+            inner,
+            turns: Tally::new(),
+            failures: Tally::new(),
+            ends: Tally::new(),
+        }
+    }
+
+    /// Gives the reader back.
+    pub fn into_inner(self) -> R
+        ensures { R.remaining result ≡ self.remaining }
+    {
+        let Source {
+            inner,
+            turns: _,
+            failures: _,
+            ends: _,
+        } = self;
+        inner
+    }
+
+    /// Passes the call on, once, and counts it. No byte read into room is the end of the input.
+    pub fn read(&mut self, buf: &mut [u8]) -> io::Result<usize>
+        ensures bound { ReadsAtMost result buf.new }
+        ensures bytes { ReadConsumes self.old.remaining self.new.remaining result buf.new }
+        ensures turns { self.new.turns ≡ self.old.turns + 1 }
+        ensures failures { self.new.failures ≡ self.old.failures + one_if_err result }
+        ensures ends { self.new.ends ≡ self.old.ends + one_if_stuck result buf.new }
+    {
+        self.turns.tick();
+        let result = self.inner.read(buf);
+        match &result {
+            Ok(n) => {
+                if *n == 0 && !buf.is_empty() {
+                    self.ends.tick();
+                }
+            }
+            Err(_) => self.failures.tick(),
+        }
+        result
+    }
+}

@@ -1,0 +1,65 @@
+//! Times, names, facts and settings, each call once.
+use super::*;
+use std::cmp::Ordering;
+use std::test::Fail;
+
+#[test]
+fn times_are_valid_between_the_least_and_the_greatest(rt: HostRuntime) -> Result<(), Fail> {
+    for (nanos, valid) in [
+        (i64::MIN, false),
+        (-9_223_372_036_854_775_807, false),
+        (-9_223_372_036_854_775_806, true),
+        (-1, true),
+        (0, true),
+        (9_223_372_036_854_775_806, true),
+        (i64::MAX, false),
+    ] {
+        match Time::new(nanos) {
+            Some(time) => {
+                assert!(rt; valid, "at {nanos}");
+                assert_eq!(rt; time.nanos(), nanos);
+            }
+            None => assert!(rt; !valid, "at {nanos}"),
+        }
+    }
+    assert_eq!(rt; Time::least().nanos(), -9_223_372_036_854_775_806);
+    Ok(())
+}
+
+#[test]
+fn keys_stand_in_byte_order(rt: HostRuntime) -> Result<(), Fail> {
+    let key = Key::new(rt.alloc(), "cpu", &[("dc", "x"), ("host", "b")])?;
+    assert_eq!(rt; key.measurement(), "cpu");
+    assert_eq!(rt;
+        key.compare("cpu", &[("dc", "x"), ("host", "b")]),
+        Ordering::Equal
+    );
+    assert_eq!(rt;
+        key.compare("cpu", &[("dc", "x"), ("host", "a")]),
+        Ordering::Greater
+    );
+    assert_eq!(rt;
+        key.compare("cpu", &[("dc", "x"), ("hosts", "a")]),
+        Ordering::Less
+    );
+    assert_eq!(rt; key.compare("cpu", &[("dc", "x")]), Ordering::Greater);
+    assert_eq!(rt; key.compare("cp", &[]), Ordering::Greater);
+    assert_eq!(rt; key.compare("d", &[]), Ordering::Less);
+    Ok(())
+}
+
+#[test]
+fn facts_hold_their_parts(rt: HostRuntime) -> Result<(), Fail> {
+    let key = Key::new(rt.alloc(), "cpu", &[])?;
+    let field = FieldName::new(rt.alloc(), "v")?;
+    let time = Time::new(7).ok_or("7 is valid")?;
+    let mut fact = Fact::new(key, field, time, -5);
+    assert_eq!(rt; fact.key().measurement(), "cpu");
+    assert_eq!(rt; fact.field().as_str(), "v");
+    assert_eq!(rt; fact.time().nanos(), 7);
+    assert_eq!(rt; fact.value(), -5);
+    fact.set_value(i64::MIN);
+    assert_eq!(rt; fact.value(), i64::MIN);
+    let _settings = Settings::open(rt.alloc());
+    Ok(())
+}

@@ -1,0 +1,4 @@
+pub mod NumberLemmas
+pub mod SplitLemmas
+pub mod ReadLemmas
+pub mod SaysLemmas

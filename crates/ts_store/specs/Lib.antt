@@ -1,0 +1,3 @@
+pub mod Puts
+pub mod Plain
+pub mod Faults

@@ -1,0 +1,30 @@
+//! Why a line was not written.
+ghost use Rattle.std.specs.Prelude.{◌≡◌, ◌+◌, ◌≤◌, ◌++◌, length, IsOk, OnOk, string_bytes, string_len, string_capacity};
+ghost use Rattle.ts_store.specs.Faults.{write_fault_text};
+
+use std::alloc::{AllocError, Allocator};
+use thiserror::Error;
+
+/// Why a line was not written.
+#[derive(Clone, Copy, Debug, PartialEq, Eq, Error)]
+pub enum WriteFault {
+    /// The facts that were accepted, repeats counted, would pass 2^62 (number 52).
+    #[error("too many facts")]
+    TooManyFacts,
+    /// No memory was found.
+    #[error("out of memory")]
+    OutOfMemory,
+}
+
+impl WriteFault {
+    /// Appends the text of the fault. It takes no memory where there is room for the text.
+    pub fn text_to<A: Allocator>(&self, text: &mut String<A>) -> Result<(), AllocError>
+        ensures ok { OnOk result (string_bytes text.new ≡ string_bytes text.old ++ write_fault_text self.now) }
+        ensures room { string_len text.old + length (write_fault_text self.now) ≤ string_capacity text.old → IsOk result }
+    {
+        match self {
+            WriteFault::TooManyFacts => text.push_str("fault 52"),
+            WriteFault::OutOfMemory => text.push_str("fault memory"),
+        }
+    }
+}
