@@ -1,5 +1,5 @@
 -- The whole answer: what valid pieces give of a view that shows a history is the answer over all points ever accepted.
-use Rattle.std.proofs.Common.{◌≡◌, ℕ, ◌<◌, ◌==◌, ℤ, Bool, true, false, not, ◌&&◌, List, [], ◌∷◌, filter, map, length, refl, sym, ap, ap₂, ◌∙◌, subst, inl, inr, ◌⊎◌, ⊎_elim, ◌≤ℤ◌, ◌<ℤ◌, true≢false, arith, Option}
+use Rattle.std.proofs.Common.{◌≡◌, ℕ, ◌<◌, ◌==◌, ℤ, Bool, true, false, not, ◌&&◌, List, [], ◌∷◌, filter, map, length, refl, sym, ap, ap₂, ◌∙◌, subst, inl, inr, ⊎_elim, ◌≤ℤ◌, ◌<ℤ◌, true≢false, arith, Option}
 use Rattle.std.proofs.lemmas.Int.{ints, by_lt_z}
 use Rattle.std.specs.List.{AllByRecursion}
 use Rattle.ts_core.specs.Members.{Among}

@@ -1,5 +1,5 @@
 -- A begin leaves what the columns hold, and both parts of each cell.
-use Rattle.std.proofs.Common.{◌≡◌, ℤ, true, false, cond, List, [], ◌∷◌, map, refl, sym, ◌∙◌, ap, ap₂, subst, true≢false, int_le, ◌≤ℤ◌}
+use Rattle.std.proofs.Common.{◌≡◌, ℤ, false, cond, List, [], ◌∷◌, map, refl, sym, ◌∙◌, ap, ap₂, subst, true≢false, int_le, ◌≤ℤ◌}
 use Rattle.std.specs.Int.{int_max}
 use Rattle.ts_core.specs.Members.{Among, AllDistinct}
 use Rattle.ts_core.specs.Facts.{Column, Fact}

@@ -1,5 +1,5 @@
 -- Where the buckets of a rule and of a query meet: a cell that serves a query lies in one of its buckets.
-use Rattle.std.proofs.Common.{◌≡◌, ℕ, zero, suc, ℤ, pos, negsuc, ◌+◌, ◌-◌, ◌*◌, ◌/◌, ◌%◌, ◌<◌, ◌≤◌, ◌+ℤ◌, ◌-ℤ◌, ◌*ℤ◌, ◌≤ℤ◌, ◌<ℤ◌, true, false, ◌&&◌, arith, refl, sym, ap, ap₂, ◌∙◌, subst, div-add-mod', mod-lt, int_le, int_lt, ◌⊎◌, ⊎_elim}
+use Rattle.std.proofs.Common.{◌≡◌, ℕ, zero, suc, ℤ, pos, negsuc, ◌-◌, ◌/◌, ◌%◌, ◌<◌, ◌+ℤ◌, ◌-ℤ◌, ◌*ℤ◌, ◌≤ℤ◌, ◌<ℤ◌, true, false, ◌&&◌, arith, refl, sym, ap, ap₂, ◌∙◌, subst, div-add-mod', mod-lt, int_le, int_lt, ◌⊎◌, ⊎_elim}
 use Rattle.std.specs.Int.{int_rem_euclid}
 use Rattle.std.proofs.Math.IntN.{suc_ℤ-*ℤ, pos-*ℤ-pos, negsuc-*ℤ-pos, zero-*ℤ}
 use Rattle.std.proofs.lemmas.Int.{ints, by_lt_z}

@@ -1,13 +1,13 @@
 -- The orders of names and ids are total, and tie only what is the same.
-use Rattle.std.proofs.Common.{◌≡◌, ◌≢◌, Bool, true, false, refl, sym, ◌∙◌, ap, List, Equal, Ordering, is_eq, true≢false, ℤ}
-use Rattle.std.specs.Ordering.{ordering_then, eq_by_cmp, int_cmp}
+use Rattle.std.proofs.Common.{◌≡◌, ◌≢◌, true, false, refl, sym, ◌∙◌, ap, List, Equal, Ordering, is_eq, true≢false, ℤ}
+use Rattle.std.specs.Ordering.{int_cmp}
 use Rattle.std.specs.Cmp.{IsTotalOrder, int_cmp_total}
 use Rattle.std.specs.FinMap.{slice_cmp-IsAntisymmetric}
 use Rattle.std.specs.Cmp.Lexicographic.{slice_cmp}
 use Rattle.std.proofs.lemmas.Cmp.{on_total, then_total, lists_total, nat_list_cmp_total, tied_itself, eq_by_cmp_equiv}
 use Rattle.std.proofs.lemmas.Map.Lookups.{CmpEqualImpliesEq, exact_pairs, exact_bytes, exact_signed}
 use Rattle.std.proofs.lemmas.Map.Text.{is_eq-slice_cmp}
-use Rattle.ts_core.specs.Facts.{Text, text_cmp, same_text, Series, Column, Fact, Id, tag_cmp, series_cmp, column_cmp, id_cmp, id_of, same_id}
+use Rattle.ts_core.specs.Facts.{Text, text_cmp, same_text, Series, Column, Id, tag_cmp, series_cmp, column_cmp, id_cmp, same_id}
 
 pub tags_total : IsTotalOrder tag_cmp
 tags_total = then_total (on_total (λ (p : Text × Text). p.0) nat_list_cmp_total) (on_total (λ (p : Text × Text). p.1) nat_list_cmp_total)

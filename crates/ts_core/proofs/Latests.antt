@@ -1,7 +1,7 @@
 -- What is latest, in other words: of each id exactly one fact is latest, it is the one accepted last, and each accepted id has one.
-use Rattle.std.proofs.Common.{◌≡◌, ◌≢◌, ◌↔◌, ℤ, Bool, true, false, cond, not, List, [], ◌∷◌, filter, refl, sym, ◌∙◌, ap, subst, Option, Some, None, inl, inr, ◌⊎◌, ⊎_elim, true≢false}
+use Rattle.std.proofs.Common.{◌≡◌, ℤ, Bool, true, false, cond, not, List, [], ◌∷◌, refl, sym, ◌∙◌, ap, Some, None, inl, inr, ◌⊎◌, ⊎_elim, true≢false}
 use Rattle.ts_core.specs.Members.{Among, AllDistinct}
-use Rattle.ts_core.specs.Facts.{Fact, Id, id_of, same_id}
+use Rattle.ts_core.specs.Facts.{Fact, id_of, same_id}
 use Rattle.ts_core.specs.Latest.{others, latest, value_at}
 use Rattle.ts_core.proofs.MembersLemmas.{Among-filter_passes, Among-filter_was, Among-filter_stays, AllDistinct-filter, filter-all}
 use Rattle.ts_core.proofs.Ids.{same_id-eq, same_id-refl}

@@ -1,5 +1,5 @@
 -- A store with nothing in it stands for the empty history.
-use Rattle.std.proofs.Common.{◌≡◌, ℤ, List, [], ◌∷◌, map, refl, sym, ap, subst, false, true, true≢false}
+use Rattle.std.proofs.Common.{◌≡◌, ℤ, List, [], ◌∷◌, map, refl, sym, ap, subst, false, true≢false}
 use Rattle.std.specs.List.{AllByRecursion}
 use Rattle.ts_core.specs.Members.{AllDistinct}
 use Rattle.ts_core.specs.Facts.{Column}

@@ -1,9 +1,9 @@
 -- Entries in the order of their keys, by what is among them.
-use Rattle.std.proofs.Common.{◌≡◌, ◌≢◌, ℕ, Bool, true, false, cond, ◌&&◌, T, List, [], ◌∷◌, refl, sym, ◌∙◌, ap, subst, inl, inr, ◌⊎◌, ⊎_elim, true≢false, Option, Some, None, Ordering, Less, Equal, Greater, is_lt, is_eq}
-use Rattle.std.specs.Ordering.{ordering_reverse, eq_by_cmp}
+use Rattle.std.proofs.Common.{◌≡◌, true, false, cond, T, List, [], ◌∷◌, refl, sym, ◌∙◌, ap, inl, inr, ◌⊎◌, ⊎_elim, true≢false, Some, None, Ordering, Less, Equal, Greater, is_lt, is_eq}
+use Rattle.std.specs.Ordering.{ordering_reverse}
 use Rattle.std.specs.Cmp.{IsTotalOrder}
-use Rattle.std.specs.FinMap.{find, put, is_sorted}
-use Rattle.std.specs.FinMap.Entries.{below_all, find-put, is_sorted-put}
+use Rattle.std.specs.FinMap.{find, is_sorted}
+use Rattle.std.specs.FinMap.Entries.{below_all}
 use Rattle.std.proofs.lemmas.Cmp.{tied_itself}
 use Rattle.std.proofs.lemmas.Map.Lookups.{CmpEqualImpliesEq}
 use Rattle.ts_core.specs.Members.{Among, AllDistinct}

@@ -1,5 +1,5 @@
 -- What happened to a store, the newest event first, and what follows from it. (Own rules.)
-use Rattle.std.specs.Prelude.{◌≡◌, ℕ, ℤ, pos, ◌-ℤ◌, ◌≤ℤ◌, ◌≤◌, ◌^◌, ◌==◌, if◌then◌else◌, Bool, true, false, List, [], ◌∷◌, length, FitsSigned}
+use Rattle.std.specs.Prelude.{ℕ, ℤ, pos, ◌-ℤ◌, ◌≤ℤ◌, ◌≤◌, ◌^◌, ◌==◌, if◌then◌else◌, Bool, true, false, List, [], ◌∷◌, length, FitsSigned}
 use Rattle.std.specs.Int.{w64, int_max}
 use Rattle.std.specs.List.{AllByRecursion}
 use Rattle.ts_core.specs.Times.{IsTime, least_time}
