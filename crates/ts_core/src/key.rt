@@ -80,6 +80,14 @@ impl<A: Allocator + Copy> Key<A> {
         self.measurement.as_str()
     }
 
+    /// The tags with their values, in byte order of the keys.
+    pub fn tags(&self) -> &[(String<A>, String<A>)]
+        ensures value { owned_pairs result.now ≡ self.now.tags }
+        ensures set { IsTagSet (owned_pairs result.now) }
+    {
+        self.tags.as_slice()
+    }
+
     /// The order of this key and the one of a measurement and its tags.
     pub fn compare(&self, measurement: &str, tags: &[(&str, &str)]) -> Ordering
         ensures { result ≡ series_cmp self.now (lent_series measurement.now tags.now) }
