@@ -50,7 +50,7 @@ impl<A: Allocator + Copy> Store<A> {
 
     /// Writes a line: its facts are accepted, each in place of an older one of its id. After a fault
     /// nothing has changed.
-    pub fn write(&mut self, line: &Line<'_>) -> Result<(), WriteFault>
+    pub fn write(&mut self, line: &Line<'_, A>) -> Result<(), WriteFault>
         ensures ok { OnOk result (GoesOn self.old (LineEvent (facts_of line.now)) self.new) }
         ensures err { OnErr result (self.new ≡ self.old) }
         ensures full { (result ≡ Err WriteFault.TooManyFacts) ↔ (2 ^ 62 < self.old.accepted + length (facts_of line.now)) }
