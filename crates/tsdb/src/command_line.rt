@@ -3,6 +3,7 @@ use clap::error::ErrorKind;
 use clap::{ArgMatches, Command, Error};
 use std::alloc::{AllocError, Global};
 use std::env;
+use std::io;
 use std::rt::Env;
 
 const VERSION: &str = "0.1.0";
@@ -59,9 +60,13 @@ fn parse<'a>(alloc: Global, words: &'a [String]) -> Result<ArgMatches<'a>, Error
 
 /// Whether the command line asks for a replay. Where it doesn't, it is answered here.
 pub fn asks_for_replay(rt: &(impl Env + AllocGlobal + Print + Eprint)) -> Result<(), Told> {
-    let Ok(args) = env::args(rt) else {
-        let _ = eprintln!(rt; "tsdb: the command line can't be read as text");
-        return Err(Told::Wrong);
+    let args = match env::args(rt) {
+        Ok(args) => args,
+        Err(error) if error.kind() == io::ErrorKind::OutOfMemory => return Err(Told::OutOfMemory),
+        Err(_) => {
+            let _ = eprintln!(rt; "tsdb: the command line can't be read as text");
+            return Err(Told::Wrong);
+        }
     };
     let words: Vec<String> = match args.collect(rt.alloc()) {
         Ok(words) => words,
