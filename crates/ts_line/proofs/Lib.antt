@@ -1,5 +1,9 @@
+pub mod ScanLemmas
 pub mod NumberLemmas
-pub mod SplitLemmas
-pub mod ReadLemmas
-pub mod SaysLemmas
 pub mod SortingLemmas
+pub mod LineLemmas
+pub mod PieceLemmas
+pub mod TagLemmas
+pub mod FieldLemmas
+pub mod ValueLemmas
+pub mod FaultLemmas

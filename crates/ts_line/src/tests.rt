@@ -1,122 +1,93 @@
 //! Lines both ways.
-use crate::{LineFault, Precision, read_line};
+use crate::{LineFault, Precision, ReadLineError, read_line};
 use std::alloc::Global;
 use std::test::Fail;
 use ts_core::Time;
 
-type Said<'a> = (&'a str, usize, &'a str, i64, i64);
+// the number and the place of a line's fault, and (0, 0) where it has none
+fn fault(alloc: Global, text: &str, precision: Precision) -> Option<(u8, usize)> {
+    match read_line(alloc, text, precision, Time::new(77)?) {
+        Ok(_) => Some((0, 0)),
+        Err(ReadLineError::Fault(fault)) => Some((fault.number(), fault.offset())),
+        Err(ReadLineError::OutOfMemory) => None,
+    }
+}
 
-// what a line says at the moment 77: its measurement, the place of its field, the field, its value, and the time
-fn said(alloc: Global, text: &str, precision: Precision) -> Option<Said<'_>> {
-    let line = read_line(alloc, text, precision, Time::new(77)?).ok()??;
-    let measurement = line.measurement().text();
-    let time = line.time().nanos();
-    let field = line.fields().first()?;
-    Some((
-        measurement,
-        field.name().start(),
-        field.name().raw(),
-        field.value(),
-        time,
-    ))
+// what a line says, written out: measurement, tags, fields and time, each part with its place
+fn said(alloc: Global, text: &str) -> Option<String> {
+    let line = read_line(alloc, text, Precision::Nanoseconds, Time::new(77)?).ok()??;
+    let measurement = line.measurement();
+    let mut out = format!(in alloc; "{}@{}", measurement.text(), measurement.start()).ok()?;
+    for tag in line.tags() {
+        let key = tag.key();
+        let value = tag.value();
+        let tag = format!(in alloc;
+            " {}@{}:{}@{}",
+            key.text(),
+            key.start(),
+            value.text(),
+            value.start()
+        )
+        .ok()?;
+        out.push_str(&tag).ok()?;
+    }
+    for field in line.fields() {
+        let name = field.name();
+        let field = format!(in alloc; " {}@{}={}", name.text(), name.start(), field.value()).ok()?;
+        out.push_str(&field).ok()?;
+    }
+    let time = format!(in alloc; " {}", line.time().nanos()).ok()?;
+    out.push_str(&time).ok()?;
+    Some(out)
 }
 
 #[test]
-fn lines_are_read(rt: HostRuntime) -> Result<(), Fail> {
-    for (text, precision, expected) in [
-        (
-            "m f=3i 5",
-            Precision::Nanoseconds,
-            ("m", 2usize, "f", 3i64, 5i64),
-        ),
-        ("m f=9i", Precision::Nanoseconds, ("m", 2, "f", 9, 77)),
-        ("m f=-0i", Precision::Hours, ("m", 2, "f", 0, 77)),
-        ("m f=007i 1", Precision::Nanoseconds, ("m", 2, "f", 7, 1)),
-        (
-            "_m9 F_2=-12i -004",
-            Precision::Nanoseconds,
-            ("_m9", 4, "F_2", -12, -4),
-        ),
-        (
-            "m f=9223372036854775807i 1",
-            Precision::Nanoseconds,
-            ("m", 2, "f", 9223372036854775807, 1),
-        ),
-        (
-            "m f=-9223372036854775808i 1",
-            Precision::Nanoseconds,
-            ("m", 2, "f", -9223372036854775808, 1),
-        ),
-        (
-            "m f=1i 9223372036854775806",
-            Precision::Nanoseconds,
-            ("m", 2, "f", 1, 9223372036854775806),
-        ),
-        (
-            "m f=1i -9223372036854775806",
-            Precision::Nanoseconds,
-            ("m", 2, "f", 1, -9223372036854775806),
-        ),
-        (
-            "m f=1i 9223372036",
-            Precision::Seconds,
-            ("m", 2, "f", 1, 9223372036000000000),
-        ),
-        (
-            "m f=1i -9223372036",
-            Precision::Seconds,
-            ("m", 2, "f", 1, -9223372036000000000),
-        ),
-        (
-            "m f=1i 2562047",
-            Precision::Hours,
-            ("m", 2, "f", 1, 9223369200000000000),
-        ),
+fn faults_stand_where_they_are(rt: HostRuntime) -> Result<(), Fail> {
+    let alloc = rt.alloc();
+    for (text, expected) in [
+        ("m f=9223372036854775808i 1", (17u8, 2usize)),
+        ("m f=1.5 1", (16, 2)),
+        ("m f=1i 1", (0, 0)),
+        ("m,a=1,a=2 f=1i", (13, 6)),
+        ("m f=1i 1x", (18, 7)),
+        ("m", (14, 1)),
+        ("# x", (0, 0)),
+        ("m,=1 f=1i", (12, 2)),
+        ("m,a=1, f=1i", (12, 6)),
+        ("m,time=1 f=1i", (21, 2)),
+        ("m f=\"a,b c\"", (16, 2)),
+        ("m f=\"a\\\\\"", (16, 2)),
+        ("m f=1i -9223372036854775807", (19, 7)),
     ] {
         assert!(rt;
-            said(rt.alloc(), text, precision) == Some(expected),
+            fault(alloc, text, Precision::Nanoseconds) == Some(expected),
             "at {text}"
         );
     }
+    assert!(rt; fault(alloc, "m f=1i 2562047", Precision::Hours) == Some((0, 0)));
+    assert!(rt; fault(alloc, "m f=1i 2562048", Precision::Hours) == Some((19, 7)));
     Ok(())
 }
 
 #[test]
-fn other_texts_are_not(rt: HostRuntime) -> Result<(), Fail> {
-    for (text, precision) in [
-        ("", Precision::Nanoseconds),
-        ("m", Precision::Nanoseconds),
-        ("m f", Precision::Nanoseconds),
-        ("m f=", Precision::Nanoseconds),
-        ("m f=i", Precision::Nanoseconds),
-        ("m f=-i", Precision::Nanoseconds),
-        ("m f=+5i", Precision::Nanoseconds),
-        ("m f=1", Precision::Nanoseconds),
-        ("m  f=1i", Precision::Nanoseconds),
-        (" m f=1i", Precision::Nanoseconds),
-        ("m f=1i ", Precision::Nanoseconds),
-        ("m f=1i 1 ", Precision::Nanoseconds),
-        ("m f=1i  1", Precision::Nanoseconds),
-        ("m f=1i 1x", Precision::Nanoseconds),
-        ("m f=1i +1", Precision::Nanoseconds),
-        ("m,a=1 f=1i", Precision::Nanoseconds),
-        ("m f=1i,g=2i", Precision::Nanoseconds),
-        ("1m f=1i", Precision::Nanoseconds),
-        ("m 1f=1i", Precision::Nanoseconds),
-        ("m time=1i", Precision::Nanoseconds),
-        ("é f=1i", Precision::Nanoseconds),
-        ("# m f=1i", Precision::Nanoseconds),
-        ("m f=9223372036854775808i 1", Precision::Nanoseconds),
-        ("m f=-9223372036854775809i 1", Precision::Nanoseconds),
-        ("m f=1i 9223372036854775807", Precision::Nanoseconds),
-        ("m f=1i -9223372036854775807", Precision::Nanoseconds),
-        ("m f=1i 99999999999999999999", Precision::Nanoseconds),
-        ("m f=1i 9223372037", Precision::Seconds),
-        ("m f=1i -9223372037", Precision::Seconds),
-        ("m f=1i 2562048", Precision::Hours),
-        ("m f=1i 9223372036854775807", Precision::Hours),
+fn lines_are_read(rt: HostRuntime) -> Result<(), Fail> {
+    let alloc = rt.alloc();
+    for (text, expected) in [
+        ("m f=1i 5", "m@0 f@2=1 5"),
+        ("m f=1i", "m@0 f@2=1 77"),
+        ("m\\\\ x a\\=b=1i 1", "m\\ x@0 a=b@6=1 1"),
+        (" m  f=1i,f=2i  3 ", "m@1 f@4=2 3"),
+        (
+            "a\\,b,t\\ x=1 f=-9223372036854775808i -9223372036854775806",
+            "a,b@0 t x@5:1@10 f@12=-9223372036854775808 -9223372036854775806",
+        ),
+        ("m,b=1,a=2 f=1i 5", "m@0 b@2:1@4 a@6:2@8 f@10=1 5"),
     ] {
-        assert!(rt; said(rt.alloc(), text, precision).is_none(), "at {text}");
+        let Some(text) = said(alloc, text) else {
+            assert!(rt; false, "at {text}");
+            return Ok(());
+        };
+        assert!(rt; text.as_str() == expected, "{text} and not {expected}");
     }
     Ok(())
 }
@@ -124,7 +95,7 @@ fn other_texts_are_not(rt: HostRuntime) -> Result<(), Fail> {
 #[test]
 fn faults_are_written(rt: HostRuntime) -> Result<(), Fail> {
     let mut text = String::from_str(rt.alloc(), "1 ")?;
-    LineFault::NotYet.text_to(&mut text)?;
-    assert!(rt; text.as_str() == "1 fault 95");
+    LineFault::IntegerRange(25).text_to(&mut text)?;
+    assert!(rt; text.as_str() == "1 fault 17 at 25");
     Ok(())
 }
