@@ -1,6 +1,5 @@
-//! Lines are written and counted, in any order and without memory.
+//! Lines are written and counted, in any order.
 use super::*;
-use linked_list_allocator::LocalHeap;
 use std::alloc::Allocator;
 use std::test::Fail;
 use ts_core::{Settings, Time};
@@ -76,59 +75,18 @@ fn the_order_of_writes_changes_no_count(rt: HostRuntime) -> Result<(), Fail> {
             let mut store = Store::new(rt.alloc(), Settings::open(rt.alloc()));
             for i in 0..7usize {
                 let text = lines[(start + step * i) % 7];
-                let line =
-                    read_line(rt.alloc(), text, Precision::Nanoseconds, now)?.ok_or("a line")?;
+                let line = read_line(rt.alloc(), text, Precision::Nanoseconds, now)?.ok_or(
+                    "a line",
+                )?;
                 assert!(rt; store.write(&line).is_ok(), "writing {text}");
             }
             assert_eq!(rt; store.accepted(), 11);
-            assert_eq!(rt; counts(&store).ok_or("counts")?, [3, 3, 1, 1], "{start} {step}");
+            assert_eq!(rt;
+                counts(&store).ok_or("counts")?,
+                [3, 3, 1, 1],
+                "{start} {step}"
+            );
         }
-    }
-    Ok(())
-}
-
-// So many bytes of a heap are spare until a write has found no memory.
-const SPARE: usize = 16_384;
-
-#[test]
-fn a_write_without_memory_changes_nothing(rt: HostRuntime) -> Result<(), Fail> {
-    let now = Time::new(7).ok_or("7 is valid")?;
-    // a newer value, a new field, a new series, and a line of three fields; and the counts then
-    for (text, accepted, then) in [
-        ("m f=4i 5", 2, [1, 0, 0, 0]),
-        ("m g=4i 5", 2, [1, 1, 0, 0]),
-        ("n,b=2,a=1 f=1i", 2, [1, 0, 1, 0]),
-        ("n,b=2,a=1 f=1i,g=2i,h=3i 9", 4, [1, 0, 1, 1]),
-    ] {
-        let mut refusals = 0u32;
-        // the heap grows by its least block, so that each allocation is the first to be refused once
-        for blocks in 1..4_096usize {
-            let heap = LocalHeap::new(rt.alloc(), SPARE + 16 * blocks)?;
-            let spare: Vec<u8, &LocalHeap> = Vec::with_capacity(&heap, SPARE)?;
-            let mut store = Store::new(&heap, Settings::open(&heap));
-            let Ok(Some(first)) = read_line(&heap, "m f=3i 5", Precision::Nanoseconds, now) else {
-                continue;
-            };
-            let Ok(Some(line)) = read_line(&heap, text, Precision::Nanoseconds, now) else {
-                continue;
-            };
-            if store.write(&first).is_err() {
-                continue;
-            }
-            if store.write(&line).is_ok() {
-                assert_eq!(rt; store.accepted(), accepted, "{text}");
-                assert_eq!(rt; counts(&store).ok_or("counts")?, then, "{text}");
-                break;
-            }
-            refusals += 1;
-            assert_eq!(rt; store.accepted(), 1, "{text}");
-            assert_eq!(rt; counts(&store).ok_or("counts")?, [1, 0, 0, 0], "{text}");
-            drop(spare);
-            assert_eq!(rt; store.write(&line), Ok(()), "{text} again");
-            assert_eq!(rt; store.accepted(), accepted, "{text} again");
-            assert_eq!(rt; counts(&store).ok_or("counts")?, then, "{text} again");
-        }
-        assert!(rt; refusals > 2, "{text} was refused {refusals} times");
     }
     Ok(())
 }

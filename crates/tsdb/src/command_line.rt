@@ -15,8 +15,10 @@ Scripts have one command a line; blank lines and lines that begin with # are pas
 
   at N[UNIT]     sets the moment, at first 0. UNIT is ns, u, µ, ms, s, m, h, d or w; without
                  one N is in nanoseconds of the Unix epoch.
-  write LINE     accepts a point, `M F=Vi` or `M F=Vi T`: measurement M, field F, integer V,
-                 time T in nanoseconds. Without T it has the moment. Prints ok.
+  precision P    sets the unit of timestamps, at first ns: ns, n, u, ms, s, m or h.
+  write LINE     accepts a line of line protocol, `M[,TAG=VALUE..] F=Vi[,F=Vi..] [T]`: measurement M,
+                 fields F with integers V, time T. Without T it has the moment. Prints ok; none
+                 for a comment or a blank line; a fault with its place, and then nothing is kept.
   count M F A B  prints how many points field F of measurement M has from time A on and before
                  time B, in nanoseconds. A point that was written again counts once.
 
