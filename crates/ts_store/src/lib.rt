@@ -12,4 +12,6 @@ pub use fault::WriteFault;
 pub use store::Store;
 
 #[cfg(test)]
+mod memory_tests;
+#[cfg(test)]
 mod tests;

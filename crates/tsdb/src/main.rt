@@ -9,6 +9,8 @@ mod command_line;
 mod engine;
 mod line_reader;
 mod machine;
+#[cfg(test)]
+mod memory_tests;
 mod number;
 mod reply;
 mod run_fault;

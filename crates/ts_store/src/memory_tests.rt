@@ -1,0 +1,115 @@
+//! Want of memory: a refused write leaves what was there, and succeeds once there is room.
+use super::*;
+use linked_list_allocator::LocalHeap;
+use std::alloc::{AllocError, Allocator, Global};
+use std::test::Fail;
+use ts_core::{Settings, Time};
+use ts_line::{Line, Precision, read_line};
+
+/// What the heap of a test has in all, in bytes.
+const HEAP: usize = 16_384;
+
+/// A newer value, another field, another series, and a line of three fields: each with the number of facts
+/// that are accepted after it, and the numbers of `m f`, `m g`, `n f` and `n g`.
+const LINES: [(&str, u64, [u64; 4]); 4] = [
+    ("m f=4i 5", 2, [1, 0, 0, 0]),
+    ("m g=4i 5", 2, [1, 1, 0, 0]),
+    ("n,b=2,a=1 f=1i", 2, [1, 0, 1, 0]),
+    ("n,b=2,a=1 f=1i,g=2i,h=3i 9", 4, [1, 0, 1, 1]),
+];
+
+/// What a write said, and what the store told then.
+#[derive(Drop)]
+struct Written {
+    result: Result<(), WriteFault>,
+    accepted: u64,
+    counts: Option<[u64; 4]>,
+}
+
+fn counts<A: Allocator + Copy>(store: &Store<A>) -> Option<[u64; 4]> {
+    let end = Time::new(1_000)?;
+    let count = |measurement, field| store.count(measurement, field, Time::least(), end);
+    Some([
+        count("m", "f"),
+        count("m", "g"),
+        count("n", "f"),
+        count("n", "g"),
+    ])
+}
+
+fn write_told<A: Allocator + Copy>(store: &mut Store<A>, line: &Line<'_, A>) -> Written {
+    let result = store.write(line);
+    Written {
+        result,
+        accepted: store.accepted(),
+        counts: counts(store),
+    }
+}
+
+/// Takes all that is left of a heap, in its least blocks.
+fn rest_of(alloc: Global, heap: &LocalHeap) -> Result<Vec<Vec<u8, &LocalHeap>>, AllocError> {
+    let mut blocks = Vec::new(alloc);
+    for _ in 0..HEAP / 16 {
+        let Ok(block) = Vec::with_capacity(heap, 16) else {
+            break;
+        };
+        blocks.push(block)?;
+    }
+    Ok(blocks)
+}
+
+/// Writes a line while so few blocks of the heap are left, and again with all of them.
+fn write_twice<'a>(
+    alloc: Global,
+    heap: &'a LocalHeap,
+    store: &mut Store<&'a LocalHeap>,
+    line: &Line<'_, &'a LocalHeap>,
+    left: usize,
+) -> Result<(Written, Written), AllocError> {
+    let mut blocks = rest_of(alloc, heap)?;
+    blocks.truncate(blocks.len().saturating_sub(left));
+    let short = write_told(store, line);
+    drop(blocks);
+    Ok((short, write_told(store, line)))
+}
+
+fn read<'a>(heap: &'a LocalHeap, text: &'a str) -> Result<Line<'a, &'a LocalHeap>, Fail> {
+    Ok(read_line(heap, text, Precision::Nanoseconds, Time::least())?.ok_or("no line")?)
+}
+
+fn with_a_point(heap: &LocalHeap) -> Result<Store<&LocalHeap>, Fail> {
+    let mut store = Store::new(heap, Settings::open(heap));
+    store
+        .write(&read(heap, "m f=3i 5")?)
+        .map_err(|_| "no memory at first")?;
+    Ok(store)
+}
+
+/// The same on a new store that has a point.
+fn written_within(alloc: Global, text: &str, left: usize) -> Result<(Written, Written), Fail> {
+    let heap = LocalHeap::new(alloc, HEAP)?;
+    let mut store = with_a_point(&heap)?;
+    let line = read(&heap, text)?;
+    Ok(write_twice(alloc, &heap, &mut store, &line, left)?)
+}
+
+#[test]
+fn each_growth_is_refused_in_turn(rt: HostRuntime) -> Result<(), Fail> {
+    for (text, accepted, then) in LINES {
+        // one more block each time, until the write finds its memory
+        for left in 0..HEAP / 16 {
+            let (short, again) = written_within(rt.alloc(), text, left)?;
+            if short.result.is_ok() {
+                assert!(rt; left > 7, "{text} had {left} blocks");
+                break;
+            }
+            assert_eq!(rt; short.result, Err(WriteFault::OutOfMemory), "{text}");
+            assert_eq!(rt; short.accepted, 1, "{text}");
+            assert_eq!(rt; short.counts, Some([1, 0, 0, 0]), "{text}");
+            assert_eq!(rt; again.result, Ok(()), "{text} again");
+            assert_eq!(rt; again.accepted, accepted, "{text} again");
+            assert_eq!(rt; again.counts, Some(then), "{text} again");
+        }
+    }
+    Ok(())
+}
