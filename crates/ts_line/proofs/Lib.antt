@@ -6,3 +6,5 @@ pub mod PieceLemmas
 pub mod TagLemmas
 pub mod FieldLemmas
 pub mod ValueLemmas
+pub mod Suffixes
+pub mod TagsSpelled

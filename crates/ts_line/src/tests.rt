@@ -43,6 +43,13 @@ fn said(alloc: Global, text: &str) -> Option<String> {
     Some(out)
 }
 
+fn says(alloc: Global, text: &str, expected: &str) -> bool {
+    match said(alloc, text) {
+        Some(said) => said.as_str() == expected,
+        None => false,
+    }
+}
+
 #[test]
 fn faults_stand_where_they_are(rt: HostRuntime) -> Result<(), Fail> {
     let alloc = rt.alloc();
@@ -195,8 +202,7 @@ fn lines_are_read(rt: HostRuntime) -> Result<(), Fail> {
         ("m a=1i,b=2i,a=3i,b=4i,c=5i", "m@0 a@2=3 b@7=4 c@22=5 77"),
         ("m a\\ =1i,b=2i,a\\ =3i", "m@0 a @2=3 b@9=2 77"),
     ] {
-        let text = said(alloc, text).unwrap_or(String::new(alloc));
-        assert!(rt; text.as_str() == expected, "{text} and not {expected}");
+        assert!(rt; says(alloc, text, expected), "at {text}");
     }
     Ok(())
 }
