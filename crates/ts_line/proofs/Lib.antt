@@ -8,3 +8,6 @@ pub mod FieldLemmas
 pub mod ValueLemmas
 pub mod Suffixes
 pub mod TagsSpelled
+pub mod FieldsSpelled
+pub mod LineSpelled
+pub mod SpellingRead

@@ -37,7 +37,7 @@ abbrev pub is_end : Stops → Text → Bool
 is_end stops [] = true
 is_end stops (b ∷ bs) = is_stop stops b
 
-false_of_not : (b : Bool) → not b ≡ true → b ≡ false
+pub false_of_not : (b : Bool) → not b ≡ true → b ≡ false
 false_of_not true e = absurd cc
 false_of_not false e = refl
 

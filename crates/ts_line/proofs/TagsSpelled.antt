@@ -22,7 +22,7 @@ Tags = List (Piece × Piece)
 pub at_piece : (line raw rest : Text) (n end : ℕ) → At line n (raw ++ rest) → end ≡ n + length raw → piece_at Equals line n end ≡ written_piece Equals n raw
 at_piece line raw rest n end at e = ap (λ (t : Text). record { start = n; raw = t; text = unescaped Equals t }) (at_slice line raw rest n end at e)
 
-not_eqb : (a b : ℕ) → (a ≡ b → ⊥) → eqb a b ≡ false
+pub not_eqb : (a b : ℕ) → (a ≡ b → ⊥) → eqb a b ≡ false
 not_eqb a b ne = grind (arith, nat_tests)
 
 -- ---- a pair
