@@ -11,3 +11,6 @@ pub mod TagsSpelled
 pub mod FieldsSpelled
 pub mod LineSpelled
 pub mod SpellingRead
+pub mod PartsTold
+pub mod TagsTold
+pub mod FieldsTold
