@@ -162,3 +162,67 @@ field_told line n g le e =
     let lt : key_end < length line = within line key_end 61 equals (omega arith) in
     let same : ((key, v.0.0), v.0.1) ≡ g = let all = v.2 in cc in
     subst (λ (x : (Piece × ℤ) × ℕ). IsFieldAt line n x.0 x.1) same (field_of line n key_end v.0.0 v.0.1 le refl ne equals other (value_told n line (key_end + 1) v.0 (omega arith) v.1))
+
+-- ---- all fields
+
+pub record AreFieldsTold (n : ℕ) (line : Text) (at : ℕ) (before out : List (Piece × ℤ)) (end : ℕ) : Type 0 where
+  pub first : Text × Text
+  pub more : List (Text × Text)
+  pub spelled : drop at line ≡ field_spelling first ++ (more_fields_text more ++ drop end line)
+  pub first_is : IsWrittenField first
+  pub more_are : AllByRecursion IsWrittenField more
+  pub told : out ≡ with_fields (with_field before (field_from at first)) (at + length (field_spelling first)) more
+  pub end_is : end ≡ at + length (field_spelling first) + length (more_fields_text more)
+  pub few : length more + 1 ≤ n
+  pub inside : end ≤ length line
+  pub behind : end < length line → slice_index line end ≡ 32
+
+last_field : (n : ℕ) (line : Text) (at : ℕ) (before : List (Piece × ℤ)) (g : Piece × ℤ) (end : ℕ) → IsFieldAt line at g end → eqb (slice_index line end) 44 ≡ false → AreFieldsTold (suc n) line at before (with_field before g) end
+last_field n line at before g end f none = record {
+  first = f.field;
+  more = [];
+  spelled = f.spelled;
+  first_is = f.is;
+  more_are = tt;
+  told = ap (with_field before) f.told;
+  end_is = omega (arith, f.end_is);
+  few = omega arith;
+  inside = f.inside;
+  behind = λ lt. ⊎_elim (λ is. let c : eqb (slice_index line end) 44 ≡ true = grind (arith, nat_tests) in absurd (both_ways (eqb (slice_index line end) 44) none c)) (λ is. is) (f.ends lt);
+}
+
+next_fields : (n : ℕ) (line : Text) (at : ℕ) (before : List (Piece × ℤ)) (g : Piece × ℤ) (next : ℕ) (out : List (Piece × ℤ)) (end : ℕ) → IsFieldAt line at g next → slice_index line next ≡ 44 → next < length line
+    → AreFieldsTold n line (next + 1) (with_field before g) out end → AreFieldsTold (suc n) line at before out end
+next_fields n line at before g next out end f comma lt later = record {
+  first = f.field;
+  more = later.first ∷ later.more;
+  spelled = f.spelled ∙ ap (λ (x : Text). field_spelling f.field ++ x) (first_of line next lt ∙ ap (λ b. b ∷ drop (next + 1) line) comma ∙ ap (λ (x : Text). 44 ∷ x) (later.spelled ∙ sym (append_assoc (field_spelling later.first) (more_fields_text later.more) (drop end line))));
+  first_is = f.is;
+  more_are = (later.first_is, later.more_are);
+  told = later.told ∙ ap (λ x. with_fields (with_field (with_field before x) (field_from (next + 1) later.first)) (next + 1 + length (field_spelling later.first)) later.more) f.told
+  ∙ ap (λ m. with_fields (with_field (with_field before (field_from at f.field)) (field_from (m + 1) later.first)) (m + 1 + length (field_spelling later.first)) later.more) f.end_is;
+  end_is = omega (arith, later.end_is, f.end_is, length-append (field_spelling later.first) (more_fields_text later.more));
+  few = omega (arith, later.few);
+  inside = later.inside;
+  behind = later.behind;
+}
+
+fields_by : (n : ℕ) (before : List (Piece × ℤ)) (line : Text) (at : ℕ) (r : List (Piece × ℤ) × ℕ) (g : (Piece × ℤ) × ℕ) (comma : Bool) → eqb (slice_index line g.1) 44 ≡ comma → IsFieldAt line at g.0 g.1
+    → ((before' : List (Piece × ℤ)) (at' : ℕ) → at' ≤ length line → fields_at n before' line at' ≡ Ok r → AreFieldsTold n line at' before' r.0 r.1)
+    → cond (eqb (slice_index line g.1) 44) (fields_at n (with_field before g.0) line (g.1 + 1)) (Ok (with_field before g.0, g.1)) ≡ Ok r → AreFieldsTold (suc n) line at before r.0 r.1
+fields_by n before line at r g true comma f ih e =
+    let step : fields_at n (with_field before g.0) line (g.1 + 1) ≡ Ok r = rw comma at e in
+    let byte : slice_index line g.1 ≡ 44 = eqb-true (slice_index line g.1) 44 comma in
+    let lt : g.1 < length line = within line g.1 44 byte (omega arith) in
+    next_fields n line at before g.0 g.1 r.0 r.1 f byte lt (ih (with_field before g.0) (g.1 + 1) (omega arith) step)
+fields_by n before line at r g false comma f ih e =
+    let done : Ok (with_field before g.0, g.1) ≡ Ok r = rw comma at e in
+    let same : (with_field before g.0, g.1) ≡ r = cc in
+    subst (λ (x : List (Piece × ℤ) × ℕ). AreFieldsTold (suc n) line at before x.0 x.1) same (last_field n line at before g.0 g.1 f comma)
+
+pub fields_told : (n : ℕ) (before : List (Piece × ℤ)) (line : Text) (at : ℕ) (r : List (Piece × ℤ) × ℕ) → at ≤ length line → fields_at n before line at ≡ Ok r → AreFieldsTold n line at before r.0 r.1
+unfolding fields_at
+fields_told zero before line at r le e = absurd cc
+fields_told (suc n) before line at r le e =
+    let b = bind_ok (next_field line at) (λ f. cond (eqb (slice_index line f.1) 44) (fields_at n (with_field before f.0) line (f.1 + 1)) (Ok (with_field before f.0, f.1))) r e in
+    fields_by n before line at r b.0 (eqb (slice_index line b.0.1) 44) refl (field_told line at b.0 le b.1) (λ before' at'. fields_told n before' line at' r) b.2

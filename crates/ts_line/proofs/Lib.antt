@@ -14,3 +14,4 @@ pub mod SpellingRead
 pub mod PartsTold
 pub mod TagsTold
 pub mod FieldsTold
+pub mod LineTold
