@@ -15,3 +15,4 @@ pub mod PartsTold
 pub mod TagsTold
 pub mod FieldsTold
 pub mod LineTold
+pub mod SpellingTold

@@ -93,7 +93,7 @@ fewer : (x y n : Bool) → not ((x || y) && n) ≡ true → not (x && n) ≡ tru
 fewer true y n e = e
 fewer false y n e = refl
 
-comma_space : (before : ℕ) (raw : Text) → is_closed Comma before raw ≡ true → is_closed Space before raw ≡ true
+pub comma_space : (before : ℕ) (raw : Text) → is_closed Comma before raw ≡ true → is_closed Space before raw ≡ true
 comma_space before [] c = c
 comma_space before (b ∷ bs) c =
     let p = and_parts (not (ends Comma before b)) (is_closed Comma b bs) c in
@@ -109,13 +109,13 @@ closed_from : (b : ℕ) (ys : Text) → is_backslash b ≡ false → is_closed S
 closed_from b [] e c = rw e refl
 closed_from b (y ∷ ys) e c = rw e c
 
-closed_both : (before : ℕ) (xs ys : Text) → is_closed Space before xs ≡ true → is_closed Space 0 ys ≡ true → is_closed Space before (xs ++ ys) ≡ true
+pub closed_both : (before : ℕ) (xs ys : Text) → is_closed Space before xs ≡ true → is_closed Space 0 ys ≡ true → is_closed Space before (xs ++ ys) ≡ true
 closed_both before [] ys c d = closed_from before ys (false_of_not (is_backslash before) c) d
 closed_both before (x ∷ xs) ys c d =
     let p = and_parts (not (ends Space before x)) (is_closed Space x xs) c in
     and_from (not (ends Space before x)) (is_closed Space x (xs ++ ys)) p.0 (closed_both x xs ys p.1 d)
 
-tags_closed : (ts : List (Text × Text)) → AreTags ts → is_closed Space 0 (tags_text ts) ≡ true
+pub tags_closed : (ts : List (Text × Text)) → AreTags ts → is_closed Space 0 (tags_text ts) ≡ true
 tags_closed [] w = refl
 tags_closed (t ∷ ts) w =
     let value : is_closed Space 0 (t.1 ++ tags_text ts) ≡ true = closed_both 0 t.1 (tags_text ts) (equals_space 0 t.1 w.0.1.closed) (tags_closed ts w.1) in

@@ -122,13 +122,13 @@ snoc_keys : (before : Tags) (t : Piece × Piece) (keys : List Text) → map piec
 snoc_keys before t keys = ap (λ (ks : List Text). ks ++ keys) (map_push_key before t) ∙ append_assoc (map piece_key before) (piece_key t ∷ []) keys
 
 -- what a tag that was taken tells
-record IsTag (before : Tags) (line : Text) (n : ℕ) (tag : Piece × Piece) (next : ℕ) : Type 0 where
-  pair : IsPair line n tag next
-  room : length before < 64
-  other : bytes_eq (piece_key tag) (codes "time") ≡ false
-  new : has_key before (piece_key tag) ≡ false
+pub record IsTag (before : Tags) (line : Text) (n : ℕ) (tag : Piece × Piece) (next : ℕ) : Type 0 where
+  pub pair : IsPair line n tag next
+  pub room : length before < 64
+  pub other : bytes_eq (piece_key tag) (codes "time") ≡ false
+  pub new : has_key before (piece_key tag) ≡ false
 
-tag_is : (before : Tags) (line : Text) (n : ℕ) (t : (Piece × Piece) × ℕ) → n ≤ length line → next_tag before line n ≡ Ok t → IsTag before line n t.0 t.1
+pub tag_is : (before : Tags) (line : Text) (n : ℕ) (t : (Piece × Piece) × ℕ) → n ≤ length line → next_tag before line n ≡ Ok t → IsTag before line n t.0 t.1
 unfolding next_tag
 tag_is before line n t le e =
     let p = bind_ok (pair_at line n) _ t e in
