@@ -7,3 +7,13 @@ pub mod TagLemmas
 pub mod FieldLemmas
 pub mod ValueLemmas
 pub mod FaultLemmas
+pub mod Suffixes
+pub mod TagsSpelled
+pub mod FieldsSpelled
+pub mod LineSpelled
+pub mod SpellingRead
+pub mod PartsTold
+pub mod TagsTold
+pub mod FieldsTold
+pub mod LineTold
+pub mod SpellingTold

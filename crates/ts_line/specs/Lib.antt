@@ -10,3 +10,5 @@ pub mod Tags
 pub mod Values
 pub mod Fields
 pub mod Lines
+pub mod EscapeLaws
+pub mod Spelling
