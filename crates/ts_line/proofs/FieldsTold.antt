@@ -200,7 +200,7 @@ next_fields n line at before g next out end f comma lt later = record {
   first_is = f.is;
   more_are = (later.first_is, later.more_are);
   told = later.told ∙ ap (λ x. with_fields (with_field (with_field before x) (field_from (next + 1) later.first)) (next + 1 + length (field_spelling later.first)) later.more) f.told
-  ∙ ap (λ m. with_fields (with_field (with_field before (field_from at f.field)) (field_from (m + 1) later.first)) (m + 1 + length (field_spelling later.first)) later.more) f.end_is;
+      ∙ ap (λ m. with_fields (with_field (with_field before (field_from at f.field)) (field_from (m + 1) later.first)) (m + 1 + length (field_spelling later.first)) later.more) f.end_is;
   end_is = omega (arith, later.end_is, f.end_is, length-append (field_spelling later.first) (more_fields_text later.more));
   few = omega (arith, later.few);
   inside = later.inside;

@@ -16,3 +16,5 @@ pub mod TagsTold
 pub mod FieldsTold
 pub mod LineTold
 pub mod SpellingTold
+pub mod Laws
+pub mod SpansLemmas

@@ -214,8 +214,15 @@ spelling_read unit now source parts p =
     let at_more : At line (f + length (field_spelling p.first)) (more_fields_text p.more ++ p.stamp) = at_next line (field_spelling p.first) (more_fields_text p.more ++ p.stamp) f at_fields in
     let at_stamp : At line e p.stamp = at_next line (more_fields_text p.more) p.stamp (f + length (field_spelling p.first)) at_more in
     let len : length line ≡ e + length p.stamp =
-    omega (arith, length-append p.before (p.measurement ++ (tags ++ (32 ∷ (p.gap ++ fields)))), length-append p.measurement (tags ++ (32 ∷ (p.gap ++ fields))), length-append tags (32 ∷ (p.gap ++ fields)), length-append p.gap fields,
-      length-append (field_spelling p.first) (more_fields_text p.more ++ p.stamp), length-append (more_fields_text p.more) p.stamp) in
+    omega (
+      arith,
+      length-append p.before (p.measurement ++ (tags ++ (32 ∷ (p.gap ++ fields)))),
+      length-append p.measurement (tags ++ (32 ∷ (p.gap ++ fields))),
+      length-append tags (32 ∷ (p.gap ++ fields)),
+      length-append p.gap fields,
+      length-append (field_spelling p.first) (more_fields_text p.more ++ p.stamp),
+      length-append (more_fields_text p.more) p.stamp,
+    ) in
     let content_line : content source ≡ line = content_is unit now source parts p in
     let start : spaces_end line 0 ≡ n = at_spaces line p.before (p.measurement ++ (tags ++ (32 ∷ (p.gap ++ fields)))) 0 refl p.before_is (measurement_first p.measurement (tags ++ (32 ∷ (p.gap ++ fields))) p.measurement_is) ∙ zero-add n in
     let short : ltb 65536 (length source) ≡ false = le-ltb 65536 (length source) p.short in

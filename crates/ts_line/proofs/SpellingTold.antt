@@ -220,12 +220,12 @@ spelled_by unit now source line start parts short content start_is le other p =
       few_tags = omega (arith, tags.few);
       few_fields = omega (arith, fields.few);
       told = told_parts parts p.m.0 p.tags.0 p.fields.0 p.time start p.m.1 p.tags.1 (spaces_end line p.tags.1) measurement.raw tags.tags (length gap.gap) fields.first fields.more p.told measurement.told measurement.end_is tags.told tags.end_is gap.end_is fields.told
-      ∙ ap (λ n. record {
-        measurement = written_piece Comma n measurement.raw;
-        tags = tags_from (n + length measurement.raw) tags.tags;
-        fields = with_fields (field_from (n + length measurement.raw + length (tags_text tags.tags) + 1 + length gap.gap) fields.first ∷ []) (n + length measurement.raw + length (tags_text tags.tags) + 1 + length gap.gap + length (field_spelling fields.first)) fields.more;
-        time = p.time;
-      }) (sym before_len);
+          ∙ ap (λ n. record {
+            measurement = written_piece Comma n measurement.raw;
+            tags = tags_from (n + length measurement.raw) tags.tags;
+            fields = with_fields (field_from (n + length measurement.raw + length (tags_text tags.tags) + 1 + length gap.gap) fields.first ∷ []) (n + length measurement.raw + length (tags_text tags.tags) + 1 + length gap.gap + length (field_spelling fields.first)) fields.more;
+            time = p.time;
+          }) (sym before_len);
     }
 
 pub spelling_told : (unit now : ℤ) (source : Text) (parts : Parts) → line_of unit now source ≡ Ok (Some parts) → IsSpelling unit now source parts

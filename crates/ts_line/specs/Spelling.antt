@@ -119,6 +119,6 @@ pub record IsSpelling (unit now : ℤ) (source : Text) (parts : Parts) : Type 0 
     measurement = written_piece Comma (length before) measurement;
     tags = tags_from (length before + length measurement) tags;
     fields = with_fields (field_from (length before + length measurement + length (tags_text tags) + 1 + length gap) first ∷ [])
-      (length before + length measurement + length (tags_text tags) + 1 + length gap + length (field_spelling first)) more;
+        (length before + length measurement + length (tags_text tags) + 1 + length gap + length (field_spelling first)) more;
     time = time;
   }
