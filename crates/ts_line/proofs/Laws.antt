@@ -1,5 +1,5 @@
 -- The laws of what a call returned.
-use Rattle.std.proofs.Common.{◌≡◌, ℤ, Option, Some, None, IfSome, Result, Ok, Err, IfOk, subst}
+use Rattle.std.proofs.Common.{ℤ, Option, Some, None, IfSome, Result, Ok, Err, IfOk, subst}
 use Rattle.ts_core.specs.Facts.{Text}
 use Rattle.ts_line.specs.declared.fault.LineFault.{LineFault}
 use Rattle.ts_line.specs.declared.fault.ReadLineError.{ReadLineError}

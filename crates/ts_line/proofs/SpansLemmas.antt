@@ -1,5 +1,5 @@
 -- The parts that are spelled stand in the line, one behind the other.
-use Rattle.std.proofs.Common.{◌≡◌, ℕ, ℤ, ◌+◌, ◌≤◌, Bool, true, false, cond, List, [], ◌∷◌, ◌++◌, length, map, drop, slice_range, bytes_eq, refl, sym, ap, subst, ◌∙◌, arith, append_assoc, length-append, inl, inr, ◌⊎◌, ⊎_elim, Option, Some, None, IfSome, Result, Ok, Err, IfOk}
+use Rattle.std.proofs.Common.{◌≡◌, ℕ, ℤ, ◌+◌, ◌≤◌, Bool, true, false, List, [], ◌∷◌, ◌++◌, length, map, drop, bytes_eq, refl, sym, ap, subst, ◌∙◌, arith, append_assoc, length-append, inl, inr, ◌⊎◌, ⊎_elim, Option, Some, None, IfSome, Result, Ok, Err, IfOk}
 use Rattle.ts_core.specs.Facts.{Text}
 use Rattle.ts_line.specs.declared.fault.ReadLineError.{ReadLineError}
 use Rattle.ts_line.specs.declared.scan.Stops.TheVariants.{Comma, Equals}
@@ -8,6 +8,7 @@ use Rattle.ts_line.specs.Fields.{with_field}
 use Rattle.ts_line.specs.Spelling.{written_piece, tags_text, tags_from, field_spelling, more_fields_text, field_from, with_fields, IsSpelling}
 use Rattle.ts_line.specs.Spans.{IsPartOf, ArePlaced, tag_pieces, field_piece, pieces_of}
 use Rattle.std.proofs.lemmas.List.{drop_at}
+use Rattle.ts_line.proofs.TagsSpelled.{flat}
 use Rattle.ts_line.proofs.Suffixes.{At, at_next, at_after, at_slice}
 
 -- where the last of the parts ends
@@ -21,9 +22,6 @@ placed_both line n m [] (y ∷ ys) a le b = (omega (arith, le, b.0), b.1, b.2)
 placed_both line n m (x ∷ xs) ys a le b = (a.0, a.1, placed_both line (x.start + length x.raw) m xs ys a.2 le b)
 
 -- ---- tags
-
-flat : (k v more rest : Text) → (k ++ (61 ∷ (v ++ more))) ++ rest ≡ k ++ (61 ∷ (v ++ (more ++ rest)))
-flat k v more rest = simp append_assoc
 
 tags_placed : (ts : List (Text × Text)) (line rest : Text) (at : ℕ) → At line at (tags_text ts ++ rest) → ArePlaced line at (tag_pieces (tags_from at ts)) × (place_end at (tag_pieces (tags_from at ts)) ≤ at + length (tags_text ts))
 tags_placed [] line rest at h = (tt, omega arith)

@@ -1,8 +1,8 @@
 -- What is spelled is read.
-use Rattle.std.proofs.Common.{◌≡◌, ℕ, ℤ, zero, suc, ◌+◌, ◌-◌, ◌*ℤ◌, ◌<◌, ◌≤◌, Bool, true, false, not, cond, ◌&&◌, ◌||◌, eqb, ltb, List, [], ◌∷◌, ◌++◌, length, drop, slice_range, slice_index, codes, Result, Ok, Some, None, refl, sym, ap, subst, ◌∙◌, arith, append_assoc, append-nil, length-append, zero-add, inl, inr, ◌⊎◌, ⊎_elim}
-use Rattle.std.specs.List.{list_all, AllByRecursion}
+use Rattle.std.proofs.Common.{◌≡◌, ℕ, ℤ, ◌+◌, ◌*ℤ◌, ◌≤◌, Bool, true, false, not, ◌&&◌, ◌||◌, eqb, ltb, List, [], ◌∷◌, ◌++◌, length, drop, slice_range, slice_index, codes, Ok, Some, None, refl, sym, ap, subst, ◌∙◌, arith, append_assoc, append-nil, length-append, zero-add, inl, inr}
+use Rattle.std.specs.List.{list_all}
 use Rattle.std.specs.Str.Parse.{signed_digits_value}
-use Rattle.std.proofs.lemmas.Bool.{and_parts, and_from, cond-true, le-ltb}
+use Rattle.std.proofs.lemmas.Bool.{not-true, and_parts, and_from, cond-true, le-ltb}
 use Rattle.std.proofs.lemmas.Bool.Decides.{nat_tests}
 use Rattle.std.proofs.lemmas.List.{drop_at}
 use Rattle.ts_core.specs.Facts.{Text}
@@ -10,15 +10,13 @@ use Rattle.ts_core.specs.Times.{IsTime, least_time, greatest_time}
 use Rattle.ts_line.specs.declared.scan.Stops.TheVariants.{Space, Comma, Equals}
 use Rattle.ts_line.specs.Numbers.{is_number, is_within}
 use Rattle.ts_line.specs.Scan.{is_backslash, ends, end_of, spaces_end}
-use Rattle.ts_line.specs.Pieces.{unescaped}
 use Rattle.ts_line.specs.Fields.{fields_at}
-use Rattle.ts_line.specs.Tags.{tags_at}
-use Rattle.ts_line.specs.Lines.{content, measurement_at, time_of, time_by, time_at, line_of}
-use Rattle.ts_line.specs.Parts.{Piece, Parts}
-use Rattle.ts_line.specs.Spelling.{are_spaces, is_closed, IsWritten, written_piece, tags_text, tags_from, AreTags, field_spelling, more_fields_text, IsWrittenField, field_from, with_fields, IsStamp, SaysTime, IsSpelling}
+use Rattle.ts_line.specs.Lines.{content, measurement_at, time_of, time_at, line_of}
+use Rattle.ts_line.specs.Parts.{Parts}
+use Rattle.ts_line.specs.Spelling.{is_closed, IsWritten, written_piece, tags_text, tags_from, AreTags, field_spelling, more_fields_text, field_from, with_fields, SaysTime, IsSpelling}
 use Rattle.ts_line.proofs.NumberLemmas.{time_within}
 use Rattle.ts_line.proofs.LineLemmas.{parts_read, line_read}
-use Rattle.ts_line.proofs.Suffixes.{At, at_next, at_byte, at_after, at_slice, at_length, is_end, at_end, is_no_space, at_spaces, false_of_not}
+use Rattle.ts_line.proofs.Suffixes.{At, at_next, at_byte, at_slice, is_end, at_end, is_no_space, at_spaces}
 use Rattle.ts_line.proofs.TagsSpelled.{not_eqb, tags_read}
 use Rattle.ts_line.proofs.FieldsSpelled.{is_number_byte, number_bytes, number_some, fields_read}
 use Rattle.ts_line.proofs.LineSpelled.{IsPlainByte, content_read}
@@ -110,7 +108,7 @@ closed_from b [] e c = rw e refl
 closed_from b (y ∷ ys) e c = rw e c
 
 pub closed_both : (before : ℕ) (xs ys : Text) → is_closed Space before xs ≡ true → is_closed Space 0 ys ≡ true → is_closed Space before (xs ++ ys) ≡ true
-closed_both before [] ys c d = closed_from before ys (false_of_not (is_backslash before) c) d
+closed_both before [] ys c d = closed_from before ys (not-true (is_backslash before) c) d
 closed_both before (x ∷ xs) ys c d =
     let p = and_parts (not (ends Space before x)) (is_closed Space x xs) c in
     and_from (not (ends Space before x)) (is_closed Space x (xs ++ ys)) p.0 (closed_both x xs ys p.1 d)

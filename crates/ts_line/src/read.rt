@@ -115,7 +115,7 @@ fn content(source: &str) -> &str
 }
 
 /// The measurement that begins at `start`, and its end.
-#[tactic(auto, unfolding(crate::specs::Lines::measurement_at))]
+#[tactic(auto, using(crate::proofs::LineLemmas::short_key), unfolding(crate::specs::Lines::measurement_at))]
 fn measurement<'a, A: Allocator>(
     alloc: A,
     line: &'a str,
@@ -126,8 +126,9 @@ fn measurement<'a, A: Allocator>(
     ensures value { GivesIfRoom (λ x. x) result (measurement_at line.now start) }
     ensures boundary { IfOk result (λ x. IsCharBoundary line.now x.1) }
 {
-    if end_at(line, start, Stops::Space).at > start + KEY_LIMIT {
-        return Err(ReadLineError::Fault(LineFault::OverLimit(start + KEY_LIMIT)));
+    let limit = start + KEY_LIMIT;
+    if line.len() > limit && end_at(line, start, Stops::Space).at > limit {
+        return Err(ReadLineError::Fault(LineFault::OverLimit(limit)));
     }
     let end = end_at(line, start, Stops::Comma);
     if end.at == start {
