@@ -12,6 +12,7 @@ mod fold;
 mod key;
 mod means;
 mod partial;
+pub mod plain;
 mod read_ahead;
 mod remainder;
 mod settings;
