@@ -1,5 +1,9 @@
 //! The definitions of specs/ computed on small inputs, each by scanning the whole list of facts. It is what
 //! later bodies are compared with.
+mod newest;
 mod query;
+mod tag_values;
 
+pub use newest::{count_latest, latest};
 pub use query::{Condition, Query};
+pub use tag_values::TagValues;
