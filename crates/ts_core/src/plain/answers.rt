@@ -36,8 +36,7 @@ pub fn answer<'a, A: Allocator + Copy, B: Allocator + Copy>(
     facts: &[&'a Fact<A>],
     query: &Query<'_>,
 ) -> Result<Vec<Group<'a, B>, B>, AllocError>
-    requires query { IsQuery query.now }
-    requires few { length facts.now ≤ 2 ^ 62 }
+    requires { IsQuery query.now }
     ensures { IfOk result (λ v. v.items ≡ answer_of (lent facts.now) query.now) }
 {
     let mut answer = Vec::new(alloc);
