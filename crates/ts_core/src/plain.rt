@@ -14,3 +14,6 @@ pub use newest::{count_latest, latest};
 pub use query::{Condition, Query};
 pub use rows::Row;
 pub use tag_values::TagValues;
+
+#[cfg(test)]
+mod tests;
