@@ -24,12 +24,6 @@ numbers-more first index h =
     let k : first +ℤ pos n ≡ index = omega (arith, ints) in
     ap (λ z. numbers_from first n ++ z ∷ []) (sym k) ∙ sym (numbers_push first n) ∙ ap (numbers_from first) s
 
-pub numbers-none : (first : ℤ) → numbers_from first (at_least_none (first -ℤ first)) ≡ []
-numbers-none first =
-    let e : pos (at_least_none (first -ℤ first)) ≡ first -ℤ first = at_least_none-is (first -ℤ first) (omega (arith, ints)) in
-    let n : at_least_none (first -ℤ first) ≡ 0 = omega (arith, ints) in
-    ap (numbers_from first) n
-
 -- all numbers up to the end
 pub buckets_in-all : (q : Query) (first end index : ℤ) → int_lt q.from q.to ≡ true → first ≡ bucket_in q q.from → end ≡ bucket_in q (q.to -ℤ pos 1) +ℤ pos 1 → index ≤ℤ end → end ≤ℤ index
     → numbers_from first (at_least_none (index -ℤ first)) ≡ buckets_in q

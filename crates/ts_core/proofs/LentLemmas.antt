@@ -1,10 +1,9 @@
 -- What is lent: one more of it, a part of it, and what passes a test.
-use Rattle.std.proofs.Common.{◌≡◌, ℕ, suc, ◌<◌, ◌+◌, Bool, true, false, cond, ◌||◌, List, [], ◌∷◌, ◌++◌, length, map, filter, get_or, take, refl, sym, ◌∙◌, ap, Bor, Ordering}
+use Rattle.std.proofs.Common.{◌≡◌, ℕ, suc, ◌<◌, ◌+◌, Bool, true, false, cond, ◌||◌, List, [], ◌∷◌, ◌++◌, length, filter, get_or, take, refl, sym, ◌∙◌, ap, Bor, Ordering}
 use Rattle.std.proofs.lemmas.List.{take_more}
 use Rattle.std.specs.List.{list_any}
 use Rattle.std.specs.Ordering.{ordering_then}
 use Rattle.std.specs.Cmp.Lexicographic.{slice_cmp}
-use Rattle.ts_core.proofs.ListSteps.{map-push}
 use Rattle.ts_core.specs.Lent.{lent}
 
 module _ {X : Type 0} where
@@ -42,10 +41,3 @@ module _ {X : Type 0} where
   lent-cmp R [] (y ∷ ys) = refl
   lent-cmp R (x ∷ xs) [] = refl
   lent-cmp R (x ∷ xs) (y ∷ ys) = ap (ordering_then (R x.now y.now)) (lent-cmp R xs ys)
-
--- a loop's step: what is lent is made of what is lent, one by one
-pub lent-map_more : {X Y : Type 0} (f : X → Y) (xs : List (Bor X)) (ys : List (Bor Y)) (i : ℕ) (x : Bor X) (y : Bor Y) → i < length xs → y.now ≡ f (get_or xs i x).now → lent ys ≡ map f (lent (take i xs))
-    → lent (ys ++ y ∷ []) ≡ map f (lent (take (i + 1) xs))
-lent-map_more f xs ys i x y h e ih =
-    lent-push ys y ∙ ap (λ z. lent ys ++ z ∷ []) e ∙ ap (λ zs. zs ++ f (get_or xs i x).now ∷ []) ih
-    ∙ sym (ap (map f) (lent-take_more xs i x h) ∙ map-push f (lent (take i xs)) (get_or xs i x).now)

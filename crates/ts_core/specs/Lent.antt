@@ -1,4 +1,4 @@
--- What is lent, by its values.
+-- What is lent, by its values. (Own rules.)
 use Rattle.std.specs.Prelude.{List, map}
 use Rattle.std.specs.Borrow.{Bor}
 

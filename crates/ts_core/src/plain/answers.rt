@@ -29,8 +29,8 @@ impl<'a, A: Allocator> Model for Group<'a, A> {
     ghost view = { λ g. record { values = g.values; rows = g.rows.items } };
 }
 
-/// The answer to a query over facts: of each group that has a matching fact its buckets, and of each bucket
-/// the aggregate of its facts. Groups stand in byte order of their values.
+/// The answer to a query over facts: of each group that has a matching fact its buckets, and of
+/// each bucket the aggregate of its facts. Groups stand in byte order of their values.
 pub fn answer<'a, A: Allocator + Copy, B: Allocator + Copy>(
     alloc: B,
     facts: &[&'a Fact<A>],

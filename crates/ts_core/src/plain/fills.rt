@@ -217,7 +217,8 @@ fn filled_rows<A: Allocator + Copy>(
     }
 }
 
-/// What is shown of an answer: a value for each function, and in each bucket without data what the fill says.
+/// What is shown of an answer: a value for each function, and in each bucket without data what
+/// the fill says.
 pub fn filled<'a, A: Allocator + Copy>(
     alloc: A,
     fill: &Fill,

@@ -12,7 +12,8 @@ use std::cmp::Ordering;
 /// Where a group goes among others in byte order, `None` where it stands already.
 fn gap<A: Allocator>(groups: &[TagValues<'_, A>], group: &TagValues<'_, A>) -> Option<usize>
     ensures bound { IfSome result (λ at. at ≤ length groups.now) }
-    ensures place { MatchOption result (with_group group.now groups.now ≡ groups.now) (λ at. with_group group.now groups.now ≡ insert groups.now at group.now) }
+    ensures place { MatchOption result (with_group group.now groups.now ≡ groups.now)
+        (λ at. with_group group.now groups.now ≡ insert groups.now at group.now) }
 {
     for (at, other) in groups.iter().enumerate() {
         match group.compare(other) {

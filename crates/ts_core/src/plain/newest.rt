@@ -98,7 +98,8 @@ pub fn count_latest<A: Allocator + Copy, B: Allocator>(
     from: Time,
     to: Time,
 ) -> Result<usize, AllocError>
-    ensures { IfOk result (λ n. n ≡ length (filter (is_asked measurement.now field.now from to) (latest accepted.now))) }
+    ensures { IfOk result (λ n.
+        n ≡ length (filter (is_asked measurement.now field.now from to) (latest accepted.now))) }
 {
     let newest = latest(alloc, accepted)?;
     Ok(count_asked(newest.as_slice(), measurement, field, from, to))

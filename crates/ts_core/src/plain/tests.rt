@@ -22,40 +22,31 @@ fn facts(alloc: Global, table: &[(&str, i64, i64)]) -> Result<Vec<Fact<Global>>,
     Ok(facts)
 }
 
-/// A query of field v of measurement cpu, in buckets without an offset, of one group.
+/// A query of field v of measurement cpu, in buckets without an offset, by these tags.
+fn by<'a>(group_tags: &'a [&'a str], from: i64, to: i64, interval: i64) -> Query<'a>
+    requires some { pos 1 ≤ℤ interval }
+    requires range { from ≤ℤ to }
+    ensures { IsQuery result }
+{
+    Query {
+        measurement: "cpu",
+        field: "v",
+        conditions: &[],
+        from,
+        to,
+        interval,
+        offset: 0,
+        group_tags,
+    }
+}
+
+/// The same of one group.
 fn of_cpu<'a>(from: i64, to: i64, interval: i64) -> Query<'a>
     requires some { pos 1 ≤ℤ interval }
     requires range { from ≤ℤ to }
     ensures { IsQuery result }
 {
-    Query {
-        measurement: "cpu",
-        field: "v",
-        conditions: &[],
-        from,
-        to,
-        interval,
-        offset: 0,
-        group_tags: &[],
-    }
-}
-
-/// The same, with a group for each host.
-fn by_host<'a>(from: i64, to: i64, interval: i64) -> Query<'a>
-    requires some { pos 1 ≤ℤ interval }
-    requires range { from ≤ℤ to }
-    ensures { IsQuery result }
-{
-    Query {
-        measurement: "cpu",
-        field: "v",
-        conditions: &[],
-        from,
-        to,
-        interval,
-        offset: 0,
-        group_tags: &["host"],
-    }
+    by(&[], from, to, interval)
 }
 
 fn number(n: i128) -> Value {
@@ -315,7 +306,7 @@ fn of_each_host_its_value_is_first(rt: HostRuntime) -> Result<(), Fail> {
             rt.alloc(),
             &table,
             "a",
-            &by_host(0, 10, 10),
+            &by(&["host"], 0, 10, 10),
             Fill::Null,
             &functions,
             &[(0, &want)]
@@ -426,7 +417,7 @@ fn previous_values_of_a_host(rt: HostRuntime) -> Result<(), Fail> {
         (60_000_000_000, &eight),
         (120_000_000_000, &eight),
     ];
-    let minutes = by_host(0, 180_000_000_000, MINUTE);
+    let minutes = by(&["host"], 0, 180_000_000_000, MINUTE);
     assert!(rt;
         are_of_host(
             rt.alloc(),
@@ -446,7 +437,7 @@ fn no_previous_value_of_a_host(rt: HostRuntime) -> Result<(), Fail> {
     let table = [("b", 70_000_000_000, 1), ("a", 10_000_000_000, 5)];
     let (null, one) = ([Value::Null], [number(1)]);
     let want: [(i128, &[Value]); 3] = [(0, &null), (60_000_000_000, &one), (120_000_000_000, &one)];
-    let minutes = by_host(0, 180_000_000_000, MINUTE);
+    let minutes = by(&["host"], 0, 180_000_000_000, MINUTE);
     assert!(rt;
         are_of_host(
             rt.alloc(),
