@@ -8,10 +8,12 @@ mod aggregate;
 mod bucket;
 mod fact;
 mod field_name;
+mod fill;
 mod fold;
 mod key;
 mod means;
 mod partial;
+pub mod plain;
 mod read_ahead;
 mod remainder;
 mod settings;
@@ -19,11 +21,13 @@ mod sink;
 mod source;
 mod tally;
 mod time;
+mod value;
 
 pub use aggregate::{Agg, Extremes};
 pub use bucket::bucket_index;
 pub use fact::Fact;
 pub use field_name::FieldName;
+pub use fill::Fill;
 pub use fold::{aggregate_points, fold_points};
 pub use key::Key;
 pub use means::{Frac, mean};
@@ -34,6 +38,7 @@ pub use settings::{Rule, Settings};
 pub use sink::{Refused, Sink};
 pub use source::Source;
 pub use time::Time;
+pub use value::{Function, Value};
 
 #[cfg(test)]
 mod devices_tests;
