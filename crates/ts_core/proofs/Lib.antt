@@ -47,3 +47,4 @@ pub mod PieceCells
 pub mod AssembledRows
 pub mod AssembledAnswers
 pub mod RetentionRows
+pub mod PlainMarks

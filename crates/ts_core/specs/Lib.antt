@@ -3,6 +3,7 @@ pub mod Members
 pub mod Facts
 pub mod Settings
 pub mod History
+pub mod Events
 pub mod Latest
 pub mod Kept
 pub mod Partials

@@ -1,0 +1,123 @@
+//! Marks of worked histories.
+ghost use Rattle.std.specs.Prelude.{pos, ◌≤ℤ◌, IfOk};
+ghost use Rattle.std.specs.List.{AllByRecursion};
+
+use super::event::Event;
+use super::marks::{is_run_open, marks_of};
+use crate::settings::{Rule, Settings};
+use crate::time::Time;
+use std::alloc::Global;
+use std::test::Fail;
+
+const SECOND: i64 = 1_000_000_000;
+
+const MINUTE: i64 = 60_000_000_000;
+
+const LEAST: i64 = -9_223_372_036_854_775_806;
+
+/// Settings with one rule of an interval of a minute.
+fn settings(alloc: Global, raw: u64, offset: i64, duration: i64) -> Result<Settings<Global>, Fail>
+    ensures { IfOk result (λ s. AllByRecursion (λ r. pos 1 ≤ℤ r.interval) s.rules) }
+{
+    let rule = Rule::new(alloc, "m1", "cpu", MINUTE, offset, &["host"], duration)?;
+    let mut rules = Vec::new(alloc);
+    rules.push(rule.ok_or("a rule")?)?;
+    Ok(Settings::of(raw, rules))
+}
+
+/// Whole runs that began at these moments, with a line after each.
+fn runs(alloc: Global, begins: &[i64]) -> Result<Vec<Event<Global>>, Fail> {
+    let mut history = Vec::new(alloc);
+    for begin in begins {
+        let now = Time::new(*begin).ok_or("a valid time")?;
+        history.push(Event::line(Vec::new(alloc)))?;
+        history.push(Event::step(true))?;
+        history.push(Event::step(false))?;
+        history.push(Event::begin(now))?;
+    }
+    Ok(history)
+}
+
+#[test]
+fn marks_follow_the_greatest_begin(rt: HostRuntime) -> Result<(), Fail> {
+    let rows: [(u64, i64, i64, &[i64], i64, i128); 9] = [
+        (120_000_000_000, 0, 0, &[], LEAST, -153_722_868),
+        (
+            120_000_000_000,
+            0,
+            0,
+            &[200 * SECOND],
+            80 * SECOND,
+            -153_722_868,
+        ),
+        (
+            120_000_000_000,
+            0,
+            0,
+            &[220 * SECOND],
+            100 * SECOND,
+            -153_722_868,
+        ),
+        (
+            60_000_000_000,
+            0,
+            2 * MINUTE,
+            &[10 * MINUTE],
+            540 * SECOND,
+            8,
+        ),
+        (
+            60_000_000_000,
+            0,
+            2 * MINUTE,
+            &[400 * MINUTE],
+            23_940 * SECOND,
+            398,
+        ),
+        (
+            60_000_000_000,
+            0,
+            2 * MINUTE,
+            &[5 * MINUTE, 10 * MINUTE],
+            540 * SECOND,
+            8,
+        ),
+        (
+            60,
+            30 * SECOND,
+            2,
+            &[10 * MINUTE, 5 * MINUTE],
+            540 * SECOND,
+            7,
+        ),
+        (0, 0, 0, &[10 * MINUTE], LEAST, -153_722_868),
+        (60_000_000_000, 0, 2 * MINUTE, &[LEAST], LEAST, -153_722_868),
+    ];
+    for (raw, offset, duration, begins, mark, low) in rows {
+        let settings = settings(rt.alloc(), raw, offset, duration)?;
+        let history = runs(rt.alloc(), begins)?;
+        let marks = marks_of(rt.alloc(), &settings, history.as_slice())?;
+        assert_eq!(rt; marks.raw().nanos(), mark);
+        assert_eq!(rt; marks.lows(), [low].as_slice());
+    }
+    Ok(())
+}
+
+#[test]
+fn a_run_is_open_until_a_step_ends_it(rt: HostRuntime) -> Result<(), Fail> {
+    let mut history = Vec::new(rt.alloc());
+    assert!(rt; !is_run_open::<Global>(history.as_slice()));
+    for (event, open) in [
+        (Event::line(Vec::new(rt.alloc())), false),
+        (Event::step(true), false),
+        (Event::begin(Time::least()), true),
+        (Event::line(Vec::new(rt.alloc())), true),
+        (Event::step(false), true),
+        (Event::step(true), false),
+        (Event::step(true), false),
+    ] {
+        history.insert(0, event)?;
+        assert_eq!(rt; is_run_open::<Global>(history.as_slice()), open);
+    }
+    Ok(())
+}
