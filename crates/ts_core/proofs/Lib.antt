@@ -1,11 +1,14 @@
 pub mod MembersLemmas
 pub mod PairTexts
+pub mod ListSteps
+pub mod LentLemmas
 pub mod Folds
 pub mod Groups
 pub mod Places
 pub mod Sorted
 pub mod Ids
 pub mod Latests
+pub mod LatestSteps
 pub mod BucketsLemmas
 pub mod BucketsOrder
 pub mod GoodPlaces
@@ -21,6 +24,7 @@ pub mod RemaindersLemmas
 pub mod EqualLemmas
 pub mod BucketsInRange
 pub mod GroupsInOrder
+pub mod GroupTests
 pub mod RatiosLemmas
 pub mod AnswersLaws
 pub mod FillsLaws
@@ -48,3 +52,4 @@ pub mod AssembledRows
 pub mod AssembledAnswers
 pub mod RetentionRows
 pub mod PlainMarks
+pub mod OwnedTexts

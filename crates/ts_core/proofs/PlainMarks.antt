@@ -1,15 +1,8 @@
 -- The marks of a history, as a plain program makes them.
-use Rattle.std.proofs.Common.{◌≡◌, ℕ, ℤ, ◌<◌, ◌+◌, List, [], ◌∷◌, ◌++◌, length, get_or, take, map, refl, sym, ◌∙◌, ap, ap₂}
-use Rattle.std.proofs.lemmas.List.{take_more, map-append}
-use Rattle.ts_core.specs.Settings.{Rule, Settings}
+use Rattle.std.proofs.Common.{◌≡◌, ℤ, List, [], ◌∷◌, map, refl, sym, ◌∙◌, ap}
+use Rattle.ts_core.specs.Settings.{Settings}
 use Rattle.ts_core.specs.History.{History, Line, Begin, Step, settings_of, raw_mark}
-use Rattle.ts_core.specs.Marks.{Marks, low_of, marks_of}
-
--- a map of one element more
-pub map_more : {X Y : Type 0} (f : X → Y) (xs : List X) (i : ℕ) (d : X) (ys : List Y) (y : Y) → i < length xs → d ≡ get_or xs i d → y ≡ f d → ys ≡ map f (take i xs)
-    → ys ++ y ∷ [] ≡ map f (take (i + 1) xs)
-map_more f xs i d ys y l at e ih =
-    ap₂ (λ zs z. zs ++ z ∷ []) ih (e ∙ ap f at) ∙ sym (ap (map f) (take_more xs i d l) ∙ map-append f (take i xs) (get_or xs i d ∷ []))
+use Rattle.ts_core.specs.Marks.{low_of, marks_of}
 
 -- no event of today changes the settings
 pub settings_of-same : (opening : Settings) (h : History) → settings_of opening h ≡ opening

@@ -7,6 +7,7 @@ pub mod Events
 pub mod Latest
 pub mod Kept
 pub mod Partials
+pub mod Lent
 pub mod Texts
 pub mod Devices
 pub mod ReadingAhead

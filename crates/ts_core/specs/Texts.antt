@@ -10,11 +10,6 @@ abbrev pub owned_pairs : {A : Type 0} → List (String A × String A) → List (
 owned_pairs [] = []
 owned_pairs (t ∷ ts) = (string_bytes t.0, string_bytes t.1) ∷ owned_pairs ts
 
--- borrowed texts
-abbrev pub lent_texts : List (Bor Text) → List Text
-lent_texts [] = []
-lent_texts (t ∷ ts) = t.now ∷ lent_texts ts
-
 -- pairs of borrowed texts
 abbrev pub lent_pairs : List (Bor Text × Bor Text) → List (Text × Text)
 lent_pairs [] = []

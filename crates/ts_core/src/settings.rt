@@ -2,7 +2,7 @@
 ghost use Rattle.std.specs.Prelude.{◌≡◌, ◌≢◌, ◌↔◌, [], map, string_bytes, unsigned_abs, IsTrue, IfOk, IsSome, IfSome};
 ghost use Rattle.std.specs.List.{AllByRecursion};
 ghost use Rattle.ts_core.specs.Settings.{IsRule, open_settings};
-ghost use Rattle.ts_core.specs.Texts.{lent_texts};
+ghost use Rattle.ts_core.specs.Lent.{lent};
 
 use std::alloc::{AllocError, Allocator};
 use std::marker::Model;
@@ -37,7 +37,7 @@ impl<A: Allocator> Model for Rule<A> {
 }
 
 fn owned<A: Allocator + Copy>(alloc: A, texts: &[&str]) -> Result<Vec<String<A>, A>, AllocError>
-    ensures { IfOk result (λ v. map string_bytes v.items ≡ lent_texts texts.now) }
+    ensures { IfOk result (λ v. map string_bytes v.items ≡ lent texts.now) }
 {
     let mut all = Vec::new(alloc);
     for text in texts {
@@ -48,7 +48,7 @@ fn owned<A: Allocator + Copy>(alloc: A, texts: &[&str]) -> Result<Vec<String<A>,
 
 /// Whether no text is empty.
 fn all_written(texts: &[&str]) -> bool
-    ensures { IsTrue result ↔ AllByRecursion (λ text. text ≢ []) (lent_texts texts.now) }
+    ensures { IsTrue result ↔ AllByRecursion (λ text. text ≢ []) (lent texts.now) }
 {
     match texts.split_first() {
         None => true,
@@ -57,7 +57,7 @@ fn all_written(texts: &[&str]) -> bool
 }
 
 fn is_rule(measurement: &str, kept_tags: &[&str], duration: &i64) -> bool
-    ensures { IsTrue result ↔ IsRule measurement.now (lent_texts kept_tags.now) duration.now }
+    ensures { IsTrue result ↔ IsRule measurement.now (lent kept_tags.now) duration.now }
 {
     *duration >= 0 && !measurement.is_empty() && all_written(kept_tags)
 }
@@ -74,8 +74,8 @@ impl<A: Allocator + Copy> Rule<A> {
         kept_tags: &[&str],
         duration: i64,
     ) -> Result<Option<Rule<A>>, AllocError>
-        ensures possible { IfOk result (λ r. IsSome r ↔ IsRule measurement.now (lent_texts kept_tags.now) duration) }
-        ensures parts { IfOk result (λ r. IfSome r (λ r. r ≡ record { name = name.now; measurement = measurement.now; interval = interval; offset = offset; kept_tags = lent_texts kept_tags.now; duration = unsigned_abs duration })) }
+        ensures possible { IfOk result (λ r. IsSome r ↔ IsRule measurement.now (lent kept_tags.now) duration) }
+        ensures parts { IfOk result (λ r. IfSome r (λ r. r ≡ record { name = name.now; measurement = measurement.now; interval = interval; offset = offset; kept_tags = lent kept_tags.now; duration = unsigned_abs duration })) }
     {
         if !is_rule(measurement, kept_tags, &duration) {
             return Ok(None);

@@ -1,4 +1,4 @@
-use Rattle.ts_core.proofs.PairTexts.{texts_more}
+use Rattle.ts_core.proofs.OwnedTexts.{texts_more}
 use Rattle.ts_core.proofs.settings.owned.Goals as goal
 
 pub loop-text-preserved : goal.loop-text-preserved
