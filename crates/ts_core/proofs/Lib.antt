@@ -53,3 +53,7 @@ pub mod AssembledAnswers
 pub mod RetentionRows
 pub mod PlainMarks
 pub mod OwnedTexts
+pub mod Bits
+pub mod BoundaryNumbers
+pub mod ValidTests
+pub mod CellTests

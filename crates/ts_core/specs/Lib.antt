@@ -16,6 +16,7 @@ pub mod Tags
 pub mod Queries
 pub mod Marks
 pub mod Pieces
+pub mod LentPieces
 pub mod Faults
 pub mod Plans
 pub mod Orders

@@ -7,6 +7,7 @@
 mod aggregate;
 mod bucket;
 mod fact;
+mod fault;
 mod field_name;
 mod fold;
 mod key;
@@ -25,6 +26,7 @@ mod time;
 pub use aggregate::{Agg, Extremes};
 pub use bucket::bucket_index;
 pub use fact::Fact;
+pub use fault::Fault;
 pub use field_name::FieldName;
 pub use fold::{aggregate_points, fold_points};
 pub use key::Key;

@@ -1,16 +1,28 @@
 //! The definitions of specs/ computed on small inputs, each by scanning the whole list of facts. It is what
 //! later bodies are compared with.
+mod asked;
 mod event;
 mod marks;
 mod newest;
+mod piece;
 mod query;
+mod serves;
 mod tag_values;
+mod total;
+mod valid;
 
 pub use event::Event;
 pub use marks::{is_run_open, marks_of};
 pub use newest::{count_latest, latest};
+pub use piece::{Piece, PieceSource};
 pub use query::{Condition, Query};
 pub use tag_values::TagValues;
+pub use total::{Cell, total_of};
+pub use valid::{first_fault, is_valid};
 
 #[cfg(test)]
 mod marks_tests;
+#[cfg(test)]
+mod total_tests;
+#[cfg(test)]
+mod valid_tests;

@@ -9,7 +9,12 @@ use crate::time::Time;
 use std::alloc::Global;
 use std::test::Fail;
 
-const SECOND: i64 = 1_000_000_000;
+/// A second.
+const S: i64 = 1_000_000_000;
+
+const ONE_MINUTE: u64 = 60_000_000_000;
+
+const TWO_MINUTES: u64 = 120_000_000_000;
 
 const MINUTE: i64 = 60_000_000_000;
 
@@ -41,57 +46,22 @@ fn runs(alloc: Global, begins: &[i64]) -> Result<Vec<Event<Global>>, Fail> {
 #[test]
 fn marks_follow_the_greatest_begin(rt: HostRuntime) -> Result<(), Fail> {
     let rows: [(u64, i64, i64, &[i64], i64, i128); 9] = [
-        (120_000_000_000, 0, 0, &[], LEAST, -153_722_868),
+        (TWO_MINUTES, 0, 0, &[], LEAST, -153_722_868),
+        (TWO_MINUTES, 0, 0, &[200 * S], 80 * S, -153_722_868),
+        (TWO_MINUTES, 0, 0, &[220 * S], 100 * S, -153_722_868),
+        (ONE_MINUTE, 0, 2 * MINUTE, &[600 * S], 540 * S, 8),
+        (ONE_MINUTE, 0, 2 * MINUTE, &[24_000 * S], 23_940 * S, 398),
+        (ONE_MINUTE, 0, 2 * MINUTE, &[300 * S, 600 * S], 540 * S, 8),
         (
-            120_000_000_000,
-            0,
-            0,
-            &[200 * SECOND],
-            80 * SECOND,
-            -153_722_868,
-        ),
-        (
-            120_000_000_000,
-            0,
-            0,
-            &[220 * SECOND],
-            100 * SECOND,
-            -153_722_868,
-        ),
-        (
-            60_000_000_000,
-            0,
+            ONE_MINUTE,
+            30 * S,
             2 * MINUTE,
-            &[10 * MINUTE],
-            540 * SECOND,
-            8,
-        ),
-        (
-            60_000_000_000,
-            0,
-            2 * MINUTE,
-            &[400 * MINUTE],
-            23_940 * SECOND,
-            398,
-        ),
-        (
-            60_000_000_000,
-            0,
-            2 * MINUTE,
-            &[5 * MINUTE, 10 * MINUTE],
-            540 * SECOND,
-            8,
-        ),
-        (
-            60,
-            30 * SECOND,
-            2,
-            &[10 * MINUTE, 5 * MINUTE],
-            540 * SECOND,
+            &[600 * S, 300 * S],
+            540 * S,
             7,
         ),
-        (0, 0, 0, &[10 * MINUTE], LEAST, -153_722_868),
-        (60_000_000_000, 0, 2 * MINUTE, &[LEAST], LEAST, -153_722_868),
+        (0, 0, 0, &[600 * S], LEAST, -153_722_868),
+        (ONE_MINUTE, 0, 2 * MINUTE, &[LEAST], LEAST, -153_722_868),
     ];
     for (raw, offset, duration, begins, mark, low) in rows {
         let settings = settings(rt.alloc(), raw, offset, duration)?;

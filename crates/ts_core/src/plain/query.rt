@@ -12,6 +12,7 @@ use std::marker::Model;
 
 /// A condition on a tag: its value is this text, or where it `differs` is not. A tag that a series
 /// doesn't have counts as the empty text.
+#[derive(Drop)]
 pub struct Condition<'a> {
     /// The key of the tag.
     pub tag: &'a str,
@@ -39,6 +40,7 @@ impl<'a> Condition<'a> {
 }
 
 /// What is asked for: one field of a measurement, in a range of time, by buckets and groups.
+#[derive(Drop)]
 pub struct Query<'a> {
     /// The measurement.
     pub measurement: &'a str,
