@@ -57,3 +57,4 @@ pub mod Bits
 pub mod BoundaryNumbers
 pub mod ValidTests
 pub mod CellTests
+pub mod PlainPlans

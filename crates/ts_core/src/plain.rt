@@ -5,6 +5,7 @@ mod event;
 mod marks;
 mod newest;
 mod piece;
+mod plan;
 mod query;
 mod serves;
 mod tag_values;
@@ -15,6 +16,7 @@ pub use event::Event;
 pub use marks::{is_run_open, marks_of};
 pub use newest::{count_latest, latest};
 pub use piece::{Piece, PieceSource};
+pub use plan::plan_of;
 pub use query::{Condition, Query};
 pub use tag_values::TagValues;
 pub use total::{Cell, total_of};
@@ -22,6 +24,8 @@ pub use valid::{first_fault, is_valid};
 
 #[cfg(test)]
 mod marks_tests;
+#[cfg(test)]
+mod plan_tests;
 #[cfg(test)]
 mod total_tests;
 #[cfg(test)]

@@ -1,5 +1,5 @@
 //! A query with what a store still knows.
-ghost use Rattle.std.specs.Prelude.{◌≡◌, slice_get};
+ghost use Rattle.std.specs.Prelude.{◌≡◌, ◌≤◌, length, slice_get};
 ghost use Rattle.ts_core.specs.Pieces.{marked_rules, rule_named, asked};
 
 use super::query::Query;
@@ -59,6 +59,26 @@ fn rule_named<'a, A: Allocator>(
     }
 }
 
+/// The rule of a number.
+fn rule_at<'a, A: Allocator>(
+    number: usize,
+    rules: &'a [Rule<A>],
+    lows: &[i128],
+) -> Option<MarkedRule<'a, A>>
+    ensures { result ≡ slice_get (marked_rules rules.now lows.now) number }
+{
+    match (rules.split_first(), lows.split_first()) {
+        (Some((rule, rules)), Some((low, lows))) => {
+            if number == 0 {
+                Some(MarkedRule { rule, low: *low })
+            } else {
+                rule_at(number - 1, rules, lows)
+            }
+        }
+        _ => None,
+    }
+}
+
 impl<'a, A: Allocator> Asked<'a, A> {
     pub(super) fn new(
         settings: &'a Settings<A>,
@@ -86,6 +106,20 @@ impl<'a, A: Allocator> Asked<'a, A> {
         ensures { result ≡ self.now.mark }
     {
         self.marks.raw().nanos()
+    }
+
+    /// At least how many rules there are.
+    pub(super) fn rule_count(&self) -> usize
+        ensures { length self.now.rules ≤ result }
+    {
+        self.settings.rules().len()
+    }
+
+    /// The rule of this number, from 0.
+    pub(super) fn rule_at(&self, number: usize) -> Option<MarkedRule<'a, A>>
+        ensures { result ≡ slice_get self.now.rules number }
+    {
+        rule_at(number, self.settings.rules(), self.marks.lows())
     }
 
     /// The first rule of a name.
