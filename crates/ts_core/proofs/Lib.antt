@@ -24,7 +24,10 @@ pub mod RemaindersLemmas
 pub mod EqualLemmas
 pub mod BucketsInRange
 pub mod GroupsInOrder
+pub mod BucketSteps
+pub mod RowSteps
 pub mod GroupTests
+pub mod GroupSteps
 pub mod RatiosLemmas
 pub mod AnswersLaws
 pub mod FillsLaws

@@ -6,6 +6,7 @@ use Rattle.ts_core.specs.Settings.{Rule}
 use Rattle.ts_core.specs.Faults.{Fault, piece_fault}
 use Rattle.ts_core.specs.Pieces.{Piece, MarkedRule, marked_rules, Asked, HasIntervals, IsValidPiece}
 use Rattle.ts_core.specs.Plans.{IsGood, rollup_piece, LeadsOn, NoneBefore, IsWalk, raw_piece}
+use Rattle.ts_core.proofs.Tests.{lt_not}
 use Rattle.ts_core.proofs.Validity.{source_from, source_none}
 use Rattle.ts_core.proofs.GoodPlaces.{good_leads}
 use Rattle.ts_core.proofs.Plannable.{leads_of}
@@ -30,9 +31,6 @@ fault-not_valid t p f e v = let q : Some f ≡ None = sym e ∙ source_none t p.
 
 pub le_not : (x y : ℤ) → int_le x y ≡ false → y <ℤ x
 le_not x y h = grind (arith, ints)
-
-lt_not : (x y : ℤ) → int_lt x y ≡ false → y ≤ℤ x
-lt_not x y h = grind (arith, ints)
 
 -- not behind the end and not at it is before it
 pub before_end : (p to q e : ℤ) → q ≡ p → e ≡ to → int_lt e q ≡ false → (p ≡ to → ⊥) → p <ℤ to

@@ -9,6 +9,7 @@ mod bucket;
 mod fact;
 mod fault;
 mod field_name;
+mod fill;
 mod fold;
 mod key;
 mod marks;
@@ -22,12 +23,14 @@ mod sink;
 mod source;
 mod tally;
 mod time;
+mod value;
 
 pub use aggregate::{Agg, Extremes};
 pub use bucket::bucket_index;
 pub use fact::Fact;
 pub use fault::Fault;
 pub use field_name::FieldName;
+pub use fill::Fill;
 pub use fold::{aggregate_points, fold_points};
 pub use key::Key;
 pub use marks::Marks;
@@ -39,6 +42,7 @@ pub use settings::{Rule, Settings};
 pub use sink::{Refused, Sink};
 pub use source::Source;
 pub use time::Time;
+pub use value::{Function, Value};
 
 #[cfg(test)]
 mod devices_tests;

@@ -1,23 +1,30 @@
 //! The definitions of specs/ computed on small inputs, each by scanning the whole list of facts. It is what
 //! later bodies are compared with.
+mod answers;
 mod asked;
 mod event;
+mod fills;
+mod groups;
 mod marks;
 mod newest;
 mod piece;
 mod plan;
 mod query;
+mod rows;
 mod serves;
 mod tag_values;
 mod total;
 mod valid;
 
+pub use answers::{Group, answer};
 pub use event::Event;
+pub use fills::{FilledGroup, FilledRow, filled};
 pub use marks::{is_run_open, marks_of};
 pub use newest::{count_latest, latest};
 pub use piece::{Piece, PieceSource};
 pub use plan::plan_of;
 pub use query::{Condition, Query};
+pub use rows::Row;
 pub use tag_values::TagValues;
 pub use total::{Cell, total_of};
 pub use valid::{first_fault, is_valid};
