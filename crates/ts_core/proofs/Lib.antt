@@ -61,3 +61,5 @@ pub mod BoundaryNumbers
 pub mod ValidTests
 pub mod CellTests
 pub mod PlainPlans
+pub mod BucketsNear
+pub mod TooMany

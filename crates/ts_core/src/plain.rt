@@ -13,6 +13,7 @@ mod query;
 mod rows;
 mod serves;
 mod tag_values;
+mod too_many;
 mod total;
 mod valid;
 
@@ -26,6 +27,7 @@ pub use plan::plan_of;
 pub use query::{Condition, Query};
 pub use rows::Row;
 pub use tag_values::TagValues;
+pub use too_many::is_too_many;
 pub use total::{Cell, total_of};
 pub use valid::{first_fault, is_valid};
 

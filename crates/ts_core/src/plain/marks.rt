@@ -1,5 +1,5 @@
 //! Marks of a history.
-ghost use Rattle.std.specs.Prelude.{◌≡◌, ◌↔◌, ◌^◌, ◌≤◌, pos, ◌≤ℤ◌, unsigned_abs, IsTrue, IfOk};
+ghost use Rattle.std.specs.Prelude.{◌≡◌, ◌↔◌, ◌+◌, ◌^◌, ◌≤◌, pos, ◌≤ℤ◌, unsigned_abs, IsTrue, IfOk};
 ghost use Rattle.std.specs.List.{AllByRecursion};
 ghost use Rattle.std.specs.Int.{int_max};
 ghost use Rattle.ts_core.specs.Times.{greatest_time};
@@ -57,7 +57,8 @@ fn later(mark: Time, moment: i128) -> Time
 pub(super) fn index_of<A: Allocator>(rule: &Rule<A>, time: i128) -> i128
     requires interval { pos 1 ≤ℤ rule.now.interval }
     requires bound { unsigned_abs time ≤ 2 ^ 126 }
-    ensures { result ≡ index_of rule.now time }
+    ensures index { result ≡ index_of rule.now time }
+    ensures near { unsigned_abs result ≤ unsigned_abs time + 2 ^ 64 }
 {
     bucket_index(time, rule.interval(), rule.offset())
 }

@@ -7,6 +7,7 @@ use super::marks::marks_of;
 use super::piece::{Piece, PieceSource};
 use super::plan::plan_of;
 use super::query::{Condition, Query};
+use super::too_many::is_too_many;
 use crate::marks::Marks;
 use crate::settings::{Rule, Settings};
 use crate::time::Time;
@@ -173,4 +174,34 @@ fn the_first_rule_that_leads_on_is_taken(rt: HostRuntime) -> Result<(), Fail> {
     let plan = &[("m1", 30 * MINUTE, HOUR), ("h1", HOUR, 3 * HOUR)];
     let rows = [ask(30 * MINUTE, 3 * HOUR, HOUR, Some(plan))];
     find_plans(&rt, &settings, &marks, &rows)
+}
+
+#[test]
+fn a_million_buckets_are_not_too_many(rt: HostRuntime) -> Result<(), Fail> {
+    let mut rules = Vec::new(rt.alloc());
+    rules.push(rule(rt.alloc(), "s1", SECOND, &[])?)?;
+    let settings = Settings::of(60_000_000_000, rules);
+    let marks = marks_at(rt.alloc(), &settings, 1_728_000 * SECOND)?;
+    for (measurement, from, to, too_many) in [
+        ("cpu", 0, 1_000_000 * SECOND, false),
+        ("cpu", 0, 1_000_001 * SECOND, true),
+        ("cpu", 1, 1_000_001 * SECOND, false),
+        ("cpu", 1, 1_000_002 * SECOND, true),
+        ("mem", 0, 1_000_001 * SECOND, false),
+        ("cpu", 1_000_001 * SECOND, 0, false),
+        ("cpu", 1_728_000 * SECOND, 2_800_000 * SECOND, false),
+    ] {
+        let query = Query {
+            measurement,
+            field: "v",
+            conditions: &[],
+            from,
+            to,
+            interval: HOUR,
+            offset: 0,
+            group_tags: &[],
+        };
+        assert_eq!(rt; is_too_many(&settings, &marks, &query), too_many);
+    }
+    Ok(())
 }
