@@ -1,5 +1,5 @@
 -- The test of cells, part by part.
-use Rattle.std.proofs.Common.{◌≡◌, ℤ, ◌&&◌, Bool, refl, sym, ◌∙◌, ap, ap₂, is_eq, true, cond, List, ◌∷◌, map, filter, Bor, String, string_bytes}
+use Rattle.std.proofs.Common.{◌≡◌, ℤ, ◌&&◌, Bool, sym, ◌∙◌, ap, ap₂, is_eq, true, cond, List, ◌∷◌, map, filter, Bor, String, string_bytes}
 use Rattle.std.specs.Ordering.{int_cmp, int_eq, ordering_then}
 use Rattle.std.specs.Cmp.{tied_then, int_cmp_total}
 use Rattle.std.proofs.lemmas.Cmp.{tied_itself}
@@ -8,7 +8,7 @@ use Rattle.std.proofs.lemmas.Map.Lookups.{exact_signed}
 use Rattle.std.proofs.lemmas.Map.Text.{is_eq-slice_cmp}
 use Rattle.ts_core.specs.Facts.{Text, Series, Fact, text_cmp, same_text}
 use Rattle.ts_core.specs.Answers.{group_cmp, same_group}
-use Rattle.ts_core.specs.Cells.{Cell, cell_cmp, same_cell, is_in_cell, total_of}
+use Rattle.ts_core.specs.Cells.{Cell, same_cell, is_in_cell, total_of}
 use Rattle.ts_core.specs.Settings.{Rule}
 use Rattle.ts_core.specs.Aggregates.{aggregate_of_one, aggregate_of, merged}
 use Rattle.ts_core.specs.Lent.{lent}

@@ -1,4 +1,4 @@
-use Rattle.std.proofs.Common.{rules, ◌≡◌, ◌+◌, ◌^◌, ◌≤◌, ap, sym, subst, unsigned_abs, SFits, w64, to_z, of_z}
+use Rattle.std.proofs.Common.{rules, ◌≡◌, ◌+◌, ◌^◌, ◌≤◌, sym, subst, unsigned_abs, SFits, w64, to_z, of_z}
 use Rattle.std.specs.Int.{w128}
 use Rattle.ts_core.specs.Marks.{index_of}
 use Rattle.ts_core.proofs.BucketsNear.{bucket_of-near}

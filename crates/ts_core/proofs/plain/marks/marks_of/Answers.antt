@@ -1,4 +1,4 @@
-use Rattle.std.proofs.Common.{rules, ◌≡◌, ◌≤◌, ◌∙◌, ap, map, length, SFits, to_z-of_z}
+use Rattle.std.proofs.Common.{rules, ◌≤◌, ◌∙◌, ap, map, length, SFits, to_z-of_z}
 use Rattle.std.specs.Int.{w128}
 use Rattle.std.proofs.lemmas.List.{take_all}
 use Rattle.ts_core.specs.Marks.{low_of}

@@ -1,7 +1,7 @@
-use Rattle.std.proofs.Common.{rules, ◌≡◌, ℤ, pos, ◌+◌, ◌≤◌, ◌∷◌, ◌+ℤ◌, ◌≤ℤ◌, ◌<ℤ◌, ap, sym, subst, ◌∙◌, arith, length, SFits, w64, to_z, of_z, to_z-of_z}
-use Rattle.std.proofs.lemmas.Int.{ints, by_lt_z}
+use Rattle.std.proofs.Common.{rules, ◌≡◌, ◌∷◌, ◌+ℤ◌, ◌≤ℤ◌, ◌<ℤ◌, ap, sym, subst, ◌∙◌, arith, SFits, w64, to_z, of_z, to_z-of_z}
+use Rattle.std.proofs.lemmas.Int.{ints}
 use Rattle.ts_core.specs.Queries.{Query}
-use Rattle.ts_core.specs.Pieces.{MarkedRule, Piece, IsValidPiece}
+use Rattle.ts_core.specs.Pieces.{Piece, IsValidPiece}
 use Rattle.ts_core.specs.Plans.{rollup_piece, NoneBefore, IsWalk}
 use Rattle.ts_core.proofs.GoodPlaces.{good_within, rule_wide}
 use Rattle.ts_core.proofs.Plannable.{one_more}

@@ -1,7 +1,7 @@
-use Rattle.std.proofs.Common.{rules, ◌≡◌, ◌≤ℤ◌, ◌<ℤ◌, ◌+ℤ◌, ap, sym, subst, ◌∙◌, arith, SFits, w64, to_z, of_z}
+use Rattle.std.proofs.Common.{rules, ◌≡◌, ◌<ℤ◌, ◌+ℤ◌, ap, sym, subst, ◌∙◌, arith, w64, to_z, of_z}
 use Rattle.std.proofs.lemmas.Int.{ints}
 use Rattle.ts_core.specs.Queries.{Query}
-use Rattle.ts_core.specs.Pieces.{MarkedRule, Piece, IsValidPiece}
+use Rattle.ts_core.specs.Pieces.{MarkedRule, IsValidPiece}
 use Rattle.ts_core.specs.Plans.{rollup_piece}
 use Rattle.ts_core.proofs.GoodPlaces.{good_within}
 use Rattle.ts_core.proofs.PlainPlans.{no_fault-valid, fault-not_valid}

@@ -1,4 +1,4 @@
-use Rattle.std.proofs.Common.{rules, ◌≡◌, ◌∙◌, ap, ap₂, sym, subst, pos, ◌*ℤ◌, ◌+ℤ◌, SFits, ℤ, to_z, of_z, to_z-of_z}
+use Rattle.std.proofs.Common.{rules, ◌≡◌, ◌∙◌, ap, ap₂, sym, subst, ◌*ℤ◌, ◌+ℤ◌, SFits, to_z, of_z, to_z-of_z}
 use Rattle.std.specs.Int.{w64, w128}
 use Rattle.std.specs.Ordering.{int_eq}
 use Rattle.ts_core.specs.Marks.{index_of}

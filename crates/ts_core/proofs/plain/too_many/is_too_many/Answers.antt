@@ -1,4 +1,4 @@
-use Rattle.std.proofs.Common.{rules, ◌≡◌, ◌<ℤ◌, sym, subst, ap₂, to_z, of_z, w64}
+use Rattle.std.proofs.Common.{rules, ◌≡◌, ◌<ℤ◌, subst, to_z, of_z, w64}
 use Rattle.ts_core.proofs.PlainPlans.{le_not}
 use Rattle.ts_core.proofs.TooMany.{IsTooMany-told}
 use Rattle.ts_core.proofs.plain.too_many.is_too_many.Goals as goal

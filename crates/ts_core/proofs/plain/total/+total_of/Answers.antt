@@ -1,4 +1,4 @@
-use Rattle.std.proofs.Common.{rules, ◌∙◌, ◌∷◌, ap, ap₂, sym, SFits, w64, to_z-of_z}
+use Rattle.std.proofs.Common.{rules, ◌∙◌, ap, ap₂, sym, SFits, w64, to_z-of_z}
 use Rattle.ts_core.specs.Aggregates.{aggregate_of_one, merged}
 use Rattle.ts_core.specs.Cells.{total_of}
 use Rattle.ts_core.proofs.CellTests.{total_of-cons}

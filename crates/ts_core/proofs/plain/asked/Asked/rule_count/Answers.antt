@@ -1,5 +1,4 @@
-use Rattle.std.proofs.Common.{◌≤◌, length, ap, subst, sym}
-use Rattle.ts_core.specs.Settings.{Rule}
+use Rattle.std.proofs.Common.{◌≤◌, length, ap, subst}
 use Rattle.ts_core.specs.Pieces.{Asked}
 use Rattle.ts_core.proofs.PlainPlans.{marked_rules-short}
 use Rattle.ts_core.proofs.plain.asked.Asked.rule_count.Goals as goal
