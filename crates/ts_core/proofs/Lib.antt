@@ -63,3 +63,4 @@ pub mod CellTests
 pub mod PlainPlans
 pub mod BucketsNear
 pub mod TooMany
+pub mod SettingsLaws

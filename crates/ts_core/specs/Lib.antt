@@ -2,6 +2,7 @@ pub mod Times
 pub mod Members
 pub mod Facts
 pub mod Settings
+pub mod SettingsFaults
 pub mod History
 pub mod Events
 pub mod Latest

@@ -19,9 +19,11 @@ pub mod plain;
 mod read_ahead;
 mod remainder;
 mod settings;
+mod settings_fault;
 mod sink;
 mod source;
 mod tally;
+mod texts;
 mod time;
 mod value;
 
@@ -39,6 +41,7 @@ pub use partial::Partial;
 pub use read_ahead::{ReadAhead, ReadFault};
 pub use remainder::Remainder;
 pub use settings::{Rule, Settings};
+pub use settings_fault::{RuleFault, SettingsFault};
 pub use sink::{Refused, Sink};
 pub use source::Source;
 pub use time::Time;
@@ -46,5 +49,7 @@ pub use value::{Function, Value};
 
 #[cfg(test)]
 mod devices_tests;
+#[cfg(test)]
+mod settings_tests;
 #[cfg(test)]
 mod words_tests;

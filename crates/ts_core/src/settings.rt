@@ -1,9 +1,12 @@
 //! Settings of retention and rollups.
-ghost use Rattle.std.specs.Prelude.{◌≡◌, ◌≢◌, ◌↔◌, [], map, string_bytes, unsigned_abs, IsTrue, IfOk, IsSome, IfSome};
+ghost use Rattle.std.specs.Prelude.{◌≡◌, ◌≢◌, ◌↔◌, [], pos, ◌≤ℤ◌, map, string_bytes, unsigned_abs, Some, None, IsTrue, IfOk, IfErr, IsSome, IfSome};
 ghost use Rattle.std.specs.List.{AllByRecursion};
 ghost use Rattle.ts_core.specs.Settings.{IsRule, open_settings};
+ghost use Rattle.ts_core.specs.SettingsFaults.{settings_fault};
+ghost use Rattle.ts_core.specs.Marks.{Outlasts};
 ghost use Rattle.ts_core.specs.Lent.{lent};
 
+use crate::settings_fault::{SettingsFault, settings_fault};
 use std::alloc::{AllocError, Allocator};
 use std::marker::Model;
 
@@ -158,6 +161,25 @@ impl<A: Allocator> Settings<A> {
         Settings {
             raw_duration: 0,
             rules: Vec::new(alloc),
+        }
+    }
+
+    /// Settings of these parts, or their first fault. The raw duration is in nanoseconds; 0 is for ever.
+    pub fn new(raw_duration: i64, rules: Vec<Rule<A>, A>) -> Result<Settings<A>, SettingsFault>
+        requires { pos 0 ≤ℤ raw_duration }
+        ensures parts { IfOk result (λ s. s ≡ record { raw_duration = unsigned_abs raw_duration; rules = rules.items }) }
+        ensures faultless { IfOk result (λ s. settings_fault s ≡ None) }
+        ensures fault { IfErr result (λ e. settings_fault (record { raw_duration = unsigned_abs raw_duration; rules = rules.items }) ≡ Some e) }
+        ensures intervals { IfOk result (λ s. AllByRecursion (λ r. pos 1 ≤ℤ r.interval) s.rules) }
+        ensures lasting { IfOk result (λ s. AllByRecursion (λ r. Outlasts r.duration s.raw_duration) s.rules) }
+    {
+        let raw_duration = raw_duration.unsigned_abs();
+        match settings_fault(raw_duration, rules.as_slice()) {
+            Some(fault) => Err(fault),
+            None => Ok(Settings {
+                raw_duration,
+                rules,
+            }),
         }
     }
 

@@ -1,9 +1,8 @@
 //! What has to hold of a rule so that its cells may stand for a query's points.
-ghost use Rattle.std.specs.Prelude.{◌≡◌, ◌||◌, pos, ◌≤ℤ◌, map, string_bytes};
-ghost use Rattle.std.specs.List.{list_any, list_all};
+ghost use Rattle.std.specs.Prelude.{◌≡◌, ◌||◌, pos, ◌≤ℤ◌, map};
+ghost use Rattle.std.specs.List.{list_all};
 ghost use Rattle.std.specs.Int.{int_rem_euclid};
 ghost use Rattle.std.specs.Ordering.{int_eq};
-ghost use Rattle.ts_core.specs.Facts.{same_text};
 ghost use Rattle.ts_core.specs.Faults.{is_boundary, divides, is_in_one_bucket, keeps};
 ghost use Rattle.ts_core.specs.Lent.{lent};
 ghost use Rattle.ts_core.specs.Pieces.{tags_of};
@@ -12,6 +11,7 @@ use super::marks::index_of;
 use super::query::{Condition, Query};
 use crate::bucket::bucket_index;
 use crate::settings::Rule;
+use crate::texts::is_among;
 use std::alloc::Allocator;
 
 /// Whether a bucket of the rule starts at a moment.
@@ -49,15 +49,6 @@ fn is_in_one_bucket(query: &Query<'_>, from: i64, to: i64) -> bool
     let first = bucket_index(i128::from(from), query.interval, query.offset);
     let last = bucket_index(i128::from(to) - 1, query.interval, query.offset);
     first == last
-}
-
-fn is_among<A: Allocator>(text: &str, texts: &[String<A>]) -> bool
-    ensures { result ≡ list_any (same_text text.now) (map string_bytes texts.now) }
-{
-    match texts.split_first() {
-        None => false,
-        Some((first, others)) => text == first.as_str() || is_among(text, others),
-    }
 }
 
 /// Whether all from one moment to before another lies in buckets of the query just as it lies in the rule's.
