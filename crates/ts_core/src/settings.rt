@@ -196,14 +196,4 @@ impl<A: Allocator> Settings<A> {
     {
         self.rules.as_slice()
     }
-
-    /// Settings of these parts, whatever they are.
-    pub(crate) fn of(raw_duration: u64, rules: Vec<Rule<A>, A>) -> Settings<A>
-        ensures { result ≡ record { raw_duration = raw_duration; rules = rules.items } }
-    {
-        Settings {
-            raw_duration,
-            rules,
-        }
-    }
 }

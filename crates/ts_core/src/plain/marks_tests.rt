@@ -12,22 +12,18 @@ use std::test::Fail;
 /// A second.
 const S: i64 = 1_000_000_000;
 
-const ONE_MINUTE: u64 = 60_000_000_000;
-
-const TWO_MINUTES: u64 = 120_000_000_000;
-
 const MINUTE: i64 = 60_000_000_000;
 
 const LEAST: i64 = -9_223_372_036_854_775_806;
 
 /// Settings with one rule of an interval of a minute.
-fn settings(alloc: Global, raw: u64, offset: i64, duration: i64) -> Result<Settings<Global>, Fail>
+fn settings(alloc: Global, raw: u32, offset: i64, duration: i64) -> Result<Settings<Global>, Fail>
     ensures { IfOk result (λ s. AllByRecursion (λ r. pos 1 ≤ℤ r.interval) s.rules) }
 {
     let rule = Rule::new(alloc, "m1", "cpu", MINUTE, offset, &["host"], duration)?;
     let mut rules = Vec::new(alloc);
     rules.push(rule.ok_or("a rule")?)?;
-    Ok(Settings::of(raw, rules))
+    Ok(Settings::new(i64::from(raw) * S, rules)?)
 }
 
 /// Whole runs that began at these moments, with a line after each.
@@ -45,23 +41,16 @@ fn runs(alloc: Global, begins: &[i64]) -> Result<Vec<Event<Global>>, Fail> {
 
 #[test]
 fn marks_follow_the_greatest_begin(rt: HostRuntime) -> Result<(), Fail> {
-    let rows: [(u64, i64, i64, &[i64], i64, i128); 9] = [
-        (TWO_MINUTES, 0, 0, &[], LEAST, -153_722_868),
-        (TWO_MINUTES, 0, 0, &[200 * S], 80 * S, -153_722_868),
-        (TWO_MINUTES, 0, 0, &[220 * S], 100 * S, -153_722_868),
-        (ONE_MINUTE, 0, 2 * MINUTE, &[600 * S], 540 * S, 8),
-        (ONE_MINUTE, 0, 2 * MINUTE, &[24_000 * S], 23_940 * S, 398),
-        (ONE_MINUTE, 0, 2 * MINUTE, &[300 * S, 600 * S], 540 * S, 8),
-        (
-            ONE_MINUTE,
-            30 * S,
-            2 * MINUTE,
-            &[600 * S, 300 * S],
-            540 * S,
-            7,
-        ),
+    let rows: [(u32, i64, i64, &[i64], i64, i128); 9] = [
+        (120, 0, 0, &[], LEAST, -153_722_868),
+        (120, 0, 0, &[200 * S], 80 * S, -153_722_868),
+        (120, 0, 0, &[220 * S], 100 * S, -153_722_868),
+        (60, 0, 2 * MINUTE, &[600 * S], 540 * S, 8),
+        (60, 0, 2 * MINUTE, &[24_000 * S], 23_940 * S, 398),
+        (60, 0, 2 * MINUTE, &[300 * S, 600 * S], 540 * S, 8),
+        (60, 30 * S, 2 * MINUTE, &[600 * S, 300 * S], 540 * S, 7),
         (0, 0, 0, &[600 * S], LEAST, -153_722_868),
-        (ONE_MINUTE, 0, 2 * MINUTE, &[LEAST], LEAST, -153_722_868),
+        (60, 0, 2 * MINUTE, &[LEAST], LEAST, -153_722_868),
     ];
     for (raw, offset, duration, begins, mark, low) in rows {
         let settings = settings(rt.alloc(), raw, offset, duration)?;

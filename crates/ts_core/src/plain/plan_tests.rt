@@ -119,7 +119,7 @@ fn ask(
 fn one_rule_and_raw_points(rt: HostRuntime) -> Result<(), Fail> {
     let mut rules = Vec::new(rt.alloc());
     rules.push(rule(rt.alloc(), "m1", MINUTE, &["host"])?)?;
-    let settings = Settings::of(120_000_000_000, rules);
+    let settings = Settings::new(2 * MINUTE, rules)?;
     let marks = marks_at(rt.alloc(), &settings, 200 * SECOND)?;
     let merged_away = Row {
         tags: &["dc"],
@@ -154,7 +154,7 @@ fn one_rule_and_raw_points(rt: HostRuntime) -> Result<(), Fail> {
 fn buckets_join_within_a_bucket_of_the_query(rt: HostRuntime) -> Result<(), Fail> {
     let mut rules = Vec::new(rt.alloc());
     rules.push(rule(rt.alloc(), "m1", MINUTE, &["host"])?)?;
-    let settings = Settings::of(120_000_000_000, rules);
+    let settings = Settings::new(2 * MINUTE, rules)?;
     let marks = marks_at(rt.alloc(), &settings, 10 * MINUTE)?;
     let plan = &[
         ("m1", 120 * SECOND, 180 * SECOND),
@@ -169,7 +169,7 @@ fn the_first_rule_that_leads_on_is_taken(rt: HostRuntime) -> Result<(), Fail> {
     let mut rules = Vec::new(rt.alloc());
     rules.push(rule(rt.alloc(), "h1", HOUR, &[])?)?;
     rules.push(rule(rt.alloc(), "m1", MINUTE, &[])?)?;
-    let settings = Settings::of(60_000_000_000, rules);
+    let settings = Settings::new(MINUTE, rules)?;
     let marks = marks_at(rt.alloc(), &settings, 3 * HOUR)?;
     let plan = &[("m1", 30 * MINUTE, HOUR), ("h1", HOUR, 3 * HOUR)];
     let rows = [ask(30 * MINUTE, 3 * HOUR, HOUR, Some(plan))];
@@ -180,7 +180,7 @@ fn the_first_rule_that_leads_on_is_taken(rt: HostRuntime) -> Result<(), Fail> {
 fn a_million_buckets_are_not_too_many(rt: HostRuntime) -> Result<(), Fail> {
     let mut rules = Vec::new(rt.alloc());
     rules.push(rule(rt.alloc(), "s1", SECOND, &[])?)?;
-    let settings = Settings::of(60_000_000_000, rules);
+    let settings = Settings::new(MINUTE, rules)?;
     let marks = marks_at(rt.alloc(), &settings, 1_728_000 * SECOND)?;
     for (measurement, from, to, too_many) in [
         ("cpu", 0, 1_000_000 * SECOND, false),

@@ -34,7 +34,7 @@ struct Row {
 /// Settings with one rule of an interval of a minute.
 fn settings(
     alloc: Global,
-    raw: u64,
+    raw: u32,
     name: &str,
     kept_tags: &[&str],
     duration: i64,
@@ -44,7 +44,7 @@ fn settings(
     let rule = Rule::new(alloc, name, "cpu", MINUTE, 0, kept_tags, duration)?;
     let mut rules = Vec::new(alloc);
     rules.push(rule.ok_or("a rule")?)?;
-    Ok(Settings::of(raw, rules))
+    Ok(Settings::new(i64::from(raw) * SECOND, rules)?)
 }
 
 /// The marks after one run.
@@ -141,7 +141,7 @@ fn make_row(
 
 #[test]
 fn pieces_of_cells_and_of_raw_points(rt: HostRuntime) -> Result<(), Fail> {
-    let settings = settings(rt.alloc(), 120_000_000_000, "m1", &["host"], 0)?;
+    let settings = settings(rt.alloc(), 120, "m1", &["host"], 0)?;
     let marks = marks_at(rt.alloc(), &settings, 200 * SECOND)?;
     let both = make_row(
         &[("m1", 0, 2 * MINUTE), ("", 2 * MINUTE, 3 * MINUTE)],
@@ -189,7 +189,7 @@ fn pieces_of_cells_and_of_raw_points(rt: HostRuntime) -> Result<(), Fail> {
 
 #[test]
 fn a_bucket_below_the_low_index(rt: HostRuntime) -> Result<(), Fail> {
-    let settings = settings(rt.alloc(), 60_000_000_000, "x", &[], 2 * MINUTE)?;
+    let settings = settings(rt.alloc(), 60, "x", &[], 2 * MINUTE)?;
     let marks = marks_at(rt.alloc(), &settings, 10 * MINUTE)?;
     let rows = [make_row(&[("x", 0, MINUTE)], MINUTE, Some((87, 0)))];
     find_faults(&rt, &settings, &marks, &rows)
