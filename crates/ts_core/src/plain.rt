@@ -36,6 +36,8 @@ mod marks_tests;
 #[cfg(test)]
 mod plan_tests;
 #[cfg(test)]
+mod tests;
+#[cfg(test)]
 mod total_tests;
 #[cfg(test)]
 mod valid_tests;
