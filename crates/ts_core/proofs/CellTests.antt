@@ -33,6 +33,10 @@ same_cell-parts a b =
 pub same_cell-from : (a b : Cell) (x y z : Bool) → x ≡ int_eq a.index b.index → y ≡ same_text a.field b.field → z ≡ same_group a.group b.group → (x && (y && z)) ≡ same_cell a b
 same_cell-from a b x y z e f g = (λ i. e i && (f i && g i)) ∙ same_cell-parts a b
 
+-- one fact more, of those that pass a test
+pub aggregate_of-passes : (p : Fact → Bool) (f : Fact) (fs : List Fact) → p f ≡ true → merged (aggregate_of_one f.time f.value) (aggregate_of (filter p fs)) ≡ aggregate_of (filter p (f ∷ fs))
+aggregate_of-passes p f fs h = ap (λ b. aggregate_of (cond b (f ∷ filter p fs) (filter p fs))) (sym h)
+
 -- one fact more of a cell
 pub total_of-cons : (r : Rule) (k : Cell) (f : Fact) (fs : List Fact) → is_in_cell r k f ≡ true → merged (aggregate_of_one f.time f.value) (total_of r k fs) ≡ total_of r k (f ∷ fs)
 total_of-cons r k f fs h = ap (λ b. aggregate_of (cond b (f ∷ filter (is_in_cell r k) fs) (filter (is_in_cell r k) fs))) (sym h)

@@ -64,3 +64,4 @@ pub mod PlainPlans
 pub mod BucketsNear
 pub mod TooMany
 pub mod SettingsLaws
+pub mod ColumnTests

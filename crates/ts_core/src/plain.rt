@@ -2,6 +2,7 @@
 //! later bodies are compared with.
 mod answers;
 mod asked;
+mod cut;
 mod event;
 mod fills;
 mod groups;
@@ -18,6 +19,7 @@ mod total;
 mod valid;
 
 pub use answers::{Group, answer};
+pub use cut::{Column, Cut};
 pub use event::Event;
 pub use fills::{FilledGroup, FilledRow, filled};
 pub use marks::{is_run_open, marks_of};
@@ -28,7 +30,7 @@ pub use query::{Condition, Query};
 pub use rows::Row;
 pub use tag_values::TagValues;
 pub use too_many::is_too_many;
-pub use total::{Cell, total_of};
+pub use total::{Cell, frozen_of, live_of, total_of};
 pub use valid::{first_fault, is_valid};
 
 #[cfg(test)]

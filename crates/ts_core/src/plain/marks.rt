@@ -5,6 +5,7 @@ ghost use Rattle.std.specs.Int.{int_max};
 ghost use Rattle.ts_core.specs.Times.{greatest_time};
 ghost use Rattle.ts_core.specs.History.{kept_since, raw_mark, IsRunOpen};
 ghost use Rattle.ts_core.specs.Marks.{index_of, low_of, marks_of};
+ghost use Rattle.ts_core.specs.RawFacts.{earlier_mark};
 
 use super::event::{Event, Kind};
 use crate::bucket::bucket_index;
@@ -27,7 +28,7 @@ fn kept_since(duration: u64, now: Time) -> i128
 }
 
 /// The raw mark that a history leaves, the newest event first.
-fn raw_mark<A: Allocator>(settings: &Settings<A>, history: &[Event<A>]) -> Time
+pub(super) fn raw_mark<A: Allocator>(settings: &Settings<A>, history: &[Event<A>]) -> Time
     ensures { result ≡ raw_mark settings.now history.now }
 {
     match history.split_first() {
@@ -39,6 +40,19 @@ fn raw_mark<A: Allocator>(settings: &Settings<A>, history: &[Event<A>]) -> Time
                 Kind::Begin(now) => later(mark, kept_since(settings.raw_duration(), *now)),
             }
         }
+    }
+}
+
+/// The raw mark before the last begin of a history.
+pub(super) fn earlier_mark<A: Allocator>(settings: &Settings<A>, history: &[Event<A>]) -> Time
+    ensures { result ≡ earlier_mark settings.now history.now }
+{
+    match history.split_first() {
+        None => Time::least(),
+        Some((event, older)) => match event.kind() {
+            Kind::Begin(_) => raw_mark(settings, older),
+            Kind::Line(_) | Kind::Step(_) => earlier_mark(settings, older),
+        },
     }
 }
 

@@ -1,13 +1,16 @@
 //! What a cell of a rule holds of a list of facts.
-ghost use Rattle.std.specs.Prelude.{◌≡◌, ◌^◌, ◌≤◌, pos, ◌≤ℤ◌, length, map, string_bytes};
+ghost use Rattle.std.specs.Prelude.{◌≡◌, ◌^◌, ◌≤◌, pos, ◌≤ℤ◌, not, ◌&&◌, if◌then◌else◌, length, map, filter, string_bytes};
 ghost use Rattle.std.specs.Ordering.{int_eq};
 ghost use Rattle.ts_core.specs.Marks.{index_of};
+ghost use Rattle.ts_core.specs.RawFacts.{cut_at, is_kept};
+ghost use Rattle.ts_core.specs.Aggregates.{aggregate_of};
 ghost use Rattle.ts_core.specs.Answers.{same_group};
-ghost use Rattle.ts_core.specs.Cells.{same_cell, cell_of, is_in_cell, total_of};
+ghost use Rattle.ts_core.specs.Cells.{same_cell, cell_of, is_in_cell, total_of, frozen_of, live_of};
 ghost use Rattle.ts_core.specs.Facts.{same_text};
 ghost use Rattle.ts_core.specs.Lent.{lent};
 ghost use Rattle.ts_core.specs.Tags.{tag_values};
 
+use super::cut::Cut;
 use super::marks::index_of;
 use crate::aggregate::Agg;
 use crate::fact::Fact;
@@ -111,4 +114,71 @@ pub fn total_of<A: Allocator + Copy>(rule: &Rule<A>, cell: &Cell<'_>, facts: &[F
             }
         }
     }
+}
+
+/// Whether a cut keeps a fact, or where `kept` is false, that it doesn't.
+fn is_on_side<A: Allocator + Copy>(cut: &Cut<'_, A>, kept: bool, fact: &Fact<A>) -> bool
+    ensures { result ≡ (if kept then is_kept (cut_at cut.now) fact.now else not (is_kept (cut_at cut.now) fact.now)) }
+{
+    if kept {
+        cut.keeps(fact)
+    } else {
+        !cut.keeps(fact)
+    }
+}
+
+/// The aggregate of the facts of a cell that are on one side of a cut.
+fn part_of<A: Allocator + Copy>(
+    cut: &Cut<'_, A>,
+    kept: bool,
+    rule: &Rule<A>,
+    cell: &Cell<'_>,
+    facts: &[Fact<A>],
+) -> Agg
+    requires interval { pos 1 ≤ℤ rule.now.interval }
+    requires room { length facts.now ≤ 2 ^ 62 }
+    ensures part { result ≡ aggregate_of (filter (λ f. is_in_cell rule.now cell.now f && (if kept then is_kept (cut_at cut.now) f else not (is_kept (cut_at cut.now) f))) facts.now) }
+    ensures counted { result.count ≤ length facts.now }
+{
+    match facts.split_first() {
+        None => Agg::empty(),
+        Some((fact, others)) => {
+            let part = part_of(cut, kept, rule, cell, others);
+            if !is_in_cell(rule, cell, fact) {
+                return part;
+            }
+            if !is_on_side(cut, kept, fact) {
+                return part;
+            }
+            Agg::single(fact.time(), fact.value()).merge(part)
+        }
+    }
+}
+
+/// The aggregate of the facts of a cell that are below a cut.
+pub fn frozen_of<A: Allocator + Copy>(
+    cut: &Cut<'_, A>,
+    rule: &Rule<A>,
+    cell: &Cell<'_>,
+    facts: &[Fact<A>],
+) -> Agg
+    requires interval { pos 1 ≤ℤ rule.now.interval }
+    requires room { length facts.now ≤ 2 ^ 62 }
+    ensures { result ≡ frozen_of (cut_at cut.now) rule.now cell.now facts.now }
+{
+    part_of(cut, false, rule, cell, facts)
+}
+
+/// The aggregate of the facts of a cell that are from a cut on.
+pub fn live_of<A: Allocator + Copy>(
+    cut: &Cut<'_, A>,
+    rule: &Rule<A>,
+    cell: &Cell<'_>,
+    facts: &[Fact<A>],
+) -> Agg
+    requires interval { pos 1 ≤ℤ rule.now.interval }
+    requires room { length facts.now ≤ 2 ^ 62 }
+    ensures { result ≡ live_of (cut_at cut.now) rule.now cell.now facts.now }
+{
+    part_of(cut, true, rule, cell, facts)
 }
