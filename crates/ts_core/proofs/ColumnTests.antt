@@ -1,5 +1,5 @@
 -- The test of columns, part by part.
-use Rattle.std.proofs.Common.{◌≡◌, ◌&&◌, Bool, sym, ◌∙◌, ap, is_eq}
+use Rattle.std.proofs.Common.{◌≡◌, ◌&&◌, Bool, sym, ◌∙◌, is_eq}
 use Rattle.std.specs.Cmp.{tied_then}
 use Rattle.std.proofs.lemmas.Map.Text.{is_eq-slice_cmp}
 use Rattle.ts_core.specs.Facts.{Column, series_cmp, text_cmp, same_text}
