@@ -54,3 +54,14 @@ pub mod PieceCells
 pub mod AssembledRows
 pub mod AssembledAnswers
 pub mod RetentionRows
+pub mod PlainMarks
+pub mod OwnedTexts
+pub mod Bits
+pub mod BoundaryNumbers
+pub mod ValidTests
+pub mod CellTests
+pub mod PlainPlans
+pub mod BucketsNear
+pub mod TooMany
+pub mod SettingsLaws
+pub mod ColumnTests

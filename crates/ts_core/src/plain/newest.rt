@@ -11,7 +11,8 @@ use crate::time::Time;
 use std::alloc::{AllocError, Allocator};
 use std::cmp::Ordering;
 
-fn compare_keys<A: Allocator + Copy>(key: &Key<A>, other: &Key<A>) -> Ordering
+/// The order of two series.
+pub(super) fn compare_keys<A: Allocator + Copy>(key: &Key<A>, other: &Key<A>) -> Ordering
     ensures { result ≡ series_cmp key.now other.now }
 {
     match key.measurement().cmp(&other.measurement()) {
