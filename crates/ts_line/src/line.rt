@@ -220,7 +220,7 @@ impl<'a, A: Allocator> Line<'a, A> {
         ensures set { IfOk result (λ v. IsTagSet (lent_pairs v.items)) }
     {
         let mut pairs = Vec::with_capacity(alloc, self.tags.len())?;
-        let mut left = self.tags.as_slice();
+        let mut left = self.tags();
         while let [rest @ .., tag] = left {
             put(&mut pairs, tag.key.text(), tag.value.text())?;
             left = rest;
