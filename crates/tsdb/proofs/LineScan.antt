@@ -1,6 +1,6 @@
 -- Lines and their parts.
-use Rattle.std.proofs.Common.{◌≡◌, ◌≢◌, ℕ, ◌+◌, ◌≤◌, ◌<◌, ◌^◌, eqb, cond, List, [], ◌∷◌, ◌++◌, length, take, drop, slice_range, ◌-◌, get_or, Bool, true, false, Option, Some, None, refl, sym, ap, ◌∙◌, append_assoc, append-nil, arith, IfSome, subst, not}
-use Rattle.std.proofs.lemmas.List.{at_drop_more, take_more, drop-take, drop-drop, drop_all, length-take}
+use Rattle.std.proofs.Common.{◌≡◌, ◌≢◌, ℕ, ◌+◌, ◌≤◌, ◌<◌, ◌^◌, eqb, cond, List, [], ◌∷◌, ◌++◌, length, take, drop, get_or, Bool, true, false, Option, Some, None, refl, sym, ap, ◌∙◌, append_assoc, append-nil, arith, IfSome, subst, not}
+use Rattle.std.proofs.lemmas.List.{at_drop_more, take_more, drop_all}
 use Rattle.std.proofs.lemmas.Bool.Decides.{nat_tests}
 use Rattle.std.specs.Io.KnownBytes.{Consumes, prepend_known, Keeps, IsAtEnd}
 use Rattle.ts_core.specs.Devices.{Input}

@@ -1,5 +1,5 @@
 -- What a text of a number is to `parse`, and where a number ends.
-use Rattle.std.proofs.Common.{◌≡◌, ◌≢◌, ℕ, ◌+◌, ◌*◌, ◌<◌, ◌≤◌, Bool, true, false, cond, not, ◌&&◌, ◌||◌, eqb, List, [], ◌∷◌, length, drop, get_or, sym, ap, refl, ◌∙◌, arith, ℤ, pos, negsuc, suc, int_le, neg_ℤ, ◌*ℤ◌, ◌≤ℤ◌, FitsSigned, w64, Option, Some, None}
+use Rattle.std.proofs.Common.{◌≡◌, ℕ, ◌+◌, ◌*◌, ◌<◌, ◌≤◌, Bool, true, false, cond, not, ◌&&◌, ◌||◌, eqb, [], ◌∷◌, length, drop, get_or, ap, refl, ◌∙◌, arith, ℤ, pos, negsuc, suc, int_le, ◌*ℤ◌, ◌≤ℤ◌, FitsSigned, w64, None}
 use Rattle.std.specs.Char.{is_ascii_digit, digit_value}
 use Rattle.std.specs.List.{list_all}
 use Rattle.std.specs.Str.Parse.{AllDigits, IsNumeral, without_leading_sign, signed_digits_value}

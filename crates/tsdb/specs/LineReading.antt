@@ -1,7 +1,7 @@
 -- A reader of lines, seen by what it has read ahead and by what it has of the line. (Own rule.)
 use Rattle.std.specs.Prelude.{◌≡◌, ℕ, ◌≤◌, ◌<◌, ◌^◌, List, [], ◌∷◌, length, Bool, true, false, Option, Some, ◌==◌, if◌then◌else◌}
 use Rattle.ts_core.specs.Devices.{Input}
-use Rattle.ts_core.specs.ReadingAhead.{Ahead, pending}
+use Rattle.ts_core.specs.ReadingAhead.{pending}
 use Rattle.tsdb.specs.Lines.{lines_of}
 use Rattle.tsdb.specs.declared.line_reader.Next.{Next}
 use Rattle.tsdb.specs.declared.line_reader.Next.TheVariants.{Line, TooLong, End}

@@ -1,4 +1,4 @@
-use Rattle.std.proofs.Common.{◌≡◌, ◌+◌, ◌<◌, Bool, true, false, length, drop, ap, sym, ◌∙◌, subst, arith, get_or, ℕ, List}
+use Rattle.std.proofs.Common.{◌≡◌, ◌<◌, true, false, length, drop, ap, sym, ◌∙◌, subst, arith, get_or, ℕ, List}
 use Rattle.std.proofs.lemmas.Str.{IsCharBoundary-start, IsCharBoundary-after_ascii}
 use Rattle.tsdb.specs.Numbers.{number_len}
 use Rattle.tsdb.proofs.NumberLemmas.{in_number, in_number-ascii, number_len-more, number_len-stop, number_len-end}
