@@ -1,0 +1,3 @@
+pub mod PointMaps
+pub mod PointRanges
+pub mod ColumnLaws
