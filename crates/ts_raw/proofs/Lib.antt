@@ -1,0 +1,2 @@
+pub mod LastBelows
+pub mod Chained

@@ -1,0 +1,2 @@
+pub mod LastBelow
+pub mod Links

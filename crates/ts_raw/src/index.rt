@@ -1,0 +1,2 @@
+//! Series and columns by name.
+mod chains;
