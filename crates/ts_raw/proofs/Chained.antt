@@ -35,24 +35,24 @@ chained_push before after links hash s updates =
     let long : length hashes ≡ length links = length-map links (λ (l : Link). l.hash) in
     let all : hashes_of (links ++ link ∷ []) ≡ hashes ++ hash ∷ [] = map-append (λ (l : Link). l.hash) links (link ∷ []) in
     let before_is : (q n : ℕ) → n ≤ length links → newest_of hashes q n ≡ newest_of (hashes_of (links ++ link ∷ [])) q n =
-        λ q n l. sym (ap (λ hs. newest_of hs q n) all ∙ newest_of-before hashes hash q n (omega (arith, l, long))) in
+    λ q n l. sym (ap (λ hs. newest_of hs q n) all ∙ newest_of-before hashes hash q n (omega (arith, l, long))) in
     record {
-  heads = λ q.
-      updates q ∙ ap (λ o. cond (nat_eq hash q) (Some (length links)) o) (s.heads q)
-      ∙ ap (λ n. cond (nat_eq hash q) (Some n) (newest_of hashes q n)) (sym long)
-      ∙ sym (newest_of-push hashes hash q)
-      ∙ ap (λ n. newest_of (hashes ++ hash ∷ []) q (n + 1)) long
-      ∙ ap (λ n. newest_of (hashes ++ hash ∷ []) q n) (sym (length_push links link))
-      ∙ ap (λ hs. newest_of hs q (length (links ++ link ∷ []))) (sym all);
-  olders = λ i l d.
-      ⊎_elim {C = (get_or (links ++ link ∷ []) i d).older ≡ newest_of (hashes_of (links ++ link ∷ [])) (get_or (links ++ link ∷ []) i d).hash i}
-      (λ (e : i ≡ length links).
-      let at : get_or (links ++ link ∷ []) i d ≡ link = get_or_push links link d i (sym e) in
-      ap (λ (x : Link). x.older) at ∙ s.heads hash ∙ ap (λ n. newest_of hashes hash n) (sym e) ∙ ap (λ (x : Link). newest_of hashes x.hash i) (sym at)
-      ∙ before_is (get_or (links ++ link ∷ []) i d).hash i (omega (arith, e)))
-      (λ (k : i < length links).
-      let at : get_or (links ++ link ∷ []) i d ≡ get_or links i d = get_or_append_left links (link ∷ []) d i k in
-      ap (λ (x : Link). x.older) at ∙ s.olders i k d ∙ ap (λ (x : Link). newest_of hashes x.hash i) (sym at)
-      ∙ before_is (get_or (links ++ link ∷ []) i d).hash i (omega (arith, k)))
-      (let most : i ≤ length links = omega (arith, length_push links link) in eq-or-lt_of_le most);
-}
+      heads = λ q.
+          updates q ∙ ap (λ o. cond (nat_eq hash q) (Some (length links)) o) (s.heads q)
+          ∙ ap (λ n. cond (nat_eq hash q) (Some n) (newest_of hashes q n)) (sym long)
+          ∙ sym (newest_of-push hashes hash q)
+          ∙ ap (λ n. newest_of (hashes ++ hash ∷ []) q (n + 1)) long
+          ∙ ap (λ n. newest_of (hashes ++ hash ∷ []) q n) (sym (length_push links link))
+          ∙ ap (λ hs. newest_of hs q (length (links ++ link ∷ []))) (sym all);
+      olders = λ i l d.
+          ⊎_elim {C = (get_or (links ++ link ∷ []) i d).older ≡ newest_of (hashes_of (links ++ link ∷ [])) (get_or (links ++ link ∷ []) i d).hash i}
+          (λ (e : i ≡ length links).
+          let at : get_or (links ++ link ∷ []) i d ≡ link = get_or_push links link d i (sym e) in
+          ap (λ (x : Link). x.older) at ∙ s.heads hash ∙ ap (λ n. newest_of hashes hash n) (sym e) ∙ ap (λ (x : Link). newest_of hashes x.hash i) (sym at)
+          ∙ before_is (get_or (links ++ link ∷ []) i d).hash i (omega (arith, e)))
+          (λ (k : i < length links).
+          let at : get_or (links ++ link ∷ []) i d ≡ get_or links i d = get_or_append_left links (link ∷ []) d i k in
+          ap (λ (x : Link). x.older) at ∙ s.olders i k d ∙ ap (λ (x : Link). newest_of hashes x.hash i) (sym at)
+          ∙ before_is (get_or (links ++ link ∷ []) i d).hash i (omega (arith, k)))
+          (let most : i ≤ length links = omega (arith, length_push links link) in eq-or-lt_of_le most);
+    }

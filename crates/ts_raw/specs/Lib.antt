@@ -1,2 +1,6 @@
 pub mod LastBelow
 pub mod Links
+pub mod Numbered
+pub mod Hashes
+pub mod Faults
+pub mod SeriesTables

@@ -4,3 +4,5 @@
 #![tactic(auto)]
 
 mod index;
+
+pub use index::{ColumnId, IndexFault, SeriesId};
