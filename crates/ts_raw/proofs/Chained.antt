@@ -5,20 +5,15 @@ use Rattle.std.proofs.Math.Nat.{eq-or-lt_of_le}
 use Rattle.ts_raw.specs.declared.index.chains.Link.{Link}
 use Rattle.ts_raw.specs.LastBelow.{last_below, newest_of}
 use Rattle.ts_raw.specs.Links.{hashes_of, AreChained}
-use Rattle.ts_raw.proofs.LastBelows.{last_below-more, last_below-same, last_below-some, last_below-none, last_below-gap}
+use Rattle.ts_raw.proofs.LastBelows.{last_with-before, last_with-push}
 
 -- a hash behind the others changes nothing before it
 pub newest_of-before : (hashes : List ℕ) (more hash n : ℕ) → n ≤ length hashes → newest_of (hashes ++ more ∷ []) hash n ≡ newest_of hashes hash n
-newest_of-before hashes more hash n l =
-    last_below-same (λ i. nat_eq (get_or (hashes ++ more ∷ []) i 0) hash) (λ i. nat_eq (get_or hashes i 0) hash) n
-    (λ i k. ap (λ h. nat_eq h hash) (get_or_append_left hashes (more ∷ []) 0 i (omega (arith, l, k))))
+newest_of-before hashes more hash n l = last_with-before 0 (λ h. nat_eq h hash) hashes more n l
 
 -- and is found first
 pub newest_of-push : (hashes : List ℕ) (more hash : ℕ) → newest_of (hashes ++ more ∷ []) hash (length hashes + 1) ≡ cond (nat_eq more hash) (Some (length hashes)) (newest_of hashes hash (length hashes))
-newest_of-push hashes more hash =
-    last_below-more (λ i. nat_eq (get_or (hashes ++ more ∷ []) i 0) hash) (length hashes)
-    ∙ ap (λ h. cond (nat_eq h hash) (Some (length hashes)) (newest_of (hashes ++ more ∷ []) hash (length hashes))) (get_or_push hashes more 0 (length hashes) refl)
-    ∙ ap (λ o. cond (nat_eq more hash) (Some (length hashes)) o) (newest_of-before hashes more hash (length hashes) (omega arith))
+newest_of-push hashes more hash = last_with-push 0 (λ h. nat_eq h hash) hashes more
 
 pub chained_none : (newest : ℕ → Option ℕ) → ((q : ℕ) → newest q ≡ None) → AreChained newest []
 unfolding last_below

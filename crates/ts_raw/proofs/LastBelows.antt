@@ -1,7 +1,8 @@
 -- The last number below another that passes a test.
-use Rattle.std.proofs.Common.{◌≡◌, ℕ, zero, suc, ◌+◌, ◌<◌, ◌≤◌, Bool, true, false, cond, Option, Some, None, refl, sym, ◌∙◌, ap, subst, inl, inr, ◌⊎◌, ⊎_elim, arith, add-one, true≢false}
+use Rattle.std.proofs.Common.{◌≡◌, ℕ, zero, suc, ◌+◌, ◌<◌, ◌≤◌, Bool, true, false, cond, Option, Some, None, List, [], ◌∷◌, ◌++◌, length, get_or, refl, sym, ◌∙◌, ap, subst, inl, inr, ◌⊎◌, ⊎_elim, arith, add-one, true≢false}
+use Rattle.std.proofs.lemmas.List.{get_or_push, get_or_append_left}
 use Rattle.std.proofs.Math.Nat.{eq-or-lt_of_le}
-use Rattle.ts_raw.specs.LastBelow.{last_below}
+use Rattle.ts_raw.specs.LastBelow.{last_below, last_with}
 
 some_number : (i j : ℕ) → Some i ≡ Some j → i ≡ j
 some_number i j e = cc
@@ -56,3 +57,16 @@ last_below-gap p (suc n) i h j a l =
     let most : j ≤ n = omega arith in
     ⊎_elim {C = p j ≡ false} (λ (e : j ≡ n). ap p e ∙ s.0) (λ k. last_below-gap p n i s.1 j a k) (eq-or-lt_of_le most))
     (gap_case p n i (p n) (last_below p n) refl h)
+
+module _ {X : Type 0} (d : X) (p : X → Bool) (xs : List X) (x : X) where
+  -- a member behind the others changes nothing before it
+  pub last_with-before : (n : ℕ) → n ≤ length xs → last_with d p (xs ++ x ∷ []) n ≡ last_with d p xs n
+  last_with-before n l =
+      last_below-same (λ i. p (get_or (xs ++ x ∷ []) i d)) (λ i. p (get_or xs i d)) n (λ i k. ap p (get_or_append_left xs (x ∷ []) d i (omega (arith, l, k))))
+
+  -- and is found first
+  pub last_with-push : last_with d p (xs ++ x ∷ []) (length xs + 1) ≡ cond (p x) (Some (length xs)) (last_with d p xs (length xs))
+  last_with-push =
+      last_below-more (λ i. p (get_or (xs ++ x ∷ []) i d)) (length xs)
+      ∙ ap (λ y. cond (p y) (Some (length xs)) (last_with d p (xs ++ x ∷ []) (length xs))) (get_or_push xs x d (length xs) refl)
+      ∙ ap (λ o. cond (p x) (Some (length xs)) o) (last_with-before (length xs) (omega arith))

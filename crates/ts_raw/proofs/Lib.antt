@@ -4,3 +4,4 @@ pub mod NumberedLemmas
 pub mod Searches
 pub mod Hashing
 pub mod SeriesLemmas
+pub mod TableLemmas

@@ -3,4 +3,4 @@ pub mod Links
 pub mod Numbered
 pub mod Hashes
 pub mod Faults
-pub mod SeriesTables
+pub mod Tables

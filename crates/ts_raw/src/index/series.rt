@@ -23,13 +23,14 @@ pub(crate) struct SeriesTable<A: Allocator> {
 impl<A: Allocator> Model for SeriesTable<A> {
     ghost use Rattle.std.specs.Prelude.{List};
     ghost use Rattle.ts_core.specs.Facts.{Series};
-    ghost use Rattle.ts_raw.specs.SeriesTables.{IsSeriesTable};
+    ghost use Rattle.ts_raw.specs.Hashes.{hash_of_series};
+    ghost use Rattle.ts_raw.specs.Tables.{IsTable};
 
     ghost Value = { List Series };
 
     ghost view = { λ t. t.keys.items };
 
-    ghost invariant = { λ t. IsSeriesTable t.keys.items t.chains };
+    ghost invariant = { λ t. IsTable hash_of_series t.keys.items t.chains };
 }
 
 impl<A: Allocator + Copy> SeriesTable<A> {

@@ -4,9 +4,9 @@ use Rattle.ts_core.specs.Facts.{Series}
 use Rattle.ts_core.specs.Texts.{lent_series}
 use Rattle.ts_raw.specs.Hashes.{hash_of_series}
 use Rattle.ts_raw.specs.Numbered.{IsAt}
-use Rattle.ts_raw.specs.SeriesTables.{IsSeriesTable}
+use Rattle.ts_raw.specs.Tables.{IsTable}
 use Rattle.ts_raw.proofs.NumberedLemmas.{at_among, at_end}
-use Rattle.ts_raw.proofs.SeriesLemmas.{series_table_more}
+use Rattle.ts_raw.proofs.TableLemmas.{table_more}
 use Rattle.ts_raw.proofs.index.series.SeriesTable.register.Given.{Over}
 use Rattle.ts_raw.proofs.index.series.SeriesTable.register.Goals as goal
 
@@ -33,8 +33,8 @@ invariant_of-self-2 g c =
     let hashes : List ℕ = c.self.inside.chains in
     let absent : Among key before → ⊥ = subst (λ (xs : List Series). Among key xs → ⊥) (sym c.self.view_is) c.in_default.ensures.absent in
     let hashed : c.push.new.self ≡ hashes ++ hash_of_series key ∷ [] = c.in_ok-push.ensures.ok ∙ ap (λ n. hashes ++ n ∷ []) c.hash_series.ensures in
-    subst (λ (xs : List Series). IsSeriesTable xs c.push.new.self) (sym (pushed g c))
-    (subst (IsSeriesTable (before ++ key ∷ [])) (sym hashed) (series_table_more before hashes key c.self.invariant absent))
+    subst (λ (xs : List Series). IsTable hash_of_series xs c.push.new.self) (sym (pushed g c))
+    (subst (IsTable hash_of_series (before ++ key ∷ [])) (sym hashed) (table_more hash_of_series before hashes key c.self.invariant absent))
 
 pub returns-clause-number : goal.returns-clause-number
 returns-clause-number g c =
