@@ -4,3 +4,4 @@ pub mod Numbered
 pub mod Hashes
 pub mod Faults
 pub mod Tables
+pub mod FieldKeys

@@ -1,6 +1,7 @@
 //! Series and columns by name.
 mod chains;
 mod fault;
+mod fields;
 mod hash;
 mod ids;
 mod series;
