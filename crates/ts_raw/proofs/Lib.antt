@@ -5,3 +5,5 @@ pub mod Searches
 pub mod Hashing
 pub mod SeriesLemmas
 pub mod TableLemmas
+pub mod ColumnLemmas
+pub mod ListsLemmas

@@ -5,3 +5,5 @@ pub mod Hashes
 pub mod Faults
 pub mod Tables
 pub mod FieldKeys
+pub mod ColumnTables
+pub mod Lists

@@ -1,5 +1,6 @@
 //! Series and columns by name.
 mod chains;
+mod columns;
 mod fault;
 mod fields;
 mod hash;
