@@ -7,3 +7,5 @@ pub mod SeriesLemmas
 pub mod TableLemmas
 pub mod ColumnLemmas
 pub mod ListsLemmas
+pub mod IndexLemmas
+pub mod IndexSteps

@@ -7,3 +7,5 @@ pub mod Tables
 pub mod FieldKeys
 pub mod ColumnTables
 pub mod Lists
+pub mod Indexed
+pub mod IndexParts

@@ -5,4 +5,4 @@
 
 mod index;
 
-pub use index::{ColumnId, IndexFault, SeriesId};
+pub use index::{ColumnId, Index, IndexFault, SeriesId};

@@ -1,5 +1,5 @@
 //! Columns by the numbers of their series and their fields.
-ghost use Rattle.std.specs.Prelude.{◌≡◌, ◌+◌, ◌<◌, ◌++◌, [], ◌∷◌, length, IfSome, IfNone, IfOk, OnOk, OnErr};
+ghost use Rattle.std.specs.Prelude.{◌≡◌, ◌+◌, ◌<◌, ◌≤◌, ◌++◌, [], ◌∷◌, length, IfSome, IfNone, IfOk, OnOk, OnErr};
 ghost use Rattle.ts_core.specs.Members.{Among, AllDistinct};
 ghost use Rattle.ts_raw.specs.ColumnTables.{has_field};
 ghost use Rattle.ts_raw.specs.Numbered.{IsAt, numbers_where};
@@ -52,13 +52,6 @@ impl<A: Allocator + Copy> ColumnTable<A> {
         self.columns.len()
     }
 
-    /// How many fields there is room for.
-    pub(crate) fn fields(&self) -> usize
-        ensures { result ≡ self.now.fields }
-    {
-        self.members.len()
-    }
-
     /// The numbers of the series and the field of a column.
     pub(crate) fn numbers(&self, column: ColumnId) -> (u32, u32)
         requires { column < length self.now.columns }
@@ -85,13 +78,26 @@ impl<A: Allocator + Copy> ColumnTable<A> {
     }
 
     /// Makes room for one more field.
-    pub(crate) fn add_field(&mut self) -> Result<(), AllocError>
+    fn add_field(&mut self) -> Result<(), AllocError>
         ensures columns { self.new.columns ≡ self.old.columns }
         ensures ok { OnOk result (self.new.fields ≡ self.old.fields + 1) }
         ensures err { OnErr result (self.new.fields ≡ self.old.fields) }
     {
         let alloc = *self.members.allocator();
         self.members.push(Vec::new(alloc))?;
+        Ok(())
+    }
+
+    /// Makes room for one more field than there are.
+    pub(crate) fn make_room(&mut self, fields: usize) -> Result<(), AllocError>
+        requires { fields ≤ self.old.fields }
+        ensures columns { self.new.columns ≡ self.old.columns }
+        ensures more { self.old.fields ≤ self.new.fields }
+        ensures ok { OnOk result (fields < self.new.fields) }
+    {
+        if self.members.len() == fields {
+            self.add_field()?;
+        }
         Ok(())
     }
 
