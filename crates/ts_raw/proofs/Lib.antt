@@ -9,3 +9,4 @@ pub mod ColumnLemmas
 pub mod ListsLemmas
 pub mod IndexLemmas
 pub mod IndexSteps
+pub mod NumbersLaws
