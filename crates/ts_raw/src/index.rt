@@ -16,6 +16,11 @@ mod series;
 
 use columns::ColumnTable;
 
+#[cfg(test)]
+mod memory_tests;
+#[cfg(test)]
+mod tests;
+
 pub use fault::IndexFault;
 use fields::FieldTable;
 pub use ids::{ColumnId, SeriesId};
