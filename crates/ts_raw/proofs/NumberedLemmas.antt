@@ -1,5 +1,6 @@
 -- Numbered lists, and one more behind the others.
 use Rattle.std.proofs.Common.{◌≡◌, ℕ, zero, suc, ◌+◌, ◌<◌, List, [], ◌∷◌, ◌++◌, length, map, get_or, Option, Some, None, refl, sym, ◌∙◌, ap, subst, inl, inr, ◌⊎◌, ⊎_elim, arith, Bool, true, false, cond, add-zero, zero-add, IfSome, IfNone, IfOk, OnOk, OnErr, Result, Ok, Err}
+use Rattle.std.specs.Bool.{OnTrue}
 use Rattle.std.proofs.lemmas.Option.{slice_get_within, slice_get-get_or}
 use Rattle.ts_core.specs.Members.{Among, AllDistinct}
 use Rattle.ts_core.proofs.MembersLemmas.{AllDistinct-append}
@@ -144,3 +145,7 @@ outcome (Err e) p q = inr q
 pub ok_with : {X E : Type 0} {P R : X → Type 0} {Q : Type 0} (r : Result X E) → ((x : X) → P x → Q → R x) → IfOk r P → OnOk r Q → IfOk r R
 ok_with (Ok x) f p q = f x p q
 ok_with (Err e) f p q = tt
+
+pub on_true_so : {P : Type 0} (b : Bool) → (b ≡ true → P) → OnTrue b P
+on_true_so true f = f refl
+on_true_so false f = tt

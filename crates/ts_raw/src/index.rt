@@ -1,4 +1,5 @@
 //! Series and columns by name.
+ghost use Rattle.std.specs.Bool.{OnTrue};
 ghost use Rattle.std.specs.Prelude.{◌≡◌, ◌≤◌, ◌<◌, ◌↔◌, ◌++◌, [], ◌∷◌, length, IfSome, IfNone, IfOk, OnOk, OnErr, IsOk, Err};
 ghost use Rattle.ts_core.specs.Facts.{Column, is_of};
 ghost use Rattle.ts_core.specs.Members.{Among};
@@ -7,12 +8,13 @@ ghost use Rattle.ts_raw.specs.Indexed.{IsSound, column_of};
 ghost use Rattle.ts_raw.specs.Numbered.{IsAt, Gains, numbers_where};
 
 mod chains;
+mod column_id;
 mod columns;
 mod fault;
 mod fields;
 mod hash;
-mod ids;
 mod series;
+mod series_id;
 
 use columns::ColumnTable;
 
@@ -21,10 +23,11 @@ mod memory_tests;
 #[cfg(test)]
 mod tests;
 
+pub use column_id::ColumnId;
 pub use fault::IndexFault;
 use fields::FieldTable;
-pub use ids::{ColumnId, SeriesId};
 use series::SeriesTable;
+pub use series_id::SeriesId;
 use std::alloc::{AllocError, Allocator};
 use std::marker::Model;
 use ts_core::{FieldName, Key};
@@ -146,6 +149,30 @@ impl<A: Allocator + Copy> Index<A> {
         let measurement = self.series.key(series).measurement();
         let field = self.fields.lookup(measurement, field)?;
         self.columns.lookup(series.number, field)
+    }
+
+    /// The same as `column`, found at once where it was made right after another.
+    pub fn column_after(&self, before: ColumnId, series: SeriesId, field: &str) -> Option<ColumnId>
+        requires { series < length self.now.series }
+        ensures found { IfSome result (λ id. IsAt self.now.columns id (column_of self.now series field.now)) }
+        ensures absent { IfNone result (Among (column_of self.now series field.now) self.now.columns → ⊥) }
+    {
+        let next = before.next();
+        if self.is_column(next, series, field) {
+            return Some(next);
+        }
+        self.column(series, field)
+    }
+
+    /// Whether a column is there, and is of a series and a field.
+    fn is_column(&self, column: ColumnId, series: SeriesId, field: &str) -> bool
+        ensures { OnTrue result (IsAt self.now.columns column (column_of self.now series field.now)) }
+    {
+        if column.number() >= self.columns.len() {
+            return false;
+        }
+        let (of, number) = self.columns.numbers(column);
+        of == series.number && self.fields.key(number).field().as_str() == field
     }
 
     /// The columns of a measurement and a field, in the order of making. It walks these and no others.

@@ -4,7 +4,7 @@ ghost use Rattle.ts_core.specs.Members.{Among, AllDistinct};
 ghost use Rattle.ts_raw.specs.ColumnTables.{has_field};
 ghost use Rattle.ts_raw.specs.Numbered.{IsAt, numbers_where};
 
-use crate::index::ids::ColumnId;
+use crate::index::column_id::ColumnId;
 use std::alloc::{AllocError, Allocator};
 use std::collections::HashMap;
 use std::hash::{BuildHasherDefault, FoldHasher};

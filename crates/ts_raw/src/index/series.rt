@@ -7,7 +7,7 @@ ghost use Rattle.ts_raw.specs.Numbered.{IsAt, Gains};
 use crate::index::chains::Chains;
 use crate::index::fault::IndexFault;
 use crate::index::hash::hash_series;
-use crate::index::ids::SeriesId;
+use crate::index::series_id::SeriesId;
 use std::alloc::Allocator;
 use std::cmp::Ordering;
 use std::marker::Model;

@@ -25,6 +25,34 @@ pub(crate) fn find<A: Allocator + Copy>(
     index.column(series, field)
 }
 
+/// The same, guessed to be made right after another.
+fn find_after<A: Allocator + Copy>(
+    index: &Index<A>,
+    before: ColumnId,
+    measurement: &str,
+    host: &str,
+    field: &str,
+) -> Option<ColumnId> {
+    let series = index.lookup(measurement, &[("host", host)])?;
+    index.column_after(before, series, field)
+}
+
+#[test]
+fn a_guess_finds_the_same_column(rt: HostRuntime) -> Result<(), Fail> {
+    let mut index = Index::new(rt.alloc());
+    let first = make(&mut index, "cpu", "a", "idle")?;
+    let second = make(&mut index, "cpu", "a", "user")?;
+    for (before, field, want) in [
+        (first, "user", Some(second)),
+        (second, "user", Some(second)),
+        (second, "idle", Some(first)),
+        (first, "free", None),
+    ] {
+        assert!(rt; find_after(&index, before, "cpu", "a", field) == want);
+    }
+    Ok(())
+}
+
 #[test]
 fn series_are_found_by_their_keys(rt: HostRuntime) -> Result<(), Fail> {
     let mut index = Index::new(rt.alloc());
