@@ -1,5 +1,5 @@
 -- Columns by their numbers: what is found, one more field, one more column.
-use Rattle.std.proofs.Common.{◌≡◌, ℕ, ◌<◌, ◌≤◌, Bool, true, false, cond, nat_eq, List, [], ◌∷◌, ◌++◌, length, get_or, set, Option, Some, None, refl, sym, ◌∙◌, ap, subst, ⊎_elim, arith, true≢false, eq-eqb, eqb-true, ◌&&◌}
+use Rattle.std.proofs.Common.{◌≡◌, ℕ, ◌<◌, ◌≤◌, true, false, cond, nat_eq, List, [], ◌∷◌, ◌++◌, length, get_or, set, Option, Some, None, refl, sym, ◌∙◌, ap, subst, ⊎_elim, arith, true≢false, eq-eqb, eqb-true}
 use Rattle.std.proofs.Math.Nat.{eq-or-lt_of_le}
 use Rattle.std.proofs.lemmas.Bool.{cases_eq}
 use Rattle.std.proofs.lemmas.List.{length_push, get_or_push, get_or_append_left, get_or-set_same, get_or-set_other, length-set, append-nil}
@@ -11,11 +11,7 @@ use Rattle.ts_raw.specs.ColumnTables.{same_numbers, has_field, IsColumnTable}
 use Rattle.ts_raw.specs.LastBelow.{last_below, last_with}
 use Rattle.ts_raw.specs.Numbered.{IsAt, numbers_where}
 use Rattle.ts_raw.proofs.LastBelows.{last_below-some, last_below-none, last_with-push}
-use Rattle.ts_raw.proofs.NumberedLemmas.{among_at, at_within, at_among, once_more, numbers_where-push, numbers_from-none}
-
-split_and : (a b : Bool) → (a && b) ≡ true → (a ≡ true) × (b ≡ true)
-split_and true b h = (refl, h)
-split_and false b h = absurd (true≢false (sym h))
+use Rattle.ts_raw.proofs.NumberedLemmas.{split_and, among_at, at_within, at_among, once_more, numbers_where-push, numbers_from-none}
 
 same_numbers-eq : (x y : ℕ × ℕ) → same_numbers x y ≡ true → x ≡ y
 same_numbers-eq x y h =

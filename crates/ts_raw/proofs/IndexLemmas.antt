@@ -1,5 +1,5 @@
 -- An index by its parts: what its names stand for.
-use Rattle.std.proofs.Common.{◌≡◌, ℕ, ◌<◌, Bool, true, false, nat_eq, List, [], length, map, get_or, refl, sym, ◌∙◌, ap, subst, true≢false, eq-eqb, eqb-true, ◌&&◌}
+use Rattle.std.proofs.Common.{◌≡◌, ℕ, ◌<◌, Bool, true, false, nat_eq, List, [], length, map, get_or, refl, sym, ◌∙◌, ap, subst, eq-eqb, eqb-true}
 use Rattle.std.proofs.lemmas.Option.{slice_get-get_or, get_or_from_slice_get}
 use Rattle.std.specs.Cmp.Derive.{both_true}
 use Rattle.ts_core.specs.Members.{Among}
@@ -8,14 +8,10 @@ use Rattle.ts_core.proofs.Ids.{same_text-eq}
 use Rattle.ts_core.proofs.Tests.{same_text-from_eq}
 use Rattle.ts_raw.specs.FieldKeys.{FieldKey, field_key}
 use Rattle.ts_raw.specs.ColumnTables.{ColumnNumbers, has_field}
-use Rattle.ts_raw.specs.Indexed.{IsSound, no_series, column_of}
+use Rattle.ts_raw.specs.Indexed.{IsSound, no_series, column_in}
 use Rattle.ts_raw.specs.IndexParts.{no_field, column_named, IsNamed, index_of, IsIndex}
 use Rattle.ts_raw.specs.Numbered.{IsAt, numbers_where, numbers_from}
-use Rattle.ts_raw.proofs.NumberedLemmas.{at_among, among_at, at_within, same_place, Among-map, map_back, AllDistinct-map, numbers_from-map, numbers_from-none}
-
-split_and : (a b : Bool) → (a && b) ≡ true → (a ≡ true) × (b ≡ true)
-split_and true b h = (refl, h)
-split_and false b h = absurd (true≢false (sym h))
+use Rattle.ts_raw.proofs.NumberedLemmas.{split_and, at_among, among_at, at_within, same_place, Among-map, map_back, AllDistinct-map, numbers_from-map, numbers_from-none}
 
 not_true : (b : Bool) → (b ≡ true → ⊥) → b ≡ false
 not_true true n = absurd (n refl)
@@ -28,6 +24,10 @@ same_tests false false f g = refl
 
 none_pass : {X : Type 0} (n : ℕ) (xs : List X) → numbers_from (λ x. false) n xs ≡ []
 none_pass n xs = numbers_from-none (λ x. false) n xs (λ x a. refl)
+
+-- the measurement of a series by its number
+pub measurement_of : (series : List Series) (s : ℕ) (key : Series) (m : Text) → IsAt series s key → m ≡ key.measurement → (get_or series s no_series).measurement ≡ m
+measurement_of series s key m at e = ap (λ (r : Series). r.measurement) (get_or_from_slice_get series s key no_series at) ∙ sym e
 
 module _ (series : List Series) (fields : List FieldKey) (t : ColumnNumbers) (is : IsIndex series fields t) where
   pub among_named : (x : ℕ × ℕ) → Among x t.columns → IsNamed series fields x
@@ -59,7 +59,7 @@ module _ (series : List Series) (fields : List FieldKey) (t : ColumnNumbers) (is
   -- ---- a series and a field by name
 
   module _ (s : ℕ) (m field : Text) (there : s < length series) (of : (get_or series s no_series).measurement ≡ m) where
-    pub name_is : (f : ℕ) → IsAt fields f (field_key m field) → column_named series fields (s, f) ≡ column_of (index_of series fields t) s field
+    pub name_is : (f : ℕ) → IsAt fields f (field_key m field) → column_named series fields (s, f) ≡ column_in (index_of series fields t) s field
     name_is f at =
         ap (λ (k : FieldKey). let c : Column = record { series = get_or series s no_series; field = k.field } in c) (get_or_from_slice_get fields f (field_key m field) no_field at)
 
@@ -71,9 +71,9 @@ module _ (series : List Series) (fields : List FieldKey) (t : ColumnNumbers) (is
     }
 
     -- a column of a field that isn't there
-    pub no_column_of : (Among (field_key m field) fields → ⊥) → Among (column_of (index_of series fields t) s field) (map (column_named series fields) t.columns) → ⊥
+    pub no_column_of : (Among (field_key m field) fields → ⊥) → Among (column_in (index_of series fields t) s field) (map (column_named series fields) t.columns) → ⊥
     no_column_of absent a =
-        let x = map_back (column_named series fields) t.columns (column_of (index_of series fields t) s field) a in
+        let x = map_back (column_named series fields) t.columns (column_in (index_of series fields t) s field) a in
         let named = among_named x.0 x.1 in
         let measurement : (get_or fields x.0.1 no_field).measurement ≡ m = sym named.together ∙ ap (λ (c : Column). c.series.measurement) x.2 ∙ of in
         let name : (get_or fields x.0.1 no_field).field ≡ field = ap (λ (c : Column). c.field) x.2 in
@@ -82,14 +82,14 @@ module _ (series : List Series) (fields : List FieldKey) (t : ColumnNumbers) (is
 
     -- a column that isn't among the numbers
     pub no_column_at : (f : ℕ) → IsAt fields f (field_key m field) → (Among (s, f) t.columns → ⊥)
-        → Among (column_of (index_of series fields t) s field) (map (column_named series fields) t.columns) → ⊥
+        → Among (column_in (index_of series fields t) s field) (map (column_named series fields) t.columns) → ⊥
     no_column_at f at absent a =
-        let x = map_back (column_named series fields) t.columns (column_of (index_of series fields t) s field) a in
+        let x = map_back (column_named series fields) t.columns (column_in (index_of series fields t) s field) a in
         absent (subst (λ y. Among y t.columns) (named_apart x.0 (s, f) (among_named x.0 x.1) (both_named f at) (x.2 ∙ sym (name_is f at))) x.1)
 
     -- and back
     pub no_numbers : (f : ℕ) → IsAt fields f (field_key m field)
-        → (Among (column_of (index_of series fields t) s field) (map (column_named series fields) t.columns) → ⊥) → Among (s, f) t.columns → ⊥
+        → (Among (column_in (index_of series fields t) s field) (map (column_named series fields) t.columns) → ⊥) → Among (s, f) t.columns → ⊥
     no_numbers f at absent a =
         absent (subst (λ (c : Column). Among c (map (column_named series fields) t.columns)) (name_is f at) (Among-map (column_named series fields) (s, f) t.columns a))
 

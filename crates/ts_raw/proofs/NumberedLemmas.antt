@@ -1,5 +1,5 @@
 -- Numbered lists, and one more behind the others.
-use Rattle.std.proofs.Common.{◌≡◌, ℕ, zero, suc, ◌+◌, ◌<◌, List, [], ◌∷◌, ◌++◌, length, map, get_or, Option, Some, None, refl, sym, ◌∙◌, ap, subst, inl, inr, ◌⊎◌, ⊎_elim, arith, Bool, true, false, cond, add-zero, zero-add, IfSome, IfNone, IfOk, OnOk, OnErr, Result, Ok, Err}
+use Rattle.std.proofs.Common.{◌≡◌, ℕ, zero, suc, ◌+◌, ◌<◌, List, [], ◌∷◌, ◌++◌, length, map, get_or, Option, Some, None, refl, sym, ◌∙◌, ap, subst, inl, inr, ◌⊎◌, ⊎_elim, arith, Bool, true, false, true≢false, ◌&&◌, cond, add-zero, zero-add, IfSome, IfNone, IfOk, OnOk, OnErr, Result, Ok, Err}
 use Rattle.std.specs.Bool.{OnTrue}
 use Rattle.std.proofs.lemmas.Option.{slice_get_within, slice_get-get_or}
 use Rattle.ts_core.specs.Members.{Among, AllDistinct}
@@ -8,6 +8,10 @@ use Rattle.ts_raw.specs.Numbered.{IsAt, numbers_from, numbers_where}
 
 pub some_member : {X : Type 0} (x y : X) → Some x ≡ Some y → x ≡ y
 some_member x y e = cc
+
+pub split_and : (a b : Bool) → (a && b) ≡ true → (a ≡ true) × (b ≡ true)
+split_and true b h = (refl, h)
+split_and false b h = absurd (true≢false (sym h))
 
 module _ {X : Type 0} where
   pub at_within : (xs : List X) (n : ℕ) (x : X) → IsAt xs n x → n < length xs

@@ -12,8 +12,8 @@ abbrev pub no_series : Series
 no_series = record { measurement = []; tags = [] }
 
 -- the column of the series with that number, and a field
-abbrev pub column_of : Indexed → ℕ → Text → Column
-column_of index series field = record { series = slice_index_or index.series series no_series; field = field }
+abbrev pub column_in : Indexed → ℕ → Text → Column
+column_in index series field = record { series = slice_index_or index.series series no_series; field = field }
 
 -- each series is there once, each column once, and each column is one of a registered series
 pub record IsSound (index : Indexed) : Type 0 where

@@ -4,7 +4,7 @@ ghost use Rattle.std.specs.Prelude.{◌≡◌, ◌≤◌, ◌<◌, ◌↔◌, �
 ghost use Rattle.ts_core.specs.Facts.{Column, is_of};
 ghost use Rattle.ts_core.specs.Members.{Among};
 ghost use Rattle.ts_core.specs.Texts.{lent_pairs, lent_series, IsTagSet};
-ghost use Rattle.ts_raw.specs.Indexed.{IsSound, column_of};
+ghost use Rattle.ts_raw.specs.Indexed.{IsSound, column_in};
 ghost use Rattle.ts_raw.specs.Numbered.{IsAt, Gains, numbers_where};
 
 mod chains;
@@ -142,8 +142,8 @@ impl<A: Allocator + Copy> Index<A> {
     /// The column of a series and a field, where there is one.
     pub fn column(&self, series: SeriesId, field: &str) -> Option<ColumnId>
         requires { series < length self.now.series }
-        ensures found { IfSome result (λ id. IsAt self.now.columns id (column_of self.now series field.now)) }
-        ensures absent { IfNone result (Among (column_of self.now series field.now) self.now.columns → ⊥) }
+        ensures found { IfSome result (λ id. IsAt self.now.columns id (column_in self.now series field.now)) }
+        ensures absent { IfNone result (Among (column_in self.now series field.now) self.now.columns → ⊥) }
         ensures sound { IsSound self.now }
     {
         let measurement = self.series.key(series).measurement();
@@ -154,8 +154,8 @@ impl<A: Allocator + Copy> Index<A> {
     /// The same as `column`, found at once where it was made right after another.
     pub fn column_after(&self, before: ColumnId, series: SeriesId, field: &str) -> Option<ColumnId>
         requires { series < length self.now.series }
-        ensures found { IfSome result (λ id. IsAt self.now.columns id (column_of self.now series field.now)) }
-        ensures absent { IfNone result (Among (column_of self.now series field.now) self.now.columns → ⊥) }
+        ensures found { IfSome result (λ id. IsAt self.now.columns id (column_in self.now series field.now)) }
+        ensures absent { IfNone result (Among (column_in self.now series field.now) self.now.columns → ⊥) }
     {
         let next = before.next();
         if self.is_column(next, series, field) {
@@ -166,7 +166,7 @@ impl<A: Allocator + Copy> Index<A> {
 
     /// Whether a column is there, and is of a series and a field.
     fn is_column(&self, column: ColumnId, series: SeriesId, field: &str) -> bool
-        ensures { OnTrue result (IsAt self.now.columns column (column_of self.now series field.now)) }
+        ensures { OnTrue result (IsAt self.now.columns column (column_in self.now series field.now)) }
     {
         if column.number() >= self.columns.len() {
             return false;
@@ -188,13 +188,13 @@ impl<A: Allocator + Copy> Index<A> {
     /// The column of a series and a field, made where there is none yet.
     pub fn add_column(&mut self, series: SeriesId, field: &str) -> Result<ColumnId, AllocError>
         requires { series < length self.old.series }
-        ensures number { IfOk result (λ id. IsAt self.new.columns id (column_of self.old series field.now)) }
-        ensures ok { OnOk result (Gains self.old.columns self.new.columns (column_of self.old series field.now)) }
+        ensures number { IfOk result (λ id. IsAt self.new.columns id (column_in self.old series field.now)) }
+        ensures ok { OnOk result (Gains self.old.columns self.new.columns (column_in self.old series field.now)) }
         ensures series { self.new.series ≡ self.old.series }
         ensures err { OnErr result (self.new ≡ self.old) }
 
         // Only a column that isn't there takes memory.
-        ensures known { Among (column_of self.old series field.now) self.old.columns → IsOk result }
+        ensures known { Among (column_in self.old series field.now) self.old.columns → IsOk result }
         ensures sound { IsSound self.new }
     {
         match self.column(series, field) {
@@ -205,9 +205,9 @@ impl<A: Allocator + Copy> Index<A> {
 
     fn make_column(&mut self, series: SeriesId, field: &str) -> Result<ColumnId, AllocError>
         requires series { series < length self.old.series }
-        requires absent { Among (column_of self.old series field.now) self.old.columns → ⊥ }
-        ensures number { IfOk result (λ id. IsAt self.new.columns id (column_of self.old series field.now)) }
-        ensures ok { OnOk result (self.new.columns ≡ self.old.columns ++ column_of self.old series field.now ∷ []) }
+        requires absent { Among (column_in self.old series field.now) self.old.columns → ⊥ }
+        ensures number { IfOk result (λ id. IsAt self.new.columns id (column_in self.old series field.now)) }
+        ensures ok { OnOk result (self.new.columns ≡ self.old.columns ++ column_in self.old series field.now ∷ []) }
         ensures series { self.new.series ≡ self.old.series }
         ensures err { OnErr result (self.new ≡ self.old) }
         ensures sound { IsSound self.new }

@@ -1,19 +1,15 @@
-use Rattle.std.proofs.Common.{◌≡◌, ℕ, ◌<◌, List, [], ◌∷◌, ◌++◌, length, map, get_or, OnOk, sym, ◌∙◌, ap, subst}
-use Rattle.std.proofs.lemmas.Option.{get_or_from_slice_get}
-use Rattle.ts_core.specs.Facts.{Text, Series, Column}
+use Rattle.std.proofs.Common.{◌≡◌, ◌<◌, List, [], ◌∷◌, ◌++◌, length, map, OnOk, sym, ◌∙◌, ap, subst}
+use Rattle.ts_core.specs.Facts.{Series, Column}
 use Rattle.ts_core.specs.Members.{Among}
 use Rattle.ts_raw.specs.FieldKeys.{FieldKey}
 use Rattle.ts_raw.specs.IndexParts.{column_named, IsIndex}
-use Rattle.ts_raw.specs.Indexed.{Indexed, no_series, column_of}
+use Rattle.ts_raw.specs.Indexed.{Indexed, column_in}
 use Rattle.ts_raw.specs.Numbered.{IsAt}
-use Rattle.ts_raw.proofs.IndexLemmas.{index_sound}
+use Rattle.ts_raw.proofs.IndexLemmas.{measurement_of, index_sound}
 use Rattle.ts_raw.proofs.IndexSteps.{IsMaking, index_roomy, made_room, made_absent, made_more, made_same, made_at, made_pushes}
 use Rattle.ts_raw.proofs.NumberedLemmas.{outcome, ok_with, on_ok_so, on_err_so}
 use Rattle.ts_raw.proofs.index.Index.make_column.Given.{Over}
 use Rattle.ts_raw.proofs.index.Index.make_column.Goals as goal
-
-measurement_of : (series : List Series) (s : ℕ) (key : Series) (m : Text) → IsAt series s key → m ≡ key.measurement → (get_or series s no_series).measurement ≡ m
-measurement_of series s key m at e = ap (λ (r : Series). r.measurement) (get_or_from_slice_get series s key no_series at) ∙ sym e
 
 pub invariant_of-self : goal.invariant_of-self
 invariant_of-self g c =
@@ -66,7 +62,7 @@ push-requires-clause-field g c =
 
 pub push-requires-clause-absent : goal.push-requires-clause-absent
 push-requires-clause-absent g c =
-    let absent = subst (λ (i : Indexed). Among (column_of i c.args.series c.args.field.now) i.columns → ⊥) (sym c.self.view_is) c.requires.absent in
+    let absent = subst (λ (i : Indexed). Among (column_in i c.args.series c.args.field.now) i.columns → ⊥) (sym c.self.view_is) c.requires.absent in
     subst (λ s. Among (s, c.in_ok-field.field) c.make_room.new.self.columns → ⊥) (sym c.series.view_is)
     (made_absent c.self.inside.series c.self.inside.fields c.register.new.self c.self.inside.columns c.make_room.new.self c.args.series c.measurement-measurement.result.now c.args.field.now
     c.in_ok-field.field (making g c) absent)
@@ -77,7 +73,7 @@ pushed g c =
 
 pub invariant_of-self-2 : goal.invariant_of-self-2
 invariant_of-self-2 g c =
-    let absent = subst (λ (i : Indexed). Among (column_of i c.args.series c.args.field.now) i.columns → ⊥) (sym c.self.view_is) c.requires.absent in
+    let absent = subst (λ (i : Indexed). Among (column_in i c.args.series c.args.field.now) i.columns → ⊥) (sym c.self.view_is) c.requires.absent in
     made_pushes c.self.inside.series c.self.inside.fields c.register.new.self c.self.inside.columns c.make_room.new.self c.args.series c.measurement-measurement.result.now c.args.field.now
     c.in_ok-field.field (made g c) c.push.new.self absent (outcome c.push.result (pushed g c) c.push.ensures.err) c.push.ensures.fields
 
@@ -86,7 +82,7 @@ returns-clause-number g c =
     let series : List Series = c.self.inside.series in
     ok_with c.push.result
     (λ n e p.
-    subst (λ (i : Indexed). IsAt (map (column_named series c.register.new.self) c.push.new.self.columns) n (column_of i c.args.series c.args.field.now)) c.self.view_is
+    subst (λ (i : Indexed). IsAt (map (column_named series c.register.new.self) c.push.new.self.columns) n (column_in i c.args.series c.args.field.now)) c.self.view_is
     (made_at series c.self.inside.fields c.register.new.self c.self.inside.columns c.make_room.new.self c.args.series c.measurement-measurement.result.now c.args.field.now c.in_ok-field.field
     (made g c) c.push.new.self n e p))
     c.push.ensures.number (pushed g c)
@@ -98,7 +94,7 @@ returns-clause-ok g c =
     (λ p.
     made_more series c.self.inside.fields c.register.new.self c.self.inside.columns c.make_room.new.self c.args.series c.measurement-measurement.result.now c.args.field.now c.in_ok-field.field
     (made g c) c.push.new.self p
-    ∙ ap (λ (i : Indexed). i.columns ++ column_of i c.args.series c.args.field.now ∷ []) c.self.view_is)
+    ∙ ap (λ (i : Indexed). i.columns ++ column_in i c.args.series c.args.field.now ∷ []) c.self.view_is)
     (pushed g c)
 
 pub returns-clause-err : goal.returns-clause-err
