@@ -1,3 +1,15 @@
 pub mod PointMaps
 pub mod PointRanges
 pub mod ColumnLaws
+pub mod LastBelows
+pub mod Chained
+pub mod NumberedLemmas
+pub mod Searches
+pub mod Hashing
+pub mod SeriesLemmas
+pub mod TableLemmas
+pub mod ColumnLemmas
+pub mod ListsLemmas
+pub mod IndexLemmas
+pub mod IndexSteps
+pub mod NumbersLaws

@@ -1,3 +1,14 @@
 pub mod Columns
 pub mod PlainColumns
 pub mod PointsLeft
+pub mod LastBelow
+pub mod Links
+pub mod Numbered
+pub mod Hashes
+pub mod Faults
+pub mod Tables
+pub mod FieldKeys
+pub mod ColumnTables
+pub mod Lists
+pub mod Indexed
+pub mod IndexParts
