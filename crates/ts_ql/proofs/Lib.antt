@@ -1,1 +1,2 @@
 pub mod LexingLemmas
+pub mod LiteralLemmas
