@@ -1,2 +1,3 @@
 pub mod LexingLemmas
 pub mod LiteralLemmas
+pub mod DateLemmas

@@ -1,3 +1,4 @@
 pub mod Tokens
 pub mod Lexing
 pub mod Literals
+pub mod Dates

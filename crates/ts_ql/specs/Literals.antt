@@ -1,6 +1,6 @@
 -- What literals mean: numbers, durations, and texts in quotes.
 -- (InfluxData 1.8, InfluxQL reference, literals: integers, durations, strings. Own rule: the four escapes, and the ranges.)
-use Rattle.std.specs.Prelude.{ℕ, ℤ, pos, neg_ℤ, ◌+◌, ◌-◌, ◌*◌, [], ◌∷◌, List, Bool, true, false, nat_lt, nat_le, ◌||◌, ◌==◌, if◌then◌else◌, Option, Some, None, codes, slice_index, encode_utf8_all}
+use Rattle.std.specs.Prelude.{ℕ, ℤ, pos, neg_ℤ, ◌+◌, ◌-◌, ◌*◌, [], ◌∷◌, List, Bool, true, false, nat_lt, nat_le, ◌||◌, ◌==◌, if◌then◌else◌, Option, Some, None, slice_index, encode_utf8_all}
 use Rattle.std.specs.Char.{is_ascii_digit}
 use Rattle.std.specs.Str.{chars, str_eq_ignore_ascii_case}
 use Rattle.ts_core.specs.Facts.{Text}

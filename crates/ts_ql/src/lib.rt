@@ -3,6 +3,7 @@
 #![tactic(auto)]
 
 mod bytes;
+mod date;
 mod literal;
 mod number;
 mod shape;

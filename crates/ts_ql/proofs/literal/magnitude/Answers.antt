@@ -1,4 +1,4 @@
-use Rattle.std.proofs.Common.{◌≡◌, ◌+◌, ◌<◌, length, get_or, true, false, rules}
+use Rattle.std.proofs.Common.{◌≡◌, ◌+◌, get_or, true, false, rules}
 use Rattle.std.specs.Char.{is_ascii_digit}
 use Rattle.ts_ql.specs.Literals.{unit_of}
 use Rattle.ts_ql.proofs.LiteralLemmas.{digit_past, unit_past}

@@ -1,4 +1,4 @@
-use Rattle.std.proofs.Common.{length, ◌-◌, ◌≡◌, ◌≤◌, drop}
+use Rattle.std.proofs.Common.{length, ◌-◌, ◌≡◌, drop}
 use Rattle.ts_ql.specs.Literals.{added_up, magnitude}
 use Rattle.ts_ql.proofs.literal.magnitude.Given as goal
 

@@ -1,9 +1,9 @@
-use Rattle.std.proofs.Common.{sym, ◌∙◌, ◌≡◌, true, false, rules, refl}
+use Rattle.std.proofs.Common.{sym, ◌∙◌, ◌≡◌, refl}
 use Rattle.std.specs.Prelude.{string_bytes}
 use Rattle.std.specs.Str.Iter.{chars_rest}
 use Rattle.std.proofs.lemmas.Str.{IsUtf8-past_char}
 use Rattle.ts_ql.specs.Literals.{unescaped}
-use Rattle.ts_ql.proofs.LiteralLemmas.{spelled_on, spelled_escape, spelled_backslash, spelled_plain, spelled_past}
+use Rattle.ts_ql.proofs.LiteralLemmas.{spelled_escape, spelled_backslash, spelled_plain, spelled_past}
 use Rattle.ts_ql.proofs.literal.unescaped.Goals as goal
 
 pub loop-c-init : goal.loop-c-init
