@@ -8,6 +8,7 @@ use Rattle.ts_ql.specs.declared.bytes.Class.TheVariants.{Space, Name, Digit}
 use Rattle.ts_ql.specs.declared.token.Kind.{Kind}
 use Rattle.ts_ql.specs.declared.token.Kind.TheVariants as kinds
 use Rattle.ts_ql.specs.Tokens.{Lexeme}
+use Rattle.ts_ql.specs.Words.{is_keyword}
 
 -- ---- runs of bytes
 
@@ -141,9 +142,14 @@ is_quoted kind = false
 abbrev pub text_of : Text → ℕ → Kind × ℕ → Text
 text_of text start shape = if is_quoted shape.0 then slice_range text (start + 1) (shape.1 - 1) else slice_range text start shape.1
 
+-- a word may be a keyword
+abbrev pub kind_of : Kind → Text → Kind
+kind_of kinds.Word raw = if is_keyword raw then kinds.Keyword else kinds.Word
+kind_of kind raw = kind
+
 abbrev pub shaped : Text → ℕ → Kind × ℕ → Lexeme
 shaped text start shape = record {
-  kind = shape.0;
+  kind = kind_of shape.0 (slice_range text start shape.1);
   start = start;
   end = shape.1;
   raw = slice_range text start shape.1;

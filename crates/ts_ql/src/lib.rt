@@ -4,7 +4,13 @@
 
 mod bytes;
 mod date;
+mod fault;
 mod literal;
 mod number;
+mod query;
 mod shape;
 mod token;
+mod words;
+
+pub use fault::{ParseError, QlFault};
+pub use query::{Column, Condition, Fill, Function};

@@ -3,15 +3,22 @@ ghost use Rattle.std.specs.Prelude.{◌≡◌, ◌≢◌, ◌<◌};
 ghost use Rattle.std.specs.Str.{IsCharBoundary};
 ghost use Rattle.ts_ql.specs.Lexing.{token_at};
 ghost use Rattle.ts_ql.specs.Tokens.{lexeme};
+ghost use Rattle.ts_ql.specs.Words.{is_time, is_foreign};
+ghost use Rattle.ts_ql.specs.Faults.{told, left_out, unexpected};
 
 use crate::bytes::{Class, end_of};
+use crate::fault::QlFault;
+use crate::literal::is_word;
 use crate::shape::shape_at;
+use crate::words::{is_foreign_keyword, is_foreign_word, is_keyword};
 
 /// What a token is.
 #[derive(Clone, Copy, Debug, PartialEq, Eq)]
 pub(crate) enum Kind {
-    /// Letters, digits and `_`, with no digit first: a keyword or a name.
+    /// Letters, digits and `_`, with no digit first.
     Word,
+    /// Such a word that is no name without quotes.
+    Keyword,
     /// A name in double quotes.
     QuotedName,
     /// A text in single quotes.
@@ -69,12 +76,65 @@ impl<'a> Token<'a> {
             Kind::QuotedName | Kind::Literal => &text[start + 1..end - 1],
             _ => raw,
         };
+        let kind = match kind {
+            Kind::Word if is_keyword(raw) => Kind::Keyword,
+            _ => kind,
+        };
         Token {
             kind,
             start,
             end,
             raw,
             text,
+        }
+    }
+
+    /// Whether it is the column of time.
+    #[tactic(auto, unfolding(crate::specs::Words::is_time))]
+    pub(crate) fn is_time(&self) -> bool
+        ensures { result ≡ is_time self.now.kind self.now.text.now }
+    {
+        match self.kind {
+            Kind::Word => is_word(self.text, "time"),
+            Kind::QuotedName => self.text == "time",
+            _ => false,
+        }
+    }
+
+    /// Whether the profile leaves it out wherever it is at fault.
+    #[tactic(auto, unfolding(crate::specs::Words::is_foreign))]
+    fn is_foreign(&self) -> bool
+        ensures { result ≡ is_foreign self.now.kind self.now.text.now }
+    {
+        match self.kind {
+            Kind::Word => is_foreign_word(self.text),
+            Kind::Keyword => is_foreign_keyword(self.text),
+            Kind::Foreign
+            | Kind::Less
+            | Kind::LessOrEqual
+            | Kind::Greater
+            | Kind::GreaterOrEqual
+            | Kind::Plus
+            | Kind::Minus => true,
+            _ => false,
+        }
+    }
+
+    /// The fault that the profile leaves it out.
+    pub(crate) fn left_out(&self) -> QlFault<'a>
+        ensures { told result ≡ left_out (lexeme self.now) }
+    {
+        QlFault::OutOfProfile(self.start, self.raw)
+    }
+
+    /// The fault that it can't stand where it stands.
+    pub(crate) fn unexpected(&self) -> QlFault<'a>
+        ensures { told result ≡ unexpected (lexeme self.now) }
+    {
+        if self.is_foreign() {
+            self.left_out()
+        } else {
+            QlFault::Syntax(self.start)
         }
     }
 }
