@@ -5,3 +5,4 @@ pub mod Dates
 pub mod Words
 pub mod Faults
 pub mod Selects
+pub mod SelectSteps
