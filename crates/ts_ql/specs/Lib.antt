@@ -6,3 +6,4 @@ pub mod Words
 pub mod Faults
 pub mod Selects
 pub mod SelectSteps
+pub mod MomentSteps

@@ -6,6 +6,7 @@ mod bytes;
 mod date;
 mod fault;
 mod literal;
+mod moment;
 mod number;
 mod place;
 mod query;
