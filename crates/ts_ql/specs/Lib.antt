@@ -7,3 +7,5 @@ pub mod Faults
 pub mod Selects
 pub mod SelectSteps
 pub mod MomentSteps
+pub mod WhereSteps
+pub mod GroupSteps

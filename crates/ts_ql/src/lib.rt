@@ -5,6 +5,9 @@
 mod bytes;
 mod date;
 mod fault;
+mod filling;
+mod filter;
+mod groups;
 mod literal;
 mod moment;
 mod number;
