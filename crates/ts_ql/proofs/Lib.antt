@@ -1,3 +1,5 @@
 pub mod LexingLemmas
 pub mod LiteralLemmas
 pub mod DateLemmas
+pub mod GroupLemmas
+pub mod StatementLemmas

@@ -5,7 +5,7 @@ use Rattle.std.specs.List.{insert}
 use Rattle.std.specs.declared.cmp.Ordering.{Ordering}
 use Rattle.std.specs.declared.cmp.Ordering.TheVariants as orders
 use Rattle.ts_core.specs.Facts.{Text, text_cmp}
-use Rattle.ts_ql.specs.declared.groups.Buckets.{Buckets}
+use Rattle.ts_ql.specs.Selects.{texts, Buckets}
 use Rattle.ts_ql.specs.declared.groups.Groups.{Groups}
 use Rattle.ts_ql.specs.declared.filling.Filling.{Filling}
 use Rattle.ts_ql.specs.declared.query.Fill.{Fill}
@@ -16,23 +16,20 @@ use Rattle.ts_ql.specs.declared.token.Kind.{Kind}
 use Rattle.ts_ql.specs.declared.token.Kind.TheVariants as kinds
 use Rattle.ts_ql.specs.Faults.{Fault, OutOfRange, unexpected}
 use Rattle.ts_ql.specs.Literals.{is_word, literal, unescaped}
-use Rattle.ts_ql.specs.Selects.{texts}
 use Rattle.ts_ql.specs.Tokens.{Lexeme}
 use Rattle.ts_ql.specs.Words.{is_time}
 
--- what has been read: the buckets of time, their interval before the offset is known, the place of the offset's first
--- token, and the tags in byte order, each once
+-- what has been read: the buckets of time, the place of the offset's first token, and the tags in byte order, each once
 pub record Grouped : Type 0 where
   pub buckets : Option Buckets
-  pub interval : ℤ
   pub first : ℕ
   pub tags : List Text
 
 abbrev pub grouped : {A : Type 0} → Groups A → Grouped
-grouped g = record { buckets = g.buckets; interval = g.interval; first = g.first; tags = texts g.tags.items }
+grouped g = record { buckets = g.buckets; first = g.first; tags = texts g.tags.items }
 
 abbrev pub empty_groups : Grouped
-empty_groups = record { buckets = None; interval = pos 0; first = 0; tags = [] }
+empty_groups = record { buckets = None; first = 0; tags = [] }
 
 abbrev pub Grouping : Type 0
 Grouping = Result (Place × Grouped) Fault
@@ -62,19 +59,23 @@ item_at t g =
     if is_time t.kind t.text then time_item t g g.buckets
     else Ok (places.AfterTag, record g { tags = with_text (unescaped t.text) g.tags })
 
--- an interval has a nanosecond or more
+-- buckets of that interval: a nanosecond or more
+abbrev pub of_interval : ℤ → Option Buckets
+of_interval interval = if int_le (pos 1) interval then Some (record { interval = interval; offset = pos 0 }) else None
+
 abbrev pub with_interval : Lexeme → Grouped → Option ℤ → Grouping
 with_interval t g None = Err (OutOfRange t.start)
 with_interval t g (Some interval) =
-    if int_le (pos 1) interval then Ok (places.IntervalEnd, record g { interval = interval }) else Err (OutOfRange t.start)
+    if int_le (pos 1) interval then Ok (places.IntervalEnd, record g { buckets = of_interval interval }) else Err (OutOfRange t.start)
 
-abbrev pub with_buckets : Place → ℤ → Grouped → Grouping
-with_buckets next offset g = Ok (next, record g { buckets = Some (record { interval = g.interval; offset = offset }) })
+abbrev pub moved : ℤ → Option Buckets → Option Buckets
+moved offset None = None
+moved offset (Some b) = Some (record b { offset = offset })
 
 -- an offset whose first token stands at `first`
 abbrev pub with_offset : ℕ → Grouped → Option ℤ → Grouping
 with_offset first g None = Err (OutOfRange first)
-with_offset first g (Some offset) = with_buckets places.OffsetEnd offset g
+with_offset first g (Some offset) = Ok (places.OffsetEnd, record g { buckets = moved offset g.buckets })
 
 abbrev pub group_at : Place → Kind → Lexeme → Grouped → Grouping
 group_at places.GroupBy kinds.Keyword t g = if is_word (codes "by") t.text then Ok (places.Item, g) else Err (unexpected t)
@@ -83,7 +84,7 @@ group_at places.Item kinds.QuotedName t g = item_at t g
 group_at places.TimeOpen kinds.Open t g = Ok (places.Interval, g)
 group_at places.Interval kinds.Duration t g = with_interval t g (literal false t.text)
 group_at places.IntervalEnd kinds.Comma t g = Ok (places.Offset, g)
-group_at places.IntervalEnd kinds.Close t g = with_buckets places.AfterItem (pos 0) g
+group_at places.IntervalEnd kinds.Close t g = Ok (places.AfterItem, g)
 group_at places.Offset kinds.Minus t g = Ok (places.OffsetMinus, record g { first = t.start })
 group_at places.Offset kinds.Duration t g = with_offset t.start g (literal false t.text)
 group_at places.OffsetMinus kinds.Duration t g = with_offset g.first g (literal true t.text)

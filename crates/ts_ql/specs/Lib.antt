@@ -9,3 +9,4 @@ pub mod SelectSteps
 pub mod MomentSteps
 pub mod WhereSteps
 pub mod GroupSteps
+pub mod Statements

@@ -94,6 +94,9 @@ bounded comparisons.LessOrEqual x r = before (x +ℤ pos 1) r
 bounded comparisons.Greater x r = from_on (x +ℤ pos 1) r
 bounded comparisons.GreaterOrEqual x r = from_on x r
 
+abbrev pub no_moment : Moment
+no_moment = record { comparison = comparisons.Equal; first = 0; total = pos 0 }
+
 abbrev pub unbounded : Range
 unbounded = record { lower = None; upper = None }
 

@@ -1,6 +1,6 @@
 -- What a statement says: a query with its functions and what fills empty buckets.
 -- (InfluxData 1.8, InfluxQL: the basic SELECT statement, functions, GROUP BY time intervals and fill().)
-use Rattle.std.specs.Prelude.{List, [], ◌∷◌, codes, String, string_bytes}
+use Rattle.std.specs.Prelude.{ℤ, List, map, codes, String, string_bytes}
 use Rattle.ts_core.specs.Facts.{Text}
 use Rattle.ts_core.specs.Fills as core
 use Rattle.ts_core.specs.Queries as queries
@@ -34,6 +34,11 @@ fill_of None = core.NoneFill
 fill_of Previous = core.PreviousFill
 fill_of (Number n) = core.NumberFill n
 
+-- buckets of time: an interval of a nanosecond or more, and an offset
+pub record Buckets : Type 0 where
+  pub interval : ℤ
+  pub offset : ℤ
+
 pub record Column : Type 0 where
   pub function : core.Function
   pub name : Text
@@ -44,5 +49,4 @@ pub record Select : Type 0 where
   pub query : queries.Query
 
 abbrev pub texts : {A : Type 0} → List (String A) → List Text
-texts [] = []
-texts (s ∷ ss) = string_bytes s ∷ texts ss
+texts {A} ss = map (λ (s : String A). string_bytes s) ss

@@ -12,20 +12,76 @@ use crate::place::Place;
 use crate::token::{Kind, Token};
 use std::alloc::{AllocError, Allocator};
 use std::cmp::Ordering;
+use std::marker::Model;
 
 /// Buckets of time, in nanoseconds.
 #[derive(Clone, Copy, Debug)]
 pub(crate) struct Buckets {
-    pub interval: i64,
-    pub offset: i64,
+    interval: i64,
+    offset: i64,
+}
+
+impl Model for Buckets {
+    ghost use Rattle.std.specs.Prelude.{◌≤ℤ◌, pos};
+    ghost use Rattle.ts_ql.specs.Selects.{Buckets as BucketsValue};
+
+    ghost Value = { BucketsValue };
+
+    ghost view = { λ b. record { interval = b.interval; offset = b.offset } };
+
+    ghost invariant = { λ b. pos 1 ≤ℤ b.interval };
+
+    ghost inverse = { λ v. record { interval = v.interval; offset = v.offset } };
+}
+
+impl Buckets {
+    ghost use Rattle.std.specs.Prelude.{◌≡◌, ◌≤ℤ◌, pos};
+    ghost use Rattle.ts_ql.specs.GroupSteps.{of_interval};
+
+    /// Buckets of that interval, where it has a nanosecond or more.
+    pub(crate) fn new(interval: i64) -> Option<Buckets>
+        ensures { result ≡ of_interval interval }
+    {
+        if interval >= 1 {
+            Some(Buckets {
+                interval,
+                offset: 0,
+            })
+        } else {
+            None
+        }
+    }
+
+    /// The same from another offset on.
+    fn with_offset(self, offset: i64) -> Buckets
+        ensures { result ≡ record self { offset = offset } }
+    {
+        Buckets {
+            interval: self.interval,
+            offset,
+        }
+    }
+
+    /// How long each is.
+    pub(crate) fn interval(self) -> i64
+        ensures value { result ≡ self.interval }
+        ensures some { pos 1 ≤ℤ result }
+    {
+        self.interval
+    }
+
+    /// From where they are counted.
+    pub(crate) fn offset(self) -> i64
+        ensures { result ≡ self.offset }
+    {
+        self.offset
+    }
 }
 
 /// What has been read of GROUP BY.
 #[derive(Drop)]
 pub(crate) struct Groups<A: Allocator> {
     pub buckets: Option<Buckets>,
-    /// The interval, before the offset is known.
-    pub interval: i64,
     /// The place of the offset's first token.
     pub first: usize,
     /// The tags in byte order, each once.
@@ -54,7 +110,6 @@ impl<A: Allocator + Copy> Groups<A> {
     {
         Groups {
             buckets: None,
-            interval: 0,
             first: 0,
             tags: Vec::new(alloc),
         }
@@ -79,13 +134,13 @@ impl<A: Allocator + Copy> Groups<A> {
     fn take_interval<'a>(&mut self, token: &Token<'a>) -> Result<Place, ParseError<'a>>
         ensures { GivesWith result (grouped self.new) (with_interval (lexeme token.now) (grouped self.old) (literal false token.now.text.now)) }
     {
-        match literal(false, token.text) {
-            Some(interval) if interval >= 1 => {
-                self.interval = interval;
-                Ok(Place::IntervalEnd)
+        if let Some(interval) = literal(false, token.text) {
+            if let Some(buckets) = Buckets::new(interval) {
+                self.buckets = Some(buckets);
+                return Ok(Place::IntervalEnd);
             }
-            _ => Err(ParseError::Fault(QlFault::OutOfRange(token.start))),
         }
+        Err(ParseError::Fault(QlFault::OutOfRange(token.start)))
     }
 
     /// Takes the offset, whose first token stands at `first`.
@@ -99,10 +154,10 @@ impl<A: Allocator + Copy> Groups<A> {
     {
         match literal(negative, token.text) {
             Some(offset) => {
-                self.buckets = Some(Buckets {
-                    interval: self.interval,
-                    offset,
-                });
+                self.buckets = match self.buckets {
+                    Some(buckets) => Some(buckets.with_offset(offset)),
+                    None => None,
+                };
                 Ok(Place::OffsetEnd)
             }
             None => Err(ParseError::Fault(QlFault::OutOfRange(first))),
@@ -125,20 +180,13 @@ impl<A: Allocator + Copy> Groups<A> {
             (Place::TimeOpen, Kind::Open) => Ok(Place::Interval),
             (Place::Interval, Kind::Duration) => self.take_interval(token),
             (Place::IntervalEnd, Kind::Comma) => Ok(Place::Offset),
-            (Place::IntervalEnd, Kind::Close) => {
-                self.buckets = Some(Buckets {
-                    interval: self.interval,
-                    offset: 0,
-                });
-                Ok(Place::AfterItem)
-            }
             (Place::Offset, Kind::Minus) => {
                 self.first = token.start;
                 Ok(Place::OffsetMinus)
             }
             (Place::Offset, Kind::Duration) => self.take_offset(token.start, false, token),
             (Place::OffsetMinus, Kind::Duration) => self.take_offset(self.first, true, token),
-            (Place::OffsetEnd, Kind::Close) => Ok(Place::AfterItem),
+            (Place::IntervalEnd | Place::OffsetEnd, Kind::Close) => Ok(Place::AfterItem),
             (Place::AfterTag, Kind::Cast) => Ok(Place::GroupTagType),
             (Place::GroupTagType, Kind::Word) if is_word(token.text, "tag") => Ok(Place::AfterItem),
             (Place::AfterTag | Place::AfterItem, Kind::Comma) => Ok(Place::Item),

@@ -15,8 +15,9 @@ mod place;
 mod query;
 mod selection;
 mod shape;
+mod statement;
 mod token;
 mod words;
 
 pub use fault::{ParseError, QlFault};
-pub use query::{Column, Condition, Fill, Function};
+pub use query::{Column, Condition, Fill, Function, Query};

@@ -2,7 +2,7 @@
 ghost use Rattle.std.specs.Prelude.{◌≡◌, false};
 ghost use Rattle.ts_ql.specs.Faults.{Gives, GivesWith};
 ghost use Rattle.ts_ql.specs.Literals.{literal};
-ghost use Rattle.ts_ql.specs.MomentSteps.{based, later_by, earlier_by, compared, moment_step, time_of, unbounded, from_on, before, bounded, settled};
+ghost use Rattle.ts_ql.specs.MomentSteps.{based, later_by, earlier_by, compared, moment_step, time_of, no_moment, unbounded, from_on, before, bounded, settled};
 ghost use Rattle.ts_ql.specs.Tokens.{lexeme};
 
 use crate::date::moment_told;
@@ -40,6 +40,17 @@ pub(crate) struct Range {
 }
 
 impl Moment {
+    /// None yet.
+    pub(crate) fn new() -> Moment
+        ensures { result ≡ no_moment }
+    {
+        Moment {
+            comparison: Comparison::Equal,
+            first: 0,
+            total: 0,
+        }
+    }
+
     /// Begins at that place with that value.
     fn begin<'a>(&mut self, first: usize, value: Option<i128>) -> Result<Place, ParseError<'a>>
         ensures { GivesWith result self.new (based first self.old value) }
