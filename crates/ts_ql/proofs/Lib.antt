@@ -3,3 +3,4 @@ pub mod LiteralLemmas
 pub mod DateLemmas
 pub mod GroupLemmas
 pub mod StatementLemmas
+pub mod ReadingLemmas

@@ -74,3 +74,17 @@ pub computed_fits : (at i o index fi fo : ℤ) → IsBucketOf at i o index → p
 computed_fits at i o index fi fo bucket one gi go gn bound ei eo =
     let fits = start_fits index i o at one gi go bound bucket.from_start bucket.before_end in
     rw (computed at i o index fi fo bucket one gi go gn bound ei eo) fits.1
+
+pub far_cast : (a b : ℤ) → unsigned_abs a ≤ 2 ^ 66 → unsigned_abs b ≤ 2 ^ 66 → to_z w128 (of_z w128 (to_z w128 (of_z w128 a) -ℤ to_z w128 (of_z w128 b))) ≡ a -ℤ b
+far_cast a b ba bb =
+    let fa : FitsSigned w128 a = omega (arith, ints) in
+    let fb : FitsSigned w128 b = omega (arith, ints) in
+    let fd : FitsSigned w128 (a -ℤ b) = omega (arith, ints) in
+    rw (to_z-of_z w128 a fa, to_z-of_z w128 b fb, to_z-of_z w128 (a -ℤ b) fd) refl
+
+pub far_fits : (a b : ℤ) → unsigned_abs a ≤ 2 ^ 66 → unsigned_abs b ≤ 2 ^ 66 → FitsSigned w128 (to_z w128 (of_z w128 a) -ℤ to_z w128 (of_z w128 b))
+far_fits a b ba bb =
+    let fa : FitsSigned w128 a = omega (arith, ints) in
+    let fb : FitsSigned w128 b = omega (arith, ints) in
+    let fd : FitsSigned w128 (a -ℤ b) = omega (arith, ints) in
+    rw (to_z-of_z w128 a fa, to_z-of_z w128 b fb) fd

@@ -10,3 +10,4 @@ pub mod MomentSteps
 pub mod WhereSteps
 pub mod GroupSteps
 pub mod Statements
+pub mod Reading

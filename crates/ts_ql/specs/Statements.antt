@@ -12,6 +12,7 @@ use Rattle.ts_ql.specs.declared.filling.Filling.{Filling}
 use Rattle.ts_ql.specs.declared.moment.Moment.{Moment}
 use Rattle.ts_ql.specs.declared.moment.Range.{Range}
 use Rattle.ts_ql.specs.declared.fault.QlFault.{QlFault}
+use Rattle.ts_ql.specs.declared.query.Span.{Span}
 use Rattle.ts_ql.specs.declared.statement.Draft.{Draft}
 use Rattle.ts_ql.specs.Faults.{Fault, told, OutOfProfile, NoLowerBound, RepeatedColumn, TooManyBuckets, BucketBeforeLeastTime}
 use Rattle.ts_ql.specs.GroupSteps.{Grouped, grouped, empty_groups, no_fill}
@@ -74,42 +75,45 @@ first_start from b = (bucket_of from b.interval b.offset *ℤ b.interval) +ℤ b
 abbrev pub buckets_between : ℤ → ℤ → Buckets → ℤ
 buckets_between from to b = bucket_of (to -ℤ pos 1) b.interval b.offset -ℤ bucket_of from b.interval b.offset
 
-abbrev pub query_of : Drafted → Buckets → ℤ → ℤ → Select
-query_of d b from to = record {
+abbrev pub query_of : Drafted → Buckets → Span → Select
+query_of d b span = record {
   columns = d.selection.columns;
   fill = fill_of d.filling.fill;
   query = record {
     measurement = d.selection.measurement;
     field = unwrap_or d.selection.field [];
     conditions = d.filter.conditions;
-    from = from;
-    to = to;
+    from = span.from;
+    to = span.to;
     interval = b.interval;
     offset = b.offset;
     group_tags = d.groups.tags;
   };
 }
 
+-- from the lower bound on; a statement without one has no range
+abbrev pub span_from : ℤ → Range → Option ℤ → Option Span
+span_from now r None = None
+span_from now r (Some from) = Some (record { from = from; to = range_end now from r.upper })
+
 -- in a range that isn't empty, the first bucket starts at a valid time, and there are at most 10,000 buckets
-unfoldable pub span_fault : ℕ → Buckets → ℤ → ℤ → Option Fault
-span_fault start b from to =
-    if int_lt (first_start from b) least_time then Some (BucketBeforeLeastTime start)
-    else if int_le (pos 10000) (buckets_between from to b) then Some (TooManyBuckets start) else None
+unfoldable pub span_fault : ℕ → Buckets → Span → Option Fault
+span_fault start b span =
+    if int_le span.to span.from then None
+    else if int_lt (first_start span.from b) least_time then Some (BucketBeforeLeastTime start)
+    else if int_le (pos 10000) (buckets_between span.from span.to b) then Some (TooManyBuckets start) else None
 
 abbrev pub said_unless : Select → Option Fault → Result Select Fault
 said_unless q None = Ok q
 said_unless q (Some fault) = Err fault
 
-abbrev pub ranged : ℕ → Drafted → Buckets → ℤ → ℤ → Result Select Fault
-ranged start d b from to = if int_lt from to then said_unless (query_of d b from to) (span_fault start b from to) else Ok (query_of d b from to)
-
-abbrev pub with_lower : ℕ → ℤ → Drafted → Buckets → Option ℤ → Result Select Fault
-with_lower start now d b None = Err (NoLowerBound start)
-with_lower start now d b (Some from) = ranged start d b from (range_end now from d.range.upper)
+abbrev pub with_span : ℕ → Drafted → Buckets → Option Span → Result Select Fault
+with_span start d b None = Err (NoLowerBound start)
+with_span start d b (Some span) = said_unless (query_of d b span) (span_fault start b span)
 
 abbrev pub with_time : ℕ → ℤ → Drafted → Option Buckets → Result Select Fault
 with_time start now d None = Err (OutOfProfile start (codes "GROUP BY time"))
-with_time start now d (Some b) = with_lower start now d b d.range.lower
+with_time start now d (Some b) = with_span start d b (span_from now d.range d.range.lower)
 
 -- what a statement says that begins at `start`
 unfoldable pub statement_said : ℕ → ℤ → Drafted → Result Select Fault

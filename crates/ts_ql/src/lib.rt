@@ -13,6 +13,7 @@ mod moment;
 mod number;
 mod place;
 mod query;
+mod reader;
 mod selection;
 mod shape;
 mod statement;
@@ -21,3 +22,4 @@ mod words;
 
 pub use fault::{ParseError, QlFault};
 pub use query::{Column, Condition, Fill, Function, Query};
+pub use reader::parse;

@@ -1,16 +1,21 @@
 //! What a statement says once it has been read whole.
-ghost use Rattle.std.specs.Prelude.{◌≡◌, ◌≤ℤ◌, ◌<ℤ◌, ◌≤◌, ◌^◌, unsigned_abs};
+ghost use Rattle.std.specs.Prelude.{◌≡◌, ◌≤ℤ◌, ◌≤◌, ◌^◌, IfSome, int_le, int_lt, pos, unsigned_abs};
 ghost use Rattle.ts_core.specs.Buckets.{bucket_of};
-ghost use Rattle.ts_ql.specs.Faults.{Gives};
-ghost use Rattle.ts_ql.specs.Statements.{has_column, repeats, first_start, drafted, empty_draft, range_end, option_told, span_fault, query_of, statement_said};
+ghost use Rattle.ts_core.specs.Times.{least_time};
+ghost use Rattle.ts_ql.specs.Faults.{Gives, GivesWith};
+ghost use Rattle.ts_ql.specs.Reading.{settle_step, draft_step};
+ghost use Rattle.ts_ql.specs.Tokens.{lexeme};
+ghost use Rattle.ts_ql.specs.Statements.{has_column, repeats, first_start, buckets_between, drafted, empty_draft, span_from, option_told, span_fault, query_of, statement_said};
 
 use crate::fault::{ParseError, QlFault};
 use crate::filling::Filling;
-use crate::filter::Filter;
+use crate::filter::{Filter, after_term};
 use crate::groups::{Buckets, Groups};
 use crate::moment::{Moment, Range};
+use crate::place::Place;
 use crate::query::{Column, Query, Span};
 use crate::selection::Selection;
+use crate::token::{Kind, Token};
 use std::alloc::Allocator;
 use ts_core::{Time, bucket_index};
 
@@ -45,19 +50,21 @@ fn repeats<A: Allocator>(columns: &[Column<A>]) -> bool
 }
 
 /// The span from the lower bound on; without an upper bound it ends after `now`.
-fn span_of(from: &i64, range: &Range, now: Time) -> Span
-    ensures from { result.from ≡ from.now }
-    ensures to { result.to ≡ range_end now from.now range.now.upper }
-    ensures order { result.from ≤ℤ result.to }
+fn span_of(range: &Range, now: Time) -> Option<Span>
+    ensures value { result ≡ span_from now range.now range.now.lower }
+    ensures order { IfSome result (λ span. span.from ≤ℤ span.to) }
 {
+    let Some(from) = range.lower else {
+        return None;
+    };
     let upper = match range.upper {
         Some(upper) => upper,
         None => now.nanos() + 1,
     };
-    Span {
-        from: *from,
-        to: upper.max(*from),
-    }
+    Some(Span {
+        from,
+        to: upper.max(from),
+    })
 }
 
 /// A bucket: its index and its start.
@@ -79,21 +86,36 @@ fn bucket_at(at: i128, buckets: Buckets) -> Bucket
     Bucket { index, start }
 }
 
-/// The fault of the buckets of a span that isn't empty.
-#[tactic(auto, unfolding(crate::specs::Statements::span_fault))]
-fn span_fault<'a>(start: usize, buckets: Buckets, span: &Span) -> Option<QlFault<'a>>
-    requires { span.now.from <ℤ span.now.to }
-    ensures { option_told result ≡ span_fault start buckets span.now.from span.now.to }
+/// Whether the first bucket of a span starts before the least time.
+fn starts_early(span: &Span, buckets: Buckets) -> bool
+    ensures { result ≡ int_lt (first_start span.now.from buckets) least_time }
+{
+    bucket_at(i128::from(span.from), buckets).start < -9_223_372_036_854_775_806
+}
+
+/// Whether a span that isn't empty has more than 10,000 buckets.
+fn has_too_many(span: &Span, buckets: Buckets) -> bool
+    ensures { result ≡ int_le (pos 10000) (buckets_between span.now.from span.now.to buckets) }
 {
     let first = bucket_at(i128::from(span.from), buckets);
-    if first.start < -9_223_372_036_854_775_806 {
-        return Some(QlFault::BucketBeforeLeastTime(start));
-    }
     let last = bucket_at(i128::from(span.to) - 1, buckets);
-    if last.index - first.index >= 10_000 {
-        return Some(QlFault::TooManyBuckets(start));
+    last.index - first.index >= 10_000
+}
+
+/// The fault of the buckets of a span.
+#[tactic(auto, unfolding(crate::specs::Statements::span_fault))]
+fn span_fault<'a>(start: usize, buckets: Buckets, span: &Span) -> Option<QlFault<'a>>
+    ensures { option_told result ≡ span_fault start buckets span.now }
+{
+    if span.to <= span.from {
+        None
+    } else if starts_early(span, buckets) {
+        Some(QlFault::BucketBeforeLeastTime(start))
+    } else if has_too_many(span, buckets) {
+        Some(QlFault::TooManyBuckets(start))
+    } else {
+        None
     }
-    None
 }
 
 impl<A: Allocator + Copy> Draft<A> {
@@ -122,22 +144,19 @@ impl<A: Allocator + Copy> Draft<A> {
         let Some(buckets) = self.groups.buckets else {
             return Err(ParseError::Fault(QlFault::OutOfProfile(start, "GROUP BY time")));
         };
-        let Some(from) = self.range.lower else {
+        let Some(span) = span_of(&self.range, now) else {
             return Err(ParseError::Fault(QlFault::NoLowerBound(start)));
         };
-        let span = span_of(&from, &self.range, now);
-        if span.from < span.to {
-            if let Some(fault) = span_fault(start, buckets, &span) {
-                return Err(ParseError::Fault(fault));
-            }
+        match span_fault(start, buckets, &span) {
+            Some(fault) => Err(ParseError::Fault(fault)),
+            None => Ok(self.over(alloc, buckets, span)),
         }
-        Ok(self.over(alloc, buckets, span))
     }
 
     /// The query over a span.
     fn over(self, alloc: A, buckets: Buckets, span: Span) -> Query<A>
         requires { span.from ≤ℤ span.to }
-        ensures { result ≡ query_of (drafted self) buckets span.from span.to }
+        ensures { result ≡ query_of (drafted self) buckets span }
     {
         let mut selection = self.selection;
         let field = match selection.field.take() {
@@ -153,5 +172,77 @@ impl<A: Allocator + Copy> Draft<A> {
             self.filling.fill,
             span,
         )
+    }
+
+    /// Ends a moment, where the token doesn't go on with it.
+    #[tactic(auto, unfolding(crate::specs::Reading::settle_step))]
+    pub(crate) fn settle<'a>(&mut self, place: Place, kind: Kind) -> Result<Place, ParseError<'a>>
+        ensures { GivesWith result (drafted self.new) (settle_step place kind (drafted self.old)) }
+    {
+        match (place, kind) {
+            (Place::AfterMoment, Kind::Plus | Kind::Minus) => Ok(place),
+            (Place::AfterMoment, _) => {
+                self.range = self.range.settled(&self.moment)?;
+                Ok(after_term(self.filter.depth))
+            }
+            _ => Ok(place),
+        }
+    }
+
+    /// Takes the next token of a clause.
+    #[tactic(auto, unfolding(crate::specs::Reading::draft_step))]
+    pub(crate) fn take<'a>(
+        &mut self,
+        alloc: A,
+        now: Time,
+        place: Place,
+        token: &Token<'a>,
+    ) -> Result<Place, ParseError<'a>>
+        ensures { GivesWith result (drafted self.new) (draft_step now place (lexeme token.now) (drafted self.old)) }
+    {
+        match place {
+            Place::Function
+            | Place::FunctionOpen
+            | Place::Field
+            | Place::FieldEnd
+            | Place::FieldType
+            | Place::FieldClose
+            | Place::AfterColumn
+            | Place::Alias
+            | Place::AfterAlias
+            | Place::Measurement => self.selection.take(alloc, place, token),
+            Place::Term
+            | Place::TagEnd
+            | Place::TagType
+            | Place::TagSign
+            | Place::TagValue
+            | Place::AfterTerm
+            | Place::NestedTerm => self.filter.take(alloc, place, token),
+            Place::TimeSign
+            | Place::Moment
+            | Place::MomentMinus
+            | Place::NowOpen
+            | Place::NowClose
+            | Place::AfterMoment
+            | Place::MomentPlus
+            | Place::MomentLess => self.moment.take(now, place, token),
+            Place::GroupBy
+            | Place::Item
+            | Place::TimeOpen
+            | Place::Interval
+            | Place::IntervalEnd
+            | Place::Offset
+            | Place::OffsetMinus
+            | Place::OffsetEnd
+            | Place::AfterTag
+            | Place::GroupTagType
+            | Place::AfterItem => self.groups.take(alloc, place, token),
+            Place::FillOpen | Place::FillOption | Place::FillMinus | Place::FillClose => {
+                self.filling.take(place, token)
+            }
+            Place::Statement | Place::AfterMeasurement | Place::AfterFill | Place::Done => {
+                Err(ParseError::Fault(token.unexpected()))
+            }
+        }
     }
 }
