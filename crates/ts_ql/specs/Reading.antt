@@ -1,6 +1,6 @@
 -- What a text says: its statements, token by token.
 -- (InfluxData 1.8, InfluxQL: the basic SELECT statement, several statements. Own rule: at most 65,536 bytes and 16 statements.)
-use Rattle.std.specs.Prelude.{◌≡◌, ◌&&◌, ℕ, zero, suc, ℤ, ◌+◌, List, [], ◌∷◌, ◌++◌, length, Bool, true, false, ◌==◌, nat_lt, Option, Some, None, Result, Ok, Err, if◌then◌else◌, codes}
+use Rattle.std.specs.Prelude.{◌≡◌, ◌&&◌, ℕ, zero, suc, ℤ, ◌+◌, List, [], ◌∷◌, ◌++◌, length, Bool, true, false, ◌==◌, nat_lt, nat_le, Option, Some, None, Result, Ok, Err, if◌then◌else◌, codes}
 use Rattle.ts_core.specs.Facts.{Text}
 use Rattle.ts_ql.specs.declared.filling.Filling.{Filling}
 use Rattle.ts_ql.specs.declared.fault.ParseError.{ParseError}
@@ -190,9 +190,9 @@ Leaves (Err e) s step = IsFailure e step
 abbrev pub begun_at : Kind → Lexeme → State → Step
 begun_at kinds.Keyword t s =
     if is_word (codes "select") t.text
-    then (if s.count == 16 then Err (TooManyStatements t.start) else Ok (record s { place = places.Function; count = s.count + 1; start = t.start }))
+    then (if nat_le 16 s.count then Err (TooManyStatements t.start) else Ok (record s { place = places.Function; count = s.count + 1; start = t.start }))
     else Err (unexpected t)
-begun_at kinds.End t s = if nat_lt 0 s.count then Ok (record s { place = places.Done }) else Err (unexpected t)
+begun_at kinds.End t s = if s.count == 0 then Err (unexpected t) else Ok (record s { place = places.Done })
 begun_at kind t s = Err (unexpected t)
 
 unfoldable pub begun : Lexeme → State → Step

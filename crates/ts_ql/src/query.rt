@@ -155,9 +155,20 @@ impl<A: Allocator> Model for Query<A> {
 
     ghost Value = { Select };
 
-    ghost view = { λ q. record { columns = q.columns.items; fill = fill_of q.fill; query = record {
-        measurement = string_bytes q.measurement; field = string_bytes q.field; conditions = q.conditions.items;
-        from = q.from; to = q.to; interval = q.interval; offset = q.offset; group_tags = texts q.group_tags.items } } };
+    ghost view = { λ q. record {
+      columns = q.columns.items;
+      fill = fill_of q.fill;
+      query = record {
+        measurement = string_bytes q.measurement;
+        field = string_bytes q.field;
+        conditions = q.conditions.items;
+        from = q.from;
+        to = q.to;
+        interval = q.interval;
+        offset = q.offset;
+        group_tags = texts q.group_tags.items;
+      };
+    } };
 
     ghost invariant = { λ q. (pos 1 ≤ℤ q.interval) × (q.from ≤ℤ q.to) };
 }
@@ -184,9 +195,20 @@ impl<A: Allocator> Query<A> {
         span: Span,
     ) -> Query<A>
         requires { span.from ≤ℤ span.to }
-        ensures { result ≡ record { columns = selection.columns.items; fill = fill_of fill; query = record {
-            measurement = string_bytes selection.measurement; field = string_bytes field; conditions = filter.conditions.items;
-            from = span.from; to = span.to; interval = buckets.interval; offset = buckets.offset; group_tags = texts groups.tags.items } } }
+        ensures { result ≡ record {
+          columns = selection.columns.items;
+          fill = fill_of fill;
+          query = record {
+            measurement = string_bytes selection.measurement;
+            field = string_bytes field;
+            conditions = filter.conditions.items;
+            from = span.from;
+            to = span.to;
+            interval = buckets.interval;
+            offset = buckets.offset;
+            group_tags = texts groups.tags.items;
+          };
+        } }
     {
         Query {
             columns: selection.columns,

@@ -33,10 +33,11 @@ fn next_clause(place: Place, token: &Token<'_>) -> Option<Place>
     ensures { result ≡ next_clause place (lexeme token.now) }
 {
     match (place, token.kind) {
-        (Place::AfterMeasurement, Kind::Keyword) if is_word(token.text, "where") => Some(Place::Term),
-        (Place::AfterMeasurement | Place::AfterTerm, Kind::Keyword) if is_word(token.text, "group") => {
-            Some(Place::GroupBy)
-        }
+        (Place::AfterMeasurement, Kind::Keyword) if is_word(token.text, "where") => Some(
+            Place::Term,
+        ),
+        (Place::AfterMeasurement | Place::AfterTerm, Kind::Keyword)
+            if is_word(token.text, "group") => { Some(Place::GroupBy) }
         (
             Place::AfterMeasurement | Place::AfterTerm | Place::AfterTag | Place::AfterItem,
             Kind::Word,
@@ -82,7 +83,10 @@ impl<A: Allocator + Copy> Reader<A> {
         ensures { Leaves result (state self.new) (begun (lexeme token.now) (state self.old)) }
     {
         match token.kind {
-            Kind::Keyword if is_word(token.text, "select") => {
+            Kind::Keyword => {
+                if !is_word(token.text, "select") {
+                    return Err(ParseError::Fault(token.unexpected()));
+                }
                 if self.count >= 16 {
                     return Err(ParseError::Fault(QlFault::TooManyStatements(token.start)));
                 }
@@ -91,7 +95,10 @@ impl<A: Allocator + Copy> Reader<A> {
                 self.start = token.start;
                 Ok(())
             }
-            Kind::End if self.count > 0 => {
+            Kind::End => {
+                if self.count == 0 {
+                    return Err(ParseError::Fault(token.unexpected()));
+                }
                 self.place = Place::Done;
                 Ok(())
             }
@@ -135,7 +142,7 @@ impl<A: Allocator + Copy> Reader<A> {
 
 /// Reads a text of InfluxQL: its statements as queries, or its first fault.
 /// Times are in nanoseconds of the Unix epoch; `now` is the moment that `now()` tells.
-#[tactic(auto, using(crate::proofs::ReadingLemmas::read_on_step, crate::proofs::ReadingLemmas::read_on_none), unfolding(crate::specs::Reading::queries_of))]
+#[tactic(auto)]
 pub fn parse<A: Allocator + Copy>(
     alloc: A,
     text: &str,

@@ -135,7 +135,12 @@ impl<A: Allocator + Copy> Draft<A> {
 
     /// The query of a statement that begins at `start`.
     #[tactic(auto, unfolding(crate::specs::Statements::statement_said))]
-    pub(crate) fn query<'a>(self, alloc: A, start: usize, now: Time) -> Result<Query<A>, ParseError<'a>>
+    pub(crate) fn query<'a>(
+        self,
+        alloc: A,
+        start: usize,
+        now: Time,
+    ) -> Result<Query<A>, ParseError<'a>>
         ensures { Gives (λ q. q) result (statement_said start now (drafted self)) }
     {
         if repeats(self.selection.columns.as_slice()) {

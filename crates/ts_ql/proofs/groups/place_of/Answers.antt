@@ -11,21 +11,21 @@ returns-in-Less-clause-value g c =
     let tag = string_bytes c.index-tags-at.result in
     let order : text_cmp c.args.name.now tag ≡ Less = cc in
     before_place c.args.name.now tag (texts c.args.tags.now) c.loop-at.at (in_texts c.args.tags.now c.loop-at.at c.loop-at-test.true)
-      (text_at c.args.tags.now c.loop-at.at c.index-tags-at.result c.loop-at-test.true c.index-tags-at.is) order c.loop-at.invariant
+    (text_at c.args.tags.now c.loop-at.at c.index-tags-at.result c.loop-at-test.true c.index-tags-at.is) order c.loop-at.invariant
 
 pub returns-in-Equal-clause-value : goal.returns-in-Equal-clause-value
 returns-in-Equal-clause-value g c =
     let tag = string_bytes c.index-tags-at.result in
     let order : text_cmp c.args.name.now tag ≡ Equal = cc in
     at_place c.args.name.now tag (texts c.args.tags.now) c.loop-at.at (in_texts c.args.tags.now c.loop-at.at c.loop-at-test.true)
-      (text_at c.args.tags.now c.loop-at.at c.index-tags-at.result c.loop-at-test.true c.index-tags-at.is) order c.loop-at.invariant
+    (text_at c.args.tags.now c.loop-at.at c.index-tags-at.result c.loop-at-test.true c.index-tags-at.is) order c.loop-at.invariant
 
 pub loop-at-preserved : goal.loop-at-preserved
 loop-at-preserved g c =
     let tag = string_bytes c.index-tags-at.result in
     let order : text_cmp c.args.name.now tag ≡ Greater = cc in
     past_place c.args.name.now tag (texts c.args.tags.now) c.loop-at.at (in_texts c.args.tags.now c.loop-at.at c.loop-at-test.true)
-      (text_at c.args.tags.now c.loop-at.at c.index-tags-at.result c.loop-at-test.true c.index-tags-at.is) order c.loop-at.invariant
+    (text_at c.args.tags.now c.loop-at.at c.index-tags-at.result c.loop-at-test.true c.index-tags-at.is) order c.loop-at.invariant
 
 pub returns-clause-value : goal.returns-clause-value
 returns-clause-value g c =

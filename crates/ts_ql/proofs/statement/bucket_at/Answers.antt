@@ -15,9 +15,9 @@ overflow_add-start c =
     let fn : FitsSigned w128 c.bucket_index-index.result = omega (arith, ints) in
     let bucket = rw (to_z-of_z w128 c.args.at fa, to_z-of_z w64 c.interval.result fi, to_z-of_z w64 c.offset.result fo, c.interval.ensures.value, c.offset.ensures) at c.bucket_index-index.ensures.bucket in
     computed_fits c.args.at c.args.buckets.interval c.args.buckets.offset c.bucket_index-index.result c.from.result c.from-2.result bucket
-      (rw c.interval.ensures.value at c.interval.ensures.some) (rw c.interval.ensures.value at fi) (rw c.offset.ensures at fo) fn c.requires
-      (read_back c.interval-2.result c.from.result c.args.buckets.interval fi2 c.from.ensures c.interval-2.ensures.value)
-      (read_back c.offset-2.result c.from-2.result c.args.buckets.offset fo2 c.from-2.ensures c.offset-2.ensures)
+    (rw c.interval.ensures.value at c.interval.ensures.some) (rw c.interval.ensures.value at fi) (rw c.offset.ensures at fo) fn c.requires
+    (read_back c.interval-2.result c.from.result c.args.buckets.interval fi2 c.from.ensures c.interval-2.ensures.value)
+    (read_back c.offset-2.result c.from-2.result c.args.buckets.offset fo2 c.from-2.ensures c.offset-2.ensures)
 
 pub returns-clause-start : goal.returns-clause-start
 returns-clause-start c =
@@ -46,4 +46,4 @@ returns-clause-bound c =
     let fn : FitsSigned w128 c.bucket_index-index.result = omega (arith, ints) in
     let bucket = rw (to_z-of_z w128 c.args.at fa, to_z-of_z w64 c.interval.result fi, to_z-of_z w64 c.offset.result fo, c.interval.ensures.value, c.offset.ensures) at c.bucket_index-index.ensures.bucket in
     rw (to_z-of_z w128 c.bucket_index-index.result fn)
-      (index_bound c.bucket_index-index.result c.args.at c.args.buckets.interval c.args.buckets.offset (rw c.interval.ensures.value at c.interval.ensures.some) bucket.from_start bucket.before_end c.requires (rw c.offset.ensures at fo))
+    (index_bound c.bucket_index-index.result c.args.at c.args.buckets.interval c.args.buckets.offset (rw c.interval.ensures.value at c.interval.ensures.some) bucket.from_start bucket.before_end c.requires (rw c.offset.ensures at fo))
