@@ -11,3 +11,4 @@ pub mod WhereSteps
 pub mod GroupSteps
 pub mod Statements
 pub mod Reading
+pub mod FaultText

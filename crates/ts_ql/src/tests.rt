@@ -200,6 +200,108 @@ fn faults_have_their_places(rt: HostRuntime) -> Result<(), Fail> {
             58,
             "",
         ),
+        ("SELECT", 71, 6, ""),
+        ("select count", 71, 12, ""),
+        ("SELECT COUNT f FROM m", 71, 13, ""),
+        ("SELECT COUNT(f::tag) FROM m", 71, 16, ""),
+        ("SELECT COUNT(f), FROM m", 71, 17, ""),
+        ("SELECT COUNT(f) AS FROM m", 71, 19, ""),
+        ("SELECT COUNT(f) INTO n FROM m", 72, 16, "INTO"),
+        ("SELECT COUNT(f) + 1 FROM m", 72, 16, "+"),
+        ("SELECT COUNT(f) FROM m ORDER BY time", 72, 23, "ORDER"),
+        ("SELECT COUNT(f) FROM m WHERE a = b", 71, 33, ""),
+        ("SELECT COUNT(f) FROM m WHERE a = 'x", 71, 33, ""),
+        ("SELECT COUNT(f) FROM m WHERE a ! 'x'", 71, 31, ""),
+        ("SELECT COUNT(f) FROM m WHERE (a = 'x'", 71, 37, ""),
+        ("SELECT COUNT(f) FROM m WHERE a = 'x')", 71, 36, ""),
+        ("SELECT COUNT(f) FROM m WHERE time >= now(", 71, 41, ""),
+        ("SELECT COUNT(f) FROM m WHERE time != 5", 71, 34, ""),
+        ("SELECT COUNT(f) FROM m WHERE time >= ''", 74, 37, ""),
+        (
+            "SELECT COUNT(f) FROM m WHERE time >= '2023-02-29'",
+            74,
+            37,
+            "",
+        ),
+        (
+            "SELECT COUNT(f) FROM m WHERE time >= '2024-13-01'",
+            74,
+            37,
+            "",
+        ),
+        (
+            "SELECT COUNT(f) FROM m WHERE time >= '2024-01-01 00:60:00'",
+            74,
+            37,
+            "",
+        ),
+        (
+            "SELECT COUNT(f) FROM m WHERE time >= '2024-01-01T00:00:00.Z'",
+            74,
+            37,
+            "",
+        ),
+        (
+            "SELECT COUNT(f) FROM m WHERE time >= '2024-01-01T00:00:00.1234567890Z'",
+            74,
+            37,
+            "",
+        ),
+        (
+            "SELECT COUNT(f) FROM m WHERE time >= -9223372036854775807 GROUP BY time(1m)",
+            74,
+            37,
+            "",
+        ),
+        (
+            "SELECT COUNT(f) FROM m WHERE time >= 0 GROUP time(1m)",
+            71,
+            45,
+            "",
+        ),
+        (
+            "SELECT COUNT(f) FROM m WHERE time >= 0 GROUP BY time(5)",
+            71,
+            53,
+            "",
+        ),
+        (
+            "SELECT COUNT(f) FROM m WHERE time >= 0 GROUP BY time(1m,)",
+            71,
+            56,
+            "",
+        ),
+        (
+            "SELECT COUNT(f) FROM m WHERE time >= 0 GROUP BY time(1m) fill()",
+            71,
+            62,
+            "",
+        ),
+        (
+            "SELECT COUNT(f) FROM m WHERE time >= 0 GROUP BY time(1m) tz('x')",
+            72,
+            57,
+            "tz",
+        ),
+        (
+            "SELECT COUNT(f) FROM m WHERE time >= 0 GROUP BY time(1m) 5mLIMIT",
+            71,
+            57,
+            "",
+        ),
+        (
+            "SELECT COUNT(f) FROM m WHERE time >= 5mLIMIT",
+            72,
+            39,
+            "LIMIT",
+        ),
+        (
+            "SELECT COUNT(f) FROM m WHERE time >= 0 GROUP BY *",
+            72,
+            48,
+            "*",
+        ),
+        ("SELECT COUNT(f) FROM m # x", 71, 23, ""),
     ] {
         assert!(rt;
             refused(rt.alloc(), text) == Some((number, at, token)),
@@ -318,5 +420,35 @@ fn parts_are_read(rt: HostRuntime) -> Result<(), Fail> {
     assert_eq!(rt; names.len(), 2);
     assert!(rt; shape(&names[0]) == (Function::Max, "max"));
     assert!(rt; shape(&names[1]) == (Function::Mean, "m n"));
+    Ok(())
+}
+
+#[test]
+fn limits_hold(rt: HostRuntime) -> Result<(), Fail> {
+    let mut many = String::new(rt.alloc());
+    for _ in 0..17 {
+        many.push_str("SELECT SUM(f) FROM m WHERE time >= 0 GROUP BY time(1m);")?;
+    }
+    assert!(rt; refused(rt.alloc(), many.as_str()) == Some((76, 880, "")));
+    let mut nested = String::from_str(rt.alloc(), "SELECT SUM(f) FROM m WHERE ")?;
+    for _ in 0..33 {
+        nested.push_str("(")?;
+    }
+    assert!(rt; refused(rt.alloc(), nested.as_str()) == Some((72, 59, "(")));
+    let mut long = String::new(rt.alloc());
+    for _ in 0..65537 {
+        long.push_str(" ")?;
+    }
+    assert!(rt; refused(rt.alloc(), long.as_str()) == Some((71, 65536, "")));
+    Ok(())
+}
+
+#[test]
+fn faults_are_written(rt: HostRuntime) -> Result<(), Fail> {
+    let mut text = String::new(rt.alloc());
+    ParseError::Fault(QlFault::OutOfProfile(7, "f")).text_to(&mut text)?;
+    ParseError::Memory.text_to(&mut text)?;
+    QlFault::TooManyBuckets(12).text_to(&mut text)?;
+    assert!(rt; text.as_str() == "fault 72 at 7 ffault memoryfault 77 at 12");
     Ok(())
 }
