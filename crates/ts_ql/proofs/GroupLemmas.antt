@@ -4,7 +4,7 @@ use Rattle.std.proofs.lemmas.List.{at_drop_more, at_drop_all, take_more, take-ap
 use Rattle.std.specs.List.{insert}
 use Rattle.std.specs.declared.cmp.Ordering.TheVariants.{Less, Equal, Greater}
 use Rattle.ts_core.specs.Facts.{Text, text_cmp}
-use Rattle.ts_ql.specs.GroupSteps.{insert_by, with_text}
+use Rattle.ts_ql.specs.GroupSteps.{with_text}
 use Rattle.ts_ql.specs.Selects.{texts}
 
 -- the texts up to this place aren't touched

@@ -1,12 +1,11 @@
 -- What a statement says once it has been read whole.
 -- (InfluxData 1.8, InfluxQL: time syntax, GROUP BY time intervals. Own rules: a lower bound, at most 10,000 buckets.)
-use Rattle.std.specs.Prelude.{ℕ, ℤ, pos, ◌+ℤ◌, ◌-ℤ◌, ◌*ℤ◌, int_le, int_lt, List, [], ◌∷◌, Bool, true, false, ◌||◌, Option, Some, None, Result, Ok, Err, if◌then◌else◌, codes, bytes_eq}
+use Rattle.std.specs.Prelude.{ℕ, ℤ, pos, ◌+ℤ◌, ◌-ℤ◌, ◌*ℤ◌, int_le, int_lt, List, [], ◌∷◌, Bool, false, ◌||◌, Option, Some, None, Result, Ok, Err, if◌then◌else◌, codes, bytes_eq}
 use Rattle.std.specs.Int.{int_max}
 use Rattle.std.specs.Option.{unwrap_or}
 use Rattle.std.specs.List.{list_any}
 use Rattle.ts_core.specs.Buckets.{bucket_of}
 use Rattle.ts_core.specs.Facts.{Text}
-use Rattle.ts_core.specs.Queries.{Query}
 use Rattle.ts_core.specs.Times.{least_time}
 use Rattle.ts_ql.specs.declared.filling.Filling.{Filling}
 use Rattle.ts_ql.specs.declared.moment.Moment.{Moment}

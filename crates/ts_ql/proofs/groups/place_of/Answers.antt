@@ -1,6 +1,5 @@
-use Rattle.std.proofs.Common.{◌≡◌, ◌≤◌, length, string_bytes, sym, ◌∙◌, refl, arith}
+use Rattle.std.proofs.Common.{◌≡◌, length, string_bytes, arith}
 use Rattle.std.specs.declared.cmp.Ordering.TheVariants.{Less, Equal, Greater}
-use Rattle.std.proofs.lemmas.List.{length-map}
 use Rattle.ts_core.specs.Facts.{text_cmp}
 use Rattle.ts_ql.specs.Selects.{texts}
 use Rattle.ts_ql.proofs.GroupLemmas.{text_at, in_texts, before_place, at_place, past_place, end_place, all_texts}

@@ -4,7 +4,7 @@ use Rattle.std.proofs.lemmas.Str.{IsCharBoundary-start}
 use Rattle.ts_ql.specs.Faults.{IsFailure}
 use Rattle.ts_ql.specs.Lexing.{token_at}
 use Rattle.ts_ql.specs.Reading.{Step, step, state}
-use Rattle.ts_ql.specs.Tokens.{Lexeme, lexeme}
+use Rattle.ts_ql.specs.Tokens.{Lexeme}
 use Rattle.ts_ql.proofs.ReadingLemmas.{read_failed, read_done, read_more, read_out, read_start, short_text, long_text}
 use Rattle.ts_ql.proofs.reader.parse.Goals as goal
 

@@ -1,7 +1,6 @@
-use Rattle.std.proofs.Common.{◌≡◌, ◌≤◌, ◌≤ℤ◌, pos, ◌^◌, ◌*ℤ◌, ◌+ℤ◌, ◌∙◌, sym, ap, arith, FitsSigned, w64, ℤ, unsigned_abs, to_z, of_z}
+use Rattle.std.proofs.Common.{◌*ℤ◌, ◌+ℤ◌, ◌∙◌, ap, arith, FitsSigned, w64, ℤ}
 use Rattle.std.specs.Int.{w128}
 use Rattle.std.proofs.lemmas.Int.{ints, to_z-of_z}
-use Rattle.ts_core.specs.Buckets.{bucket_of, IsBucketOf}
 use Rattle.ts_ql.proofs.StatementLemmas.{index_bound, computed, computed_fits, read_back}
 use Rattle.ts_ql.proofs.statement.bucket_at.Goals as goal
 
