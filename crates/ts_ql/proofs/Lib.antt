@@ -1,0 +1,6 @@
+pub mod LexingLemmas
+pub mod LiteralLemmas
+pub mod DateLemmas
+pub mod GroupLemmas
+pub mod StatementLemmas
+pub mod ReadingLemmas

@@ -1,0 +1,90 @@
+-- One step of what literals mean.
+use Rattle.std.proofs.Common.{◌≡◌, ℕ, ◌+◌, ◌*◌, ◌-◌, ◌<◌, ◌≤◌, Bool, true, false, cond, [], ◌∷◌, ◌++◌, length, get_or, drop, arith, refl, sym, ◌∙◌, ap, None, append-nil, append_assoc}
+use Rattle.std.proofs.lemmas.List.{at_drop_more, at_drop_all, get_or-drop}
+use Rattle.std.proofs.lemmas.Str.{chars_past_char}
+use Rattle.std.specs.Char.{is_ascii_digit}
+use Rattle.std.specs.Char.{encode_utf8}
+use Rattle.std.specs.Str.{encode_utf8_all, chars, IsUtf8}
+use Rattle.std.proofs.lemmas.Bool.{le-ltb, eq-eqb, ne_eqb}
+use Rattle.std.proofs.Math.Nat.{mul-le-mul_left}
+use Rattle.std.proofs.lemmas.Bool.Decides.{nat_tests}
+use Rattle.ts_core.specs.Facts.{Text}
+use Rattle.ts_ql.specs.Literals.{unit_of, added_up, within, escape, spelled}
+
+-- ---- numbers
+
+next_byte : (text : Text) (i : ℕ) → get_or (drop (i + 1) text) 0 0 ≡ get_or text (i + 1) 0
+next_byte text i = get_or-drop (i + 1) text 0 0 ∙ ap (λ n. get_or text n 0) (omega arith)
+
+pub added_up_step : (total number : ℕ) (text : Text) (i : ℕ) → i < length text
+    → added_up total number (drop i text) ≡ cond (is_ascii_digit (get_or text i 0))
+    (added_up total (number * 10 + (get_or text i 0 - 48)) (drop (i + 1) text))
+    (added_up (total + number * unit_of (get_or text i 0) (get_or text (i + 1) 0)) 0 (drop (i + 1) text))
+added_up_step total number text i lt = at_drop_more (added_up total number) text i 0 lt ∙ rw (next_byte text i) refl
+
+pub added_up_past : (total number : ℕ) (text : Text) (i : ℕ) → length text ≤ i → added_up total number (drop i text) ≡ total + number
+added_up_past total number text i le = at_drop_all (added_up total number) text i le
+
+unit_some : (byte next : ℕ) → 1 ≤ unit_of byte next
+unfolding unit_of
+unit_some byte next = grind (arith, nat_tests)
+
+least_by : (b : Bool) (n x y : ℕ) → n ≤ x → n ≤ y → n ≤ cond b x y
+least_by true n x y h k = h
+least_by false n x y h k = k
+
+-- what is added up never falls
+pub at_least : (total number : ℕ) (text : Text) → total + number ≤ added_up total number text
+at_least total number [] = omega arith
+at_least total number (b ∷ bs) =
+    let digit = at_least total (number * 10 + (b - 48)) bs in
+    let other = at_least (total + number * unit_of b (get_or bs 0 0)) 0 bs in
+    let some = mul-le-mul_left number (unit_some b (get_or bs 0 0)) in
+    least_by (is_ascii_digit b) (total + number) (added_up total (number * 10 + (b - 48)) bs) (added_up (total + number * unit_of b (get_or bs 0 0)) 0 bs) (omega arith) (omega arith)
+
+pub none_within : (limit n : ℕ) → limit ≤ n → None ≡ within limit n
+none_within limit n le = rw (le-ltb n limit le) refl
+
+-- past the limit with one digit more
+pub digit_past : (total number limit : ℕ) (text : Text) (i whole : ℕ) → i < length text → added_up total number (drop i text) ≡ whole
+    → is_ascii_digit (get_or text i 0) ≡ true → (number * 10 + (get_or text i 0 - 48) < limit → ⊥) → None ≡ within limit whole
+digit_past total number limit text i whole lt is digit past =
+    let step = added_up_step total number text i lt in
+    let here = rw digit at step in
+    let low = at_least total (number * 10 + (get_or text i 0 - 48)) (drop (i + 1) text) in
+    none_within limit whole (omega arith)
+
+-- past the limit with one number more
+pub unit_past : (total number limit : ℕ) (text : Text) (i whole : ℕ) → i < length text → added_up total number (drop i text) ≡ whole
+    → is_ascii_digit (get_or text i 0) ≡ false → (total + number * unit_of (get_or text i 0) (get_or text (i + 1) 0) < limit → ⊥) → None ≡ within limit whole
+unit_past total number limit text i whole lt is digit past =
+    let step = added_up_step total number text i lt in
+    let here = rw digit at step in
+    let low = at_least (total + number * unit_of (get_or text i 0) (get_or text (i + 1) 0)) 0 (drop (i + 1) text) in
+    none_within limit whole (omega arith)
+
+-- ---- texts
+
+-- what is spelled after these bytes, from a text on
+abbrev pub spelled_on : Text → Bool → Text → Text
+spelled_on before escaped text = before ++ encode_utf8_all (spelled escaped (chars text))
+
+pub spelled_escape : (before text rest : Text) (c : ℕ) → IsUtf8 text → text ≡ encode_utf8 c ++ rest → spelled_on before true text ≡ spelled_on (before ++ encode_utf8 (escape c)) false rest
+spelled_escape before text rest c utf8 e =
+    rw (chars_past_char text rest c utf8 e) (sym (append_assoc before (encode_utf8 (escape c)) (encode_utf8_all (spelled false (chars rest)))))
+
+pub spelled_backslash : (before text rest : Text) (c : ℕ) → IsUtf8 text → text ≡ encode_utf8 c ++ rest → c ≡ 92 → spelled_on before false text ≡ spelled_on before true rest
+spelled_backslash before text rest c utf8 e is = rw (chars_past_char text rest c utf8 e, eq-eqb c 92 is) refl
+
+pub spelled_plain : (before text rest : Text) (c : ℕ) → IsUtf8 text → text ≡ encode_utf8 c ++ rest → (c ≡ 92 → ⊥) → spelled_on before false text ≡ spelled_on (before ++ encode_utf8 c) false rest
+spelled_plain before text rest c utf8 e is =
+    rw (chars_past_char text rest c utf8 e, ne_eqb c 92 is) (sym (append_assoc before (encode_utf8 c) (encode_utf8_all (spelled false (chars rest)))))
+
+no_chars : (text : Text) → length text ≡ 0 → chars text ≡ []
+unfolding chars
+no_chars [] e = refl
+no_chars (b ∷ bs) e = absurd (omega arith)
+
+pub spelled_past : (before text : Text) (escaped : Bool) → length text ≡ 0 → spelled_on before escaped text ≡ before
+spelled_past before text true e = rw (no_chars text e) (append-nil before)
+spelled_past before text false e = rw (no_chars text e) (append-nil before)

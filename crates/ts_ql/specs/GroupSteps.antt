@@ -1,0 +1,132 @@
+-- What each token means in GROUP BY and FILL.
+-- (InfluxData 1.8, InfluxQL: the GROUP BY clause, GROUP BY time intervals, the offset interval, fill().)
+use Rattle.std.specs.Prelude.{ℕ, ℤ, pos, int_le, List, [], ◌∷◌, true, false, Option, Some, None, Result, Ok, Err, if◌then◌else◌, codes}
+use Rattle.std.specs.List.{insert}
+use Rattle.std.specs.declared.cmp.Ordering.{Ordering}
+use Rattle.std.specs.declared.cmp.Ordering.TheVariants as orders
+use Rattle.ts_core.specs.Facts.{Text, text_cmp}
+use Rattle.ts_ql.specs.Selects.{texts, Buckets}
+use Rattle.ts_ql.specs.declared.groups.Groups.{Groups}
+use Rattle.ts_ql.specs.declared.filling.Filling.{Filling}
+use Rattle.ts_ql.specs.declared.query.Fill.{Fill}
+use Rattle.ts_ql.specs.declared.query.Fill.TheVariants as fills
+use Rattle.ts_ql.specs.declared.place.Place.{Place}
+use Rattle.ts_ql.specs.declared.place.Place.TheVariants as places
+use Rattle.ts_ql.specs.declared.token.Kind.{Kind}
+use Rattle.ts_ql.specs.declared.token.Kind.TheVariants as kinds
+use Rattle.ts_ql.specs.Faults.{Fault, OutOfRange, unexpected}
+use Rattle.ts_ql.specs.Literals.{is_word, literal, unescaped}
+use Rattle.ts_ql.specs.Tokens.{Lexeme}
+use Rattle.ts_ql.specs.Words.{is_time}
+
+-- what has been read: the buckets of time, the place of the offset's first token, and the tags in byte order, each once
+pub record Grouped : Type 0 where
+  pub buckets : Option Buckets
+  pub first : ℕ
+  pub tags : List Text
+
+abbrev pub grouped : {A : Type 0} → Groups A → Grouped
+grouped g = record { buckets = g.buckets; first = g.first; tags = texts g.tags.items }
+
+abbrev pub empty_groups : Grouped
+empty_groups = record { buckets = None; first = 0; tags = [] }
+
+abbrev pub Grouping : Type 0
+Grouping = Result (Place × Grouped) Fault
+
+-- a text among others, which stand in byte order, each once
+abbrev pub insert_by : Ordering → Text → Text → List Text → List Text → List Text
+insert_by orders.Less new text rest inserted = new ∷ text ∷ rest
+insert_by orders.Equal new text rest inserted = text ∷ rest
+insert_by orders.Greater new text rest inserted = text ∷ inserted
+
+abbrev pub with_text : Text → List Text → List Text
+with_text new [] = new ∷ []
+with_text new (text ∷ rest) = insert_by (text_cmp new text) new text rest (with_text new rest)
+
+-- the texts with that one before this place, or as they are
+abbrev pub inserted_at : Option ℕ → Text → List Text → List Text
+inserted_at None new all = all
+inserted_at (Some at) new all = insert all at new
+
+-- the column that an item begins with: a second time(..) can't follow
+abbrev pub time_item : Lexeme → Grouped → Option Buckets → Grouping
+time_item t g None = Ok (places.TimeOpen, g)
+time_item t g (Some buckets) = Err (unexpected t)
+
+abbrev pub item_at : Lexeme → Grouped → Grouping
+item_at t g =
+    if is_time t.kind t.text then time_item t g g.buckets
+    else Ok (places.AfterTag, record g { tags = with_text (unescaped t.text) g.tags })
+
+-- buckets of that interval: a nanosecond or more
+abbrev pub of_interval : ℤ → Option Buckets
+of_interval interval = if int_le (pos 1) interval then Some (record { interval = interval; offset = pos 0 }) else None
+
+abbrev pub with_interval : Lexeme → Grouped → Option ℤ → Grouping
+with_interval t g None = Err (OutOfRange t.start)
+with_interval t g (Some interval) =
+    if int_le (pos 1) interval then Ok (places.IntervalEnd, record g { buckets = of_interval interval }) else Err (OutOfRange t.start)
+
+abbrev pub moved : ℤ → Option Buckets → Option Buckets
+moved offset None = None
+moved offset (Some b) = Some (record b { offset = offset })
+
+-- an offset whose first token stands at `first`
+abbrev pub with_offset : ℕ → Grouped → Option ℤ → Grouping
+with_offset first g None = Err (OutOfRange first)
+with_offset first g (Some offset) = Ok (places.OffsetEnd, record g { buckets = moved offset g.buckets })
+
+abbrev pub group_at : Place → Kind → Lexeme → Grouped → Grouping
+group_at places.GroupBy kinds.Keyword t g = if is_word (codes "by") t.text then Ok (places.Item, g) else Err (unexpected t)
+group_at places.Item kinds.Word t g = item_at t g
+group_at places.Item kinds.QuotedName t g = item_at t g
+group_at places.TimeOpen kinds.Open t g = Ok (places.Interval, g)
+group_at places.Interval kinds.Duration t g = with_interval t g (literal false t.text)
+group_at places.IntervalEnd kinds.Comma t g = Ok (places.Offset, g)
+group_at places.IntervalEnd kinds.Close t g = Ok (places.AfterItem, g)
+group_at places.Offset kinds.Minus t g = Ok (places.OffsetMinus, record g { first = t.start })
+group_at places.Offset kinds.Duration t g = with_offset t.start g (literal false t.text)
+group_at places.OffsetMinus kinds.Duration t g = with_offset g.first g (literal true t.text)
+group_at places.OffsetEnd kinds.Close t g = Ok (places.AfterItem, g)
+group_at places.AfterTag kinds.Cast t g = Ok (places.GroupTagType, g)
+group_at places.AfterTag kinds.Comma t g = Ok (places.Item, g)
+group_at places.GroupTagType kinds.Word t g = if is_word (codes "tag") t.text then Ok (places.AfterItem, g) else Err (unexpected t)
+group_at places.AfterItem kinds.Comma t g = Ok (places.Item, g)
+group_at place kind t g = Err (unexpected t)
+
+unfoldable pub group_step : Place → Lexeme → Grouped → Grouping
+group_step place t g = group_at place t.kind t g
+
+-- ---- fill
+
+abbrev pub FillStep : Type 0
+FillStep = Result (Place × Filling) Fault
+
+-- fill with a number whose first token stands at `first`
+abbrev pub with_number : ℕ → Filling → Option ℤ → FillStep
+with_number first f None = Err (OutOfRange first)
+with_number first f (Some n) = Ok (places.FillClose, record f { fill = fills.Number n })
+
+abbrev pub chosen : Fill → Filling → FillStep
+chosen fill f = Ok (places.FillClose, record f { fill = fill })
+
+abbrev pub fill_at : Place → Kind → Lexeme → Filling → FillStep
+fill_at places.FillOpen kinds.Open t f = Ok (places.FillOption, f)
+fill_at places.FillOption kinds.Word t f =
+    if is_word (codes "null") t.text then chosen fills.Null f
+    else if is_word (codes "none") t.text then chosen fills.None f
+    else if is_word (codes "previous") t.text then chosen fills.Previous f
+    else Err (unexpected t)
+fill_at places.FillOption kinds.Minus t f = Ok (places.FillMinus, record f { first = t.start })
+fill_at places.FillOption kinds.Integer t f = with_number t.start f (literal false t.text)
+fill_at places.FillMinus kinds.Integer t f = with_number f.first f (literal true t.text)
+fill_at places.FillClose kinds.Close t f = Ok (places.AfterFill, f)
+fill_at place kind t f = Err (unexpected t)
+
+unfoldable pub fill_step : Place → Lexeme → Filling → FillStep
+fill_step place t f = fill_at place t.kind t f
+
+-- nulls, where no option is written
+abbrev pub no_fill : Filling
+no_fill = record { fill = fills.Null; first = 0 }

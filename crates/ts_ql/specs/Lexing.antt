@@ -1,0 +1,161 @@
+-- How a token is found from a place on.
+-- (InfluxData 1.8, InfluxQL reference: letters, digits, identifiers, strings, integers, durations, operators.)
+use Rattle.std.specs.Prelude.{ℕ, ◌+◌, ◌-◌, [], ◌∷◌, drop, length, slice_index, slice_range, Bool, true, false, ◌&&◌, ◌||◌, ◌==◌, nat_lt, if◌then◌else◌, Option, Some, None}
+use Rattle.std.specs.Char.{is_ascii_alphabetic, is_ascii_digit}
+use Rattle.ts_core.specs.Facts.{Text}
+use Rattle.ts_ql.specs.declared.bytes.Class.{Class}
+use Rattle.ts_ql.specs.declared.bytes.Class.TheVariants.{Space, Name, Digit}
+use Rattle.ts_ql.specs.declared.token.Kind.{Kind}
+use Rattle.ts_ql.specs.declared.token.Kind.TheVariants as kinds
+use Rattle.ts_ql.specs.Tokens.{Lexeme}
+use Rattle.ts_ql.specs.Words.{is_keyword}
+
+-- ---- runs of bytes
+
+-- space, tab, line feed and carriage return part tokens; names have letters, digits and `_`
+abbrev pub is_in : Class → ℕ → Bool
+is_in Space byte = byte == 32 || byte == 9 || byte == 10 || byte == 13
+is_in Name byte = is_ascii_alphabetic byte || byte == 95 || is_ascii_digit byte
+is_in Digit byte = is_ascii_digit byte
+
+-- the place of the first of these bytes, which stand from `at` on, that isn't in the class, or their end
+abbrev pub run_end : Class → ℕ → Text → ℕ
+run_end class at [] = at
+run_end class at (b ∷ bs) = if is_in class b then run_end class (at + 1) bs else at
+
+unfoldable pub end_of : Class → Text → ℕ → ℕ
+end_of class text from = run_end class from (drop from text)
+
+-- ---- texts in quotes
+
+-- `\\`, `\n`, `\"` and `\'` alone are escapes
+abbrev pub is_escapable : ℕ → Bool
+is_escapable byte = byte == 92 || byte == 110 || byte == 34 || byte == 39
+
+-- the place of the closing quote; none where another byte is escaped, or where no quote closes
+abbrev pub closing : ℕ → Bool → ℕ → Text → Option ℕ
+closing quote escaped at [] = None
+closing quote true at (b ∷ bs) = if is_escapable b then closing quote false (at + 1) bs else None
+closing quote false at (b ∷ bs) = if b == quote then Some at else closing quote (b == 92) (at + 1) bs
+
+unfoldable pub closing_quote : ℕ → Text → ℕ → Option ℕ
+closing_quote quote text from = closing quote false from (drop from text)
+
+-- ---- durations
+
+-- how many bytes the unit has that begins with this byte before that one; 0 where none begins
+-- (ns, u, µ, ms, s, m, h, d, w)
+unfoldable pub unit_len : ℕ → ℕ → ℕ
+unit_len byte next =
+    if byte == 110 then (if next == 115 then 2 else 0)
+    else if byte == 194 then (if next == 181 then 2 else 0)
+    else if byte == 109 then (if next == 115 then 2 else 1)
+    else if byte == 117 || byte == 115 || byte == 104 || byte == 100 || byte == 119 then 1 else 0
+
+-- the end of the last number with its unit, of which the last so far ends at `last`; these bytes stand from `at` on,
+-- and `counting` tells that digits stand directly before them
+abbrev pub parts_end : ℕ → Bool → ℕ → Text → ℕ
+parts_end last counting at [] = last
+parts_end last counting at (b ∷ bs) =
+    if is_ascii_digit b then parts_end last true (at + 1) bs
+    else if counting then (if unit_len b (slice_index bs 0) == 0 then last else parts_end (at + unit_len b (slice_index bs 0)) false (at + 1) bs)
+    else if nat_lt at last then parts_end last false (at + 1) bs else last
+
+-- the end of the duration that begins there, or the place itself
+unfoldable pub duration_end : Text → ℕ → ℕ
+duration_end text from = parts_end from false from (drop from text)
+
+-- ---- tokens
+
+abbrev pub shape : Kind → ℕ → Kind × ℕ
+shape kind end = (kind, end)
+
+-- an operator of two bytes
+unfoldable pub double : ℕ → ℕ → Option Kind
+double first second =
+    if first == 61 && second == 126 then Some kinds.Foreign
+    else if first == 33 && second == 126 then Some kinds.Foreign
+    else if first == 33 && second == 61 then Some kinds.Differs
+    else if first == 60 && second == 62 then Some kinds.Differs
+    else if first == 60 && second == 61 then Some kinds.LessOrEqual
+    else if first == 62 && second == 61 then Some kinds.GreaterOrEqual
+    else if first == 58 && second == 58 then Some kinds.Cast else None
+
+-- an operator of one byte
+unfoldable pub single : ℕ → Option Kind
+single byte =
+    if byte == 44 then Some kinds.Comma
+    else if byte == 40 then Some kinds.Open
+    else if byte == 41 then Some kinds.Close
+    else if byte == 59 then Some kinds.Semicolon
+    else if byte == 61 then Some kinds.Equals
+    else if byte == 60 then Some kinds.Less
+    else if byte == 62 then Some kinds.Greater
+    else if byte == 43 then Some kinds.Plus
+    else if byte == 45 then Some kinds.Minus
+    else if byte == 42 || byte == 47 || byte == 37 || byte == 46 then Some kinds.Foreign else None
+
+abbrev pub single_at : Text → ℕ → Option Kind → Kind × ℕ
+single_at text start None = (kinds.Bad, length text)
+single_at text start (Some kind) = (kind, start + 1)
+
+abbrev pub double_at : Text → ℕ → Option Kind → Kind × ℕ
+double_at text start None = single_at text start (single (slice_index text start))
+double_at text start (Some kind) = (kind, start + 2)
+
+-- an operator, the longest that stands there
+unfoldable pub operator_at : Text → ℕ → Kind × ℕ
+operator_at text start = double_at text start (double (slice_index text start) (slice_index text (start + 1)))
+
+-- a number: a duration, or digits that no letter and no point follows
+unfoldable pub number_at : Text → ℕ → Kind × ℕ
+number_at text start =
+    if nat_lt start (duration_end text start) then (kinds.Duration, duration_end text start)
+    else if is_ascii_alphabetic (slice_index text (end_of Digit text start)) || slice_index text (end_of Digit text start) == 46 then (kinds.Bad, length text)
+    else (kinds.Integer, end_of Digit text start)
+
+-- a text in quotes; a name in quotes isn't empty
+abbrev pub closed_at : Text → ℕ → ℕ → Option ℕ → Kind × ℕ
+closed_at text quote start None = (kinds.Bad, length text)
+closed_at text quote start (Some close) =
+    if quote == 39 then (kinds.Literal, close + 1) else if close == start + 1 then (kinds.Bad, length text) else (kinds.QuotedName, close + 1)
+
+unfoldable pub quoted_at : Text → ℕ → Kind × ℕ
+quoted_at text start = closed_at text (slice_index text start) start (closing_quote (slice_index text start) text (start + 1))
+
+-- the kind of the token that begins there, and its end
+unfoldable pub shape_at : Text → ℕ → Kind × ℕ
+shape_at text start =
+    if length text == start then (kinds.End, start)
+    else if is_ascii_digit (slice_index text start) then number_at text start
+    else if is_in Name (slice_index text start) then (kinds.Word, end_of Name text start)
+    else if slice_index text start == 34 || slice_index text start == 39 then quoted_at text start
+    else operator_at text start
+
+-- whether a token of the kind stands in quotes
+abbrev pub is_quoted : Kind → Bool
+is_quoted kinds.QuotedName = true
+is_quoted kinds.Literal = true
+is_quoted kind = false
+
+-- the text of a token from one place to another
+abbrev pub text_of : Text → ℕ → Kind × ℕ → Text
+text_of text start shape = if is_quoted shape.0 then slice_range text (start + 1) (shape.1 - 1) else slice_range text start shape.1
+
+-- a word may be a keyword
+abbrev pub kind_of : Kind → Text → Kind
+kind_of kinds.Word raw = if is_keyword raw then kinds.Keyword else kinds.Word
+kind_of kind raw = kind
+
+abbrev pub shaped : Text → ℕ → Kind × ℕ → Lexeme
+shaped text start shape = record {
+  kind = kind_of shape.0 (slice_range text start shape.1);
+  start = start;
+  end = shape.1;
+  raw = slice_range text start shape.1;
+  text = text_of text start shape;
+}
+
+-- the first token from a place on
+unfoldable pub token_at : Text → ℕ → Lexeme
+token_at text from = shaped text (end_of Space text from) (shape_at text (end_of Space text from))

@@ -1,0 +1,14 @@
+pub mod Tokens
+pub mod Lexing
+pub mod Literals
+pub mod Dates
+pub mod Words
+pub mod Faults
+pub mod Selects
+pub mod SelectSteps
+pub mod MomentSteps
+pub mod WhereSteps
+pub mod GroupSteps
+pub mod Statements
+pub mod Reading
+pub mod FaultText

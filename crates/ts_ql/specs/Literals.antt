@@ -1,0 +1,61 @@
+-- What literals mean: numbers, durations, and texts in quotes.
+-- (InfluxData 1.8, InfluxQL reference, literals: integers, durations, strings. Own rule: the four escapes, and the ranges.)
+use Rattle.std.specs.Prelude.{ℕ, ℤ, pos, neg_ℤ, ◌+◌, ◌-◌, ◌*◌, [], ◌∷◌, List, Bool, true, false, nat_lt, nat_le, ◌||◌, ◌==◌, if◌then◌else◌, Option, Some, None, slice_index, encode_utf8_all}
+use Rattle.std.specs.Char.{is_ascii_digit}
+use Rattle.std.specs.Str.{chars, str_eq_ignore_ascii_case}
+use Rattle.ts_core.specs.Facts.{Text}
+
+-- ---- numbers
+
+-- how many nanoseconds the unit has that begins with this byte before that one; the nanosecond where none begins
+unfoldable pub unit_of : ℕ → ℕ → ℕ
+unit_of byte next =
+    if byte == 194 || byte == 117 then 1000
+    else if byte == 109 then (if next == 115 then 1000000 else 60000000000)
+    else if byte == 115 then 1000000000
+    else if byte == 104 then 3600000000000
+    else if byte == 100 then 86400000000000
+    else if byte == 119 then 604800000000000 else 1
+
+-- the numbers with their units added up, after a total and a number so far; a number without a unit counts as it is.
+-- (The second byte of a unit has no number before it, and adds nothing.)
+abbrev pub added_up : ℕ → ℕ → Text → ℕ
+added_up total number [] = total + number
+added_up total number (b ∷ bs) =
+    if is_ascii_digit b then added_up total (number * 10 + (b - 48)) bs
+    else added_up (total + number * unit_of b (slice_index bs 0)) 0 bs
+
+-- what an integer counts, or how many nanoseconds a duration has
+unfoldable pub magnitude : Text → ℕ
+magnitude text = added_up 0 0 text
+
+abbrev pub within : ℕ → ℕ → Option ℕ
+within limit n = if nat_lt n limit then Some n else None
+
+abbrev pub signed : Bool → ℕ → Option ℤ
+signed true n = if nat_le n 9223372036854775808 then Some (neg_ℤ (pos n)) else None
+signed false n = if nat_lt n 9223372036854775808 then Some (pos n) else None
+
+-- the value of a literal behind a minus or none, where it has 64 bits
+unfoldable pub literal : Bool → Text → Option ℤ
+literal negative text = signed negative (magnitude text)
+
+-- ---- texts
+
+-- the character that a backslash and this one spell
+abbrev pub escape : ℕ → ℕ
+escape c = if c == 110 then 10 else c
+
+-- the characters that these spell, the first of them escaped or not
+abbrev pub spelled : Bool → List ℕ → List ℕ
+spelled escaped [] = []
+spelled true (c ∷ cs) = escape c ∷ spelled false cs
+spelled false (c ∷ cs) = if c == 92 then spelled true cs else c ∷ spelled false cs
+
+-- the text that a text with its escapes spells
+unfoldable pub unescaped : Text → Text
+unescaped text = encode_utf8_all (spelled false (chars text))
+
+-- the word in any case
+abbrev pub is_word : Text → Text → Bool
+is_word word text = str_eq_ignore_ascii_case text word

@@ -1,0 +1,113 @@
+-- What each token means in a comparison with time, and the range that comes of it.
+-- (InfluxData 1.8, InfluxQL: time syntax, absolute and relative time. Own rule: sums are exact.)
+use Rattle.std.specs.Prelude.{ℕ, ℤ, pos, negsuc, ◌+ℤ◌, ◌-ℤ◌, int_le, Bool, ◌&&◌, true, false, Option, Some, None, Result, Ok, Err, if◌then◌else◌, codes}
+use Rattle.ts_core.specs.Times.{least_time, greatest_time}
+use Rattle.ts_ql.specs.declared.moment.Comparison.{Comparison}
+use Rattle.ts_ql.specs.declared.moment.Comparison.TheVariants as comparisons
+use Rattle.ts_ql.specs.declared.moment.Moment.{Moment}
+use Rattle.ts_ql.specs.declared.moment.Range.{Range}
+use Rattle.ts_ql.specs.declared.place.Place.{Place}
+use Rattle.ts_ql.specs.declared.place.Place.TheVariants as places
+use Rattle.ts_ql.specs.declared.token.Kind.{Kind}
+use Rattle.ts_ql.specs.declared.token.Kind.TheVariants as kinds
+use Rattle.ts_ql.specs.Dates.{moment_told}
+use Rattle.ts_ql.specs.Faults.{Fault, OutOfRange, unexpected}
+use Rattle.ts_ql.specs.Literals.{is_word, literal}
+use Rattle.ts_ql.specs.Tokens.{Lexeme}
+
+abbrev pub Timing : Type 0
+Timing = Result (Place × Moment) Fault
+
+-- a moment that begins at `first` with this value
+abbrev pub based : ℕ → Moment → Option ℤ → Timing
+based first m None = Err (OutOfRange first)
+based first m (Some value) = Ok (places.AfterMoment, record m { first = first; total = value })
+
+-- a sum; it stays within 128 bits in every text of 65,536 bytes
+abbrev pub is_sum : ℤ → Bool
+is_sum z = int_le (negsuc 170141183460469231731687303715884105727) z && int_le z (pos 170141183460469231731687303715884105727)
+
+abbrev pub summed : Moment → ℤ → Timing
+summed m total = if is_sum total then Ok (places.AfterMoment, record m { total = total }) else Err (OutOfRange m.first)
+
+-- a moment with a duration more
+abbrev pub later_by : Lexeme → Moment → Option ℤ → Timing
+later_by t m None = Err (OutOfRange t.start)
+later_by t m (Some value) = summed m (m.total +ℤ value)
+
+-- a moment with a duration less
+abbrev pub earlier_by : Lexeme → Moment → Option ℤ → Timing
+earlier_by t m None = Err (OutOfRange t.start)
+earlier_by t m (Some value) = summed m (m.total -ℤ value)
+
+abbrev pub compared : Comparison → Moment → Timing
+compared c m = Ok (places.Moment, record m { comparison = c })
+
+abbrev pub moment_at : ℤ → Place → Kind → Lexeme → Moment → Timing
+moment_at now places.TimeSign kinds.Equals t m = compared comparisons.Equal m
+moment_at now places.TimeSign kinds.Less t m = compared comparisons.Less m
+moment_at now places.TimeSign kinds.LessOrEqual t m = compared comparisons.LessOrEqual m
+moment_at now places.TimeSign kinds.Greater t m = compared comparisons.Greater m
+moment_at now places.TimeSign kinds.GreaterOrEqual t m = compared comparisons.GreaterOrEqual m
+moment_at now places.Moment kinds.Minus t m = Ok (places.MomentMinus, record m { first = t.start })
+moment_at now places.Moment kinds.Integer t m = based t.start m (literal false t.text)
+moment_at now places.Moment kinds.Duration t m = based t.start m (literal false t.text)
+moment_at now places.Moment kinds.Literal t m = based t.start m (moment_told t.text)
+moment_at now places.Moment kinds.Word t m =
+    if is_word (codes "now") t.text then Ok (places.NowOpen, record m { first = t.start }) else Err (unexpected t)
+moment_at now places.MomentMinus kinds.Integer t m = based m.first m (literal true t.text)
+moment_at now places.MomentMinus kinds.Duration t m = based m.first m (literal true t.text)
+moment_at now places.NowOpen kinds.Open t m = Ok (places.NowClose, m)
+moment_at now places.NowClose kinds.Close t m = Ok (places.AfterMoment, record m { total = now })
+moment_at now places.AfterMoment kinds.Plus t m = Ok (places.MomentPlus, m)
+moment_at now places.AfterMoment kinds.Minus t m = Ok (places.MomentLess, m)
+moment_at now places.MomentPlus kinds.Duration t m = later_by t m (literal false t.text)
+moment_at now places.MomentLess kinds.Duration t m = earlier_by t m (literal false t.text)
+moment_at now place kind t m = Err (unexpected t)
+
+unfoldable pub moment_step : ℤ → Place → Lexeme → Moment → Timing
+moment_step now place t m = moment_at now place t.kind t m
+
+-- ---- the range
+
+abbrev pub greater : ℤ → Option ℤ → ℤ
+greater x None = x
+greater x (Some y) = if int_le x y then y else x
+
+abbrev pub lesser : ℤ → Option ℤ → ℤ
+lesser x None = x
+lesser x (Some y) = if int_le y x then y else x
+
+-- from this time on
+abbrev pub from_on : ℤ → Range → Range
+from_on x r = record r { lower = Some (greater x r.lower) }
+
+-- before this one
+abbrev pub before : ℤ → Range → Range
+before x r = record r { upper = Some (lesser x r.upper) }
+
+-- the range where time stands so to the moment x
+unfoldable pub bounded : Comparison → ℤ → Range → Range
+bounded comparisons.Equal x r = before (x +ℤ pos 1) (from_on x r)
+bounded comparisons.Less x r = before x r
+bounded comparisons.LessOrEqual x r = before (x +ℤ pos 1) r
+bounded comparisons.Greater x r = from_on (x +ℤ pos 1) r
+bounded comparisons.GreaterOrEqual x r = from_on x r
+
+abbrev pub no_moment : Moment
+no_moment = record { comparison = comparisons.Equal; first = 0; total = pos 0 }
+
+abbrev pub unbounded : Range
+unbounded = record { lower = None; upper = None }
+
+-- a moment that has been read whole is a valid time
+abbrev pub time_of : Moment → Result ℤ Fault
+time_of m = if int_le least_time m.total && int_le m.total greatest_time then Ok m.total else Err (OutOfRange m.first)
+
+abbrev pub bounded_by : Comparison → Range → Result ℤ Fault → Result Range Fault
+bounded_by c r (Ok time) = Ok (bounded c time r)
+bounded_by c r (Err fault) = Err fault
+
+-- the range once a moment has been read whole
+unfoldable pub settled : Moment → Range → Result Range Fault
+settled m r = bounded_by m.comparison r (time_of m)

@@ -1,0 +1,17 @@
+-- The tokens of a text, with their places.
+-- (InfluxData 1.8, InfluxQL reference: notation, identifiers, keywords, literals. Own rule: what is left out of the profile.)
+use Rattle.std.specs.Prelude.{ℕ}
+use Rattle.ts_core.specs.Facts.{Text}
+use Rattle.ts_ql.specs.declared.token.Kind.{Kind}
+use Rattle.ts_ql.specs.declared.token.Token.{Token}
+
+-- a token: its kind, its place in the text, its bytes there, and without the quotes of a text in quotes
+pub record Lexeme : Type 0 where
+  pub kind : Kind
+  pub start : ℕ
+  pub end : ℕ
+  pub raw : Text
+  pub text : Text
+
+abbrev pub lexeme : Token → Lexeme
+lexeme t = record { kind = t.kind; start = t.start; end = t.end; raw = t.raw.now; text = t.text.now }

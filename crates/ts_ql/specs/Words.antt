@@ -1,0 +1,61 @@
+-- Words with a meaning of their own, in any case.
+-- (InfluxData 1.8, InfluxQL reference: keywords, functions. Own rule: which of them the profile leaves out.)
+use Rattle.std.specs.Prelude.{Bool, true, false, ◌||◌, if◌then◌else◌, Option, Some, None, codes, bytes_eq}
+use Rattle.ts_core.specs.Facts.{Text}
+use Rattle.ts_ql.specs.declared.query.Function.{Function}
+use Rattle.ts_ql.specs.declared.query.Function.TheVariants as functions
+use Rattle.ts_ql.specs.declared.token.Kind.{Kind}
+use Rattle.ts_ql.specs.declared.token.Kind.TheVariants as kinds
+use Rattle.ts_ql.specs.Literals.{is_word}
+
+-- keywords of the profile
+unfoldable pub is_clause_word : Text → Bool
+is_clause_word text =
+    is_word (codes "select") text || is_word (codes "from") text || is_word (codes "where") text || is_word (codes "group") text
+    || is_word (codes "by") text || is_word (codes "and") text || is_word (codes "as") text
+
+-- keywords that the profile leaves out
+unfoldable pub is_foreign_keyword : Text → Bool
+is_foreign_keyword text =
+    is_word (codes "or") text || is_word (codes "into") text || is_word (codes "order") text || is_word (codes "limit") text
+    || is_word (codes "offset") text || is_word (codes "slimit") text || is_word (codes "soffset") text
+
+-- no unquoted name is such a word
+abbrev pub is_keyword : Text → Bool
+is_keyword text = is_clause_word text || is_foreign_keyword text
+
+-- other words that tell what the profile leaves out
+unfoldable pub is_foreign_word : Text → Bool
+is_foreign_word text =
+    is_word (codes "show") text || is_word (codes "create") text || is_word (codes "alter") text || is_word (codes "drop") text
+    || is_word (codes "delete") text || is_word (codes "explain") text || is_word (codes "grant") text || is_word (codes "revoke") text
+    || is_word (codes "kill") text || is_word (codes "set") text || is_word (codes "tz") text || is_word (codes "linear") text
+
+unfoldable pub function_called : Text → Option Function
+function_called text =
+    if is_word (codes "count") text then Some functions.Count
+    else if is_word (codes "sum") text then Some functions.Sum
+    else if is_word (codes "min") text then Some functions.Min
+    else if is_word (codes "max") text then Some functions.Max
+    else if is_word (codes "first") text then Some functions.First
+    else if is_word (codes "last") text then Some functions.Last
+    else if is_word (codes "mean") text then Some functions.Mean else None
+
+-- the column of time, with or without quotes
+unfoldable pub is_time : Kind → Text → Bool
+is_time kinds.Word text = is_word (codes "time") text
+is_time kinds.QuotedName text = bytes_eq text (codes "time")
+is_time kind text = false
+
+-- what the profile leaves out: such a word, or such an operator
+unfoldable pub is_foreign : Kind → Text → Bool
+is_foreign kinds.Word text = is_foreign_word text
+is_foreign kinds.Keyword text = is_foreign_keyword text
+is_foreign kinds.Foreign text = true
+is_foreign kinds.Less text = true
+is_foreign kinds.LessOrEqual text = true
+is_foreign kinds.Greater text = true
+is_foreign kinds.GreaterOrEqual text = true
+is_foreign kinds.Plus text = true
+is_foreign kinds.Minus text = true
+is_foreign kind text = false

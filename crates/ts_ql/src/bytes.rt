@@ -1,0 +1,93 @@
+//! Runs of bytes in a text.
+ghost use Rattle.std.specs.Prelude.{◌≡◌, ◌+◌, ◌<◌, ◌≤◌, IfSome, true, length, slice_index};
+ghost use Rattle.std.specs.Str.{IsCharBoundary};
+ghost use Rattle.ts_ql.specs.Lexing.{is_in, end_of, is_escapable, closing_quote};
+
+/// A class of bytes.
+#[derive(Clone, Copy, Debug, PartialEq, Eq)]
+pub(crate) enum Class {
+    /// What parts tokens.
+    Space,
+    /// What a name has.
+    Name,
+    Digit,
+}
+
+pub(crate) fn is_in(class: Class, byte: u8) -> bool
+    ensures { result ≡ is_in class byte }
+{
+    match class {
+        Class::Space => byte == b' ' || byte == b'\t' || byte == b'\n' || byte == b'\r',
+        Class::Name => byte.is_ascii_alphabetic() || byte == b'_' || byte.is_ascii_digit(),
+        Class::Digit => byte.is_ascii_digit(),
+    }
+}
+
+/// The byte at a place, and 0 at the end.
+pub(crate) fn byte_at(text: &str, at: usize) -> u8
+    ensures { result ≡ slice_index text.now at }
+{
+    match text.as_bytes().get(at) {
+        Some(byte) => *byte,
+        None => 0,
+    }
+}
+
+/// The place after an ASCII character.
+pub(crate) fn after(text: &str, at: usize) -> usize
+    requires in_range { at < length text.now }
+    requires ascii { slice_index text.now at < 128 }
+    ensures value { result ≡ at + 1 }
+    ensures boundary { IsCharBoundary text.now result }
+{
+    at + 1
+}
+
+/// The first place from `from` on whose byte isn't in the class.
+#[tactic(auto, using(crate::proofs::LexingLemmas::run_end_step, crate::proofs::LexingLemmas::run_end_past, crate::proofs::LexingLemmas::in_ascii), unfolding(crate::specs::Lexing::end_of))]
+pub(crate) fn end_of(text: &str, from: usize, class: Class) -> usize
+    requires { IsCharBoundary text.now from }
+    ensures value { result ≡ end_of class text.now from }
+    ensures from { from ≤ result }
+    ensures past { from < length text.now → is_in class (slice_index text.now from) ≡ true → from < result }
+    ensures boundary { IsCharBoundary text.now result }
+{
+    let bytes = text.as_bytes();
+    let mut i = from;
+    while i < bytes.len() && is_in(class, bytes[i]) {
+        i = after(text, i);
+    }
+    i
+}
+
+fn is_escapable(byte: u8) -> bool
+    ensures { result ≡ is_escapable byte }
+{
+    byte == b'\\' || byte == b'n' || byte == b'"' || byte == b'\''
+}
+
+/// The place of the closing quote of a text in quotes that begins at `from`, where its escapes are good.
+#[tactic(auto, using(crate::proofs::LexingLemmas::closing_step, crate::proofs::LexingLemmas::closing_past), unfolding(crate::specs::Lexing::closing_quote))]
+pub(crate) fn closing_quote(text: &str, from: usize, quote: u8) -> Option<usize>
+    ensures value { result ≡ closing_quote quote text.now from }
+    ensures within { IfSome result (λ at. (from ≤ at) × (at < length text.now) × (slice_index text.now at ≡ quote)) }
+{
+    let bytes = text.as_bytes();
+    let mut escaped = false;
+    let mut i = from;
+    while i < bytes.len() {
+        let byte = bytes[i];
+        if escaped {
+            if !is_escapable(byte) {
+                return None;
+            }
+            escaped = false;
+        } else if byte == quote {
+            return Some(i);
+        } else {
+            escaped = byte == b'\\';
+        }
+        i += 1;
+    }
+    None
+}

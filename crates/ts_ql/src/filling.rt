@@ -1,0 +1,89 @@
+//! FILL.
+ghost use Rattle.std.specs.Prelude.{◌≡◌};
+ghost use Rattle.ts_ql.specs.Faults.{GivesWith};
+ghost use Rattle.ts_ql.specs.GroupSteps.{chosen, with_number, fill_step, no_fill};
+ghost use Rattle.ts_ql.specs.Literals.{literal};
+ghost use Rattle.ts_ql.specs.Tokens.{lexeme};
+
+use crate::fault::{ParseError, QlFault};
+use crate::literal::{is_word, literal};
+use crate::place::Place;
+use crate::query::Fill;
+use crate::token::{Kind, Token};
+
+/// What has been read of FILL.
+#[derive(Clone, Copy, Debug)]
+pub(crate) struct Filling {
+    pub fill: Fill,
+    /// The place of the number's first token.
+    pub first: usize,
+}
+
+impl Filling {
+    /// Nothing yet: nulls.
+    pub(crate) fn new() -> Filling
+        ensures { result ≡ no_fill }
+    {
+        Filling {
+            fill: Fill::Null,
+            first: 0,
+        }
+    }
+
+    /// Takes another option.
+    fn choose<'a>(&mut self, fill: Fill) -> Result<Place, ParseError<'a>>
+        ensures { GivesWith result self.new (chosen fill self.old) }
+    {
+        self.fill = fill;
+        Ok(Place::FillClose)
+    }
+
+    /// Takes a number, whose first token stands at `first`.
+    fn take_number<'a>(
+        &mut self,
+        first: usize,
+        negative: bool,
+        token: &Token<'a>,
+    ) -> Result<Place, ParseError<'a>>
+        ensures { GivesWith result self.new (with_number first self.old (literal negative token.now.text.now)) }
+    {
+        match literal(negative, token.text) {
+            Some(number) => {
+                self.fill = Fill::Number(number);
+                Ok(Place::FillClose)
+            }
+            None => Err(ParseError::Fault(QlFault::OutOfRange(first))),
+        }
+    }
+
+    /// Takes the next token.
+    #[tactic(auto, unfolding(crate::specs::GroupSteps::fill_step))]
+    pub(crate) fn take<'a>(
+        &mut self,
+        place: Place,
+        token: &Token<'a>,
+    ) -> Result<Place, ParseError<'a>>
+        ensures { GivesWith result self.new (fill_step place (lexeme token.now) self.old) }
+    {
+        match (place, token.kind) {
+            (Place::FillOpen, Kind::Open) => Ok(Place::FillOption),
+            (Place::FillOption, Kind::Word) if is_word(token.text, "null") => self.choose(
+                Fill::Null,
+            ),
+            (Place::FillOption, Kind::Word) if is_word(token.text, "none") => self.choose(
+                Fill::None,
+            ),
+            (Place::FillOption, Kind::Word) if is_word(token.text, "previous") => {
+                self.choose(Fill::Previous)
+            }
+            (Place::FillOption, Kind::Minus) => {
+                self.first = token.start;
+                Ok(Place::FillMinus)
+            }
+            (Place::FillOption, Kind::Integer) => self.take_number(token.start, false, token),
+            (Place::FillMinus, Kind::Integer) => self.take_number(self.first, true, token),
+            (Place::FillClose, Kind::Close) => Ok(Place::AfterFill),
+            _ => Err(ParseError::Fault(token.unexpected())),
+        }
+    }
+}

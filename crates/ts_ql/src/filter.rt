@@ -1,0 +1,115 @@
+//! The conditions of WHERE.
+ghost use Rattle.std.specs.Prelude.{◌≡◌, IfOk, string_bytes};
+ghost use Rattle.ts_ql.specs.Faults.{GivesWith};
+ghost use Rattle.ts_ql.specs.Tokens.{lexeme};
+ghost use Rattle.ts_ql.specs.WhereSteps.{filtered, empty_filter, after_term, with_condition, term_at, where_step};
+
+use crate::fault::ParseError;
+use crate::literal::{is_word, unescaped};
+use crate::place::Place;
+use crate::query::Condition;
+use crate::token::{Kind, Token};
+use std::alloc::{AllocError, Allocator};
+use std::mem;
+
+/// What has been read of the conditions on tags.
+#[derive(Drop)]
+pub(crate) struct Filter<A: Allocator> {
+    pub conditions: Vec<Condition<A>, A>,
+    /// The tag of the condition being read.
+    pub tag: String<A>,
+    /// Whether its value has to be another.
+    pub differs: bool,
+    /// How many parentheses are open.
+    pub depth: u8,
+}
+
+/// The place after a term at that depth.
+pub(crate) fn after_term(depth: u8) -> Place
+    ensures { result ≡ after_term depth }
+{
+    if depth == 0 {
+        Place::AfterTerm
+    } else {
+        Place::NestedTerm
+    }
+}
+
+impl<A: Allocator + Copy> Filter<A> {
+    /// Nothing yet.
+    pub(crate) fn new(alloc: A) -> Filter<A>
+        ensures { filtered result ≡ empty_filter }
+    {
+        Filter {
+            conditions: Vec::new(alloc),
+            tag: String::new(alloc),
+            differs: false,
+            depth: 0,
+        }
+    }
+
+    /// Ends a condition, with that value.
+    fn push(&mut self, alloc: A, value: String<A>) -> Result<(), AllocError>
+        ensures { IfOk result (λ _. filtered self.new ≡ with_condition (string_bytes value) (filtered self.old)) }
+    {
+        let tag = mem::replace(&mut self.tag, String::new(alloc));
+        self.conditions
+            .push(Condition::new(tag, value, self.differs))?;
+        Ok(())
+    }
+
+    /// Takes the column that a term begins with.
+    fn take_column<'a>(&mut self, alloc: A, token: &Token<'a>) -> Result<Place, ParseError<'a>>
+        ensures { GivesWith result (filtered self.new) (term_at (lexeme token.now) (filtered self.old)) }
+    {
+        if token.is_time() {
+            return Ok(Place::TimeSign);
+        }
+        self.tag = unescaped(alloc, token.text)?;
+        Ok(Place::TagEnd)
+    }
+
+    /// Takes the next token.
+    #[tactic(auto, unfolding(crate::specs::WhereSteps::where_step))]
+    pub(crate) fn take<'a>(
+        &mut self,
+        alloc: A,
+        place: Place,
+        token: &Token<'a>,
+    ) -> Result<Place, ParseError<'a>>
+        ensures { GivesWith result (filtered self.new) (where_step place (lexeme token.now) (filtered self.old)) }
+    {
+        match (place, token.kind) {
+            (Place::Term, Kind::Open) => {
+                if self.depth >= 32 {
+                    return Err(ParseError::Fault(token.left_out()));
+                }
+                self.depth += 1;
+                Ok(Place::Term)
+            }
+            (Place::Term, Kind::Word | Kind::QuotedName) => self.take_column(alloc, token),
+            (Place::TagEnd, Kind::Cast) => Ok(Place::TagType),
+            (Place::TagType, Kind::Word) if is_word(token.text, "tag") => Ok(Place::TagSign),
+            (Place::TagEnd | Place::TagSign, Kind::Equals) => {
+                self.differs = false;
+                Ok(Place::TagValue)
+            }
+            (Place::TagEnd | Place::TagSign, Kind::Differs) => {
+                self.differs = true;
+                Ok(Place::TagValue)
+            }
+            (Place::TagValue, Kind::Literal) => {
+                self.push(alloc, unescaped(alloc, token.text)?)?;
+                Ok(after_term(self.depth))
+            }
+            (Place::AfterTerm | Place::NestedTerm, Kind::Keyword) if is_word(token.text, "and") => {
+                Ok(Place::Term)
+            }
+            (Place::NestedTerm, Kind::Close) if self.depth > 0 => {
+                self.depth -= 1;
+                Ok(after_term(self.depth))
+            }
+            _ => Err(ParseError::Fault(token.unexpected())),
+        }
+    }
+}

@@ -1,0 +1,209 @@
+//! GROUP BY.
+ghost use Rattle.std.specs.Prelude.{◌≡◌, ◌≤◌, IfOk, IfSome, length, string_bytes, false};
+ghost use Rattle.ts_ql.specs.Faults.{GivesWith};
+ghost use Rattle.ts_ql.specs.GroupSteps.{grouped, empty_groups, with_text, inserted_at, item_at, with_interval, with_offset, group_step};
+ghost use Rattle.ts_ql.specs.Literals.{literal};
+ghost use Rattle.ts_ql.specs.Selects.{texts};
+ghost use Rattle.ts_ql.specs.Tokens.{lexeme};
+
+use crate::fault::{ParseError, QlFault};
+use crate::literal::{is_word, literal, unescaped};
+use crate::place::Place;
+use crate::token::{Kind, Token};
+use std::alloc::{AllocError, Allocator};
+use std::cmp::Ordering;
+use std::marker::Model;
+
+/// Buckets of time, in nanoseconds.
+#[derive(Clone, Copy, Debug)]
+pub(crate) struct Buckets {
+    interval: i64,
+    offset: i64,
+}
+
+impl Model for Buckets {
+    ghost use Rattle.std.specs.Prelude.{◌≤ℤ◌, pos};
+    ghost use Rattle.ts_ql.specs.Selects.{Buckets as BucketsValue};
+
+    ghost Value = { BucketsValue };
+
+    ghost view = { λ b. record { interval = b.interval; offset = b.offset } };
+
+    ghost invariant = { λ b. pos 1 ≤ℤ b.interval };
+
+    ghost inverse = { λ v. record { interval = v.interval; offset = v.offset } };
+}
+
+impl Buckets {
+    ghost use Rattle.std.specs.Prelude.{◌≡◌, ◌≤ℤ◌, pos};
+    ghost use Rattle.ts_ql.specs.GroupSteps.{of_interval};
+
+    /// Buckets of that interval, where it has a nanosecond or more.
+    pub(crate) fn new(interval: i64) -> Option<Buckets>
+        ensures { result ≡ of_interval interval }
+    {
+        if interval >= 1 {
+            Some(Buckets {
+                interval,
+                offset: 0,
+            })
+        } else {
+            None
+        }
+    }
+
+    /// The same from another offset on.
+    fn with_offset(self, offset: i64) -> Buckets
+        ensures { result ≡ record self { offset = offset } }
+    {
+        Buckets {
+            interval: self.interval,
+            offset,
+        }
+    }
+
+    /// How long each is.
+    pub(crate) fn interval(self) -> i64
+        ensures value { result ≡ self.interval }
+        ensures some { pos 1 ≤ℤ result }
+    {
+        self.interval
+    }
+
+    /// From where they are counted.
+    pub(crate) fn offset(self) -> i64
+        ensures { result ≡ self.offset }
+    {
+        self.offset
+    }
+}
+
+/// What has been read of GROUP BY.
+#[derive(Drop)]
+pub(crate) struct Groups<A: Allocator> {
+    pub buckets: Option<Buckets>,
+    /// The place of the offset's first token.
+    pub first: usize,
+    /// The tags in byte order, each once.
+    pub tags: Vec<String<A>, A>,
+}
+
+/// Where a text has to be inserted among others in byte order, if it isn't there.
+fn place_of<A: Allocator>(tags: &[String<A>], name: &str) -> Option<usize>
+    ensures within { IfSome result (λ at. at ≤ length tags.now) }
+    ensures value { with_text name.now (texts tags.now) ≡ inserted_at result name.now (texts tags.now) }
+{
+    for (at, tag) in tags.iter().enumerate() {
+        match name.cmp(&tag.as_str()) {
+            Ordering::Less => return Some(at),
+            Ordering::Equal => return None,
+            Ordering::Greater => {}
+        }
+    }
+    Some(tags.len())
+}
+
+impl<A: Allocator + Copy> Groups<A> {
+    /// Nothing yet.
+    pub(crate) fn new(alloc: A) -> Groups<A>
+        ensures { grouped result ≡ empty_groups }
+    {
+        Groups {
+            buckets: None,
+            first: 0,
+            tags: Vec::new(alloc),
+        }
+    }
+
+    /// Takes the column that an item begins with.
+    fn take_column<'a>(&mut self, alloc: A, token: &Token<'a>) -> Result<Place, ParseError<'a>>
+        ensures { GivesWith result (grouped self.new) (item_at (lexeme token.now) (grouped self.old)) }
+    {
+        if token.is_time() {
+            return match self.buckets {
+                None => Ok(Place::TimeOpen),
+                Some(_) => Err(ParseError::Fault(token.unexpected())),
+            };
+        }
+        let name = unescaped(alloc, token.text)?;
+        insert(&mut self.tags, name)?;
+        Ok(Place::AfterTag)
+    }
+
+    /// Takes the interval.
+    fn take_interval<'a>(&mut self, token: &Token<'a>) -> Result<Place, ParseError<'a>>
+        ensures { GivesWith result (grouped self.new) (with_interval (lexeme token.now) (grouped self.old) (literal false token.now.text.now)) }
+    {
+        if let Some(interval) = literal(false, token.text) {
+            if let Some(buckets) = Buckets::new(interval) {
+                self.buckets = Some(buckets);
+                return Ok(Place::IntervalEnd);
+            }
+        }
+        Err(ParseError::Fault(QlFault::OutOfRange(token.start)))
+    }
+
+    /// Takes the offset, whose first token stands at `first`.
+    fn take_offset<'a>(
+        &mut self,
+        first: usize,
+        negative: bool,
+        token: &Token<'a>,
+    ) -> Result<Place, ParseError<'a>>
+        ensures { GivesWith result (grouped self.new) (with_offset first (grouped self.old) (literal negative token.now.text.now)) }
+    {
+        match literal(negative, token.text) {
+            Some(offset) => {
+                self.buckets = match self.buckets {
+                    Some(buckets) => Some(buckets.with_offset(offset)),
+                    None => None,
+                };
+                Ok(Place::OffsetEnd)
+            }
+            None => Err(ParseError::Fault(QlFault::OutOfRange(first))),
+        }
+    }
+
+    /// Takes the next token.
+    #[tactic(auto, unfolding(crate::specs::GroupSteps::group_step))]
+    pub(crate) fn take<'a>(
+        &mut self,
+        alloc: A,
+        place: Place,
+        token: &Token<'a>,
+    ) -> Result<Place, ParseError<'a>>
+        ensures { GivesWith result (grouped self.new) (group_step place (lexeme token.now) (grouped self.old)) }
+    {
+        match (place, token.kind) {
+            (Place::GroupBy, Kind::Keyword) if is_word(token.text, "by") => Ok(Place::Item),
+            (Place::Item, Kind::Word | Kind::QuotedName) => self.take_column(alloc, token),
+            (Place::TimeOpen, Kind::Open) => Ok(Place::Interval),
+            (Place::Interval, Kind::Duration) => self.take_interval(token),
+            (Place::IntervalEnd, Kind::Comma) => Ok(Place::Offset),
+            (Place::Offset, Kind::Minus) => {
+                self.first = token.start;
+                Ok(Place::OffsetMinus)
+            }
+            (Place::Offset, Kind::Duration) => self.take_offset(token.start, false, token),
+            (Place::OffsetMinus, Kind::Duration) => self.take_offset(self.first, true, token),
+            (Place::IntervalEnd | Place::OffsetEnd, Kind::Close) => Ok(Place::AfterItem),
+            (Place::AfterTag, Kind::Cast) => Ok(Place::GroupTagType),
+            (Place::GroupTagType, Kind::Word) if is_word(token.text, "tag") => Ok(Place::AfterItem),
+            (Place::AfterTag | Place::AfterItem, Kind::Comma) => Ok(Place::Item),
+            _ => Err(ParseError::Fault(token.unexpected())),
+        }
+    }
+}
+
+/// Puts a text among others in byte order, if it isn't there.
+fn insert<A: Allocator + Copy>(
+    tags: &mut Vec<String<A>, A>,
+    name: String<A>,
+) -> Result<(), AllocError>
+    ensures { IfOk result (λ _. texts tags.new.items ≡ with_text (string_bytes name) (texts tags.old.items)) }
+{
+    if let Some(at) = place_of(tags.as_slice(), name.as_str()) {
+        tags.insert(at, name)?;
+    }
+    Ok(())
+}

@@ -1,0 +1,111 @@
+//! What literals mean.
+ghost use Rattle.std.specs.Prelude.{◌≡◌, ◌+◌, ◌*◌, ◌-◌, ◌<◌, ◌≤◌, ◌^◌, IfOk, pos, string_bytes};
+ghost use Rattle.std.specs.Char.{is_ascii_digit};
+ghost use Rattle.std.specs.Option.{SomeIff};
+ghost use Rattle.std.specs.Str.{str_eq_ignore_ascii_case};
+ghost use Rattle.ts_ql.specs.Literals.{unit_of, magnitude, within, literal, escape, unescaped};
+
+use crate::bytes::byte_at;
+use std::alloc::{AllocError, Allocator};
+
+/// How many nanoseconds the unit has that begins with the byte before that one, or 1.
+#[tactic(auto, unfolding(crate::specs::Literals::unit_of))]
+fn unit_of(byte: u8, next: u8) -> u64
+    ensures value { result ≡ unit_of byte next }
+    ensures some { 1 ≤ result }
+{
+    match byte {
+        0xc2 | b'u' => 1_000,
+        b'm' if next == b's' => 1_000_000,
+        b'm' => 60_000_000_000,
+        b's' => 1_000_000_000,
+        b'h' => 3_600_000_000_000,
+        b'd' => 86_400_000_000_000,
+        b'w' => 604_800_000_000_000,
+        _ => 1,
+    }
+}
+
+/// A total and so many units more.
+fn with_units(total: u64, number: u64, unit: u64) -> Option<u64>
+    requires { 1 ≤ unit }
+    ensures { SomeIff result (total + number * unit < 2 ^ 64) (total + number * unit) }
+{
+    total.checked_add(number.checked_mul(unit)?)
+}
+
+/// A number and one digit more.
+fn with_digit(number: u64, digit: u8) -> Option<u64>
+    ensures { SomeIff result (number * 10 + digit < 2 ^ 64) (number * 10 + digit) }
+{
+    number.checked_mul(10)?.checked_add(u64::from(digit))
+}
+
+/// What an integer counts, or how many nanoseconds a duration has, where it is below 2^64.
+#[tactic(auto, unfolding(crate::specs::Literals::magnitude))]
+pub(crate) fn magnitude(text: &str) -> Option<u64>
+    ensures { result ≡ within 18446744073709551616 (magnitude text.now) }
+{
+    let bytes = text.as_bytes();
+    let mut total = 0u64;
+    let mut number = 0u64;
+    let mut at = 0;
+    while at < bytes.len() {
+        let byte = bytes[at];
+        if byte.is_ascii_digit() {
+            number = with_digit(number, byte - b'0')?;
+        } else {
+            total = with_units(total, number, unit_of(byte, byte_at(text, at + 1)))?;
+            number = 0;
+        }
+        at += 1;
+    }
+    total.checked_add(number)
+}
+
+/// The value of a literal behind a minus or none, where it has 64 bits.
+#[tactic(auto, unfolding(crate::specs::Literals::literal))]
+pub(crate) fn literal(negative: bool, text: &str) -> Option<i64>
+    ensures { result ≡ literal negative text.now }
+{
+    let magnitude = magnitude(text)?;
+    if negative {
+        0i64.checked_sub_unsigned(magnitude)
+    } else {
+        0i64.checked_add_unsigned(magnitude)
+    }
+}
+
+/// The character that a backslash and this one spell.
+fn escape(c: char) -> char
+    ensures { result ≡ escape c }
+{
+    if c == 'n' { '\n' } else { c }
+}
+
+/// The text that a text with its escapes spells.
+#[tactic(auto, unfolding(crate::specs::Literals::unescaped))]
+pub(crate) fn unescaped<A: Allocator + Copy>(alloc: A, text: &str) -> Result<String<A>, AllocError>
+    ensures { IfOk result (λ s. string_bytes s ≡ unescaped text.now) }
+{
+    let mut spelled = String::new(alloc);
+    let mut escaped = false;
+    for c in text.chars() {
+        if escaped {
+            spelled.push(escape(c))?;
+            escaped = false;
+        } else if c == '\\' {
+            escaped = true;
+        } else {
+            spelled.push(c)?;
+        }
+    }
+    Ok(spelled)
+}
+
+/// Whether the text is the word in any case.
+pub(crate) fn is_word(text: &str, word: &str) -> bool
+    ensures { result ≡ str_eq_ignore_ascii_case text.now word.now }
+{
+    text.eq_ignore_ascii_case(word)
+}

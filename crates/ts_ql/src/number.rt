@@ -1,0 +1,59 @@
+//! Durations in a text.
+ghost use Rattle.std.specs.Prelude.{◌≡◌, ◌+◌, ◌<◌, ◌≤◌, length, slice_index};
+ghost use Rattle.std.specs.Str.{IsCharBoundary};
+ghost use Rattle.ts_ql.specs.Lexing.{unit_len, duration_end};
+
+use crate::bytes::byte_at;
+
+#[tactic(auto, unfolding(crate::specs::Lexing::unit_len))]
+/// How many bytes the unit has that begins with the byte before that one, and 0 where none begins.
+pub(crate) fn unit_len(byte: u8, next: u8) -> usize
+    ensures { result ≡ unit_len byte next }
+{
+    match byte {
+        b'n' => if next == b's' { 2 } else { 0 },
+        0xc2 => if next == 0xb5 { 2 } else { 0 },
+        b'm' => if next == b's' { 2 } else { 1 },
+        b'u' | b's' | b'h' | b'd' | b'w' => 1,
+        _ => 0,
+    }
+}
+
+/// The end of the unit that begins at that place, or the place where none begins.
+fn unit_end(text: &str, at: usize) -> usize
+    requires { at < length text.now }
+    ensures value { result ≡ at + unit_len (slice_index text.now at) (slice_index text.now (at + 1)) }
+    ensures boundary { at < result → IsCharBoundary text.now result }
+{
+    at + unit_len(byte_at(text, at), byte_at(text, at + 1))
+}
+
+/// The end of the duration that begins at `from`, or `from` where none begins.
+#[tactic(auto, using(crate::proofs::LexingLemmas::parts_end_step, crate::proofs::LexingLemmas::parts_end_past), unfolding(crate::specs::Lexing::duration_end))]
+pub(crate) fn duration_end(text: &str, from: usize) -> usize
+    requires { IsCharBoundary text.now from }
+    ensures value { result ≡ duration_end text.now from }
+    ensures from { from ≤ result }
+    ensures boundary { IsCharBoundary text.now result }
+{
+    let bytes = text.as_bytes();
+    let mut last = from;
+    let mut counting = false;
+    let mut at = from;
+    while at < bytes.len() {
+        if bytes[at].is_ascii_digit() {
+            counting = true;
+        } else if counting {
+            let end = unit_end(text, at);
+            if end == at {
+                break;
+            }
+            last = end;
+            counting = false;
+        } else if at >= last {
+            break;
+        }
+        at += 1;
+    }
+    last
+}

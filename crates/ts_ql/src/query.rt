@@ -1,0 +1,299 @@
+//! Queries.
+ghost use Rattle.std.specs.Prelude.{◌≡◌, string_bytes};
+ghost use Rattle.ts_ql.specs.Selects.{function_of, function_name};
+
+use crate::filter::Filter;
+use crate::groups::{Buckets, Groups};
+use crate::selection::Selection;
+use std::alloc::Allocator;
+use std::marker::Model;
+
+/// A function of a field's values in a bucket. (InfluxData 1.8, InfluxQL functions.)
+#[derive(Clone, Copy, Debug, PartialEq, Eq)]
+pub enum Function {
+    Count,
+    Sum,
+    Min,
+    Max,
+    First,
+    Last,
+    Mean,
+}
+
+impl Function {
+    /// Its name in lower case.
+    pub fn name(self) -> &'static str
+        ensures { result.now ≡ function_name self }
+    {
+        match self {
+            Function::Count => "count",
+            Function::Sum => "sum",
+            Function::Min => "min",
+            Function::Max => "max",
+            Function::First => "first",
+            Function::Last => "last",
+            Function::Mean => "mean",
+        }
+    }
+}
+
+/// What stands for a bucket without data. (InfluxData 1.8, InfluxQL: fill().)
+#[derive(Clone, Copy, Debug, PartialEq, Eq)]
+pub enum Fill {
+    Null,
+    None,
+    Previous,
+    Number(i64),
+}
+
+/// A column of the answer: a function under a name.
+#[derive(Drop)]
+pub struct Column<A: Allocator> {
+    function: Function,
+    name: String<A>,
+}
+
+impl<A: Allocator> Model for Column<A> {
+    ghost use Rattle.std.specs.Prelude.{string_bytes};
+    ghost use Rattle.ts_ql.specs.Selects.{Column as ColumnValue, function_of};
+
+    ghost Value = { ColumnValue };
+
+    ghost view = { λ c. record { function = function_of c.function; name = string_bytes c.name } };
+}
+
+impl<A: Allocator> Column<A> {
+    pub(crate) fn new(function: Function, name: String<A>) -> Column<A>
+        ensures { result ≡ record { function = function_of function; name = string_bytes name } }
+    {
+        Column { function, name }
+    }
+
+    /// The function.
+    pub fn function(&self) -> Function
+        ensures { function_of result ≡ self.now.function }
+    {
+        self.function
+    }
+
+    /// The name: that of AS, or the function's.
+    pub fn name(&self) -> &str
+        ensures { result.now ≡ self.now.name }
+    {
+        self.name.as_str()
+    }
+}
+
+/// A condition that a tag has a value, or that it has another one.
+#[derive(Drop)]
+pub struct Condition<A: Allocator> {
+    tag: String<A>,
+    value: String<A>,
+    differs: bool,
+}
+
+impl<A: Allocator> Model for Condition<A> {
+    ghost use Rattle.std.specs.Prelude.{string_bytes};
+    ghost use Rattle.ts_core.specs.Queries.{Condition as ConditionValue};
+
+    ghost Value = { ConditionValue };
+
+    ghost view = { λ c. record { tag = string_bytes c.tag; value = string_bytes c.value; differs = c.differs } };
+}
+
+impl<A: Allocator> Condition<A> {
+    pub(crate) fn new(tag: String<A>, value: String<A>, differs: bool) -> Condition<A>
+        ensures { result ≡ record { tag = string_bytes tag; value = string_bytes value; differs = differs } }
+    {
+        Condition {
+            tag,
+            value,
+            differs,
+        }
+    }
+
+    /// The tag.
+    pub fn tag(&self) -> &str
+        ensures { result.now ≡ self.now.tag }
+    {
+        self.tag.as_str()
+    }
+
+    /// The value.
+    pub fn value(&self) -> &str
+        ensures { result.now ≡ self.now.value }
+    {
+        self.value.as_str()
+    }
+
+    /// Whether the tag has another value.
+    pub fn differs(&self) -> bool
+        ensures { result ≡ self.now.differs }
+    {
+        self.differs
+    }
+}
+
+/// A query with its functions and what fills its empty buckets. Times are in nanoseconds of the Unix epoch.
+#[derive(Drop)]
+pub struct Query<A: Allocator> {
+    columns: Vec<Column<A>, A>,
+    fill: Fill,
+    measurement: String<A>,
+    field: String<A>,
+    conditions: Vec<Condition<A>, A>,
+    from: i64,
+    to: i64,
+    interval: i64,
+    offset: i64,
+    group_tags: Vec<String<A>, A>,
+}
+
+impl<A: Allocator> Model for Query<A> {
+    ghost use Rattle.std.specs.Prelude.{string_bytes, ◌≤ℤ◌, pos};
+    ghost use Rattle.ts_ql.specs.Selects.{Select, fill_of, texts};
+
+    ghost Value = { Select };
+
+    ghost view = { λ q. record {
+      columns = q.columns.items;
+      fill = fill_of q.fill;
+      query = record {
+        measurement = string_bytes q.measurement;
+        field = string_bytes q.field;
+        conditions = q.conditions.items;
+        from = q.from;
+        to = q.to;
+        interval = q.interval;
+        offset = q.offset;
+        group_tags = texts q.group_tags.items;
+      };
+    } };
+
+    ghost invariant = { λ q. (pos 1 ≤ℤ q.interval) × (q.from ≤ℤ q.to) };
+}
+
+/// A range of time: from a nanosecond on, and before one.
+#[derive(Clone, Copy, Debug)]
+pub(crate) struct Span {
+    pub from: i64,
+    pub to: i64,
+}
+
+impl<A: Allocator> Query<A> {
+    ghost use Rattle.std.specs.Prelude.{◌≡◌, ◌≤ℤ◌, pos, string_bytes};
+    ghost use Rattle.ts_ql.specs.Selects.{fill_of, texts};
+
+    /// A query of these parts, over a span.
+    pub(crate) fn new(
+        selection: Selection<A>,
+        field: String<A>,
+        filter: Filter<A>,
+        groups: Groups<A>,
+        buckets: Buckets,
+        fill: Fill,
+        span: Span,
+    ) -> Query<A>
+        requires { span.from ≤ℤ span.to }
+        ensures { result ≡ record {
+          columns = selection.columns.items;
+          fill = fill_of fill;
+          query = record {
+            measurement = string_bytes selection.measurement;
+            field = string_bytes field;
+            conditions = filter.conditions.items;
+            from = span.from;
+            to = span.to;
+            interval = buckets.interval;
+            offset = buckets.offset;
+            group_tags = texts groups.tags.items;
+          };
+        } }
+    {
+        Query {
+            columns: selection.columns,
+            fill,
+            measurement: selection.measurement,
+            field,
+            conditions: filter.conditions,
+            from: span.from,
+            to: span.to,
+            interval: buckets.interval(),
+            offset: buckets.offset(),
+            group_tags: groups.tags,
+        }
+    }
+
+    /// The columns in the order of the statement.
+    pub fn columns(&self) -> &[Column<A>]
+        ensures { result.now ≡ self.now.columns }
+    {
+        self.columns.as_slice()
+    }
+
+    /// What stands for a bucket without data.
+    pub fn fill(&self) -> Fill
+        ensures { fill_of result ≡ self.now.fill }
+    {
+        self.fill
+    }
+
+    /// The measurement.
+    pub fn measurement(&self) -> &str
+        ensures { result.now ≡ self.now.query.measurement }
+    {
+        self.measurement.as_str()
+    }
+
+    /// The one field of all functions.
+    pub fn field(&self) -> &str
+        ensures { result.now ≡ self.now.query.field }
+    {
+        self.field.as_str()
+    }
+
+    /// The conditions on tags.
+    pub fn conditions(&self) -> &[Condition<A>]
+        ensures { result.now ≡ self.now.query.conditions }
+    {
+        self.conditions.as_slice()
+    }
+
+    /// From when on. It may lie one nanosecond past the greatest time.
+    pub fn from(&self) -> i64
+        ensures value { result ≡ self.now.query.from }
+        ensures range { self.now.query.from ≤ℤ self.now.query.to }
+    {
+        self.from
+    }
+
+    /// Before when. It may lie one nanosecond past the greatest time.
+    pub fn to(&self) -> i64
+        ensures value { result ≡ self.now.query.to }
+        ensures range { self.now.query.from ≤ℤ self.now.query.to }
+    {
+        self.to
+    }
+
+    /// How long each bucket is.
+    pub fn interval(&self) -> i64
+        ensures value { result ≡ self.now.query.interval }
+        ensures some { pos 1 ≤ℤ self.now.query.interval }
+    {
+        self.interval
+    }
+
+    /// From where the buckets are counted.
+    pub fn offset(&self) -> i64
+        ensures { result ≡ self.now.query.offset }
+    {
+        self.offset
+    }
+
+    /// The tags of the groups, in byte order, each once.
+    pub fn group_tags(&self) -> &[String<A>]
+        ensures { texts result.now ≡ self.now.query.group_tags }
+    {
+        self.group_tags.as_slice()
+    }
+}

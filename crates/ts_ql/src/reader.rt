@@ -1,0 +1,167 @@
+//! Texts of statements.
+ghost use Rattle.std.specs.Prelude.{◌≡◌, ◌&&◌};
+ghost use Rattle.ts_ql.specs.Faults.{Gives};
+ghost use Rattle.ts_ql.specs.Reading.{next_clause, may_end, is_end, state, start_state, Leaves, begun, ended, step, queries_of};
+ghost use Rattle.ts_ql.specs.Tokens.{lexeme};
+
+use crate::fault::{ParseError, QlFault};
+use crate::literal::is_word;
+use crate::place::Place;
+use crate::query::Query;
+use crate::statement::Draft;
+use crate::token::{Kind, Token};
+use std::alloc::Allocator;
+use std::mem;
+use ts_core::Time;
+
+/// How far a text has been read.
+#[derive(Drop)]
+pub(crate) struct Reader<A: Allocator> {
+    pub place: Place,
+    /// How many statements began.
+    pub count: u8,
+    /// Where the last of them began.
+    pub start: usize,
+    pub draft: Draft<A>,
+    /// The queries of the statements before it.
+    pub queries: Vec<Query<A>, A>,
+}
+
+/// The place where the clause begins that the token opens.
+#[tactic(auto, unfolding(crate::specs::Reading::next_clause))]
+fn next_clause(place: Place, token: &Token<'_>) -> Option<Place>
+    ensures { result ≡ next_clause place (lexeme token.now) }
+{
+    match (place, token.kind) {
+        (Place::AfterMeasurement, Kind::Keyword) if is_word(token.text, "where") => Some(
+            Place::Term,
+        ),
+        (Place::AfterMeasurement | Place::AfterTerm, Kind::Keyword)
+            if is_word(token.text, "group") => { Some(Place::GroupBy) }
+        (
+            Place::AfterMeasurement | Place::AfterTerm | Place::AfterTag | Place::AfterItem,
+            Kind::Word,
+        ) if is_word(token.text, "fill") => Some(Place::FillOpen),
+        _ => None,
+    }
+}
+
+/// Whether a statement ends there with such a token.
+fn ends(place: Place, kind: Kind) -> bool
+    ensures { result ≡ (may_end place && is_end kind) }
+{
+    match (place, kind) {
+        (
+            Place::AfterMeasurement
+            | Place::AfterTerm
+            | Place::AfterTag
+            | Place::AfterItem
+            | Place::AfterFill,
+            Kind::Semicolon | Kind::End,
+        ) => true,
+        _ => false,
+    }
+}
+
+impl<A: Allocator + Copy> Reader<A> {
+    /// Nothing yet.
+    fn new(alloc: A) -> Reader<A>
+        ensures { state result ≡ start_state }
+    {
+        Reader {
+            place: Place::Statement,
+            count: 0,
+            start: 0,
+            draft: Draft::new(alloc),
+            queries: Vec::new(alloc),
+        }
+    }
+
+    /// Begins a statement, or ends the text.
+    #[tactic(auto, unfolding(crate::specs::Reading::begun))]
+    fn begin<'a>(&mut self, token: &Token<'a>) -> Result<(), ParseError<'a>>
+        ensures { Leaves result (state self.new) (begun (lexeme token.now) (state self.old)) }
+    {
+        match token.kind {
+            Kind::Keyword => {
+                if !is_word(token.text, "select") {
+                    return Err(ParseError::Fault(token.unexpected()));
+                }
+                if self.count >= 16 {
+                    return Err(ParseError::Fault(QlFault::TooManyStatements(token.start)));
+                }
+                self.place = Place::Function;
+                self.count += 1;
+                self.start = token.start;
+                Ok(())
+            }
+            Kind::End => {
+                if self.count == 0 {
+                    return Err(ParseError::Fault(token.unexpected()));
+                }
+                self.place = Place::Done;
+                Ok(())
+            }
+            _ => Err(ParseError::Fault(token.unexpected())),
+        }
+    }
+
+    /// Ends a statement.
+    fn end<'a>(&mut self, alloc: A, now: Time, kind: Kind) -> Result<(), ParseError<'a>>
+        ensures { Leaves result (state self.new) (ended now kind (state self.old)) }
+    {
+        let draft = mem::replace(&mut self.draft, Draft::new(alloc));
+        let query = draft.query(alloc, self.start, now)?;
+        self.queries.push(query)?;
+        self.place = match kind {
+            Kind::Semicolon => Place::Statement,
+            _ => Place::Done,
+        };
+        Ok(())
+    }
+
+    /// Takes the next token.
+    #[tactic(auto, unfolding(crate::specs::Reading::step))]
+    fn take<'a>(&mut self, alloc: A, now: Time, token: &Token<'a>) -> Result<(), ParseError<'a>>
+        ensures { Leaves result (state self.new) (step now (lexeme token.now) (state self.old)) }
+    {
+        self.place = self.draft.settle(self.place, token.kind)?;
+        if let Place::Statement = self.place {
+            return self.begin(token);
+        }
+        if ends(self.place, token.kind) {
+            return self.end(alloc, now, token.kind);
+        }
+        self.place = match next_clause(self.place, token) {
+            Some(next) => next,
+            None => self.draft.take(alloc, now, self.place, token)?,
+        };
+        Ok(())
+    }
+}
+
+/// Reads a text of InfluxQL: its statements as queries, or its first fault.
+/// Times are in nanoseconds of the Unix epoch; `now` is the moment that `now()` tells.
+#[tactic(auto)]
+pub fn parse<A: Allocator + Copy>(
+    alloc: A,
+    text: &str,
+    now: Time,
+) -> Result<Vec<Query<A>, A>, ParseError<'_>>
+    ensures { Gives (λ v. v.items) result (queries_of now text.now) }
+{
+    if text.len() > 65_536 {
+        return Err(ParseError::Fault(QlFault::Syntax(65_536)));
+    }
+    let mut reader = Reader::new(alloc);
+    let mut at = 0;
+    for _turn in 0..text.len() + 1 {
+        let token = Token::at(text, at);
+        reader.take(alloc, now, &token)?;
+        if let Place::Done = reader.place {
+            return Ok(reader.queries);
+        }
+        at = token.end;
+    }
+    Err(ParseError::Fault(QlFault::Syntax(text.len())))
+}

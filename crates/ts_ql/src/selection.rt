@@ -1,0 +1,123 @@
+//! From SELECT to the measurement.
+ghost use Rattle.std.specs.Prelude.{◌≡◌, IfOk, string_bytes};
+ghost use Rattle.ts_ql.specs.Faults.{GivesWith};
+ghost use Rattle.ts_ql.specs.Literals.{unescaped};
+ghost use Rattle.ts_ql.specs.SelectSteps.{selected, select_step, with_column, with_default, with_field, empty_selection};
+ghost use Rattle.ts_ql.specs.Tokens.{lexeme};
+
+use crate::fault::ParseError;
+use crate::literal::{is_word, unescaped};
+use crate::place::Place;
+use crate::query::{Column, Function};
+use crate::token::{Kind, Token};
+use crate::words::function_called;
+use std::alloc::{AllocError, Allocator};
+
+/// What has been read from SELECT to the measurement.
+#[derive(Drop)]
+pub(crate) struct Selection<A: Allocator> {
+    pub columns: Vec<Column<A>, A>,
+    /// The function of the column being read.
+    pub function: Function,
+    /// The one field of all functions.
+    pub field: Option<String<A>>,
+    pub measurement: String<A>,
+}
+
+impl<A: Allocator + Copy> Selection<A> {
+    /// Nothing yet.
+    pub(crate) fn new(alloc: A) -> Selection<A>
+        ensures { selected result ≡ empty_selection }
+    {
+        Selection {
+            columns: Vec::new(alloc),
+            function: Function::Count,
+            field: None,
+            measurement: String::new(alloc),
+        }
+    }
+
+    /// Ends a column, under that name.
+    fn push(&mut self, name: String<A>) -> Result<(), AllocError>
+        ensures { IfOk result (λ _. selected self.new ≡ with_column (string_bytes name) (selected self.old)) }
+    {
+        self.columns.push(Column::new(self.function, name))?;
+        Ok(())
+    }
+
+    /// Ends a column, under its function's name.
+    fn push_default(&mut self, alloc: A) -> Result<(), AllocError>
+        ensures { IfOk result (λ _. selected self.new ≡ with_default (selected self.old)) }
+    {
+        self.push(String::from_str(alloc, self.function.name())?)
+    }
+
+    /// Takes the field of a function.
+    fn take_field<'a>(&mut self, alloc: A, token: &Token<'a>) -> Result<Place, ParseError<'a>>
+        ensures { GivesWith result (selected self.new) (with_field (lexeme token.now) (selected self.old) (selected self.old).field) }
+    {
+        let name = unescaped(alloc, token.text)?;
+        match &self.field {
+            None => {
+                self.field = Some(name);
+                Ok(Place::FieldEnd)
+            }
+            Some(field) if field.as_str() == name.as_str() => Ok(Place::FieldEnd),
+            Some(_) => Err(ParseError::Fault(token.left_out())),
+        }
+    }
+
+    /// Takes the next token.
+    #[tactic(auto, unfolding(crate::specs::SelectSteps::select_step))]
+    pub(crate) fn take<'a>(
+        &mut self,
+        alloc: A,
+        place: Place,
+        token: &Token<'a>,
+    ) -> Result<Place, ParseError<'a>>
+        ensures { GivesWith result (selected self.new) (select_step place (lexeme token.now) (selected self.old)) }
+    {
+        match (place, token.kind) {
+            (Place::Function, Kind::Word) => match function_called(token.text) {
+                Some(function) => {
+                    self.function = function;
+                    Ok(Place::FunctionOpen)
+                }
+                None => Err(ParseError::Fault(token.left_out())),
+            },
+            (Place::Function, Kind::QuotedName) | (Place::Measurement, Kind::Open) => {
+                Err(ParseError::Fault(token.left_out()))
+            }
+            (Place::FunctionOpen, Kind::Open) => Ok(Place::Field),
+            (Place::Field, Kind::Word | Kind::QuotedName) => self.take_field(alloc, token),
+            (Place::FieldEnd | Place::FieldClose, Kind::Close) => Ok(Place::AfterColumn),
+            (Place::FieldEnd, Kind::Cast) => Ok(Place::FieldType),
+            (Place::FieldType, Kind::Word)
+                if is_word(token.text, "field") || is_word(token.text, "integer") => {
+                Ok(Place::FieldClose)
+            }
+            (Place::AfterColumn, Kind::Comma) => {
+                self.push_default(alloc)?;
+                Ok(Place::Function)
+            }
+            (Place::AfterColumn, Kind::Keyword) if is_word(token.text, "from") => {
+                self.push_default(alloc)?;
+                Ok(Place::Measurement)
+            }
+            (Place::AfterColumn, Kind::Keyword) if is_word(token.text, "as") => Ok(Place::Alias),
+            (Place::Alias, Kind::Word | Kind::QuotedName) => {
+                self.push(unescaped(alloc, token.text)?)?;
+                Ok(Place::AfterAlias)
+            }
+            (Place::AfterAlias, Kind::Comma) => Ok(Place::Function),
+            (Place::AfterAlias, Kind::Keyword) if is_word(token.text, "from") => Ok(
+                Place::Measurement,
+            ),
+            (Place::Measurement, Kind::Word | Kind::QuotedName) => {
+                self.measurement = unescaped(alloc, token.text)?;
+                Ok(Place::AfterMeasurement)
+            }
+            _ => Err(ParseError::Fault(token.unexpected())),
+        }
+    }
+}

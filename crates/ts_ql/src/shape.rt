@@ -1,0 +1,129 @@
+//! Which token begins at a place, and where it ends.
+ghost use Rattle.std.specs.Prelude.{◌≡◌, ◌≢◌, ◌+◌, ◌-◌, ◌<◌, ◌≤◌, IsSome, IfSome, true, false, length, slice_index};
+ghost use Rattle.std.specs.Str.{IsCharBoundary};
+ghost use Rattle.ts_ql.specs.Lexing.{double, single, operator_at, number_at, quoted_at, shape_at, is_quoted, is_in};
+ghost use Rattle.ts_ql.specs.declared.bytes.Class.TheVariants as classes;
+
+use crate::bytes::{Class, after, byte_at, closing_quote, end_of, is_in};
+use crate::number::duration_end;
+use crate::token::Kind;
+
+/// An operator of two bytes.
+#[tactic(auto, unfolding(crate::specs::Lexing::double))]
+fn double(first: u8, second: u8) -> Option<Kind>
+    ensures value { result ≡ double first second }
+    ensures plain { IfSome result (λ kind. is_quoted kind ≡ false) }
+    ensures ascii { IsSome result → (first < 128) × (second < 128) × (0 < second) }
+{
+    match (first, second) {
+        (b'=' | b'!', b'~') => Some(Kind::Foreign),
+        (b'!', b'=') | (b'<', b'>') => Some(Kind::Differs),
+        (b'<', b'=') => Some(Kind::LessOrEqual),
+        (b'>', b'=') => Some(Kind::GreaterOrEqual),
+        (b':', b':') => Some(Kind::Cast),
+        _ => None,
+    }
+}
+
+/// An operator of one byte.
+#[tactic(auto, unfolding(crate::specs::Lexing::single))]
+fn single(byte: u8) -> Option<Kind>
+    ensures value { result ≡ single byte }
+    ensures plain { IfSome result (λ kind. is_quoted kind ≡ false) }
+    ensures ascii { IsSome result → byte < 128 }
+{
+    match byte {
+        b',' => Some(Kind::Comma),
+        b'(' => Some(Kind::Open),
+        b')' => Some(Kind::Close),
+        b';' => Some(Kind::Semicolon),
+        b'=' => Some(Kind::Equals),
+        b'<' => Some(Kind::Less),
+        b'>' => Some(Kind::Greater),
+        b'+' => Some(Kind::Plus),
+        b'-' => Some(Kind::Minus),
+        b'*' | b'/' | b'%' | b'.' => Some(Kind::Foreign),
+        _ => None,
+    }
+}
+
+#[tactic(auto, using(crate::proofs::LexingLemmas::in_text), unfolding(crate::specs::Lexing::operator_at))]
+fn operator_at(text: &str, start: usize) -> (Kind, usize)
+    requires { start < length text.now }
+    ensures value { result ≡ operator_at text.now start }
+    ensures from { start < result.1 }
+    ensures boundary { IsCharBoundary text.now result.1 }
+    ensures plain { is_quoted result.0 ≡ false }
+{
+    let first = byte_at(text, start);
+    if let Some(kind) = double(first, byte_at(text, start + 1)) {
+        return (kind, after(text, after(text, start)));
+    }
+    match single(first) {
+        Some(kind) => (kind, after(text, start)),
+        None => (Kind::Bad, text.len()),
+    }
+}
+
+#[tactic(auto, unfolding(crate::specs::Lexing::number_at))]
+fn number_at(text: &str, start: usize) -> (Kind, usize)
+    requires in_range { start < length text.now }
+    requires first { is_in classes.Digit (slice_index text.now start) ≡ true }
+    requires boundary { IsCharBoundary text.now start }
+    ensures value { result ≡ number_at text.now start }
+    ensures from { start < result.1 }
+    ensures boundary { IsCharBoundary text.now result.1 }
+    ensures plain { is_quoted result.0 ≡ false }
+{
+    let end = duration_end(text, start);
+    if start < end {
+        return (Kind::Duration, end);
+    }
+    let end = end_of(text, start, Class::Digit);
+    let next = byte_at(text, end);
+    if next.is_ascii_alphabetic() || next == b'.' {
+        (Kind::Bad, text.len())
+    } else {
+        (Kind::Integer, end)
+    }
+}
+
+#[tactic(auto, unfolding(crate::specs::Lexing::quoted_at))]
+fn quoted_at(text: &str, start: usize) -> (Kind, usize)
+    requires in_range { start < length text.now }
+    requires ascii { slice_index text.now start < 128 }
+    ensures value { result ≡ quoted_at text.now start }
+    ensures from { start < result.1 }
+    ensures boundary { IsCharBoundary text.now result.1 }
+    ensures inner { is_quoted result.0 ≡ true → (start + 2 ≤ result.1) × IsCharBoundary text.now (start + 1) × IsCharBoundary text.now (result.1 - 1) }
+{
+    let quote = byte_at(text, start);
+    let inner = after(text, start);
+    match closing_quote(text, inner, quote) {
+        None => (Kind::Bad, text.len()),
+        Some(close) if quote == b'\'' => (Kind::Literal, after(text, close)),
+        Some(close) if close == inner => (Kind::Bad, text.len()),
+        Some(close) => (Kind::QuotedName, after(text, close)),
+    }
+}
+
+/// The kind of the token that begins at `start`, and its end.
+#[tactic(auto, unfolding(crate::specs::Lexing::shape_at))]
+pub(crate) fn shape_at(text: &str, start: usize) -> (Kind, usize)
+    requires { IsCharBoundary text.now start }
+    ensures value { result ≡ shape_at text.now start }
+    ensures from { result.0 ≢ Kind.End → start < result.1 }
+    ensures order { start ≤ result.1 }
+    ensures boundary { IsCharBoundary text.now result.1 }
+    ensures inner { is_quoted result.0 ≡ true → (start + 2 ≤ result.1) × IsCharBoundary text.now (start + 1) × IsCharBoundary text.now (result.1 - 1) }
+{
+    if text.len() == start {
+        return (Kind::End, start);
+    }
+    match byte_at(text, start) {
+        b'0'..=b'9' => number_at(text, start),
+        b'"' | b'\'' => quoted_at(text, start),
+        byte if is_in(Class::Name, byte) => (Kind::Word, end_of(text, start, Class::Name)),
+        _ => operator_at(text, start),
+    }
+}

@@ -1,0 +1,253 @@
+//! What a statement says once it has been read whole.
+ghost use Rattle.std.specs.Prelude.{◌≡◌, ◌≤ℤ◌, ◌≤◌, ◌^◌, IfSome, int_le, int_lt, pos, unsigned_abs};
+ghost use Rattle.ts_core.specs.Buckets.{bucket_of};
+ghost use Rattle.ts_core.specs.Times.{least_time};
+ghost use Rattle.ts_ql.specs.Faults.{Gives, GivesWith};
+ghost use Rattle.ts_ql.specs.Reading.{settle_step, draft_step};
+ghost use Rattle.ts_ql.specs.Tokens.{lexeme};
+ghost use Rattle.ts_ql.specs.Statements.{has_column, repeats, first_start, buckets_between, drafted, empty_draft, span_from, option_told, span_fault, query_of, statement_said};
+
+use crate::fault::{ParseError, QlFault};
+use crate::filling::Filling;
+use crate::filter::{Filter, after_term};
+use crate::groups::{Buckets, Groups};
+use crate::moment::{Moment, Range};
+use crate::place::Place;
+use crate::query::{Column, Query, Span};
+use crate::selection::Selection;
+use crate::token::{Kind, Token};
+use std::alloc::Allocator;
+use ts_core::{Time, bucket_index};
+
+/// What has been read of a statement.
+#[derive(Drop)]
+pub(crate) struct Draft<A: Allocator> {
+    pub selection: Selection<A>,
+    pub filter: Filter<A>,
+    pub moment: Moment,
+    pub range: Range,
+    pub groups: Groups<A>,
+    pub filling: Filling,
+}
+
+fn has_column<A: Allocator>(name: &str, columns: &[Column<A>]) -> bool
+    ensures { result ≡ has_column name.now columns.now }
+{
+    columns.iter().any(|column| column.name() == name)
+}
+
+/// Whether two columns have one name, or one is called as the column of time.
+#[tactic(auto, using(crate::proofs::StatementLemmas::repeats_step, crate::proofs::StatementLemmas::repeats_past))]
+fn repeats<A: Allocator>(columns: &[Column<A>]) -> bool
+    ensures { result ≡ repeats columns.now }
+{
+    for (i, column) in columns.iter().enumerate() {
+        if column.name() == "time" || has_column(column.name(), &columns[i + 1..]) {
+            return true;
+        }
+    }
+    false
+}
+
+/// The span from the lower bound on; without an upper bound it ends after `now`.
+fn span_of(range: &Range, now: Time) -> Option<Span>
+    ensures value { result ≡ span_from now range.now range.now.lower }
+    ensures order { IfSome result (λ span. span.from ≤ℤ span.to) }
+{
+    let Some(from) = range.lower else {
+        return None;
+    };
+    let upper = match range.upper {
+        Some(upper) => upper,
+        None => now.nanos() + 1,
+    };
+    Some(Span {
+        from,
+        to: upper.max(from),
+    })
+}
+
+/// A bucket: its index and its start.
+#[derive(Clone, Copy, Debug)]
+struct Bucket {
+    index: i128,
+    start: i128,
+}
+
+/// The bucket of a nanosecond.
+fn bucket_at(at: i128, buckets: Buckets) -> Bucket
+    requires { unsigned_abs at ≤ 2 ^ 64 }
+    ensures index { result.index ≡ bucket_of at buckets.interval buckets.offset }
+    ensures start { result.start ≡ first_start at buckets }
+    ensures bound { unsigned_abs result.index ≤ 2 ^ 66 }
+{
+    let index = bucket_index(at, buckets.interval(), buckets.offset());
+    let start = index * i128::from(buckets.interval()) + i128::from(buckets.offset());
+    Bucket { index, start }
+}
+
+/// Whether the first bucket of a span starts before the least time.
+fn starts_early(span: &Span, buckets: Buckets) -> bool
+    ensures { result ≡ int_lt (first_start span.now.from buckets) least_time }
+{
+    bucket_at(i128::from(span.from), buckets).start < -9_223_372_036_854_775_806
+}
+
+/// Whether a span that isn't empty has more than 10,000 buckets.
+fn has_too_many(span: &Span, buckets: Buckets) -> bool
+    ensures { result ≡ int_le (pos 10000) (buckets_between span.now.from span.now.to buckets) }
+{
+    let first = bucket_at(i128::from(span.from), buckets);
+    let last = bucket_at(i128::from(span.to) - 1, buckets);
+    last.index - first.index >= 10_000
+}
+
+/// The fault of the buckets of a span.
+#[tactic(auto, unfolding(crate::specs::Statements::span_fault))]
+fn span_fault<'a>(start: usize, buckets: Buckets, span: &Span) -> Option<QlFault<'a>>
+    ensures { option_told result ≡ span_fault start buckets span.now }
+{
+    if span.to <= span.from {
+        None
+    } else if starts_early(span, buckets) {
+        Some(QlFault::BucketBeforeLeastTime(start))
+    } else if has_too_many(span, buckets) {
+        Some(QlFault::TooManyBuckets(start))
+    } else {
+        None
+    }
+}
+
+impl<A: Allocator + Copy> Draft<A> {
+    /// Nothing yet.
+    pub(crate) fn new(alloc: A) -> Draft<A>
+        ensures { drafted result ≡ empty_draft }
+    {
+        Draft {
+            selection: Selection::new(alloc),
+            filter: Filter::new(alloc),
+            moment: Moment::new(),
+            range: Range::new(),
+            groups: Groups::new(alloc),
+            filling: Filling::new(),
+        }
+    }
+
+    /// The query of a statement that begins at `start`.
+    #[tactic(auto, unfolding(crate::specs::Statements::statement_said))]
+    pub(crate) fn query<'a>(
+        self,
+        alloc: A,
+        start: usize,
+        now: Time,
+    ) -> Result<Query<A>, ParseError<'a>>
+        ensures { Gives (λ q. q) result (statement_said start now (drafted self)) }
+    {
+        if repeats(self.selection.columns.as_slice()) {
+            return Err(ParseError::Fault(QlFault::RepeatedColumn(start)));
+        }
+        let Some(buckets) = self.groups.buckets else {
+            return Err(ParseError::Fault(QlFault::OutOfProfile(start, "GROUP BY time")));
+        };
+        let Some(span) = span_of(&self.range, now) else {
+            return Err(ParseError::Fault(QlFault::NoLowerBound(start)));
+        };
+        match span_fault(start, buckets, &span) {
+            Some(fault) => Err(ParseError::Fault(fault)),
+            None => Ok(self.over(alloc, buckets, span)),
+        }
+    }
+
+    /// The query over a span.
+    fn over(self, alloc: A, buckets: Buckets, span: Span) -> Query<A>
+        requires { span.from ≤ℤ span.to }
+        ensures { result ≡ query_of (drafted self) buckets span }
+    {
+        let mut selection = self.selection;
+        let field = match selection.field.take() {
+            Some(field) => field,
+            None => String::new(alloc),
+        };
+        Query::new(
+            selection,
+            field,
+            self.filter,
+            self.groups,
+            buckets,
+            self.filling.fill,
+            span,
+        )
+    }
+
+    /// Ends a moment, where the token doesn't go on with it.
+    #[tactic(auto, unfolding(crate::specs::Reading::settle_step))]
+    pub(crate) fn settle<'a>(&mut self, place: Place, kind: Kind) -> Result<Place, ParseError<'a>>
+        ensures { GivesWith result (drafted self.new) (settle_step place kind (drafted self.old)) }
+    {
+        match (place, kind) {
+            (Place::AfterMoment, Kind::Plus | Kind::Minus) => Ok(place),
+            (Place::AfterMoment, _) => {
+                self.range = self.range.settled(&self.moment)?;
+                Ok(after_term(self.filter.depth))
+            }
+            _ => Ok(place),
+        }
+    }
+
+    /// Takes the next token of a clause.
+    #[tactic(auto, unfolding(crate::specs::Reading::draft_step))]
+    pub(crate) fn take<'a>(
+        &mut self,
+        alloc: A,
+        now: Time,
+        place: Place,
+        token: &Token<'a>,
+    ) -> Result<Place, ParseError<'a>>
+        ensures { GivesWith result (drafted self.new) (draft_step now place (lexeme token.now) (drafted self.old)) }
+    {
+        match place {
+            Place::Function
+            | Place::FunctionOpen
+            | Place::Field
+            | Place::FieldEnd
+            | Place::FieldType
+            | Place::FieldClose
+            | Place::AfterColumn
+            | Place::Alias
+            | Place::AfterAlias
+            | Place::Measurement => self.selection.take(alloc, place, token),
+            Place::Term
+            | Place::TagEnd
+            | Place::TagType
+            | Place::TagSign
+            | Place::TagValue
+            | Place::AfterTerm
+            | Place::NestedTerm => self.filter.take(alloc, place, token),
+            Place::TimeSign
+            | Place::Moment
+            | Place::MomentMinus
+            | Place::NowOpen
+            | Place::NowClose
+            | Place::AfterMoment
+            | Place::MomentPlus
+            | Place::MomentLess => self.moment.take(now, place, token),
+            Place::GroupBy
+            | Place::Item
+            | Place::TimeOpen
+            | Place::Interval
+            | Place::IntervalEnd
+            | Place::Offset
+            | Place::OffsetMinus
+            | Place::OffsetEnd
+            | Place::AfterTag
+            | Place::GroupTagType
+            | Place::AfterItem => self.groups.take(alloc, place, token),
+            Place::FillOpen | Place::FillOption | Place::FillMinus | Place::FillClose => {
+                self.filling.take(place, token)
+            }
+            Place::Statement | Place::AfterMeasurement | Place::AfterFill | Place::Done => {
+                Err(ParseError::Fault(token.unexpected()))
+            }
+        }
+    }
+}

@@ -1,0 +1,83 @@
+//! Words with a meaning of their own, in any case.
+ghost use Rattle.std.specs.Prelude.{◌≡◌};
+ghost use Rattle.ts_ql.specs.Words.{is_clause_word, is_foreign_keyword, is_keyword, is_foreign_word, function_called};
+
+use crate::literal::is_word;
+use crate::query::Function;
+
+#[tactic(auto, unfolding(crate::specs::Words::is_clause_word))]
+fn is_clause_word(text: &str) -> bool
+    ensures { result ≡ is_clause_word text.now }
+{
+    is_word(text, "select")
+        || is_word(text, "from")
+        || is_word(text, "where")
+        || is_word(text, "group")
+        || is_word(text, "by")
+        || is_word(text, "and")
+        || is_word(text, "as")
+}
+
+/// Whether the text is a keyword that the profile leaves out.
+#[tactic(auto, unfolding(crate::specs::Words::is_foreign_keyword))]
+pub(crate) fn is_foreign_keyword(text: &str) -> bool
+    ensures { result ≡ is_foreign_keyword text.now }
+{
+    is_word(text, "or")
+        || is_word(text, "into")
+        || is_word(text, "order")
+        || is_word(text, "limit")
+        || is_word(text, "offset")
+        || is_word(text, "slimit")
+        || is_word(text, "soffset")
+}
+
+/// Whether no unquoted name is the word.
+pub(crate) fn is_keyword(text: &str) -> bool
+    ensures { result ≡ is_keyword text.now }
+{
+    is_clause_word(text) || is_foreign_keyword(text)
+}
+
+/// Whether the word, which is no keyword, tells what the profile leaves out.
+#[tactic(auto, unfolding(crate::specs::Words::is_foreign_word))]
+pub(crate) fn is_foreign_word(text: &str) -> bool
+    ensures { result ≡ is_foreign_word text.now }
+{
+    is_word(text, "show")
+        || is_word(text, "create")
+        || is_word(text, "alter")
+        || is_word(text, "drop")
+        || is_word(text, "delete")
+        || is_word(text, "explain")
+        || is_word(text, "grant")
+        || is_word(text, "revoke")
+        || is_word(text, "kill")
+        || is_word(text, "set")
+        || is_word(text, "tz")
+        || is_word(text, "linear")
+}
+
+/// The function of that name.
+#[tactic(auto, unfolding(crate::specs::Words::function_called))]
+pub(crate) fn function_called(text: &str) -> Option<Function>
+    ensures { result ≡ function_called text.now }
+{
+    if is_word(text, "count") {
+        Some(Function::Count)
+    } else if is_word(text, "sum") {
+        Some(Function::Sum)
+    } else if is_word(text, "min") {
+        Some(Function::Min)
+    } else if is_word(text, "max") {
+        Some(Function::Max)
+    } else if is_word(text, "first") {
+        Some(Function::First)
+    } else if is_word(text, "last") {
+        Some(Function::Last)
+    } else if is_word(text, "mean") {
+        Some(Function::Mean)
+    } else {
+        None
+    }
+}
