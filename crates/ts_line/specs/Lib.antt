@@ -1,4 +1,5 @@
 pub mod Parts
+pub mod Sorting
 pub mod Units
 pub mod FaultText
 pub mod Names

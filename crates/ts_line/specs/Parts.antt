@@ -1,8 +1,9 @@
 -- The parts of a line, and the facts that they tell.
 -- (InfluxData 1.8, line protocol reference, syntax: measurement, tag set, field set, timestamp.)
-use Rattle.std.specs.Prelude.{ℕ, ℤ, List, map}
+use Rattle.std.specs.Prelude.{ℕ, ℤ, ◌≤◌, List, map, length}
 use Rattle.std.specs.FinMap as finmap
 use Rattle.ts_core.specs.Facts.{Text, text_cmp, Series, Fact}
+use Rattle.ts_core.specs.Members.{AllDistinct}
 
 -- a part of a line: where it starts, its bytes there, and the text that they spell
 pub record Piece : Type 0 where
@@ -33,3 +34,12 @@ fact_of p field = record { column = record { series = series_of p; field = field
 -- one fact for each field
 abbrev pub facts_of : Parts → List Fact
 facts_of p = map (fact_of p) p.fields
+
+abbrev pub field_text : Piece × ℤ → Text
+field_text f = f.0.text
+
+-- the fields of a line: some, no more than 256, no two of one name
+pub record AreFields (fields : List (Piece × ℤ)) : Type 0 where
+  pub some : 1 ≤ length fields
+  pub few : length fields ≤ 256
+  pub once : AllDistinct (map field_text fields)

@@ -10,8 +10,8 @@ mod number;
 mod precision;
 mod read;
 
-pub use fault::LineFault;
-pub use line::{Field, Line, Part};
+pub use fault::{LineFault, ReadLineError};
+pub use line::{Field, Line, Part, Tag};
 pub use precision::Precision;
 pub use read::read_line;
 

@@ -1,27 +1,37 @@
 //! What a line says, part by part.
-ghost use Rattle.std.specs.Prelude.{◌≡◌, [], length};
+ghost use Rattle.std.specs.Prelude.{◌≡◌, ◌<◌, ◌≤◌, length, map, IfOk, OnOk, MatchResult};
+ghost use Rattle.std.specs.FinMap.{put};
+ghost use Rattle.ts_core.specs.Facts.{text_cmp};
+ghost use Rattle.ts_core.specs.Members.{AllDistinct};
+ghost use Rattle.ts_core.specs.Texts.{lent_pairs, IsTagSet};
+ghost use Rattle.ts_line.specs.Parts.{field_text, series_of};
+ghost use Rattle.ts_line.specs.Sorting.{place_from};
 
+use std::alloc::{AllocError, Allocator};
+use std::borrow::CowStr;
+use std::cmp::Ordering;
 use std::marker::Model;
-use std::slice;
 use ts_core::Time;
 
-/// A part of a line, borrowed from it.
-#[derive(Debug, Drop)]
-pub struct Part<'a> {
+/// A part of a line. Its bytes are borrowed from the line; so is the text that they spell, but where an
+/// escape stands in it.
+#[derive(Drop)]
+pub struct Part<'a, A: Allocator> {
     start: usize,
     raw: &'a str,
-    text: &'a str,
+    text: CowStr<'a, A>,
 }
 
-impl<'a> Model for Part<'a> {
+impl<'a, A: Allocator> Model for Part<'a, A> {
+    ghost use Rattle.std.specs.Cow.{cow_str_bytes};
     ghost use Rattle.ts_line.specs.Parts.{Piece};
 
     ghost Value = { Piece };
 
-    ghost view = { λ p. record { start = p.start; raw = p.raw.now; text = p.text.now } };
+    ghost view = { λ p. record { start = p.start; raw = p.raw.now; text = cow_str_bytes p.text } };
 }
 
-impl<'a> Part<'a> {
+impl<'a, A: Allocator> Part<'a, A> {
     ghost use Rattle.ts_line.specs.Says.{plain_piece};
 
     /// A part that spells itself.
@@ -31,7 +41,7 @@ impl<'a> Part<'a> {
         Part {
             start,
             raw,
-            text: raw,
+            text: CowStr::Borrowed(raw),
         }
     }
 
@@ -50,21 +60,58 @@ impl<'a> Part<'a> {
     }
 
     /// The text that it spells.
-    pub fn text(&self) -> &'a str
+    pub fn text(&self) -> &str
         ensures { result.now ≡ self.now.text }
     {
-        self.text
+        self.text.as_str()
+    }
+}
+
+/// A tag of a line: its key and its value.
+#[derive(Drop)]
+pub struct Tag<'a, A: Allocator> {
+    key: Part<'a, A>,
+    value: Part<'a, A>,
+}
+
+impl<'a, A: Allocator> Model for Tag<'a, A> {
+    ghost use Rattle.ts_line.specs.Parts.{Piece};
+
+    ghost Value = { Piece × Piece };
+
+    ghost view = { λ t. (t.key, t.value) };
+}
+
+impl<'a, A: Allocator> Tag<'a, A> {
+    pub(crate) fn new(key: Part<'a, A>, value: Part<'a, A>) -> Self
+        ensures { result ≡ (key.entry, value.entry) }
+    {
+        Tag { key, value }
+    }
+
+    /// Its key.
+    pub fn key(&self) -> &Part<'a, A>
+        ensures { result.now ≡ self.now.0 }
+    {
+        &self.key
+    }
+
+    /// Its value.
+    pub fn value(&self) -> &Part<'a, A>
+        ensures { result.now ≡ self.now.1 }
+    {
+        &self.value
     }
 }
 
 /// A field of a line: its name and its value.
-#[derive(Debug, Drop)]
-pub struct Field<'a> {
-    name: Part<'a>,
+#[derive(Drop)]
+pub struct Field<'a, A: Allocator> {
+    name: Part<'a, A>,
     value: i64,
 }
 
-impl<'a> Model for Field<'a> {
+impl<'a, A: Allocator> Model for Field<'a, A> {
     ghost use Rattle.std.specs.Prelude.{ℤ};
     ghost use Rattle.ts_line.specs.Parts.{Piece};
 
@@ -73,15 +120,15 @@ impl<'a> Model for Field<'a> {
     ghost view = { λ f. (f.name, f.value) };
 }
 
-impl<'a> Field<'a> {
-    pub(crate) fn new(name: Part<'a>, value: i64) -> Self
+impl<'a, A: Allocator> Field<'a, A> {
+    pub(crate) fn new(name: Part<'a, A>, value: i64) -> Self
         ensures { result ≡ (name.entry, value) }
     {
         Field { name, value }
     }
 
     /// Its name.
-    pub fn name(&self) -> &Part<'a>
+    pub fn name(&self) -> &Part<'a, A>
         ensures { result.now ≡ self.now.0 }
     {
         &self.name
@@ -95,50 +142,67 @@ impl<'a> Field<'a> {
     }
 }
 
-/// What a line says. In the one form that is read so far it has one field and no tags.
-#[derive(Debug, Drop)]
-pub struct Line<'a> {
-    measurement: Part<'a>,
-    field: Field<'a>,
+/// What a line says.
+#[derive(Drop)]
+pub struct Line<'a, A: Allocator> {
+    measurement: Part<'a, A>,
+    tags: Vec<Tag<'a, A>, A>,
+    fields: Vec<Field<'a, A>, A>,
     time: Time,
 }
 
-impl<'a> Model for Line<'a> {
-    ghost use Rattle.std.specs.Prelude.{[], ◌∷◌};
-    ghost use Rattle.ts_line.specs.Parts.{Parts};
+impl<'a, A: Allocator> Model for Line<'a, A> {
+    ghost use Rattle.ts_line.specs.Parts.{Parts, AreFields};
 
     ghost Value = { Parts };
 
-    ghost view = { λ l. record { measurement = l.measurement; tags = []; fields = l.field ∷ []; time = l.time } };
+    ghost view = { λ l. record { measurement = l.measurement; tags = l.tags.items; fields = l.fields.items; time = l.time } };
+
+    ghost invariant = { λ l. AreFields l.fields.items };
 }
 
-impl<'a> Line<'a> {
-    ghost use Rattle.ts_line.specs.Says.{plain_parts};
+impl<'a, A: Allocator> Line<'a, A> {
+    ghost use Rattle.ts_line.specs.Parts.{AreFields};
 
-    pub(crate) fn new(measurement: Part<'a>, field: Field<'a>, time: Time) -> Self
-        ensures { result ≡ plain_parts measurement.entry field.entry.0 field.entry.1 time }
+    pub(crate) fn new(
+        measurement: Part<'a, A>,
+        tags: Vec<Tag<'a, A>, A>,
+        fields: Vec<Field<'a, A>, A>,
+        time: Time,
+    ) -> Self
+        requires { AreFields fields.items }
+        ensures { result ≡ record { measurement = measurement.entry; tags = tags.entry.items; fields = fields.entry.items; time = time } }
     {
         Line {
             measurement,
-            field,
+            tags,
+            fields,
             time,
         }
     }
 
-    /// The measurement. No tags stand beside it in the one form that is read so far.
-    pub fn measurement(&self) -> &Part<'a>
-        ensures value { result.now ≡ self.now.measurement }
-        ensures untagged { self.now.tags ≡ [] }
+    /// The measurement.
+    pub fn measurement(&self) -> &Part<'a, A>
+        ensures { result.now ≡ self.now.measurement }
     {
         &self.measurement
     }
 
-    /// The fields, in the order of the line: just one in the one form that is read so far.
-    pub fn fields(&self) -> &[Field<'a>]
-        ensures value { result.now ≡ self.now.fields }
-        ensures one { length result.now ≡ 1 }
+    /// The tags, in the order of the line.
+    pub fn tags(&self) -> &[Tag<'a, A>]
+        ensures { result.now ≡ self.now.tags }
     {
-        slice::from_ref(&self.field)
+        self.tags.as_slice()
+    }
+
+    /// The fields, in the order in which their names first stand in the line.
+    pub fn fields(&self) -> &[Field<'a, A>]
+        ensures value { result.now ≡ self.now.fields }
+        ensures some { 1 ≤ length result.now }
+        ensures few { length result.now ≤ 256 }
+        ensures once { AllDistinct (map field_text result.now) }
+    {
+        self.fields.as_slice()
     }
 
     /// The time: the line's own, or the moment at hand where it has none.
@@ -147,4 +211,48 @@ impl<'a> Line<'a> {
     {
         self.time
     }
+
+    /// The texts of the tags with their values, in byte order of the keys.
+    pub fn tags_by_key<B: Allocator>(&self, alloc: B) -> Result<Vec<(&str, &str), B>, AllocError>
+        ensures value { IfOk result (λ v. lent_pairs v.items ≡ (series_of self.now).tags) }
+        ensures set { IfOk result (λ v. IsTagSet (lent_pairs v.items)) }
+    {
+        let mut pairs = Vec::with_capacity(alloc, self.tags.len())?;
+        let mut left = self.tags.as_slice();
+        while let [rest @ .., tag] = left {
+            put(&mut pairs, tag.key.text(), tag.value.text())?;
+            left = rest;
+        }
+        Ok(pairs)
+    }
+}
+
+/// The place of the pair of a key, or where it would go.
+fn place_of(pairs: &[(&str, &str)], key: &str) -> Result<usize, usize>
+    ensures value { result ≡ place_from 0 key.now (lent_pairs pairs.now) }
+    ensures bound { MatchResult result (λ at. at < length pairs.now) (λ at. at ≤ length pairs.now) }
+{
+    for (at, (other, _)) in pairs.iter().enumerate() {
+        match key.cmp(other) {
+            Ordering::Less => return Err(at),
+            Ordering::Equal => return Ok(at),
+            Ordering::Greater => {}
+        }
+    }
+    Err(pairs.len())
+}
+
+/// Puts a pair in its place by its key.
+fn put<'a, B: Allocator>(
+    pairs: &mut Vec<(&'a str, &'a str), B>,
+    key: &'a str,
+    value: &'a str,
+) -> Result<(), AllocError>
+    ensures { OnOk result (lent_pairs pairs.new.items ≡ put text_cmp key.now value.now (lent_pairs pairs.old.items)) }
+{
+    match place_of(pairs, key) {
+        Ok(at) => pairs[at] = (key, value),
+        Err(at) => pairs.insert(at, (key, value))?,
+    }
+    Ok(())
 }

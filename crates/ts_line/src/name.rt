@@ -5,6 +5,7 @@ ghost use Rattle.ts_line.specs.Names.{is_name_start, is_name_byte, is_name};
 ghost use Rattle.ts_line.specs.Reading.{split_first, name_at};
 
 use crate::line::Part;
+use std::alloc::Allocator;
 
 fn is_name_start(byte: u8) -> bool
     ensures { result ≡ is_name_start byte }
@@ -35,7 +36,7 @@ fn is_name(text: &[u8]) -> bool
 
 /// A text as a part that starts there, where it is a name.
 #[tactic(auto, unfolding(crate::specs::Reading::name_at))]
-pub fn name_at(text: &str, start: usize) -> Option<Part<'_>>
+pub fn name_at<A: Allocator>(text: &str, start: usize) -> Option<Part<'_, A>>
     ensures { result ≡ name_at start text.now }
 {
     if is_name(text.as_bytes()) {

@@ -1,30 +1,44 @@
 //! Reading a line.
-ghost use Rattle.std.specs.Prelude.{◌≡◌, Ok, IfOk};
+ghost use Rattle.std.specs.Prelude.{◌≡◌, Ok, IfOk, IfSome, Some, option_map};
 ghost use Rattle.ts_line.specs.Parts.{Parts};
 ghost use Rattle.ts_line.specs.Units.{unit_of};
-ghost use Rattle.ts_line.specs.Says.{Says, ArePartsOf};
+ghost use Rattle.ts_line.specs.Says.{Says, ArePartsOf, plain_parts};
 ghost use Rattle.ts_line.specs.Reading.{value_and_time, line_of};
 
-use crate::fault::LineFault;
-use crate::line::{Field, Line};
+use crate::fault::{LineFault, ReadLineError};
+use crate::line::{Field, Line, Part};
 use crate::name::{name_at, split_first};
 use crate::number::{integer, moment};
 use crate::precision::Precision;
+use std::alloc::Allocator;
 use ts_core::Time;
 
 /// Reads a line without its line feed, in the form `measurement field=123i` or `measurement field=123i 456`.
 /// A timestamp counts units of `precision`; without one the time is `now`.
-pub fn read_line(text: &str, precision: Precision, now: Time) -> Result<Line<'_>, LineFault>
-    ensures reads { IfOk result (Says (unit_of precision) now text.now) }
-    ensures only { (parts : Parts) → Says (unit_of precision) now text.now parts → result ≡ Ok parts }
-    ensures spans { IfOk result (ArePartsOf text.now) }
+pub fn read_line<A: Allocator + Copy>(
+    alloc: A,
+    text: &str,
+    precision: Precision,
+    now: Time,
+) -> Result<Option<Line<'_, A>>, ReadLineError>
+    ensures reads { IfOk result (λ o. IfSome o (Says (unit_of precision) now text.now)) }
+    ensures spans { IfOk result (λ o. IfSome o (ArePartsOf text.now)) }
 {
-    line_of(text, precision, now).ok_or(LineFault::NotYet)
+    let Some((measurement, field, time)) = line_of::<A>(text, precision, now) else {
+        return Err(ReadLineError::Fault(LineFault::NotYet));
+    };
+    let mut fields = Vec::new(alloc);
+    fields.push(field)?;
+    Ok(Some(Line::new(measurement, Vec::new(alloc), fields, time)))
 }
 
 #[tactic(auto, unfolding(crate::specs::Reading::line_of))]
-fn line_of(text: &str, precision: Precision, now: Time) -> Option<Line<'_>>
-    ensures { result ≡ line_of (unit_of precision) now text.now }
+fn line_of<A: Allocator>(
+    text: &str,
+    precision: Precision,
+    now: Time,
+) -> Option<(Part<'_, A>, Field<'_, A>, Time)>
+    ensures { option_map (λ p. plain_parts p.0 p.1.0 p.1.1 p.2) result ≡ line_of (unit_of precision) now text.now }
 {
     if text.len() > 65_536 {
         return None;
@@ -38,7 +52,7 @@ fn line_of(text: &str, precision: Precision, now: Time) -> Option<Line<'_>>
     let measurement = name_at(measurement, 0)?;
     let name = name_at(field, field_start)?;
     let (value, time) = value_and_time(rest, precision, now)?;
-    Some(Line::new(measurement, Field::new(name, value), time))
+    Some((measurement, Field::new(name, value), time))
 }
 
 // what stands after the equals sign

@@ -1,13 +1,14 @@
 //! Lines both ways.
 use crate::{LineFault, Precision, read_line};
+use std::alloc::Global;
 use std::test::Fail;
 use ts_core::Time;
 
 type Said<'a> = (&'a str, usize, &'a str, i64, i64);
 
 // what a line says at the moment 77: its measurement, the place of its field, the field, its value, and the time
-fn said(text: &str, precision: Precision) -> Option<Said<'_>> {
-    let line = read_line(text, precision, Time::new(77)?).ok()?;
+fn said(alloc: Global, text: &str, precision: Precision) -> Option<Said<'_>> {
+    let line = read_line(alloc, text, precision, Time::new(77)?).ok()??;
     let measurement = line.measurement().text();
     let time = line.time().nanos();
     let field = line.fields().first()?;
@@ -72,7 +73,10 @@ fn lines_are_read(rt: HostRuntime) -> Result<(), Fail> {
             ("m", 2, "f", 1, 9223369200000000000),
         ),
     ] {
-        assert!(rt; said(text, precision) == Some(expected), "at {text}");
+        assert!(rt;
+            said(rt.alloc(), text, precision) == Some(expected),
+            "at {text}"
+        );
     }
     Ok(())
 }
@@ -112,7 +116,7 @@ fn other_texts_are_not(rt: HostRuntime) -> Result<(), Fail> {
         ("m f=1i 2562048", Precision::Hours),
         ("m f=1i 9223372036854775807", Precision::Hours),
     ] {
-        assert!(rt; said(text, precision).is_none(), "at {text}");
+        assert!(rt; said(rt.alloc(), text, precision).is_none(), "at {text}");
     }
     Ok(())
 }

@@ -1,19 +1,19 @@
 -- Facts in the order of their ids, as entries.
-use Rattle.std.proofs.Common.{◌≡◌, ◌≢◌, ℕ, zero, suc, ℤ, ◌+◌, ◌<◌, ◌≤◌, Bool, true, false, cond, T, List, [], ◌∷◌, ◌++◌, length, map, take, drop, set, insert, get_or, refl, sym, ◌∙◌, ap, subst, inl, inr, ◌⊎◌, ⊎_elim, Option, Some, None, Result, Ok, Err, MatchResult, Ordering, Less, Equal, Greater, arith}
-use Rattle.std.specs.Ordering.{ordering_index, eq_by_cmp}
+use Rattle.std.proofs.Common.{◌≡◌, ℕ, zero, suc, ℤ, ◌<◌, ◌≤◌, true, false, cond, T, List, [], ◌∷◌, ◌++◌, length, map, set, insert, get_or, refl, sym, ◌∙◌, ap, subst, inl, inr, ◌⊎◌, ⊎_elim, Some, Result, Ok, Err, MatchResult, Ordering, Less, Equal, Greater, arith}
+use Rattle.std.specs.Ordering.{ordering_index}
 use Rattle.std.specs.FinMap.{find, put, is_sorted}
 use Rattle.std.specs.FinMap.Entries.{find-put, is_sorted-put}
 use Rattle.std.specs.List.{HoldsAt, AllWithin}
 use Rattle.std.specs.List.Sorted.{IsNonDecreasingBy, IsPartitionPoint, IsBinarySearchResult}
 use Rattle.std.proofs.lemmas.List.{map-set, length-map}
 use Rattle.ts_core.specs.Members.{Among, AllDistinct}
-use Rattle.ts_core.specs.Facts.{Fact, Id, id_of, id_cmp, same_id}
+use Rattle.ts_core.specs.Facts.{Text, Series, Fact, Id, id_of, id_cmp, same_id}
 use Rattle.ts_core.proofs.Ids.{ids_total, exact_ids, same_id-eq, same_id-refl}
 use Rattle.ts_core.proofs.Places.{rises, put_at, put_between}
 use Rattle.ts_core.proofs.Sorted.{sorted-distinct, found_among, among_found}
 use Rattle.ts_core.proofs.Latests.{same_fact}
 use Rattle.ts_store.specs.Plain.{entry_of, IsInOrder}
-use Rattle.ts_store.specs.Puts.{Puts}
+use Rattle.ts_store.specs.Puts.{Puts, PutsAll}
 
 -- the fact of an entry
 abbrev pub fact_of : Id × ℤ → Fact
@@ -63,13 +63,13 @@ map-insert (g ∷ facts) (suc i) f = ap (λ es. entry_of g ∷ es) (map-insert f
 abbrev pub IsPut : List Fact → Fact → List Fact → Type 0
 IsPut before f after = entries_of after ≡ put id_cmp (id_of f) f.value (entries_of before)
 
-pub put_new : (facts : List Fact) (f : Fact) (i : ℕ) → i ≤ length facts
+put_new : (facts : List Fact) (f : Fact) (i : ℕ) → i ≤ length facts
     → IsPartitionPoint (λ (g : Fact). id_cmp (id_of g) (id_of f) ≡ Less) (λ (g : Fact). id_cmp (id_of g) (id_of f) ≡ Greater) facts i
     → IsPut facts f (insert facts i f)
 put_new facts f i l p =
     map-insert facts i f ∙ sym (put_between ids_total (entries_of facts) (id_of f) f.value i (rw (length-map facts entry_of) l) (parts_entries facts (id_of f) i p))
 
-pub put_there : (facts : List Fact) → IsInOrder facts → (f : Fact) (i : ℕ) (d : Fact) → i < length facts → id_cmp (id_of (get_or facts i d)) (id_of f) ≡ Equal
+put_there : (facts : List Fact) → IsInOrder facts → (f : Fact) (i : ℕ) (d : Fact) → i < length facts → id_cmp (id_of (get_or facts i d)) (id_of f) ≡ Equal
     → IsPut facts f (set facts i f)
 put_there facts s f i d l e =
     let at : get_or (entries_of facts) i (entry_of d) ≡ entry_of (get_or facts i d) = at_map facts i d in
@@ -131,9 +131,27 @@ get_or_within (f ∷ facts) (suc i) d e l = get_or_within facts i d e (omega ari
 abbrev pub with_value : Fact → ℤ → Fact
 with_value g v = record { column = g.column; time = g.time; value = v }
 
-pub in_place : (facts : List Fact) → IsInOrder facts → (f : Fact) (i : ℕ) (g : Fact) → i < length facts → id_cmp (id_of (get_or facts i f)) (id_of f) ≡ Equal → g ≡ get_or facts i g
-    → (with_value g f.value ≡ f) × IsPut facts f (set facts i f)
-in_place facts s f i g l tied is =
+pub in_place : (facts : List Fact) → IsInOrder facts → (f : Fact) (k : Id) (i : ℕ) (g after : Fact) → id_of f ≡ k → i < length facts → HoldsAt (λ (x : Fact). id_cmp (id_of x) k ≡ Equal) facts i → g ≡ get_or facts i g
+    → after ≡ with_value g f.value → IsPut facts f (set facts i after)
+in_place facts s f k i g after e l there is now =
     let same : get_or facts i g ≡ get_or facts i f = get_or_within facts i g f l in
+    let tied : id_cmp (id_of (get_or facts i f)) (id_of f) ≡ Equal = subst (λ (j : Id). id_cmp (id_of (get_or facts i f)) j ≡ Equal) (sym e) (there f) in
     let ids : id_of g ≡ id_of f = ap id_of (is ∙ same) ∙ exact_ids _ _ tied in
-    (same_fact (with_value g f.value) f ids refl, put_there facts s f i f l tied)
+    let new : after ≡ f = now ∙ same_fact (with_value g f.value) f ids refl in
+    subst (λ (x : Fact). IsPut facts f (set facts i x)) (sym new) (put_there facts s f i f l tied)
+
+pub at_place : (facts : List Fact) (f : Fact) (k : Id) (i : ℕ) → id_of f ≡ k → i ≤ length facts
+    → IsPartitionPoint (λ (g : Fact). id_cmp (id_of g) k ≡ Less) (λ (g : Fact). id_cmp (id_of g) k ≡ Greater) facts i
+    → IsPut facts f (insert facts i f)
+at_place facts f k i e l p =
+    put_new facts f i l (subst (λ (j : Id). IsPartitionPoint (λ (g : Fact). id_cmp (id_of g) j ≡ Less) (λ (g : Fact). id_cmp (id_of g) j ≡ Greater) facts i) (sym e) p)
+
+pub id_from : (f : Fact) (series : Series) (field : Text) (time : ℤ) → series ≡ f.column.series → field ≡ f.column.field → time ≡ f.time
+    → id_of f ≡ record { column = record { series = series; field = field }; time = time }
+id_from f series field time s n t = λ i. record { column = record { series = sym s i; field = sym n i }; time = sym t i }
+
+-- ---- one fact after another
+
+pub PutsAll-push : (before mid after : List Fact) (fs : List Fact) (f : Fact) → PutsAll before mid fs → Puts mid after f → PutsAll before after (fs ++ f ∷ [])
+PutsAll-push before mid after [] f p q = (after, subst (λ (m : List Fact). Puts m after f) p q, refl)
+PutsAll-push before mid after (g ∷ fs) f p q = (p.0, p.1, PutsAll-push p.0 mid after fs f p.2 q)

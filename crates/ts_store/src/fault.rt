@@ -28,3 +28,14 @@ impl WriteFault {
         }
     }
 }
+
+impl From<AllocError> for WriteFault {
+    ghost use Rattle.std.specs.Prelude.{◌≡◌};
+    ghost use Rattle.ts_store.specs.declared.fault.WriteFault.TheVariants.{OutOfMemory};
+
+    ghost from_gives = { λ _ f. f ≡ OutOfMemory };
+
+    fn from(_e: AllocError) -> WriteFault {
+        WriteFault::OutOfMemory
+    }
+}

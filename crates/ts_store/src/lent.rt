@@ -1,12 +1,8 @@
-//! A fact by borrowed texts.
-use ts_core::Time;
+//! Series by borrowed texts.
 
-/// A fact by borrowed texts. The tags stand in byte order of their keys, each key once.
+/// A series by borrowed texts. The tags stand in byte order of their keys, each key once.
 #[derive(Drop)]
-pub(crate) struct LentFact<'a> {
+pub(crate) struct LentSeries<'a> {
     pub(crate) measurement: &'a str,
     pub(crate) tags: &'a [(&'a str, &'a str)],
-    pub(crate) field: &'a str,
-    pub(crate) time: Time,
-    pub(crate) value: i64,
 }

@@ -6,7 +6,6 @@ ghost use Rattle.ts_core.specs.Kept.{StandsFor, OfEachHistory, GoesOn};
 ghost use Rattle.ts_line.specs.Parts.{facts_of};
 
 use crate::fault::WriteFault;
-use crate::lent::LentFact;
 use crate::plain::PlainFacts;
 use std::alloc::Allocator;
 use std::marker::Model;
@@ -50,30 +49,19 @@ impl<A: Allocator + Copy> Store<A> {
 
     /// Writes a line: its facts are accepted, each in place of an older one of its id. After a fault
     /// nothing has changed.
-    pub fn write(&mut self, line: &Line<'_>) -> Result<(), WriteFault>
+    pub fn write(&mut self, line: &Line<'_, A>) -> Result<(), WriteFault>
         ensures ok { OnOk result (GoesOn self.old (LineEvent (facts_of line.now)) self.new) }
         ensures err { OnErr result (self.new ≡ self.old) }
         ensures full { (result ≡ Err WriteFault.TooManyFacts) ↔ (2 ^ 62 < self.old.accepted + length (facts_of line.now)) }
     {
-        let fields = line.fields();
-        if self.accepted >= FACT_LIMIT {
+        let count = line.fields().len() as u64;
+        if count > FACT_LIMIT - self.accepted {
             return Err(WriteFault::TooManyFacts);
         }
-        let field = &fields[0];
-        let fact = LentFact {
-            measurement: line.measurement().text(),
-            tags: &[],
-            field: field.name().text(),
-            time: line.time(),
-            value: field.value(),
-        };
-        match self.facts.put(&fact) {
-            Ok(()) => {
-                self.accepted += 1;
-                Ok(())
-            }
-            Err(_) => Err(WriteFault::OutOfMemory),
-        }
+        let tags = line.tags_by_key(self.facts.allocator())?;
+        self.facts.put_line(line, &tags)?;
+        self.accepted += count;
+        Ok(())
     }
 
     /// How many facts were accepted, repeats counted.

@@ -17,7 +17,7 @@ fn the_newer_value_counts_once(rt: HostRuntime) -> Result<(), Fail> {
         "m g=1i 5",
         "m f=2i -9223372036854775806",
     ] {
-        let line = read_line(text, Precision::Nanoseconds, now)?;
+        let line = read_line(rt.alloc(), text, Precision::Nanoseconds, now)?.ok_or("a line")?;
         assert!(rt; store.write(&line).is_ok(), "writing {text}");
     }
     assert_eq!(rt; store.accepted(), 7);

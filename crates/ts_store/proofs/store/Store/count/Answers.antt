@@ -1,7 +1,7 @@
-use Rattle.std.proofs.Common.{◌≡◌, ◌≤ℤ◌, sym, ◌∙◌, ap, length, filter, List, subst, rules, ℤ}
+use Rattle.std.proofs.Common.{◌≡◌, ◌≤ℤ◌, ◌∙◌, ap, length, filter, List, subst, rules, ℤ}
 use Rattle.ts_core.specs.Times.{least_time}
 use Rattle.ts_core.specs.Facts.{Fact, is_asked}
-use Rattle.ts_core.specs.Kept.{Kept, StandsFor}
+use Rattle.ts_core.specs.Kept.{Kept}
 use Rattle.ts_store.proofs.Stands.{count_stands}
 use Rattle.ts_store.proofs.store.Store.count.Goals as goal
 

@@ -1,0 +1,111 @@
+-- A pair put in its place by its key.
+use Rattle.std.proofs.Common.{◌≡◌, ℕ, suc, ◌+◌, ◌-◌, ◌<◌, ◌≤◌, List, [], ◌∷◌, ◌++◌, length, map, take, drop, set, get_or, refl, sym, ap, ◌∙◌, subst, arith, Ok, Err, Bor, T}
+use Rattle.std.specs.FinMap as finmap
+use Rattle.std.specs.FinMap.{put, is_sorted, slice_cmp-IsAntisymmetric, nat_cmp-IsAntisymmetric, entries-insert, entries_sorted, len-entries, len-empty}
+use Rattle.std.specs.Cmp.Lexicographic.{nat_list_cmp_total}
+use Rattle.std.specs.declared.cmp.Ordering.{Ordering}
+use Rattle.std.specs.declared.cmp.Ordering.TheVariants.{Less, Equal, Greater}
+use Rattle.ts_core.specs.Facts.{Text, text_cmp}
+use Rattle.ts_core.specs.Texts.{lent_pairs, IsTagSet}
+use Rattle.ts_line.specs.Parts.{Piece, tag_texts}
+use Rattle.ts_line.specs.Sorting.{place_from}
+use Rattle.std.proofs.lemmas.List.{take_more, take_all, map_push}
+
+abbrev pub Lent : Type 0
+Lent = List (Bor Text × Bor Text)
+
+pub same_text : (a b : Text) → text_cmp a b ≡ Equal → a ≡ b
+same_text = slice_cmp-IsAntisymmetric nat_cmp-IsAntisymmetric
+
+-- ---- the key is there
+
+abbrev IsPutAt : Bor Text → Bor Text → Lent → ℕ → Type 0
+IsPutAt k v xs j = lent_pairs (set xs j (k, v)) ≡ put text_cmp k.now v.now (lent_pairs xs)
+
+old_by : (k v : Bor Text) (x : Bor Text × Bor Text) (xs : Lent) (at i : ℕ) (r : Ordering) → text_cmp k.now x.0.now ≡ r
+    → (place_from (at + 1) k.now (lent_pairs xs) ≡ Ok i → (j : ℕ) × (i ≡ (at + 1) + j) × IsPutAt k v xs j)
+    → place_from at k.now (lent_pairs (x ∷ xs)) ≡ Ok i → (j : ℕ) × (i ≡ at + j) × IsPutAt k v (x ∷ xs) j
+old_by k v x xs at i Less e ih found = let no : Err at ≡ Ok i = rw e at found in absurd cc
+old_by k v x xs at i Equal e ih found =
+    let here : Ok at ≡ Ok i = rw e at found in
+    let is : at ≡ i = cc in
+    (0, omega arith, rw e (ap (λ (t : Text). (t, v.now) ∷ lent_pairs xs) (same_text k.now x.0.now e)))
+old_by k v x xs at i Greater e ih found =
+    let later : place_from (at + 1) k.now (lent_pairs xs) ≡ Ok i = rw e at found in
+    let h = ih later in
+    (suc h.0, omega (arith, h.1), rw e (ap (λ (zs : List (Text × Text)). (x.0.now, x.1.now) ∷ zs) h.2))
+
+pub put_old : (k v : Bor Text) (xs : Lent) (at i : ℕ) → place_from at k.now (lent_pairs xs) ≡ Ok i → (j : ℕ) × (i ≡ at + j) × IsPutAt k v xs j
+put_old k v [] at i found = absurd cc
+put_old k v (x ∷ xs) at i found = old_by k v x xs at i (text_cmp k.now x.0.now) refl (put_old k v xs (at + 1) i) found
+
+pub put_found : (k v : Bor Text) (xs : Lent) (i : ℕ) → Ok i ≡ place_from 0 k.now (lent_pairs xs) → lent_pairs (set xs i (k, v)) ≡ put text_cmp k.now v.now (lent_pairs xs)
+put_found k v xs i found =
+    let p = put_old k v xs 0 i (sym found) in
+    let same : i ≡ p.0 = omega (arith, p.1) in
+    rw same p.2
+
+-- ---- the key is new
+
+abbrev IsNewAt : Bor Text → Bor Text → Lent → ℕ → Type 0
+IsNewAt k v xs j = lent_pairs (take j xs ++ (k, v) ∷ drop j xs) ≡ put text_cmp k.now v.now (lent_pairs xs)
+
+new_by : (k v : Bor Text) (x : Bor Text × Bor Text) (xs : Lent) (at i : ℕ) (r : Ordering) → text_cmp k.now x.0.now ≡ r
+    → (place_from (at + 1) k.now (lent_pairs xs) ≡ Err i → (j : ℕ) × (i ≡ (at + 1) + j) × IsNewAt k v xs j)
+    → place_from at k.now (lent_pairs (x ∷ xs)) ≡ Err i → (j : ℕ) × (i ≡ at + j) × IsNewAt k v (x ∷ xs) j
+new_by k v x xs at i Less e ih found =
+    let here : Err at ≡ Err i = rw e at found in
+    let is : at ≡ i = cc in
+    (0, omega arith, rw e refl)
+new_by k v x xs at i Equal e ih found = let no : Ok at ≡ Err i = rw e at found in absurd cc
+new_by k v x xs at i Greater e ih found =
+    let later : place_from (at + 1) k.now (lent_pairs xs) ≡ Err i = rw e at found in
+    let h = ih later in
+    (suc h.0, omega (arith, h.1), rw e (ap (λ (zs : List (Text × Text)). (x.0.now, x.1.now) ∷ zs) h.2))
+
+new_in : (k v : Bor Text) (xs : Lent) (at i : ℕ) → place_from at k.now (lent_pairs xs) ≡ Err i → (j : ℕ) × (i ≡ at + j) × IsNewAt k v xs j
+new_in k v [] at i found = let is : at ≡ i = cc in (0, omega arith, refl)
+new_in k v (x ∷ xs) at i found = new_by k v x xs at i (text_cmp k.now x.0.now) refl (new_in k v xs (at + 1) i) found
+
+pub put_new : (k v : Bor Text) (xs : Lent) (i : ℕ) → Err i ≡ place_from 0 k.now (lent_pairs xs) → lent_pairs (take i xs ++ (k, v) ∷ drop i xs) ≡ put text_cmp k.now v.now (lent_pairs xs)
+put_new k v xs i found =
+    let p = new_in k v xs 0 i (sym found) in
+    let same : i ≡ p.0 = omega (arith, p.1) in
+    rw same p.2
+
+-- ---- all of them
+
+-- each of the last ones first
+abbrev pub put_all : List (Text × Text) → List (Text × Text) → List (Text × Text)
+put_all [] es = es
+put_all (t ∷ ts) es = put text_cmp t.0 t.1 (put_all ts es)
+
+pub put_all_push : (ts : List (Text × Text)) (t : Text × Text) (es : List (Text × Text)) → put_all (ts ++ t ∷ []) es ≡ put_all ts (put text_cmp t.0 t.1 es)
+put_all_push [] t es = refl
+put_all_push (x ∷ ts) t es = ap (put text_cmp x.0 x.1) (put_all_push ts t es)
+
+no_length : (es : List (Text × Text)) → length es ≡ 0 → es ≡ []
+no_length [] e = refl
+no_length (x ∷ es) e = absurd (omega arith)
+
+-- what a finite map has that is made of them
+pub entries_put_all : (ts : List (Text × Text)) → finmap.entries (finmap.from_entries {R = text_cmp} ts) ≡ put_all ts []
+entries_put_all [] = no_length (finmap.entries (finmap.empty {X = Text} {R = text_cmp})) (sym (len-entries (finmap.empty {X = Text} {R = text_cmp})) ∙ len-empty text_cmp Text)
+entries_put_all (t ∷ ts) = entries-insert nat_list_cmp_total (finmap.from_entries ts) t.0 t.1 ∙ ap (put text_cmp t.0 t.1) (entries_put_all ts)
+
+pub put_all_set : (ts : List (Text × Text)) (lent : Lent) → lent_pairs lent ≡ put_all ts [] → IsTagSet (lent_pairs lent)
+put_all_set ts lent e = subst (λ (es : List (Text × Text)). T (is_sorted text_cmp es)) (sym (e ∙ sym (entries_put_all ts))) (entries_sorted (finmap.from_entries {R = text_cmp} ts))
+
+-- the last tag is put first
+pub put_last : (tags : List (Piece × Piece)) (t : Piece × Piece) (es all : List (Text × Text)) → 1 ≤ length tags → t ≡ get_or tags (length tags - 1) t
+    → put_all (map tag_texts tags) es ≡ all → put_all (map tag_texts (take (length tags - 1) tags)) (put text_cmp t.0.text t.1.text es) ≡ all
+put_last tags t es all some is so_far =
+    let within : length tags - 1 < length tags = omega arith in
+    let whole : (length tags - 1) + 1 ≡ length tags = omega arith in
+    let split : tags ≡ take (length tags - 1) tags ++ t ∷ [] = sym (take_all (length tags) tags (omega arith)) ∙ ap (λ n. take n tags) (sym whole) ∙ take_more tags (length tags - 1) t within ∙ ap (λ x. take (length tags - 1) tags ++ x ∷ []) (sym is) in
+    sym (put_all_push (map tag_texts (take (length tags - 1) tags)) (tag_texts t) es)
+    ∙ ap (λ ts. put_all ts es) (sym (map_push tag_texts (take (length tags - 1) tags) t) ∙ ap (map tag_texts) (sym split)) ∙ so_far
+
+pub no_items : {X : Type 0} (xs : List X) → length xs ≡ 0 → xs ≡ []
+no_items [] e = refl
+no_items (x ∷ xs) e = absurd (omega arith)

@@ -1,0 +1,9 @@
+-- Where a key goes among pairs in the order of their keys. (InfluxData 1.8, key concepts: tag set.)
+use Rattle.std.specs.Prelude.{ℕ, ◌+◌, List, [], ◌∷◌, Result, Ok, Err}
+use Rattle.std.specs.FinMap.Entries.{by_order}
+use Rattle.ts_core.specs.Facts.{Text, text_cmp}
+
+-- the place of the first pair whose key isn't lower, and whether it has this key; the first pair is at `at`
+abbrev pub place_from : ℕ → Text → List (Text × Text) → Result ℕ ℕ
+place_from at key [] = Err at
+place_from at key (e ∷ es) = by_order (text_cmp key e.0) (Err at) (Ok at) (place_from (at + 1) key es)
