@@ -1,0 +1,2 @@
+pub mod PointMaps
+pub mod PointRanges

@@ -1,0 +1,27 @@
+-- The points of a column: times with values, each time once.
+-- (InfluxData 1.8, key concepts: point; frequently asked questions: duplicate points.)
+use Rattle.std.specs.Prelude.{ℤ, List, filter, int_le, refl, Option}
+use Rattle.std.specs.Ordering.{int_cmp}
+use Rattle.std.specs.FinMap as map
+use Rattle.std.specs.Coded.{Coded, code_by, coded×, coded_ℤ, coded_option}
+use Rattle.ts_core.specs.Facts.{is_within}
+
+-- from each time to its value
+abbrev pub PointMap : Type 0
+PointMap = map.FinMap int_cmp ℤ
+
+-- the points from a on and before b, in the order of time
+abbrev pub points_within : PointMap → ℤ → ℤ → List (ℤ × ℤ)
+points_within points a b = filter (λ (p : ℤ × ℤ). is_within a b p.0) (map.entries points)
+
+-- the points at the mark and after it
+abbrev pub points_from : PointMap → ℤ → PointMap
+points_from points mark = map.retain_keys points (int_le mark)
+
+-- a column: its points, beside one set aside or none
+pub record ColumnState : Type 0 where
+  pub points : PointMap
+  pub aside : Option (ℤ × ℤ)
+
+abbrev pub coded_column : Coded ColumnState
+coded_column = code_by (PointMap × Option (ℤ × ℤ)) (coded× (map.code coded_ℤ coded_ℤ) (coded_option (coded× coded_ℤ coded_ℤ))) (λ c. (c.points, c.aside)) (λ p. record { points = p.0; aside = p.1 }) (λ _. refl)

@@ -1,0 +1,22 @@
+-- Points kept as a list in the order of time. (Own rule.)
+use Rattle.std.specs.Prelude.{◌≡◌, ℕ, ℤ, T, List, Option, Result, IsSome, MatchResult, ◌<◌}
+use Rattle.std.specs.declared.cmp.Ordering.TheVariants.{Less, Equal, Greater}
+use Rattle.std.specs.Ordering.{int_cmp}
+use Rattle.std.specs.List.{HoldsAt}
+use Rattle.std.specs.List.Sorted.{IsPartitionPoint}
+use Rattle.std.specs.FinMap.{is_sorted}
+
+-- times strictly rise
+abbrev pub IsRising : List (ℤ × ℤ) → Type 0
+IsRising points = T (is_sorted int_cmp points)
+
+-- the times rise, and there is room for the point that is set aside
+pub record IsReady (points : List (ℤ × ℤ)) (len capacity : ℕ) (aside : Option (ℤ × ℤ)) : Type 0 where
+  pub rising : IsRising points
+  pub room : IsSome aside → len < capacity
+
+-- where the point of a time is, or where it would go
+abbrev pub IsPlaceOf : ℤ → List (ℤ × ℤ) → Result ℕ ℕ → Type 0
+IsPlaceOf t points place =
+    MatchResult place (HoldsAt (λ (p : ℤ × ℤ). int_cmp p.0 t ≡ Equal) points)
+    (IsPartitionPoint (λ (p : ℤ × ℤ). int_cmp p.0 t ≡ Less) (λ (p : ℤ × ℤ). int_cmp p.0 t ≡ Greater) points)

@@ -1,0 +1,142 @@
+//! A column kept as a vector in the order of time.
+ghost use Rattle.std.specs.Prelude.{◌≡◌, ◌+◌, ◌<◌, ◌≤◌, true, false, length, filter, int_lt, vec_len, vec_capacity, drop};
+ghost use Rattle.std.specs.Ordering.{int_cmp};
+ghost use Rattle.std.specs.FinMap as map;
+ghost use Rattle.std.specs.FinMap.{put};
+ghost use Rattle.std.specs.List.Sorted.{IsSearchInRange, IsPartitionPoint};
+ghost use Rattle.ts_core.specs.Facts.{is_within};
+ghost use Rattle.ts_raw.specs.PlainColumns.{IsRising, IsPlaceOf};
+
+use crate::column::Column;
+use crate::points::Points;
+use std::alloc::{AllocError, Allocator};
+use std::marker::Model;
+use ts_core::Time;
+
+/// Points in a vector: one in the order of time is appended, any other moves those after it.
+#[derive(Drop)]
+pub struct PlainColumn<A: Allocator> {
+    points: Vec<(Time, i64), A>,
+    aside: Option<(Time, i64)>,
+}
+
+impl<A: Allocator> Model for PlainColumn<A> {
+    ghost use Rattle.std.specs.Prelude.{vec_len, vec_capacity};
+    ghost use Rattle.std.specs.FinMap as map;
+    ghost use Rattle.ts_raw.specs.Columns.{ColumnState, coded_column};
+    ghost use Rattle.ts_raw.specs.PlainColumns.{IsReady};
+
+    ghost Value = { ColumnState };
+
+    ghost coded = { coded_column };
+
+    ghost view = { λ c. record { points = map.from_sorted c.points.items; aside = c.aside } };
+
+    ghost invariant = { λ c. IsReady c.points.items (vec_len c.points) (vec_capacity c.points) c.aside };
+}
+
+/// Where the point of a time is, or where it would go: at the end, where it comes after all others.
+fn place_of(points: &[(Time, i64)], time: &Time) -> Result<usize, usize>
+    requires { IsRising points.now }
+    ensures bound { IsSearchInRange result (length points.now) }
+    ensures place { IsPlaceOf time.now points.now result }
+{
+    match points.last() {
+        Some(last) if last.0 < *time => Err(points.len()),
+        _ => points.binary_search_by(|point| point.0.cmp(time)),
+    }
+}
+
+/// Puts a point in, in place of the one of its time.
+fn put_point<A: Allocator>(points: &mut Vec<(Time, i64), A>, point: &(Time, i64))
+    requires rising { IsRising points.old.items }
+    requires room { vec_len points.old < vec_capacity points.old }
+    ensures { points.new.items ≡ put int_cmp point.now.0 point.now.1 points.old.items }
+{
+    match place_of(points.as_slice(), &point.0) {
+        Ok(at) => points[at] = *point,
+        Err(at) => points.insert(at, *point).unwrap(),
+    }
+}
+
+/// How many points are before a time.
+fn count_before(points: &[(Time, i64)], time: &i64) -> usize
+    requires { IsRising points.now }
+    ensures bound { result ≤ length points.now }
+    ensures point { IsPartitionPoint (λ p. int_lt p.0 time.now ≡ true) (λ p. int_lt p.0 time.now ≡ false) points.now result }
+{
+    points.partition_point(|point| point.0.nanos() < *time)
+}
+
+/// The points from a time on, before another.
+fn between<'a>(points: &'a [(Time, i64)], from: &i64, to: &i64) -> &'a [(Time, i64)]
+    requires { IsRising points.now }
+    ensures { result.now ≡ filter (λ p. is_within from.now to.now p.0) points.now }
+{
+    let start = count_before(points, from);
+    let end = count_before(points, to);
+    if start < end {
+        &points[start..end]
+    } else {
+        &[]
+    }
+}
+
+/// Drops the points at the front.
+fn drop_front<A: Allocator>(points: &mut Vec<(Time, i64), A>, count: usize)
+    requires { count ≤ vec_len points.old }
+    ensures { points.new.items ≡ drop count points.old.items }
+{
+    drop(points.drain(..count));
+}
+
+impl<A: Allocator> PlainColumn<A> {
+    /// A column of no points, which takes no memory yet.
+    pub fn new(alloc: A) -> PlainColumn<A>
+        ensures points { result.points ≡ map.empty }
+        ensures none_aside { result.aside ≡ None }
+    {
+        PlainColumn {
+            points: Vec::new(alloc),
+            aside: None,
+        }
+    }
+}
+
+impl<A: Allocator> Column for PlainColumn<A> {
+    ghost points = { λ c. c.points };
+
+    ghost aside = { λ c. c.aside };
+
+    fn prepare(&mut self, time: Time, value: i64) -> Result<(), AllocError> {
+        self.aside = None;
+        self.points.reserve(1)?;
+        self.aside = Some((time, value));
+        Ok(())
+    }
+
+    fn commit(&mut self) {
+        let point = self.aside.take().unwrap();
+        put_point(&mut self.points, &point);
+    }
+
+    fn range(&self, from: i64, to: i64) -> Points<'_> {
+        Points::plain(between(self.points.as_slice(), &from, &to))
+    }
+
+    fn drop_below(&mut self, mark: Time) {
+        self.aside = None;
+        let count = count_before(self.points.as_slice(), &mark.nanos());
+        drop_front(&mut self.points, count);
+    }
+
+    fn live(&self) -> usize {
+        self.points.len()
+    }
+
+    fn held(&self) -> usize
+        ensures exact { result ≡ map.len self.now.points }
+    {
+        self.live()
+    }
+}
