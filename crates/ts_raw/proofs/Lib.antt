@@ -1,2 +1,9 @@
 pub mod PointMaps
 pub mod PointRanges
+pub mod LastBelows
+pub mod Chained
+pub mod NumberedLemmas
+pub mod Searches
+pub mod Hashing
+pub mod SeriesLemmas
+pub mod TableLemmas

@@ -1,3 +1,9 @@
 pub mod Columns
 pub mod PlainColumns
 pub mod PointsLeft
+pub mod LastBelow
+pub mod Links
+pub mod Numbered
+pub mod Hashes
+pub mod Faults
+pub mod Tables

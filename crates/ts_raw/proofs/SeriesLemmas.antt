@@ -1,0 +1,16 @@
+-- Series that compare equal are the same.
+use Rattle.std.proofs.Common.{◌≡◌, Equal, Ordering, ◌==◌, true, false, true≢false, refl, sym, ◌∙◌, ap}
+use Rattle.std.specs.Ordering.{ordering_index}
+use Rattle.std.proofs.lemmas.Cmp.{tied_itself}
+use Rattle.ts_core.specs.Facts.{Series, series_cmp}
+use Rattle.ts_core.proofs.Ids.{series_total, exact_series}
+
+equal_from : (o : Ordering) → (ordering_index o == 1) ≡ true → o ≡ Equal
+equal_from o h = elim o as (λ r. (ordering_index r == 1) ≡ true → r ≡ Equal) [ Equal ↦ λ _. refl | _ ↦ λ e. absurd (true≢false (sym e)) ] h
+
+pub same_series : (s t : Series) (o : Ordering) → o ≡ series_cmp s t → (ordering_index o == 1) ≡ true → s ≡ t
+same_series s t o is h = exact_series s t (sym is ∙ equal_from o h)
+
+pub other_series : (s t : Series) (o : Ordering) → o ≡ series_cmp s t → (ordering_index o == 1) ≡ false → s ≡ t → ⊥
+other_series s t o is h e =
+    true≢false (sym (ap (λ r. ordering_index r == 1) (is ∙ ap (λ x. series_cmp x t) e ∙ tied_itself series_total t)) ∙ h)

@@ -1,0 +1,12 @@
+use Rattle.std.proofs.Common.{◌≡◌, ℕ, ap, subst, sym, List, nat_eq, Option, None, refl}
+use Rattle.std.specs.Map.{lookup}
+use Rattle.std.specs.HashMap.{get}
+use Rattle.ts_raw.specs.declared.index.chains.Link.{Link}
+use Rattle.ts_raw.specs.Links.{AreChained}
+use Rattle.ts_raw.proofs.Chained.{chained_none}
+use Rattle.ts_raw.proofs.index.chains.Chains.new.Goals as goal
+
+pub invariant_of-result : goal.invariant_of-result
+invariant_of-result g c =
+    subst (λ (links : List Link). AreChained (get nat_eq c.new.result) links) (sym c.new-2.ensures.items)
+    (chained_none (get nat_eq c.new.result) (λ q. ap (λ es. lookup (nat_eq q) es) c.new.ensures.empty))

@@ -1,0 +1,108 @@
+//! Series by their keys.
+ghost use Rattle.std.specs.Prelude.{◌≡◌, ◌≤◌, ◌<◌, ◌↔◌, [], length, IfSome, IfNone, IfOk, OnOk, OnErr, Err, slice_get, Some};
+ghost use Rattle.ts_core.specs.Members.{Among, AllDistinct};
+ghost use Rattle.ts_core.specs.Texts.{lent_pairs, lent_series, IsTagSet};
+ghost use Rattle.ts_raw.specs.Numbered.{IsAt, Gains};
+
+use crate::index::chains::Chains;
+use crate::index::fault::IndexFault;
+use crate::index::hash::hash_series;
+use crate::index::ids::SeriesId;
+use std::alloc::Allocator;
+use std::cmp::Ordering;
+use std::marker::Model;
+use ts_core::Key;
+
+/// The registered series, seen as their list in the order of making.
+#[derive(Drop)]
+pub(crate) struct SeriesTable<A: Allocator> {
+    keys: Vec<Key<A>, A>,
+    chains: Chains<A>,
+}
+
+impl<A: Allocator> Model for SeriesTable<A> {
+    ghost use Rattle.std.specs.Prelude.{List};
+    ghost use Rattle.ts_core.specs.Facts.{Series};
+    ghost use Rattle.ts_raw.specs.Hashes.{hash_of_series};
+    ghost use Rattle.ts_raw.specs.Tables.{IsTable};
+
+    ghost Value = { List Series };
+
+    ghost view = { λ t. t.keys.items };
+
+    ghost invariant = { λ t. IsTable hash_of_series t.keys.items t.chains };
+}
+
+impl<A: Allocator + Copy> SeriesTable<A> {
+    /// No series.
+    pub(crate) fn new(alloc: A) -> SeriesTable<A>
+        ensures { result ≡ [] }
+    {
+        SeriesTable {
+            keys: Vec::new(alloc),
+            chains: Chains::new(alloc),
+        }
+    }
+
+    /// How many series there are.
+    pub(crate) fn len(&self) -> usize
+        ensures value { result ≡ length self.now }
+        ensures once { AllDistinct self.now }
+    {
+        self.keys.len()
+    }
+
+    /// The key of a series.
+    pub(crate) fn key(&self, series: SeriesId) -> &Key<A>
+        requires { series < length self.now }
+        ensures { IsAt self.now series result.now }
+    {
+        &self.keys[series.number as usize]
+    }
+
+    /// The series of that key.
+    pub(crate) fn lookup(&self, measurement: &str, tags: &[(&str, &str)]) -> Option<SeriesId>
+        ensures found { IfSome result (λ id. IsAt self.now id (lent_series measurement.now tags.now)) }
+        ensures absent { IfNone result (Among (lent_series measurement.now tags.now) self.now → ⊥) }
+    {
+        let mut next = self.chains.newest(hash_series(measurement, tags));
+        while let Some(at) = next {
+            let key = &self.keys[at as usize];
+            if key.compare(measurement, tags) == Ordering::Equal {
+                return Some(SeriesId { number: at });
+            }
+            next = self.chains.older(at);
+        }
+        None
+    }
+
+    /// The series of that key, made where there is none. There may be so many series and no more.
+    pub(crate) fn register(
+        &mut self,
+        limit: usize,
+        measurement: &str,
+        tags: &[(&str, &str)],
+    ) -> Result<SeriesId, IndexFault>
+        requires { IsTagSet (lent_pairs tags.now) }
+        ensures number { IfOk result (λ id. IsAt self.new id (lent_series measurement.now tags.now)) }
+        ensures ok { OnOk result (Gains self.old self.new (lent_series measurement.now tags.now)) }
+        ensures err { OnErr result (self.new ≡ self.old) }
+        ensures full { (result ≡ Err IndexFault.TooManySeries) ↔ ((limit ≤ length self.old) × (Among (lent_series measurement.now tags.now) self.old → ⊥)) }
+        ensures once { AllDistinct self.new }
+    {
+        if let Some(series) = self.lookup(measurement, tags) {
+            return Ok(series);
+        }
+        if self.keys.len() >= limit {
+            return Err(IndexFault::TooManySeries);
+        }
+        let Ok(number) = u32::try_from(self.keys.len()) else {
+            return Err(IndexFault::OutOfMemory);
+        };
+        let key = Key::new(*self.keys.allocator(), measurement, tags)?;
+        self.keys.reserve(1)?;
+        self.chains.push(hash_series(measurement, tags))?;
+        self.keys.push(key).unwrap();
+        Ok(SeriesId { number })
+    }
+}
