@@ -1,2 +1,4 @@
 pub mod PlainLemmas
 pub mod Stands
+pub mod ColumnsLemmas
+pub mod ColumnsAside

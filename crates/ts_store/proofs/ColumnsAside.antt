@@ -1,0 +1,161 @@
+-- What the facts of columns become when points that were set aside are put in.
+use Rattle.std.proofs.Common.{◌≡◌, ◌≢◌, ℕ, zero, suc, ℤ, ◌+◌, ◌<◌, List, [], ◌∷◌, ◌++◌, length, map, set, get_or, refl, sym, ◌∙◌, ap, subst, true≢false, inl, inr, ◌⊎◌, ⊎_elim, arith, Option, Some, None, IsSome, IfSome}
+use Rattle.std.specs.List.{slice_get}
+use Rattle.std.specs.FinMap as finmap
+use Rattle.std.proofs.lemmas.List.{get_or_default, map-set, set-get_or, get_or-set_other, length-set, length-map, get_or_append_left}
+use Rattle.std.proofs.lemmas.Option.{slice_get_within}
+use Rattle.std.proofs.Math.Seq.{map-set_same}
+use Rattle.ts_core.specs.Members.{Among, AllDistinct}
+use Rattle.ts_core.specs.Facts.{Column, Fact}
+use Rattle.ts_line.specs.Parts.{Piece, Parts, field_text, fact_of}
+use Rattle.ts_raw.specs.Columns.{PointMap, ColumnState}
+use Rattle.ts_store.specs.Puts.{Puts, PutsAll}
+use Rattle.ts_store.specs.ColumnsKept.{fact_at, facts_of_columns, points_of, no_column, with_aside, committed, all_committed, AreReady, AreAside}
+use Rattle.ts_store.proofs.ColumnsLemmas.{columns_puts}
+
+none_some : {X : Type 0} (x : X) → None ≡ Some x → ⊥
+none_some x e = cc
+
+the_same : {X : Type 0} (x y : X) → Some x ≡ Some y → x ≡ y
+the_same x y e = cc
+
+points_at : (ss : List ColumnState) (n : ℕ) → get_or (points_of ss) n finmap.empty ≡ (get_or ss n no_column).points
+points_at [] n = refl
+points_at (s ∷ ss) zero = refl
+points_at (s ∷ ss) (suc n) = points_at ss n
+
+-- one point is put in
+one_committed : (cs : List Column) (ss : List ColumnState) (n : ℕ) (f : Fact) → AllDistinct cs → length ss ≡ length cs → slice_get cs n ≡ Some f.column
+    → (get_or ss n no_column).aside ≡ Some (f.time, f.value)
+    → Puts (facts_of_columns cs (points_of ss)) (facts_of_columns cs (points_of (set ss n (committed (get_or ss n no_column))))) f
+one_committed cs ss n f d l at is =
+    let s : ColumnState = get_or ss n no_column in
+    let after : finmap.insert (get_or (points_of ss) n finmap.empty) f.time f.value ≡ (committed s).points =
+    ap (λ (m : PointMap). finmap.insert m f.time f.value) (points_at ss n) ∙ sym (ap (with_aside s.points) is) in
+    let all : set (points_of ss) n (finmap.insert (get_or (points_of ss) n finmap.empty) f.time f.value) ≡ points_of (set ss n (committed s)) =
+    ap (set (points_of ss) n) after ∙ sym (map-set (λ (t : ColumnState). t.points) ss n (committed s)) in
+    subst (λ (ms : List PointMap). Puts (facts_of_columns cs (points_of ss)) (facts_of_columns cs ms) f) all
+    (columns_puts cs (points_of ss) n f.column f.time f.value d (length-map ss (λ (t : ColumnState). t.points) ∙ l) at)
+
+-- what is aside in other columns stays there
+pub aside_others : (cs : List Column) (ss : List ColumnState) (ns : List ℕ) (fs : List Fact) (n : ℕ) (s : ColumnState) → (Among n ns → ⊥) → AreAside cs ss ns fs → AreAside cs (set ss n s) ns fs
+aside_others cs ss [] [] n s away a = tt
+aside_others cs ss [] (f ∷ fs) n s away a = absurd a
+aside_others cs ss (m ∷ ns) [] n s away a = absurd a
+aside_others cs ss (m ∷ ns) (f ∷ fs) n s away a = (
+  a.0,
+  ap (λ (t : ColumnState). t.aside) (get_or-set_other ss n m s no_column (λ e. away (inl (sym e)))) ∙ a.1,
+  aside_others cs ss ns fs n s (λ k. away (inr k)) a.2,
+)
+
+-- the column of a number that has something aside is the column of one of the facts
+column_of_number : (cs : List Column) (ss : List ColumnState) (ns : List ℕ) (fs : List Fact) (n : ℕ) (c : Column) → AreAside cs ss ns fs → slice_get cs n ≡ Some c → Among n ns
+    → Among c (map (λ (f : Fact). f.column) fs)
+column_of_number cs ss [] fs n c a at k = absurd k
+column_of_number cs ss (m ∷ ns) [] n c a at k = absurd a
+column_of_number cs ss (m ∷ ns) (f ∷ fs) n c a at k =
+    ⊎_elim {C = Among c (map (λ (g : Fact). g.column) (f ∷ fs))} (λ e. inl (the_same c f.column (sym at ∙ ap (slice_get cs) e ∙ a.0)))
+    (λ q. inr (column_of_number cs ss ns fs n c a.2 at q)) k
+
+pub numbers_distinct : (cs : List Column) (ss : List ColumnState) (ns : List ℕ) (fs : List Fact) → AreAside cs ss ns fs → AllDistinct (map (λ (f : Fact). f.column) fs) → AllDistinct ns
+numbers_distinct cs ss [] fs a d = tt
+numbers_distinct cs ss (n ∷ ns) [] a d = absurd a
+numbers_distinct cs ss (n ∷ ns) (f ∷ fs) a d = (λ k. d.0 (column_of_number cs ss ns fs n f.column a.2 a.0 k), numbers_distinct cs ss ns fs a.2 d.1)
+
+-- all are put in, one after another
+pub all_put : (cs : List Column) (ss : List ColumnState) (ns : List ℕ) (fs : List Fact) → AllDistinct cs → length ss ≡ length cs → AllDistinct ns → AreAside cs ss ns fs
+    → PutsAll (facts_of_columns cs (points_of ss)) (facts_of_columns cs (points_of (all_committed ss ns))) fs
+all_put cs ss [] [] d l once a = refl
+all_put cs ss [] (f ∷ fs) d l once a = absurd a
+all_put cs ss (n ∷ ns) [] d l once a = absurd a
+all_put cs ss (n ∷ ns) (f ∷ fs) d l once a =
+    let ss' : List ColumnState = set ss n (committed (get_or ss n no_column)) in (
+      facts_of_columns cs (points_of ss'),
+      one_committed cs ss n f d l a.0 a.1,
+      all_put cs ss' ns fs d (length-set ss n (committed (get_or ss n no_column)) ∙ l) once.1 (aside_others cs ss ns fs n (committed (get_or ss n no_column)) once.0 a.2),
+    )
+
+pub all_committed-length : (ss : List ColumnState) (ns : List ℕ) → length (all_committed ss ns) ≡ length ss
+all_committed-length ss [] = refl
+all_committed-length ss (n ∷ ns) = all_committed-length (set ss n (committed (get_or ss n no_column))) ns ∙ length-set ss n (committed (get_or ss n no_column))
+
+-- ---- one more
+
+pub aside_push : (cs : List Column) (ss : List ColumnState) (ns : List ℕ) (fs : List Fact) (n : ℕ) (f : Fact) → AreAside cs ss ns fs → slice_get cs n ≡ Some f.column
+    → (get_or ss n no_column).aside ≡ Some (f.time, f.value) → AreAside cs ss (ns ++ n ∷ []) (fs ++ f ∷ [])
+aside_push cs ss [] [] n f a at is = (at, is, tt)
+aside_push cs ss [] (g ∷ fs) n f a at is = absurd a
+aside_push cs ss (m ∷ ns) [] n f a at is = absurd a
+aside_push cs ss (m ∷ ns) (g ∷ fs) n f a at is = (a.0, a.1, aside_push cs ss ns fs n f a.2 at is)
+
+slice_get_left : {X : Type 0} (xs ys : List X) (n : ℕ) (x : X) → slice_get xs n ≡ Some x → slice_get (xs ++ ys) n ≡ Some x
+slice_get_left [] ys n x e = absurd (none_some x e)
+slice_get_left (y ∷ xs) ys zero x e = e
+slice_get_left (y ∷ xs) ys (suc n) x e = slice_get_left xs ys n x e
+
+-- columns that are made behind leave what is aside
+pub aside_grown : (cs : List Column) (ss : List ColumnState) (ns : List ℕ) (fs : List Fact) (c : Column) (s : ColumnState) → length ss ≡ length cs → AreAside cs ss ns fs → AreAside (cs ++ c ∷ []) (ss ++ s ∷ []) ns fs
+aside_grown cs ss [] [] c s l a = tt
+aside_grown cs ss [] (f ∷ fs) c s l a = absurd a
+aside_grown cs ss (n ∷ ns) [] c s l a = absurd a
+aside_grown cs ss (n ∷ ns) (f ∷ fs) c s l a =
+    let within : n < length ss = let w = slice_get_within cs n f.column a.0 in omega (arith, w, l) in (
+      slice_get_left cs (c ∷ []) n f.column a.0,
+      ap (λ (t : ColumnState). t.aside) (get_or_append_left ss (s ∷ []) no_column n within) ∙ a.1,
+      aside_grown cs ss ns fs c s l a.2,
+    )
+
+-- what is set aside changes no points
+pub aside_leaves : (ss : List ColumnState) (n : ℕ) (s : ColumnState) → s.points ≡ (get_or ss n no_column).points → points_of (set ss n s) ≡ points_of ss
+aside_leaves ss n s e = map-set_same (λ (t : ColumnState). t.points) ss n s no_column e
+
+-- ---- the facts of a line are of different columns
+
+column_text : (p : Parts) (f g : Piece × ℤ) → (fact_of p f).column ≡ (fact_of p g).column → field_text f ≡ field_text g
+column_text p f g e = ap (λ (c : Column). c.field) e
+
+text_among : (p : Parts) (f : Piece × ℤ) (fields : List (Piece × ℤ)) → Among (fact_of p f).column (map (λ (x : Fact). x.column) (map (fact_of p) fields)) → Among (field_text f) (map field_text fields)
+text_among p f [] a = absurd a
+text_among p f (g ∷ fields) a = ⊎_elim {C = Among (field_text f) (map field_text (g ∷ fields))} (λ e. inl (column_text p f g e)) (λ k. inr (text_among p f fields k)) a
+
+pub line_columns : (p : Parts) (fields : List (Piece × ℤ)) → AllDistinct (map field_text fields) → AllDistinct (map (λ (f : Fact). f.column) (map (fact_of p) fields))
+line_columns p [] d = tt
+line_columns p (f ∷ fields) d = (λ a. d.0 (text_among p f fields a), line_columns p fields d.1)
+
+-- ---- points are put in from the left to the right
+
+committed_is : (s t : ColumnState) → IfSome s.aside (λ (p : ℤ × ℤ). t.points ≡ finmap.insert s.points p.0 p.1) → IsSome s.aside → t.aside ≡ None → t ≡ committed s
+committed_is s t put is none =
+    let points : t.points ≡ with_aside s.points s.aside =
+    elim s.aside as (λ a. IfSome a (λ (p : ℤ × ℤ). t.points ≡ finmap.insert s.points p.0 p.1) → IsSome a → t.points ≡ with_aside s.points a) [
+      | None ↦ λ q i. absurd (true≢false (sym i))
+      | Some p ↦ λ q i. q
+    ] put is in
+    λ i. record { points = points i; aside = none i }
+
+ready_others : (ss : List ColumnState) (ns : List ℕ) (n : ℕ) (s : ColumnState) → (Among n ns → ⊥) → AreReady ss ns → AreReady (set ss n s) ns
+ready_others ss [] n s away r = tt
+ready_others ss (m ∷ ns) n s away r = (
+  subst (λ l. m < l) (sym (length-set ss n s)) r.0,
+  subst (λ (t : ColumnState). IsSome t.aside) (sym (get_or-set_other ss n m s no_column (λ e. away (inl (sym e))))) r.1,
+  r.2,
+  ready_others ss ns n s (λ k. away (inr k)) r.3,
+)
+
+pub next_committed : (ss : List ColumnState) (n : ℕ) (ns : List ℕ) (s t : ColumnState) → AreReady ss (n ∷ ns) → s ≡ get_or ss n s → IfSome s.aside (λ (p : ℤ × ℤ). t.points ≡ finmap.insert s.points p.0 p.1) → t.aside ≡ None
+    → (all_committed ss (n ∷ ns) ≡ all_committed (set ss n t) ns) × AreReady (set ss n t) ns
+next_committed ss n ns s t r is put none =
+    let same : s ≡ get_or ss n no_column = is ∙ get_or_default ss n s no_column r.0 in
+    let after : t ≡ committed (get_or ss n no_column) = committed_is s t put (subst (λ (u : ColumnState). IsSome u.aside) (sym same) r.1) none ∙ ap committed same in
+    (ap (λ (u : ColumnState). all_committed (set ss n u) ns) (sym after), ready_others ss ns n t r.2 r.3)
+
+-- what is aside in different columns is ready
+pub ready_of : (cs : List Column) (ss : List ColumnState) (ns : List ℕ) (fs : List Fact) → length ss ≡ length cs → AreAside cs ss ns fs → AllDistinct ns → AreReady ss ns
+ready_of cs ss [] fs l a d = tt
+ready_of cs ss (n ∷ ns) [] l a d = absurd a
+ready_of cs ss (n ∷ ns) (f ∷ fs) l a d = (
+  let w = slice_get_within cs n f.column a.0 in omega (arith, w, l),
+  subst (λ (o : Option (ℤ × ℤ)). IsSome o) (sym a.1) refl,
+  d.0,
+  ready_of cs ss ns fs l a.2 d.1,
+)
