@@ -7,3 +7,4 @@ pub mod Searches
 pub mod Hashing
 pub mod SeriesLemmas
 pub mod TableLemmas
+pub mod ColumnLaws

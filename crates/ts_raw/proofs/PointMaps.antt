@@ -1,5 +1,5 @@
 -- A list in the order of its keys, as a finite map.
-use Rattle.std.proofs.Common.{◌≡◌, ℕ, ℤ, ◌<◌, ◌≤◌, ◌-◌, Bool, true, true≢false, cond, is_lt, T, List, [], length, get_or, set, insert, refl, sym, ◌∙◌, ap, Option, None, Result, Ok, Err, Ordering, Less, Equal, Greater, arith}
+use Rattle.std.proofs.Common.{◌≡◌, ℕ, ℤ, ◌<◌, ◌≤◌, ◌-◌, Bool, true, true≢false, cond, is_lt, T, List, [], ◌∷◌, ◌++◌, length, get_or, set, insert, refl, sym, ◌∙◌, ap, Option, None, Result, Ok, Err, Ordering, Less, Equal, Greater, arith}
 use Rattle.std.specs.Ordering.{int_cmp, ordering_index}
 use Rattle.std.specs.Cmp.{IsTotalOrder, int_cmp_total}
 use Rattle.std.specs.FinMap as map
@@ -48,7 +48,7 @@ less_is Equal h = absurd (true≢false (sym h))
 less_is Greater h = absurd (true≢false (sym h))
 
 -- a time after the last one comes after all
-pub after_last : (points : List (ℤ × ℤ)) → IsRising points → (t : ℤ) (last : ℤ × ℤ) → last ≡ get_or points (length points - 1) last → int_cmp last.0 t ≡ Less → IsPlaceOf t points (Err (length points))
+after_last : (points : List (ℤ × ℤ)) → IsRising points → (t : ℤ) (last : ℤ × ℤ) → last ≡ get_or points (length points - 1) last → int_cmp last.0 t ≡ Less → IsPlaceOf t points (Err (length points))
 after_last points s t last is before = (
   λ k d l h.
       let up = rises int_cmp_total points s t k (length points - 1) d (omega arith) (omega arith) in
@@ -67,6 +67,15 @@ put_there points s point i l e =
 pub put_new : (points : List (ℤ × ℤ)) (point : ℤ × ℤ) (i : ℕ) → i ≤ length points → IsPlaceOf point.0 points (Err i)
     → insert points i point ≡ put int_cmp point.0 point.1 points
 put_new points point i l p = sym (put_between int_cmp_total points point.0 point.1 i l p)
+
+at_end : {X : Type 0} (xs : List X) (x : X) → insert xs (length xs) x ≡ xs ++ x ∷ []
+at_end [] x = refl
+at_end (y ∷ xs) x = ap (λ zs. y ∷ zs) (at_end xs x)
+
+-- a point after the last one goes to the end
+pub put_last : (points : List (ℤ × ℤ)) → IsRising points → (point last : ℤ × ℤ) → last ≡ get_or points (length points - 1) last → int_cmp last.0 point.0 ≡ Less
+    → points ++ point ∷ [] ≡ put int_cmp point.0 point.1 points
+put_last points s point last is before = sym (at_end points point) ∙ put_new points point (length points) (omega arith) (after_last points s point.0 last is before)
 
 -- what a binary search answers
 pub found_place : (points : List (ℤ × ℤ)) → IsRising points → (t : ℤ) (r : Result ℕ ℕ) → IsBinarySearchResult (λ (p : ℤ × ℤ). int_cmp p.0 t) points r → IsPlaceOf t points r

@@ -5,17 +5,17 @@ use Rattle.std.proofs.lemmas.Bool.{cases_lt}
 use Rattle.std.specs.Ordering.{int_cmp}
 use Rattle.std.specs.Cmp.{int_cmp_total}
 use Rattle.std.specs.List.{AllWithin}
-use Rattle.std.specs.List.Sorted.{IsPartitionPoint, IsPartitionedBy}
+use Rattle.std.specs.List.Sorted.{IsPartitionedBy}
 use Rattle.ts_core.specs.Facts.{is_within}
 use Rattle.ts_core.proofs.Places.{below_at, both_of}
 use Rattle.std.specs.FinMap.{from_sorted}
 use Rattle.std.specs.FinMap.Entries.{is_sorted-where_key}
 use Rattle.ts_raw.specs.Columns.{points_from}
-use Rattle.ts_raw.specs.PlainColumns.{IsRising}
+use Rattle.ts_raw.specs.PlainColumns.{IsRising, IsStartOf}
 use Rattle.ts_raw.proofs.PointMaps.{kept_map}
 
 module _ {X : Type 0} (q : X → Bool) where
-  pub none_left : (xs : List X) → AllWithin (λ x. q x ≡ false) xs 0 (length xs) → filter q xs ≡ []
+  none_left : (xs : List X) → AllWithin (λ x. q x ≡ false) xs 0 (length xs) → filter q xs ≡ []
   none_left [] w = refl
   none_left (x ∷ xs) w = ap (λ b. cond b (x ∷ filter q xs) (filter q xs)) (w 0 x (omega arith) (omega arith)) ∙ none_left xs (λ k d l h. w (suc k) d (omega arith) (omega arith))
 
@@ -25,7 +25,7 @@ module _ {X : Type 0} (q : X → Bool) where
   nothing (suc n) (suc i) = refl
 
   -- a filter that passes one stretch of a list takes that stretch
-  pub filter-window : (xs : List X) (i n : ℕ)
+  filter-window : (xs : List X) (i n : ℕ)
       → AllWithin (λ x. q x ≡ false) xs 0 i → AllWithin (λ x. q x ≡ true) xs i (i + n) → AllWithin (λ x. q x ≡ false) xs (i + n) (length xs)
       → i + n ≤ length xs → filter q xs ≡ take n (drop i xs)
   filter-window [] i n before in' after h = sym (nothing n i)
@@ -38,7 +38,7 @@ module _ {X : Type 0} (q : X → Bool) where
       ∙ filter-window xs i n (λ k d l m. before (suc k) d (omega arith) (omega arith)) (λ k d l m. in' (suc k) d (omega arith) (omega arith)) (λ k d l m. after (suc k) d (omega arith) (omega arith)) (omega arith)
 
   -- a filter that refuses a front and passes the rest
-  pub filter-rest : (xs : List X) (i : ℕ) → AllWithin (λ x. q x ≡ false) xs 0 i → AllWithin (λ x. q x ≡ true) xs i (length xs) → i ≤ length xs → filter q xs ≡ drop i xs
+  filter-rest : (xs : List X) (i : ℕ) → AllWithin (λ x. q x ≡ false) xs 0 i → AllWithin (λ x. q x ≡ true) xs i (length xs) → i ≤ length xs → filter q xs ≡ drop i xs
   filter-rest [] zero before after h = refl
   filter-rest [] (suc i) before after h = refl
   filter-rest (x ∷ xs) zero before after h =
@@ -47,10 +47,6 @@ module _ {X : Type 0} (q : X → Bool) where
   filter-rest (x ∷ xs) (suc i) before after h =
       ap (λ b. cond b (x ∷ filter q xs) (filter q xs)) (before 0 x (omega arith) (omega arith))
       ∙ filter-rest xs i (λ k d l m. before (suc k) d (omega arith) (omega arith)) (λ k d l m. after (suc k) d (omega arith) (omega arith)) (omega arith)
-
--- i parts the points before t from the others
-abbrev pub IsStartOf : ℤ → List (ℤ × ℤ) → ℕ → Type 0
-IsStartOf t points i = IsPartitionPoint (λ (p : ℤ × ℤ). int_lt p.0 t ≡ true) (λ (p : ℤ × ℤ). int_lt p.0 t ≡ false) points i
 
 in_range : (a b t : ℤ) → int_lt t a ≡ false → int_lt t b ≡ true → is_within a b t ≡ true
 in_range a b t p r = grind (arith, ints)
@@ -83,7 +79,7 @@ module _ (points : List (ℤ × ℤ)) (a b : ℤ) (i j : ℕ) (f : IsStartOf a p
       (λ (from : i ≤ k). too_late a b (slice_index_or points k d).0 (g.1 k d (omega arith) n))
       (cases_lt k i)))
 
-pub drop-before : (points : List (ℤ × ℤ)) (mark : ℤ) (i : ℕ) → IsStartOf mark points i → i ≤ length points → drop i points ≡ filter (λ (p : ℤ × ℤ). int_le mark p.0) points
+drop-before : (points : List (ℤ × ℤ)) (mark : ℤ) (i : ℕ) → IsStartOf mark points i → i ≤ length points → drop i points ≡ filter (λ (p : ℤ × ℤ). int_le mark p.0) points
 drop-before points mark i f l =
     sym (filter-rest (λ (p : ℤ × ℤ). int_le mark p.0) points i
     (λ k d m n. below_mark mark (slice_index_or points k d).0 (f.0 k d m n))

@@ -1,5 +1,5 @@
 -- Points kept as a list in the order of time. (Own rule.)
-use Rattle.std.specs.Prelude.{◌≡◌, ℕ, ℤ, T, List, Option, Result, IsSome, MatchResult, ◌<◌}
+use Rattle.std.specs.Prelude.{◌≡◌, ℕ, ℤ, T, List, Option, Result, IsSome, MatchResult, ◌<◌, int_lt, true, false}
 use Rattle.std.specs.declared.cmp.Ordering.TheVariants.{Less, Equal, Greater}
 use Rattle.std.specs.Ordering.{int_cmp}
 use Rattle.std.specs.List.{HoldsAt}
@@ -20,3 +20,7 @@ abbrev pub IsPlaceOf : ℤ → List (ℤ × ℤ) → Result ℕ ℕ → Type 0
 IsPlaceOf t points place =
     MatchResult place (HoldsAt (λ (p : ℤ × ℤ). int_cmp p.0 t ≡ Equal) points)
     (IsPartitionPoint (λ (p : ℤ × ℤ). int_cmp p.0 t ≡ Less) (λ (p : ℤ × ℤ). int_cmp p.0 t ≡ Greater) points)
+
+-- i parts the points before t from the others
+abbrev pub IsStartOf : ℤ → List (ℤ × ℤ) → ℕ → Type 0
+IsStartOf t points i = IsPartitionPoint (λ (p : ℤ × ℤ). int_lt p.0 t ≡ true) (λ (p : ℤ × ℤ). int_lt p.0 t ≡ false) points i

@@ -1,11 +1,11 @@
 //! A column kept as a vector in the order of time.
-ghost use Rattle.std.specs.Prelude.{◌≡◌, ◌+◌, ◌<◌, ◌≤◌, true, false, length, filter, int_lt, vec_len, vec_capacity, drop};
+ghost use Rattle.std.specs.Prelude.{◌≡◌, ◌+◌, ◌<◌, ◌≤◌, length, filter, vec_len, vec_capacity, drop};
 ghost use Rattle.std.specs.Ordering.{int_cmp};
 ghost use Rattle.std.specs.FinMap as map;
 ghost use Rattle.std.specs.FinMap.{put};
-ghost use Rattle.std.specs.List.Sorted.{IsSearchInRange, IsPartitionPoint};
+ghost use Rattle.std.specs.List.Sorted.{IsSearchInRange};
 ghost use Rattle.ts_core.specs.Facts.{is_within};
-ghost use Rattle.ts_raw.specs.PlainColumns.{IsRising, IsPlaceOf};
+ghost use Rattle.ts_raw.specs.PlainColumns.{IsRising, IsPlaceOf, IsStartOf};
 
 use crate::column::Column;
 use crate::points::Points;
@@ -35,20 +35,18 @@ impl<A: Allocator> Model for PlainColumn<A> {
     ghost invariant = { λ c. IsReady c.points.items (vec_len c.points) (vec_capacity c.points) c.aside };
 }
 
-/// Where the point of a time is, or where it would go: at the end, where it comes after all others.
+/// Where the point of a time is, or where it would go.
 fn place_of(points: &[(Time, i64)], time: &Time) -> Result<usize, usize>
     requires { IsRising points.now }
     ensures bound { IsSearchInRange result (length points.now) }
     ensures place { IsPlaceOf time.now points.now result }
 {
-    match points.last() {
-        Some(last) if last.0 < *time => Err(points.len()),
-        _ => points.binary_search_by(|point| point.0.cmp(time)),
-    }
+    points.binary_search_by(|point| point.0.cmp(time))
 }
 
-/// Puts a point in, in place of the one of its time.
-fn put_point<A: Allocator>(points: &mut Vec<(Time, i64), A>, point: &(Time, i64))
+/// Puts a point among the others, in place of the one of its time.
+#[cold]
+fn put_among<A: Allocator>(points: &mut Vec<(Time, i64), A>, point: &(Time, i64))
     requires rising { IsRising points.old.items }
     requires room { vec_len points.old < vec_capacity points.old }
     ensures { points.new.items ≡ put int_cmp point.now.0 point.now.1 points.old.items }
@@ -59,11 +57,23 @@ fn put_point<A: Allocator>(points: &mut Vec<(Time, i64), A>, point: &(Time, i64)
     }
 }
 
+/// Puts a point in, in place of the one of its time: at the end, where it comes after all others.
+fn put_point<A: Allocator>(points: &mut Vec<(Time, i64), A>, point: &(Time, i64))
+    requires rising { IsRising points.old.items }
+    requires room { vec_len points.old < vec_capacity points.old }
+    ensures { points.new.items ≡ put int_cmp point.now.0 point.now.1 points.old.items }
+{
+    match points.last() {
+        Some(last) if last.0 < point.0 => points.push(*point).unwrap(),
+        _ => put_among(points, point),
+    }
+}
+
 /// How many points are before a time.
 fn count_before(points: &[(Time, i64)], time: &i64) -> usize
     requires { IsRising points.now }
     ensures bound { result ≤ length points.now }
-    ensures point { IsPartitionPoint (λ p. int_lt p.0 time.now ≡ true) (λ p. int_lt p.0 time.now ≡ false) points.now result }
+    ensures start { IsStartOf time.now points.now result }
 {
     points.partition_point(|point| point.0.nanos() < *time)
 }
@@ -109,10 +119,9 @@ impl<A: Allocator> Column for PlainColumn<A> {
     ghost aside = { λ c. c.aside };
 
     fn prepare(&mut self, time: Time, value: i64) -> Result<(), AllocError> {
-        self.aside = None;
-        self.points.reserve(1)?;
-        self.aside = Some((time, value));
-        Ok(())
+        let room = self.points.reserve(1);
+        self.aside = room.is_ok().then_some((time, value));
+        room
     }
 
     fn commit(&mut self) {

@@ -3,7 +3,7 @@ use Rattle.ts_raw.proofs.PointRanges.{filter-within, filter-nothing_within}
 use Rattle.ts_raw.proofs.plain_column.between.Goals as goal
 
 pub returns-then-start-end : goal.returns-then-start-end
-returns-then-start-end c = filter-within c.args.points.now c.args.from.now c.args.to.now c.count_before-start.result c.count_before-end.result c.count_before-start.ensures.point c.count_before-end.ensures.point (omega arith) c.count_before-end.ensures.bound
+returns-then-start-end c = filter-within c.args.points.now c.args.from.now c.args.to.now c.count_before-start.result c.count_before-end.result c.count_before-start.ensures.start c.count_before-end.ensures.start (omega arith) c.count_before-end.ensures.bound
 
 pub returns-else-start-end : goal.returns-else-start-end
-returns-else-start-end c = filter-nothing_within c.args.points.now c.args.from.now c.args.to.now c.count_before-start.result c.count_before-end.result c.count_before-start.ensures.point c.count_before-end.ensures.point (omega arith)
+returns-else-start-end c = filter-nothing_within c.args.points.now c.args.from.now c.args.to.now c.count_before-start.result c.count_before-end.result c.count_before-start.ensures.start c.count_before-end.ensures.start (omega arith)

@@ -3,6 +3,6 @@ use Rattle.std.proofs.lemmas.List.Sorted.{IsPartitionPoint-from_clause}
 use Rattle.ts_raw.proofs.PointRanges.{rising_first}
 use Rattle.ts_raw.proofs.plain_column.count_before.Goals as goal
 
-pub returns-clause-point : goal.returns-clause-point
-returns-clause-point c =
+pub returns-clause-start : goal.returns-clause-start
+returns-clause-start c =
     IsPartitionPoint-from_clause (λ (p : ℤ × ℤ). int_lt p.0 c.args.time.now) _ _ c.partition_point.ensures.partitioned (rising_first c.args.points.now c.requires c.args.time.now) (λ a r q k. search rules)

@@ -1,17 +1,11 @@
-use Rattle.std.proofs.Common.{◌∙◌, ap, insert, is_ok, if◌then◌else◌}
-use Rattle.ts_raw.proofs.PointMaps.{put_there, put_new}
+use Rattle.std.proofs.Common.{◌≡◌, ◌-◌, List, [], ◌∷◌, ◌++◌, ℤ, length, get_or, is_ok, if◌then◌else◌, ap, subst, sym, ◌∙◌}
+use Rattle.ts_raw.proofs.PointMaps.{put_last, less_is}
 use Rattle.ts_raw.proofs.plain_column.put_point.Goals as goal
 
-pub returns-in-Ok : goal.returns-in-Ok
-returns-in-Ok g c =
-    let place = rw c.as_slice.ensures.value at c.in-Ok.ensures.place in
-    let bound = rw c.as_slice.ensures.value at c.in-Ok.ensures.bound in
-    put_there c.args.points.now.items c.requires.rising c.args.point.now c.in-Ok.at bound place
-
-pub returns-in-Err : goal.returns-in-Err
-returns-in-Err g c =
-    let points = c.args.points.now.items in
-    let place = rw c.as_slice.ensures.value at c.in-Err.ensures.place in
-    let bound = rw c.as_slice.ensures.value at c.in-Err.ensures.bound in
-    c.insert.ensures.items ∙ ap (λ r. if is_ok r then insert points c.in-Err.at c.args.point.now else points) c.unwrap.ensures
-    ∙ put_new points c.args.point.now c.in-Err.at bound place
+pub returns-in-Some : goal.returns-in-Some
+returns-in-Some g c =
+    let points : List (ℤ × ℤ) = c.args.points.now.items in
+    let point : ℤ × ℤ = c.args.point.now in
+    let last : ℤ × ℤ = c.in-Some.last.now in
+    let there : last ≡ get_or points (length points - 1) last = subst (λ (xs : List (ℤ × ℤ)). last ≡ get_or xs (length xs - 1) last) c.deref.ensures.value c.in-Some.ensures.item.1 in
+    c.push.ensures.items ∙ ap (λ r. if is_ok r then points ++ point ∷ [] else points) c.unwrap.ensures ∙ put_last points c.requires.rising point last there (less_is _ (sym c.lt.ensures ∙ c.if-lt.true))
