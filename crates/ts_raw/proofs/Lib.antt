@@ -8,3 +8,7 @@ pub mod Hashing
 pub mod SeriesLemmas
 pub mod TableLemmas
 pub mod ColumnLaws
+pub mod ColumnLemmas
+pub mod ListsLemmas
+pub mod IndexLemmas
+pub mod IndexSteps

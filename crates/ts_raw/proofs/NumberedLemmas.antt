@@ -1,9 +1,9 @@
 -- Numbered lists, and one more behind the others.
-use Rattle.std.proofs.Common.{◌≡◌, ℕ, zero, suc, ◌+◌, ◌<◌, List, [], ◌∷◌, ◌++◌, length, map, get_or, Option, Some, None, refl, sym, ◌∙◌, ap, subst, inl, inr, ◌⊎◌, ⊎_elim, arith}
-use Rattle.std.proofs.lemmas.Option.{slice_get_within, get_or_from_slice_get}
+use Rattle.std.proofs.Common.{◌≡◌, ℕ, zero, suc, ◌+◌, ◌<◌, List, [], ◌∷◌, ◌++◌, length, map, get_or, Option, Some, None, refl, sym, ◌∙◌, ap, subst, inl, inr, ◌⊎◌, ⊎_elim, arith, Bool, true, false, cond, add-zero, zero-add}
+use Rattle.std.proofs.lemmas.Option.{slice_get_within, slice_get-get_or}
 use Rattle.ts_core.specs.Members.{Among, AllDistinct}
 use Rattle.ts_core.proofs.MembersLemmas.{AllDistinct-append}
-use Rattle.ts_raw.specs.Numbered.{IsAt, Gains}
+use Rattle.ts_raw.specs.Numbered.{IsAt, numbers_from, numbers_where}
 
 some_member : {X : Type 0} (x y : X) → Some x ≡ Some y → x ≡ y
 some_member x y e = cc
@@ -45,3 +45,72 @@ pub at_map : {X : Type 0} (f : X → ℕ) (xs : List X) (n : ℕ) (x : X) → Is
 at_map f [] n x h = absurd (cc)
 at_map f (y ∷ ys) zero x h = ap f (some_member y x h)
 at_map f (y ∷ ys) (suc n) x h = at_map f ys n x h
+
+-- ---- the numbers of those that pass
+
+module _ {X : Type 0} (p : X → Bool) where
+  push_case : (n : ℕ) (x : X) (b : Bool) (ns ms : List ℕ) → cond b (n ∷ (ns ++ ms)) (ns ++ ms) ≡ cond b (n ∷ ns) ns ++ ms
+  push_case n x true ns ms = refl
+  push_case n x false ns ms = refl
+
+  numbers_from-push : (n : ℕ) (xs : List X) (x : X) → numbers_from p n (xs ++ x ∷ []) ≡ numbers_from p n xs ++ cond (p x) ((n + length xs) ∷ []) []
+  numbers_from-push n [] x = ap (λ m. cond (p x) (m ∷ []) []) (sym (add-zero n))
+  numbers_from-push n (y ∷ ys) x =
+      let rest : numbers_from p (n + 1) (ys ++ x ∷ []) ≡ numbers_from p (n + 1) ys ++ cond (p x) ((n + length (y ∷ ys)) ∷ []) [] =
+      numbers_from-push (n + 1) ys x ∙ ap (λ m. numbers_from p (n + 1) ys ++ cond (p x) (m ∷ []) []) (let e : n + 1 + length ys ≡ n + suc (length ys) = omega arith in e) in
+      ap (λ ns. cond (p y) (n ∷ ns) ns) rest ∙ push_case n x (p y) (numbers_from p (n + 1) ys) (cond (p x) ((n + length (y ∷ ys)) ∷ []) [])
+
+  -- one more behind the others
+  pub numbers_where-push : (xs : List X) (x : X) → numbers_where p (xs ++ x ∷ []) ≡ numbers_where p xs ++ cond (p x) (length xs ∷ []) []
+  numbers_where-push xs x = numbers_from-push 0 xs x ∙ ap (λ m. numbers_where p xs ++ cond (p x) (m ∷ []) []) (zero-add (length xs))
+
+  pub numbers_from-none : (n : ℕ) (xs : List X) → ((x : X) → Among x xs → p x ≡ false) → numbers_from p n xs ≡ []
+  numbers_from-none n [] none = refl
+  numbers_from-none n (y ∷ ys) none =
+      ap (λ b. cond b (n ∷ numbers_from p (n + 1) ys) (numbers_from p (n + 1) ys)) (none y (inl refl)) ∙ numbers_from-none (n + 1) ys (λ x k. none x (inr k))
+
+  -- two lists whose members pass alike have the same numbers
+  pub numbers_from-map : {Y : Type 0} (f : Y → X) (q : Y → Bool) (n : ℕ) (ys : List Y) → ((y : Y) → Among y ys → p (f y) ≡ q y)
+      → numbers_from p n (map f ys) ≡ numbers_from q n ys
+  numbers_from-map f q n [] alike = refl
+  numbers_from-map f q n (y ∷ ys) alike =
+      ap (λ b. cond b (n ∷ numbers_from p (n + 1) (map f ys)) (numbers_from p (n + 1) (map f ys))) (alike y (inl refl))
+      ∙ ap (λ ns. cond (q y) (n ∷ ns) ns) (numbers_from-map f q (n + 1) ys (λ z k. alike z (inr k)))
+
+-- ---- members and places
+
+module _ {X : Type 0} where
+  -- of distinct ones each has one place
+  pub same_place : (xs : List X) (d : X) (i j : ℕ) → AllDistinct xs → i < length xs → j < length xs → get_or xs i d ≡ get_or xs j d → i ≡ j
+  same_place [] d i j once l k e = absurd (omega arith)
+  same_place (x ∷ xs) d zero zero once l k e = refl
+  same_place (x ∷ xs) d zero (suc j) once l k e = absurd (once.0 (subst (λ y. Among y xs) (sym e) (at_among xs j (get_or xs j d) (slice_get-get_or xs j d (omega (arith, k))))))
+  same_place (x ∷ xs) d (suc i) zero once l k e = absurd (once.0 (subst (λ y. Among y xs) e (at_among xs i (get_or xs i d) (slice_get-get_or xs i d (omega (arith, l))))))
+  same_place (x ∷ xs) d (suc i) (suc j) once l k e = ap suc (same_place xs d i j once.1 (omega (arith, l)) (omega (arith, k)) e)
+
+module _ {X Y : Type 0} (f : X → Y) where
+  pub Among-map : (x : X) (xs : List X) → Among x xs → Among (f x) (map f xs)
+  Among-map x [] a = a
+  Among-map x (y ∷ ys) a = ⊎_elim {C = Among (f x) (map f (y ∷ ys))} (λ e. inl (ap f e)) (λ k. inr (Among-map x ys k)) a
+
+  pub map_back : (xs : List X) (y : Y) → Among y (map f xs) → (x : X) × Among x xs × (f x ≡ y)
+  map_back [] y a = absurd a
+  map_back (x ∷ xs) y a =
+      ⊎_elim {C = (z : X) × Among z (x ∷ xs) × (f z ≡ y)} (λ e. (x, inl refl, sym e)) (λ k. let s = map_back xs y k in (s.0, inr s.1, s.2)) a
+
+  pub AllDistinct-map : (xs : List X) → AllDistinct xs → ((x y : X) → Among x xs → Among y xs → f x ≡ f y → x ≡ y) → AllDistinct (map f xs)
+  AllDistinct-map [] once apart = tt
+  AllDistinct-map (x ∷ xs) once apart = (
+    λ a. let y = map_back xs (f x) a in once.0 (subst (λ z. Among z xs) (apart y.0 x (inr y.1) (inl refl) y.2) y.1),
+    AllDistinct-map xs once.1 (λ y z a b e. apart y z (inr a) (inr b) e),
+  )
+
+  pub at_map_of : (xs : List X) (n : ℕ) (x : X) → IsAt xs n x → IsAt (map f xs) n (f x)
+  at_map_of [] n x h = absurd (cc)
+  at_map_of (y ∷ ys) zero x h = ap (λ z. Some (f z)) (some_member y x h)
+  at_map_of (y ∷ ys) (suc n) x h = at_map_of ys n x h
+
+  -- where no member is told apart
+  pub map_alike : (g : X → Y) (xs : List X) → ((x : X) → Among x xs → f x ≡ g x) → map f xs ≡ map g xs
+  map_alike g [] h = refl
+  map_alike g (x ∷ xs) h = ap (λ y. y ∷ map f xs) (h x (inl refl)) ∙ ap (λ ys. g x ∷ ys) (map_alike g xs (λ y k. h y (inr k)))

@@ -10,6 +10,3 @@ hash_of_tags h (t ∷ ts) = hash_of_tags (write (write h t.0) t.1) ts
 
 unfoldable pub hash_of_series : Series → ℕ
 hash_of_series s = finish (hash_of_tags (write initial s.measurement) s.tags)
-
-unfoldable pub hash_of_field : Text → Text → ℕ
-hash_of_field measurement field = finish (write (write initial measurement) field)

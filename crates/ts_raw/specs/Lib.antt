@@ -7,3 +7,8 @@ pub mod Numbered
 pub mod Hashes
 pub mod Faults
 pub mod Tables
+pub mod FieldKeys
+pub mod ColumnTables
+pub mod Lists
+pub mod Indexed
+pub mod IndexParts

@@ -1,9 +1,186 @@
 //! Series and columns by name.
+ghost use Rattle.std.specs.Prelude.{◌≡◌, ◌≤◌, ◌<◌, ◌↔◌, ◌++◌, [], ◌∷◌, length, IfSome, IfNone, IfOk, OnOk, OnErr, IsOk, Err};
+ghost use Rattle.ts_core.specs.Facts.{Column, is_of};
+ghost use Rattle.ts_core.specs.Members.{Among};
+ghost use Rattle.ts_core.specs.Texts.{lent_pairs, lent_series, IsTagSet};
+ghost use Rattle.ts_raw.specs.Indexed.{IsSound, column_of};
+ghost use Rattle.ts_raw.specs.Numbered.{IsAt, Gains, numbers_where};
+
 mod chains;
+mod columns;
 mod fault;
+mod fields;
 mod hash;
 mod ids;
 mod series;
 
 pub use fault::IndexFault;
 pub use ids::{ColumnId, SeriesId};
+
+use columns::ColumnTable;
+use fields::FieldTable;
+use series::SeriesTable;
+use std::alloc::{AllocError, Allocator};
+use std::marker::Model;
+use ts_core::{FieldName, Key};
+
+/// How many series are registered at most.
+const SERIES_LIMIT: usize = 1_000_000;
+
+/// The registered series and their columns, each found by its names and numbered in the order of making.
+/// (InfluxData 1.8: series, field key.)
+#[derive(Drop)]
+pub struct Index<A: Allocator> {
+    series: SeriesTable<A>,
+    fields: FieldTable<A>,
+    columns: ColumnTable<A>,
+}
+
+impl<A: Allocator> Model for Index<A> {
+    ghost use Rattle.ts_raw.specs.Indexed.{Indexed};
+    ghost use Rattle.ts_raw.specs.IndexParts.{index_of, IsIndex};
+
+    ghost Value = { Indexed };
+
+    ghost view = { λ i. index_of i.series i.fields i.columns };
+
+    ghost invariant = { λ i. IsIndex i.series i.fields i.columns };
+}
+
+impl<A: Allocator + Copy> Index<A> {
+    /// An index of nothing. It takes no memory.
+    pub fn new(alloc: A) -> Index<A>
+        ensures series { result.series ≡ [] }
+        ensures columns { result.columns ≡ [] }
+    {
+        Index {
+            series: SeriesTable::new(alloc),
+            fields: FieldTable::new(alloc),
+            columns: ColumnTable::new(alloc),
+        }
+    }
+
+    /// How many series are registered.
+    pub fn series_count(&self) -> usize
+        ensures value { result ≡ length self.now.series }
+        ensures sound { IsSound self.now }
+    {
+        self.series.len()
+    }
+
+    /// How many columns there are.
+    pub fn column_count(&self) -> usize
+        ensures value { result ≡ length self.now.columns }
+        ensures sound { IsSound self.now }
+    {
+        self.columns.len()
+    }
+
+    /// The series of that key, where it is registered.
+    pub fn lookup(&self, measurement: &str, tags: &[(&str, &str)]) -> Option<SeriesId>
+        ensures found { IfSome result (λ id. IsAt self.now.series id (lent_series measurement.now tags.now)) }
+        ensures absent { IfNone result (Among (lent_series measurement.now tags.now) self.now.series → ⊥) }
+    {
+        self.series.lookup(measurement, tags)
+    }
+
+    /// The series of that key, registered where it is not yet.
+    pub fn register(
+        &mut self,
+        measurement: &str,
+        tags: &[(&str, &str)],
+    ) -> Result<SeriesId, IndexFault>
+        requires { IsTagSet (lent_pairs tags.now) }
+        ensures number { IfOk result (λ id. IsAt self.new.series id (lent_series measurement.now tags.now)) }
+        ensures ok { OnOk result (Gains self.old.series self.new.series (lent_series measurement.now tags.now)) }
+        ensures columns { self.new.columns ≡ self.old.columns }
+        ensures err { OnErr result (self.new ≡ self.old) }
+
+        // Only a series that isn't there takes memory or is one too many.
+        ensures known { Among (lent_series measurement.now tags.now) self.old.series → IsOk result }
+        ensures full { (result ≡ Err IndexFault.TooManySeries) ↔ ((SERIES_LIMIT ≤ length self.old.series) × (Among (lent_series measurement.now tags.now) self.old.series → ⊥)) }
+        ensures sound { IsSound self.new }
+    {
+        self.series.register(SERIES_LIMIT, measurement, tags)
+    }
+
+    /// The key of a series.
+    pub fn key_of(&self, series: SeriesId) -> &Key<A>
+        requires { series < length self.now.series }
+        ensures { IsAt self.now.series series result.now }
+    {
+        self.series.key(series)
+    }
+
+    /// The series of a column.
+    pub fn series_of(&self, column: ColumnId) -> SeriesId
+        requires { column < length self.now.columns }
+        ensures { (c : Column) → IsAt self.now.columns column c → IsAt self.now.series result c.series }
+    {
+        let (number, _) = self.columns.numbers(column);
+        SeriesId { number }
+    }
+
+    /// The field of a column.
+    pub fn field_of(&self, column: ColumnId) -> &FieldName<A>
+        requires { column < length self.now.columns }
+        ensures { (c : Column) → IsAt self.now.columns column c → result.now ≡ c.field }
+    {
+        let (_, number) = self.columns.numbers(column);
+        self.fields.key(number).field()
+    }
+
+    /// The column of a series and a field, where there is one.
+    pub fn column(&self, series: SeriesId, field: &str) -> Option<ColumnId>
+        requires { series < length self.now.series }
+        ensures found { IfSome result (λ id. IsAt self.now.columns id (column_of self.now series field.now)) }
+        ensures absent { IfNone result (Among (column_of self.now series field.now) self.now.columns → ⊥) }
+    {
+        let measurement = self.series.key(series).measurement();
+        let field = self.fields.lookup(measurement, field)?;
+        self.columns.lookup(series.number, field)
+    }
+
+    /// The columns of a measurement and a field, in the order of making. It walks these and no others.
+    pub fn columns_of(&self, measurement: &str, field: &str) -> &[ColumnId]
+        ensures { result.now ≡ numbers_where (is_of measurement.now field.now) self.now.columns }
+    {
+        match self.fields.lookup(measurement, field) {
+            Some(field) => self.columns.of_field(field),
+            None => &[],
+        }
+    }
+
+    /// The column of a series and a field, made where there is none yet.
+    pub fn add_column(&mut self, series: SeriesId, field: &str) -> Result<ColumnId, AllocError>
+        requires { series < length self.old.series }
+        ensures number { IfOk result (λ id. IsAt self.new.columns id (column_of self.old series field.now)) }
+        ensures ok { OnOk result (Gains self.old.columns self.new.columns (column_of self.old series field.now)) }
+        ensures series { self.new.series ≡ self.old.series }
+        ensures err { OnErr result (self.new ≡ self.old) }
+
+        // Only a column that isn't there takes memory.
+        ensures known { Among (column_of self.old series field.now) self.old.columns → IsOk result }
+        ensures sound { IsSound self.new }
+    {
+        match self.column(series, field) {
+            Some(column) => Ok(column),
+            None => self.make_column(series, field),
+        }
+    }
+
+    fn make_column(&mut self, series: SeriesId, field: &str) -> Result<ColumnId, AllocError>
+        requires series { series < length self.old.series }
+        requires absent { Among (column_of self.old series field.now) self.old.columns → ⊥ }
+        ensures number { IfOk result (λ id. IsAt self.new.columns id (column_of self.old series field.now)) }
+        ensures ok { OnOk result (self.new.columns ≡ self.old.columns ++ column_of self.old series field.now ∷ []) }
+        ensures series { self.new.series ≡ self.old.series }
+        ensures err { OnErr result (self.new ≡ self.old) }
+        ensures sound { IsSound self.new }
+    {
+        self.columns.make_room(self.fields.len())?;
+        let measurement = self.series.key(series).measurement();
+        let field = self.fields.register(measurement, field)?;
+        self.columns.push(series.number, field)
+    }
+}

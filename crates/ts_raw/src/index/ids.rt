@@ -1,4 +1,6 @@
 //! Small numbers in place of names.
+ghost use Rattle.std.specs.Prelude.{◌≡◌};
+
 use std::marker::Model;
 
 /// A registered series, by its number: the first registered has 0.
@@ -17,6 +19,15 @@ impl Model for SeriesId {
     ghost inverse = { λ n. record { number = n } };
 }
 
+impl SeriesId {
+    /// The number.
+    pub fn number(self) -> usize
+        ensures { result ≡ self }
+    {
+        self.number as usize
+    }
+}
+
 /// A column, by its number: the first made has 0.
 #[derive(Clone, Copy, Debug, PartialEq, Eq, PartialOrd, Ord)]
 pub struct ColumnId {
@@ -31,4 +42,13 @@ impl Model for ColumnId {
     ghost view = { λ id. id.number };
 
     ghost inverse = { λ n. record { number = n } };
+}
+
+impl ColumnId {
+    /// The number.
+    pub fn number(self) -> usize
+        ensures { result ≡ self }
+    {
+        self.number as usize
+    }
 }

@@ -1,5 +1,5 @@
 //! Series by their keys.
-ghost use Rattle.std.specs.Prelude.{◌≡◌, ◌≤◌, ◌<◌, ◌↔◌, [], length, IfSome, IfNone, IfOk, OnOk, OnErr, Err, slice_get, Some};
+ghost use Rattle.std.specs.Prelude.{◌≡◌, ◌≤◌, ◌<◌, ◌↔◌, [], length, IfSome, IfNone, IfOk, OnOk, OnErr, IsOk, Err, slice_get, Some};
 ghost use Rattle.ts_core.specs.Members.{Among, AllDistinct};
 ghost use Rattle.ts_core.specs.Texts.{lent_pairs, lent_series, IsTagSet};
 ghost use Rattle.ts_raw.specs.Numbered.{IsAt, Gains};
@@ -88,6 +88,7 @@ impl<A: Allocator + Copy> SeriesTable<A> {
         ensures ok { OnOk result (Gains self.old self.new (lent_series measurement.now tags.now)) }
         ensures err { OnErr result (self.new ≡ self.old) }
         ensures full { (result ≡ Err IndexFault.TooManySeries) ↔ ((limit ≤ length self.old) × (Among (lent_series measurement.now tags.now) self.old → ⊥)) }
+        ensures known { Among (lent_series measurement.now tags.now) self.old → IsOk result }
         ensures once { AllDistinct self.new }
     {
         if let Some(series) = self.lookup(measurement, tags) {

@@ -1,0 +1,24 @@
+-- Columns by the numbers of their series and their fields. (Own rule.)
+use Rattle.std.specs.Prelude.{◌≡◌, ℕ, ◌<◌, Bool, ◌==◌, ◌&&◌, List, [], length, Option, slice_index_or}
+use Rattle.ts_core.specs.Members.{AllDistinct}
+use Rattle.ts_raw.specs.LastBelow.{last_with}
+use Rattle.ts_raw.specs.Numbered.{IsAt, numbers_where}
+
+-- the columns in the order of making, each as the numbers of its series and its field, and how many fields there is room for
+pub record ColumnNumbers : Type 0 where
+  pub columns : List (ℕ × ℕ)
+  pub fields : ℕ
+
+abbrev pub same_numbers : ℕ × ℕ → ℕ × ℕ → Bool
+same_numbers x y = (x.0 == y.0) && (x.1 == y.1)
+
+-- the column is of the field
+abbrev pub has_field : ℕ → ℕ × ℕ → Bool
+has_field field x = x.1 == field
+
+-- each column once; each found by its numbers; of each field its columns
+pub record IsColumnTable (place : ℕ × ℕ → Option ℕ) (columns : List (ℕ × ℕ)) (members : List (List ℕ)) : Type 0 where
+  pub once : AllDistinct columns
+  pub placed : (x : ℕ × ℕ) → place x ≡ last_with (0, 0) (λ y. same_numbers y x) columns (length columns)
+  pub grouped : (field : ℕ) → field < length members → slice_index_or members field [] ≡ numbers_where (has_field field) columns
+  pub made : (n : ℕ) (x : ℕ × ℕ) → IsAt columns n x → x.1 < length members

@@ -1,0 +1,22 @@
+-- What an index holds. (InfluxData 1.8, key concepts: series, field key; own rule: the order of making.)
+use Rattle.std.specs.Prelude.{ℕ, List, [], slice_index_or}
+use Rattle.ts_core.specs.Members.{Among, AllDistinct}
+use Rattle.ts_core.specs.Facts.{Text, Series, Column}
+
+-- the registered series and the columns, each in the order of making: a number is a place in its list
+pub record Indexed : Type 0 where
+  pub series : List Series
+  pub columns : List Column
+
+abbrev pub no_series : Series
+no_series = record { measurement = []; tags = [] }
+
+-- the column of the series with that number, and a field
+abbrev pub column_of : Indexed → ℕ → Text → Column
+column_of index series field = record { series = slice_index_or index.series series no_series; field = field }
+
+-- each series is there once, each column once, and each column is one of a registered series
+pub record IsSound (index : Indexed) : Type 0 where
+  pub series_once : AllDistinct index.series
+  pub columns_once : AllDistinct index.columns
+  pub registered : (c : Column) → Among c index.columns → Among c.series index.series

@@ -1,0 +1,5 @@
+-- Lists in lists.
+use Rattle.std.specs.Prelude.{List, map, Vec}
+
+abbrev pub lists_of : {X A : Type 0} → List (Vec X A) → List (List X)
+lists_of vs = map (λ v. v.items) vs

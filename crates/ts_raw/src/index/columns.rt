@@ -1,0 +1,125 @@
+//! Columns by the numbers of their series and their fields.
+ghost use Rattle.std.specs.Prelude.{◌≡◌, ◌+◌, ◌<◌, ◌≤◌, ◌++◌, [], ◌∷◌, length, IfSome, IfNone, IfOk, OnOk, OnErr};
+ghost use Rattle.ts_core.specs.Members.{Among, AllDistinct};
+ghost use Rattle.ts_raw.specs.ColumnTables.{has_field};
+ghost use Rattle.ts_raw.specs.Numbered.{IsAt, numbers_where};
+
+use crate::index::ids::ColumnId;
+use std::alloc::{AllocError, Allocator};
+use std::collections::HashMap;
+use std::hash::{BuildHasherDefault, FoldHasher};
+use std::marker::Model;
+
+/// Columns, each by the numbers of its series and its field, and the columns of each field.
+#[derive(Drop)]
+pub(crate) struct ColumnTable<A: Allocator> {
+    columns: Vec<(u32, u32), A>,
+    places: HashMap<(u32, u32), u32, BuildHasherDefault<FoldHasher>, A>,
+    members: Vec<Vec<ColumnId, A>, A>,
+}
+
+impl<A: Allocator> Model for ColumnTable<A> {
+    ghost use Rattle.std.specs.Prelude.{length};
+    ghost use Rattle.std.specs.HashMap.{get};
+    ghost use Rattle.ts_raw.specs.ColumnTables.{ColumnNumbers, IsColumnTable, same_numbers};
+    ghost use Rattle.ts_raw.specs.Lists.{lists_of};
+
+    ghost Value = { ColumnNumbers };
+
+    ghost view = { λ t. record { columns = t.columns.items; fields = length t.members.items } };
+
+    ghost invariant = { λ t. IsColumnTable (get same_numbers t.places) t.columns.items (lists_of t.members.items) };
+}
+
+impl<A: Allocator + Copy> ColumnTable<A> {
+    /// No columns, of no field.
+    pub(crate) fn new(alloc: A) -> ColumnTable<A>
+        ensures columns { result.columns ≡ [] }
+        ensures fields { result.fields ≡ 0 }
+    {
+        ColumnTable {
+            columns: Vec::new(alloc),
+            places: HashMap::new(alloc),
+            members: Vec::new(alloc),
+        }
+    }
+
+    /// How many columns there are.
+    pub(crate) fn len(&self) -> usize
+        ensures value { result ≡ length self.now.columns }
+        ensures once { AllDistinct self.now.columns }
+    {
+        self.columns.len()
+    }
+
+    /// The numbers of the series and the field of a column.
+    pub(crate) fn numbers(&self, column: ColumnId) -> (u32, u32)
+        requires { column < length self.now.columns }
+        ensures { IsAt self.now.columns column result }
+    {
+        self.columns[column.number as usize]
+    }
+
+    /// The column of a series and a field.
+    pub(crate) fn lookup(&self, series: u32, field: u32) -> Option<ColumnId>
+        ensures found { IfSome result (λ n. IsAt self.now.columns n (series, field)) }
+        ensures absent { IfNone result (Among (series, field) self.now.columns → ⊥) }
+    {
+        let number = *self.places.get(&(series, field))?;
+        Some(ColumnId { number })
+    }
+
+    /// The columns of a field.
+    pub(crate) fn of_field(&self, field: u32) -> &[ColumnId]
+        requires { field < self.now.fields }
+        ensures { result.now ≡ numbers_where (has_field field) self.now.columns }
+    {
+        self.members[field as usize].as_slice()
+    }
+
+    /// Makes room for one more field.
+    fn add_field(&mut self) -> Result<(), AllocError>
+        ensures columns { self.new.columns ≡ self.old.columns }
+        ensures ok { OnOk result (self.new.fields ≡ self.old.fields + 1) }
+        ensures err { OnErr result (self.new.fields ≡ self.old.fields) }
+    {
+        let alloc = *self.members.allocator();
+        self.members.push(Vec::new(alloc))?;
+        Ok(())
+    }
+
+    /// Makes room for one more field than there are.
+    pub(crate) fn make_room(&mut self, fields: usize) -> Result<(), AllocError>
+        requires { fields ≤ self.old.fields }
+        ensures columns { self.new.columns ≡ self.old.columns }
+        ensures more { self.old.fields ≤ self.new.fields }
+        ensures ok { OnOk result (fields < self.new.fields) }
+    {
+        if self.members.len() == fields {
+            self.add_field()?;
+        }
+        Ok(())
+    }
+
+    /// Makes a column, behind all others.
+    pub(crate) fn push(&mut self, series: u32, field: u32) -> Result<ColumnId, AllocError>
+        requires field { field < self.old.fields }
+        requires absent { Among (series, field) self.old.columns → ⊥ }
+        ensures number { IfOk result (λ n. n ≡ length self.old.columns) }
+        ensures ok { OnOk result (self.new.columns ≡ self.old.columns ++ (series, field) ∷ []) }
+        ensures fields { self.new.fields ≡ self.old.fields }
+        ensures err { OnErr result (self.new.columns ≡ self.old.columns) }
+    {
+        let Ok(number) = u32::try_from(self.columns.len()) else {
+            return Err(AllocError);
+        };
+        self.columns.reserve(1)?;
+        self.places.reserve(1)?;
+        let members = &mut self.members[field as usize];
+        members.push(ColumnId { number })?;
+        let placed: Result<_, _> = self.places.insert((series, field), number);
+        placed.unwrap();
+        self.columns.push((series, field)).unwrap();
+        Ok(ColumnId { number })
+    }
+}

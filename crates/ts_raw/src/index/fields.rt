@@ -1,0 +1,134 @@
+//! The fields of measurements by their names.
+ghost use Rattle.std.specs.Prelude.{◌≡◌, ◌<◌, ◌↔◌, [], length, IfSome, IfNone, IfOk, OnOk, OnErr, IsTrue};
+ghost use Rattle.ts_core.specs.Members.{Among, AllDistinct};
+ghost use Rattle.ts_raw.specs.FieldKeys.{field_key};
+ghost use Rattle.ts_raw.specs.Numbered.{IsAt, Gains};
+
+use crate::index::chains::Chains;
+use crate::index::hash::hash_field;
+use std::alloc::{AllocError, Allocator};
+use std::marker::Model;
+use ts_core::FieldName;
+
+/// A field of a measurement.
+#[derive(Drop)]
+pub(crate) struct FieldKey<A: Allocator> {
+    measurement: String<A>,
+    field: FieldName<A>,
+}
+
+impl<A: Allocator> Model for FieldKey<A> {
+    ghost use Rattle.std.specs.Prelude.{string_bytes};
+    ghost use Rattle.ts_raw.specs.FieldKeys.{FieldKey as FieldKeyValue, field_key};
+
+    ghost Value = { FieldKeyValue };
+
+    ghost view = { λ k. field_key (string_bytes k.measurement) k.field };
+}
+
+impl<A: Allocator + Copy> FieldKey<A> {
+    fn new(alloc: A, measurement: &str, field: &str) -> Result<FieldKey<A>, AllocError>
+        ensures { IfOk result (λ k. k ≡ field_key measurement.now field.now) }
+    {
+        Ok(FieldKey {
+            measurement: String::from_str(alloc, measurement)?,
+            field: FieldName::new(alloc, field)?,
+        })
+    }
+
+    /// The name of the field.
+    pub(crate) fn field(&self) -> &FieldName<A>
+        ensures { result.now ≡ self.now.field }
+    {
+        &self.field
+    }
+
+    fn is(&self, measurement: &str, field: &str) -> bool
+        ensures { IsTrue result ↔ (self.now ≡ field_key measurement.now field.now) }
+    {
+        self.field.as_str() == field && self.measurement.as_str() == measurement
+    }
+}
+
+/// The fields of measurements, seen as their list in the order of making.
+#[derive(Drop)]
+pub(crate) struct FieldTable<A: Allocator> {
+    keys: Vec<FieldKey<A>, A>,
+    chains: Chains<A>,
+}
+
+impl<A: Allocator> Model for FieldTable<A> {
+    ghost use Rattle.std.specs.Prelude.{List};
+    ghost use Rattle.ts_raw.specs.FieldKeys.{FieldKey as FieldKeyValue, hash_of_field};
+    ghost use Rattle.ts_raw.specs.Tables.{IsTable};
+
+    ghost Value = { List FieldKeyValue };
+
+    ghost view = { λ t. t.keys.items };
+
+    ghost invariant = { λ t. IsTable hash_of_field t.keys.items t.chains };
+}
+
+impl<A: Allocator + Copy> FieldTable<A> {
+    /// No fields.
+    pub(crate) fn new(alloc: A) -> FieldTable<A>
+        ensures { result ≡ [] }
+    {
+        FieldTable {
+            keys: Vec::new(alloc),
+            chains: Chains::new(alloc),
+        }
+    }
+
+    /// How many there are.
+    pub(crate) fn len(&self) -> usize
+        ensures value { result ≡ length self.now }
+        ensures once { AllDistinct self.now }
+    {
+        self.keys.len()
+    }
+
+    /// The field with that number.
+    pub(crate) fn key(&self, number: u32) -> &FieldKey<A>
+        requires { number < length self.now }
+        ensures { IsAt self.now number result.now }
+    {
+        &self.keys[number as usize]
+    }
+
+    /// The number of a field of a measurement.
+    pub(crate) fn lookup(&self, measurement: &str, field: &str) -> Option<u32>
+        ensures found { IfSome result (λ n. IsAt self.now n (field_key measurement.now field.now)) }
+        ensures absent { IfNone result (Among (field_key measurement.now field.now) self.now → ⊥) }
+    {
+        let mut next = self.chains.newest(hash_field(measurement, field));
+        while let Some(at) = next {
+            let key = &self.keys[at as usize];
+            if key.is(measurement, field) {
+                return Some(at);
+            }
+            next = self.chains.older(at);
+        }
+        None
+    }
+
+    /// The number of a field of a measurement, made where there is none.
+    pub(crate) fn register(&mut self, measurement: &str, field: &str) -> Result<u32, AllocError>
+        ensures number { IfOk result (λ n. IsAt self.new n (field_key measurement.now field.now)) }
+        ensures ok { OnOk result (Gains self.old self.new (field_key measurement.now field.now)) }
+        ensures err { OnErr result (self.new ≡ self.old) }
+        ensures once { AllDistinct self.new }
+    {
+        if let Some(number) = self.lookup(measurement, field) {
+            return Ok(number);
+        }
+        let Ok(number) = u32::try_from(self.keys.len()) else {
+            return Err(AllocError);
+        };
+        let key = FieldKey::new(*self.keys.allocator(), measurement, field)?;
+        self.keys.reserve(1)?;
+        self.chains.push(hash_field(measurement, field))?;
+        self.keys.push(key).unwrap();
+        Ok(number)
+    }
+}
