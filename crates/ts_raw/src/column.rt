@@ -10,8 +10,10 @@ use ts_core::Time;
 /// Points of one series and one field, each time once. A point is put in by two calls: `prepare` may
 /// want memory, `commit` never does, so that many columns can take their points all or none.
 pub trait Column {
+    // Its points: times with their values.
     ghost points: { Self → PointMap };
 
+    // The point that is set aside, if there is one.
     ghost aside: { Self → Option (ℤ × ℤ) };
 
     /// Takes all the room that a point needs and sets it aside, in place of an older one. None is aside
