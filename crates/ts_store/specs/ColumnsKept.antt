@@ -1,5 +1,5 @@
 -- The facts of columns, each with its points, and what becomes of points that were set aside. (Own rule.)
-use Rattle.std.specs.Prelude.{◌≡◌, ℕ, ℤ, List, [], ◌∷◌, ◌++◌, ◌<◌, length, map, IsSome, Option, Some, None, slice_get, set, get_or}
+use Rattle.std.specs.Prelude.{◌≡◌, ◌⊎◌, ℕ, ℤ, List, [], ◌∷◌, ◌++◌, ◌<◌, length, map, IsSome, Option, Some, None, slice_get, set, get_or}
 use Rattle.std.specs.FinMap as finmap
 use Rattle.ts_core.specs.Members.{Among}
 use Rattle.ts_core.specs.Facts.{Column, Fact}
@@ -20,10 +20,15 @@ facts_of_columns (c ∷ cs) (m ∷ ms) = facts_in c m ++ facts_of_columns cs ms
 abbrev pub points_of : List ColumnState → List PointMap
 points_of states = map (λ (s : ColumnState). s.points) states
 
--- ---- points aside
-
 abbrev pub no_column : ColumnState
 no_column = record { points = finmap.empty; aside = None }
+
+-- a column without points is made behind the others, or none
+abbrev pub MayGrow : List Column → List ColumnState → List Column → List ColumnState → Type 0
+MayGrow columns states columns' states' =
+    ((columns' ≡ columns) × (states' ≡ states)) ⊎ ((made : Column) × (columns' ≡ columns ++ made ∷ []) × (states' ≡ states ++ no_column ∷ []))
+
+-- ---- points aside
 
 abbrev pub with_point_aside : ColumnState → ℤ → ℤ → ColumnState
 with_point_aside s time value = record { points = s.points; aside = Some (time, value) }
