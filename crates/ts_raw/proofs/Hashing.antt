@@ -1,5 +1,5 @@
 -- The hash of tags, one more at the end.
-use Rattle.std.proofs.Common.{◌≡◌, ℕ, ◌<◌, ◌+◌, List, [], ◌∷◌, ◌++◌, length, get_or, take, refl, sym, ◌∙◌, ap, Bor}
+use Rattle.std.proofs.Common.{◌≡◌, ℕ, ◌<◌, ◌+◌, List, [], ◌∷◌, ◌++◌, length, get_or, take, refl, ◌∙◌, ap, Bor}
 use Rattle.std.proofs.lemmas.List.{take_more}
 use Rattle.std.specs.Hash.FoldHasher.{write}
 use Rattle.std.specs.declared.hash.FoldHasher.{FoldHasher}

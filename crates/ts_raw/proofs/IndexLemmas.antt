@@ -1,17 +1,16 @@
 -- An index by its parts: what its names stand for.
-use Rattle.std.proofs.Common.{◌≡◌, ℕ, zero, suc, ◌+◌, ◌<◌, ◌≤◌, Bool, true, false, nat_eq, List, [], ◌∷◌, ◌++◌, length, map, get_or, Option, Some, None, refl, sym, ◌∙◌, ap, subst, inl, inr, ◌⊎◌, ⊎_elim, arith, true≢false, eq-eqb, eqb-true, ◌&&◌, cond}
-use Rattle.std.proofs.lemmas.List.{length_push, get_or_append_left}
+use Rattle.std.proofs.Common.{◌≡◌, ℕ, ◌<◌, Bool, true, false, nat_eq, List, [], length, map, get_or, refl, sym, ◌∙◌, ap, subst, true≢false, eq-eqb, eqb-true, ◌&&◌}
 use Rattle.std.proofs.lemmas.Option.{slice_get-get_or, get_or_from_slice_get}
 use Rattle.std.specs.Cmp.Derive.{both_true}
-use Rattle.ts_core.specs.Members.{Among, AllDistinct}
+use Rattle.ts_core.specs.Members.{Among}
 use Rattle.ts_core.specs.Facts.{Text, Series, Column, is_of, same_text}
 use Rattle.ts_core.proofs.Ids.{same_text-eq}
 use Rattle.ts_core.proofs.Tests.{same_text-from_eq}
 use Rattle.ts_raw.specs.FieldKeys.{FieldKey, field_key}
 use Rattle.ts_raw.specs.ColumnTables.{ColumnNumbers, has_field}
-use Rattle.ts_raw.specs.Indexed.{Indexed, IsSound, no_series, column_of}
+use Rattle.ts_raw.specs.Indexed.{IsSound, no_series, column_of}
 use Rattle.ts_raw.specs.IndexParts.{no_field, column_named, IsNamed, index_of, IsIndex}
-use Rattle.ts_raw.specs.Numbered.{IsAt, Gains, numbers_where, numbers_from}
+use Rattle.ts_raw.specs.Numbered.{IsAt, numbers_where, numbers_from}
 use Rattle.ts_raw.proofs.NumberedLemmas.{at_among, among_at, at_within, same_place, Among-map, map_back, AllDistinct-map, numbers_from-map, numbers_from-none}
 
 split_and : (a b : Bool) → (a && b) ≡ true → (a ≡ true) × (b ≡ true)
@@ -40,10 +39,10 @@ module _ (series : List Series) (fields : List FieldKey) (t : ColumnNumbers) (is
       let same_series : get_or series x.0 no_series ≡ get_or series y.0 no_series = ap (λ (c : Column). c.series) e in
       let same_field : (get_or fields x.1 no_field).field ≡ (get_or fields y.1 no_field).field = ap (λ (c : Column). c.field) e in
       let same_measurement : (get_or fields x.1 no_field).measurement ≡ (get_or fields y.1 no_field).measurement =
-          sym s.together ∙ ap (λ (r : Series). r.measurement) same_series ∙ u.together in
+      sym s.together ∙ ap (λ (r : Series). r.measurement) same_series ∙ u.together in
       let same_key : get_or fields x.1 no_field ≡ get_or fields y.1 no_field = λ i. record { measurement = same_measurement i; field = same_field i } in
       let first : x.0 ≡ y.0 =
-          same_place series no_series x.0 y.0 is.series_once s.series_there u.series_there same_series in
+      same_place series no_series x.0 y.0 is.series_once s.series_there u.series_there same_series in
       let second : x.1 ≡ y.1 = same_place fields no_field x.1 y.1 is.fields_once s.field_there u.field_there same_key in
       λ i. (first i, second i)
 
@@ -107,23 +106,23 @@ module _ (series : List Series) (fields : List FieldKey) (t : ColumnNumbers) (is
       → numbers_where (has_field f) t.columns ≡ numbers_where (is_of m field) (map (column_named series fields) t.columns)
   numbers_of_field m field f at = sym (numbers_from-map (is_of m field) (column_named series fields) (has_field f) 0 t.columns alike)
     where
-    alike : (x : ℕ × ℕ) → Among x t.columns → is_of m field (column_named series fields x) ≡ has_field f x
-    alike x a =
-        let named = among_named x a in
-        let key : get_or fields f no_field ≡ field_key m field = get_or_from_slice_get fields f (field_key m field) no_field at in
-        same_tests (is_of m field (column_named series fields x)) (nat_eq x.1 f)
-        (λ h. eq-eqb x.1 f (same_place fields no_field x.1 f is.fields_once named.field_there (at_within fields f (field_key m field) at) (asked_key m field x named h ∙ sym key)))
-        (λ h.
-        let name : get_or fields x.1 no_field ≡ field_key m field = ap (λ n. get_or fields n no_field) (eqb-true x.1 f h) ∙ key in
-        both_true (same_text-from_eq (get_or series x.0 no_series).measurement m (named.together ∙ ap (λ (k : FieldKey). k.measurement) name))
-        (same_text-from_eq (get_or fields x.1 no_field).field field (ap (λ (k : FieldKey). k.field) name)))
+      alike : (x : ℕ × ℕ) → Among x t.columns → is_of m field (column_named series fields x) ≡ has_field f x
+      alike x a =
+          let named = among_named x a in
+          let key : get_or fields f no_field ≡ field_key m field = get_or_from_slice_get fields f (field_key m field) no_field at in
+          same_tests (is_of m field (column_named series fields x)) (nat_eq x.1 f)
+          (λ h. eq-eqb x.1 f (same_place fields no_field x.1 f is.fields_once named.field_there (at_within fields f (field_key m field) at) (asked_key m field x named h ∙ sym key)))
+          (λ h.
+          let name : get_or fields x.1 no_field ≡ field_key m field = ap (λ n. get_or fields n no_field) (eqb-true x.1 f h) ∙ key in
+          both_true (same_text-from_eq (get_or series x.0 no_series).measurement m (named.together ∙ ap (λ (k : FieldKey). k.measurement) name))
+          (same_text-from_eq (get_or fields x.1 no_field).field field (ap (λ (k : FieldKey). k.field) name)))
 
   pub numbers_of_none : (m field : Text) → (Among (field_key m field) fields → ⊥) → numbers_where (is_of m field) (map (column_named series fields) t.columns) ≡ []
   numbers_of_none m field absent =
       numbers_from-map (is_of m field) (column_named series fields) (λ x. false) 0 t.columns other ∙ none_pass 0 t.columns
     where
-    other : (x : ℕ × ℕ) → Among x t.columns → is_of m field (column_named series fields x) ≡ false
-    other x a =
-        let named = among_named x a in
-        not_true (is_of m field (column_named series fields x))
-        (λ h. absent (subst (λ (k : FieldKey). Among k fields) (asked_key m field x named h) (at_among fields x.1 (get_or fields x.1 no_field) (slice_get-get_or fields x.1 no_field named.field_there))))
+      other : (x : ℕ × ℕ) → Among x t.columns → is_of m field (column_named series fields x) ≡ false
+      other x a =
+          let named = among_named x a in
+          not_true (is_of m field (column_named series fields x))
+          (λ h. absent (subst (λ (k : FieldKey). Among k fields) (asked_key m field x named h) (at_among fields x.1 (get_or fields x.1 no_field) (slice_get-get_or fields x.1 no_field named.field_there))))

@@ -1,16 +1,16 @@
 -- An index goes on: one more series, one more field, one more column.
-use Rattle.std.proofs.Common.{◌≡◌, ℕ, ◌+◌, ◌<◌, ◌≤◌, List, [], ◌∷◌, ◌++◌, length, map, get_or, refl, sym, ◌∙◌, ap, subst, inl, inr, ◌⊎◌, ⊎_elim, arith}
-use Rattle.std.proofs.lemmas.List.{length_push, get_or_append_left, map-append}
+use Rattle.std.proofs.Common.{◌≡◌, ℕ, ◌+◌, ◌<◌, ◌≤◌, List, [], ◌∷◌, ◌++◌, length, map, get_or, sym, ◌∙◌, ap, subst, ◌⊎◌, ⊎_elim, arith}
+use Rattle.std.proofs.lemmas.List.{length_push, length-map, get_or_append_left, map-append}
 use Rattle.ts_core.specs.Members.{Among, AllDistinct}
-use Rattle.ts_core.specs.Facts.{Series, Column}
+use Rattle.ts_core.specs.Facts.{Text, Series, Column}
 use Rattle.ts_core.proofs.MembersLemmas.{Among-append}
-use Rattle.ts_raw.specs.FieldKeys.{FieldKey}
+use Rattle.ts_raw.specs.FieldKeys.{FieldKey, field_key}
 use Rattle.ts_raw.specs.ColumnTables.{ColumnNumbers}
-use Rattle.ts_raw.specs.Indexed.{no_series}
-use Rattle.ts_raw.specs.IndexParts.{no_field, column_named, IsNamed, IsIndex}
+use Rattle.ts_raw.specs.Indexed.{no_series, column_of}
+use Rattle.ts_raw.specs.IndexParts.{no_field, column_named, IsNamed, index_of, IsIndex}
 use Rattle.ts_raw.specs.Numbered.{IsAt, Gains}
-use Rattle.ts_raw.proofs.IndexLemmas.{among_named}
-use Rattle.ts_raw.proofs.NumberedLemmas.{at_among, once_more, map_alike}
+use Rattle.ts_raw.proofs.IndexLemmas.{among_named, name_is, both_named, no_numbers}
+use Rattle.ts_raw.proofs.NumberedLemmas.{at_among, at_end, at_within, once_more, map_alike}
 
 module _ {X : Type 0} (xs ys : List X) (x : X) where
   pub gains_length : Gains xs ys x → (length xs ≤ length ys) × (length ys ≤ length xs + 1)
@@ -37,10 +37,10 @@ module _ (series series' : List Series) (fields : List FieldKey) (t : ColumnNumb
         let old = is.named n x at in
         let longer = gains_length series series' key more in
         record {
-      series_there = omega (arith, old.series_there, longer.0);
-      field_there = old.field_there;
-      together = ap (λ (s : Series). s.measurement) (gains_same series series' key more no_series x.0 old.series_there) ∙ old.together;
-    };
+          series_there = omega (arith, old.series_there, longer.0);
+          field_there = old.field_there;
+          together = ap (λ (s : Series). s.measurement) (gains_same series series' key more no_series x.0 old.series_there) ∙ old.together;
+        };
   }
 
   pub columns_registered : map (column_named series' fields) t.columns ≡ map (column_named series fields) t.columns
@@ -55,10 +55,10 @@ module _ (series : List Series) (fields fields' : List FieldKey) (t t' : ColumnN
   named_still x old =
       let longer = gains_length fields fields' key more in
       record {
-    series_there = old.series_there;
-    field_there = omega (arith, old.field_there, longer.0);
-    together = old.together ∙ sym (ap (λ (k : FieldKey). k.measurement) (gains_same fields fields' key more no_field x.1 old.field_there));
-  }
+        series_there = old.series_there;
+        field_there = omega (arith, old.field_there, longer.0);
+        together = old.together ∙ sym (ap (λ (k : FieldKey). k.measurement) (gains_same fields fields' key more no_field x.1 old.field_there));
+      }
 
   pub index_names : AllDistinct fields' → t'.columns ≡ t.columns → length fields < t'.fields → IsIndex series fields' t'
   index_names once same room = record {
@@ -102,3 +102,58 @@ module _ (series : List Series) (fields : List FieldKey) (t t' : ColumnNumbers) 
 
     pub columns_pushed : map (column_named series fields) t'.columns ≡ map (column_named series fields) t.columns ++ column_named series fields x ∷ []
     columns_pushed = ap (λ (cs : List (ℕ × ℕ)). map (column_named series fields) cs) pushed ∙ map-append (column_named series fields) t.columns (x ∷ [])
+
+-- ---- a column is made: there is room for its field, and the field has a number
+
+pub record IsMaking (series : List Series) (fields fields' : List FieldKey) (t t' : ColumnNumbers) (s : ℕ) (m field : Text) (f : ℕ) : Type 0 where
+  pub is : IsIndex series fields t
+  pub there : s < length series
+  pub of : (get_or series s no_series).measurement ≡ m
+  pub same : t'.columns ≡ t.columns
+  pub room : length fields < t'.fields
+  pub more : Gains fields fields' (field_key m field)
+  pub once : AllDistinct fields'
+  pub at : IsAt fields' f (field_key m field)
+
+module _ (series : List Series) (fields fields' : List FieldKey) (t t' : ColumnNumbers) (s : ℕ) (m field : Text) (f : ℕ) (h : IsMaking series fields fields' t t' s m field f) where
+  made_index : IsIndex series fields' t'
+  made_index = index_names series fields fields' t t' h.is (field_key m field) h.more h.once h.same h.room
+
+  made_columns : map (column_named series fields') t'.columns ≡ map (column_named series fields) t.columns
+  made_columns = ap (λ (cs : List (ℕ × ℕ)). map (column_named series fields') cs) h.same ∙ columns_still series fields fields' t t' h.is (field_key m field) h.more
+
+  pub made_room : f < t'.fields
+  made_room =
+      let longer = gains_length fields fields' (field_key m field) h.more in
+      let within = at_within fields' f (field_key m field) h.at in
+      omega (arith, h.room, longer.1, within)
+
+  pub made_absent : (Among (column_of (index_of series fields t) s field) (map (column_named series fields) t.columns) → ⊥) → Among (s, f) t'.columns → ⊥
+  made_absent absent =
+      no_numbers series fields' t' made_index s m field h.there h.of f h.at
+      (subst (λ (cs : List Column). Among (column_of (index_of series fields t) s field) cs → ⊥) (sym made_columns) absent)
+
+  module _ (t'' : ColumnNumbers) where
+    pub made_more : t''.columns ≡ t'.columns ++ (s, f) ∷ [] → map (column_named series fields') t''.columns ≡ map (column_named series fields) t.columns ++ column_of (index_of series fields t) s field ∷ []
+    made_more pushed =
+        ap (λ (cs : List (ℕ × ℕ)). map (column_named series fields') cs) pushed ∙ map-append (column_named series fields') t'.columns ((s, f) ∷ [])
+        ∙ ap (λ (cs : List Column). cs ++ column_named series fields' (s, f) ∷ []) made_columns
+        ∙ ap (λ (c : Column). map (column_named series fields) t.columns ++ c ∷ []) (name_is series fields' t' made_index s m field h.there h.of f h.at)
+
+    pub made_same : t''.columns ≡ t'.columns → map (column_named series fields') t''.columns ≡ map (column_named series fields) t.columns
+    made_same kept = ap (λ (cs : List (ℕ × ℕ)). map (column_named series fields') cs) kept ∙ made_columns
+
+    pub made_pushes : (Among (column_of (index_of series fields t) s field) (map (column_named series fields) t.columns) → ⊥)
+        → (t''.columns ≡ t'.columns ++ (s, f) ∷ []) ⊎ (t''.columns ≡ t'.columns) → t''.fields ≡ t'.fields → IsIndex series fields' t''
+    made_pushes absent pushed room =
+        ⊎_elim {C = IsIndex series fields' t''}
+        (λ p. index_pushes series fields' t' t'' made_index (s, f) (both_named series fields' t' made_index s m field h.there h.of f h.at) (made_absent absent) p room)
+        (λ kept. index_roomy series fields' t' t'' made_index kept (omega (arith, room))) pushed
+
+    pub made_at : (n : ℕ) → n ≡ length t'.columns → t''.columns ≡ t'.columns ++ (s, f) ∷ []
+        → IsAt (map (column_named series fields') t''.columns) n (column_of (index_of series fields t) s field)
+    made_at n e pushed =
+        let place : n ≡ length (map (column_named series fields) t.columns) = e ∙ ap (λ (cs : List (ℕ × ℕ)). length cs) h.same ∙ sym (length-map t.columns (column_named series fields)) in
+        subst (λ (cs : List Column). IsAt cs n (column_of (index_of series fields t) s field)) (sym (made_more pushed))
+        (subst (λ k. IsAt (map (column_named series fields) t.columns ++ column_of (index_of series fields t) s field ∷ []) k (column_of (index_of series fields t) s field)) (sym place)
+        (at_end (map (column_named series fields) t.columns) (column_of (index_of series fields t) s field)))

@@ -1,5 +1,5 @@
 -- Numbered lists, and one more behind the others.
-use Rattle.std.proofs.Common.{◌≡◌, ℕ, zero, suc, ◌+◌, ◌<◌, List, [], ◌∷◌, ◌++◌, length, map, get_or, Option, Some, None, refl, sym, ◌∙◌, ap, subst, inl, inr, ◌⊎◌, ⊎_elim, arith, Bool, true, false, cond, add-zero, zero-add}
+use Rattle.std.proofs.Common.{◌≡◌, ℕ, zero, suc, ◌+◌, ◌<◌, List, [], ◌∷◌, ◌++◌, length, map, get_or, Option, Some, None, refl, sym, ◌∙◌, ap, subst, inl, inr, ◌⊎◌, ⊎_elim, arith, Bool, true, false, cond, add-zero, zero-add, IfSome, IfNone, IfOk, OnOk, OnErr, Result, Ok, Err}
 use Rattle.std.proofs.lemmas.Option.{slice_get_within, slice_get-get_or}
 use Rattle.ts_core.specs.Members.{Among, AllDistinct}
 use Rattle.ts_core.proofs.MembersLemmas.{AllDistinct-append}
@@ -114,3 +114,33 @@ module _ {X Y : Type 0} (f : X → Y) where
   pub map_alike : (g : X → Y) (xs : List X) → ((x : X) → Among x xs → f x ≡ g x) → map f xs ≡ map g xs
   map_alike g [] h = refl
   map_alike g (x ∷ xs) h = ap (λ y. y ∷ map f xs) (h x (inl refl)) ∙ ap (λ ys. g x ∷ ys) (map_alike g xs (λ y k. h y (inr k)))
+
+-- ---- outcomes
+
+pub some_so : {X : Type 0} {P Q : X → Type 0} (o : Option X) → ((x : X) → P x → Q x) → IfSome o P → IfSome o Q
+some_so None f h = tt
+some_so (Some x) f h = f x h
+
+pub none_so : {X : Type 0} {P Q : Type 0} (o : Option X) → (P → Q) → IfNone o P → IfNone o Q
+none_so None f h = f h
+none_so (Some x) f h = tt
+
+pub ok_so : {X E : Type 0} {P Q : X → Type 0} (r : Result X E) → ((x : X) → P x → Q x) → IfOk r P → IfOk r Q
+ok_so (Ok x) f h = f x h
+ok_so (Err e) f h = tt
+
+pub on_ok_so : {X E : Type 0} {P Q : Type 0} (r : Result X E) → (P → Q) → OnOk r P → OnOk r Q
+on_ok_so (Ok x) f h = f h
+on_ok_so (Err e) f h = tt
+
+pub on_err_so : {X E : Type 0} {P Q : Type 0} (r : Result X E) → (P → Q) → OnErr r P → OnErr r Q
+on_err_so (Ok x) f h = tt
+on_err_so (Err e) f h = f h
+
+pub outcome : {X E : Type 0} {P Q : Type 0} (r : Result X E) → OnOk r P → OnErr r Q → P ⊎ Q
+outcome (Ok x) p q = inl p
+outcome (Err e) p q = inr q
+
+pub ok_with : {X E : Type 0} {P R : X → Type 0} {Q : Type 0} (r : Result X E) → ((x : X) → P x → Q → R x) → IfOk r P → OnOk r Q → IfOk r R
+ok_with (Ok x) f p q = f x p q
+ok_with (Err e) f p q = tt

@@ -14,11 +14,10 @@ mod hash;
 mod ids;
 mod series;
 
-pub use fault::IndexFault;
-pub use ids::{ColumnId, SeriesId};
-
 use columns::ColumnTable;
+pub use fault::IndexFault;
 use fields::FieldTable;
+pub use ids::{ColumnId, SeriesId};
 use series::SeriesTable;
 use std::alloc::{AllocError, Allocator};
 use std::marker::Model;
@@ -135,6 +134,7 @@ impl<A: Allocator + Copy> Index<A> {
         requires { series < length self.now.series }
         ensures found { IfSome result (λ id. IsAt self.now.columns id (column_of self.now series field.now)) }
         ensures absent { IfNone result (Among (column_of self.now series field.now) self.now.columns → ⊥) }
+        ensures sound { IsSound self.now }
     {
         let measurement = self.series.key(series).measurement();
         let field = self.fields.lookup(measurement, field)?;

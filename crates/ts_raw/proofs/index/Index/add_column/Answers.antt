@@ -1,7 +1,8 @@
+use Rattle.std.proofs.Common.{inl, refl}
+use Rattle.ts_raw.specs.Indexed.{column_of}
+use Rattle.ts_raw.proofs.NumberedLemmas.{at_among}
 use Rattle.ts_raw.proofs.index.Index.add_column.Goals as goal
 
 pub returns-in-Some-clause-ok : goal.returns-in-Some-clause-ok
-returns-in-Some-clause-ok g c = ?
-
-pub returns-in-Some-clause-sound : goal.returns-in-Some-clause-sound
-returns-in-Some-clause-sound g c = ?
+returns-in-Some-clause-ok g c =
+    inl (at_among c.args.self.now.columns c.in-Some.column (column_of c.args.self.now c.args.series c.args.field.now) c.in-Some.ensures.found, refl)

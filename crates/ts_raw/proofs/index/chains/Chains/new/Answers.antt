@@ -1,4 +1,4 @@
-use Rattle.std.proofs.Common.{◌≡◌, ℕ, ap, subst, sym, List, nat_eq, Option, None, refl}
+use Rattle.std.proofs.Common.{ap, subst, sym, List, nat_eq}
 use Rattle.std.specs.Map.{lookup}
 use Rattle.std.specs.HashMap.{get}
 use Rattle.ts_raw.specs.declared.index.chains.Link.{Link}

@@ -1,4 +1,4 @@
-use Rattle.std.proofs.Common.{◌≡◌, ℕ, ◌+◌, ◌<◌, ◌≤◌, ap, subst, sym, ◌∙◌, List, [], ◌∷◌, ◌++◌, length, nat_eq, Option, Some, cond, is_ok, rules, refl}
+use Rattle.std.proofs.Common.{◌≡◌, ℕ, ap, subst, sym, ◌∙◌, List, [], ◌∷◌, ◌++◌, length, nat_eq, Option, Some, cond, is_ok, rules}
 use Rattle.std.specs.HashMap.{get}
 use Rattle.ts_raw.specs.declared.index.chains.Link.{Link}
 use Rattle.ts_raw.specs.Links.{AreChained}

@@ -1,7 +1,7 @@
-use Rattle.std.proofs.Common.{◌≡◌, ℕ, List, [], ap, refl, Option, None}
+use Rattle.std.proofs.Common.{◌≡◌, ℕ, [], ap, refl, Option, None}
 use Rattle.std.specs.Map.{lookup}
 use Rattle.std.specs.HashMap.{get}
-use Rattle.ts_raw.specs.ColumnTables.{IsColumnTable, same_numbers}
+use Rattle.ts_raw.specs.ColumnTables.{same_numbers}
 use Rattle.ts_raw.specs.Lists.{lists_of}
 use Rattle.ts_raw.proofs.ColumnLemmas.{columns_none, columns_same}
 use Rattle.ts_raw.proofs.index.columns.ColumnTable.new.Goals as goal

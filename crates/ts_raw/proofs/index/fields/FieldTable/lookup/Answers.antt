@@ -1,4 +1,4 @@
-use Rattle.std.proofs.Common.{◌≡◌, ℕ, ◌+◌, ◌<◌, List, length, subst, sym, ◌∙◌, rules, Option, Some, None, get_or, true≢false}
+use Rattle.std.proofs.Common.{◌≡◌, ℕ, ◌+◌, ◌<◌, List, length, subst, sym, ◌∙◌, rules, Option, None, get_or, true≢false}
 use Rattle.ts_core.specs.Members.{Among}
 use Rattle.ts_raw.specs.FieldKeys.{FieldKey, field_key, hash_of_field}
 use Rattle.ts_raw.specs.Numbered.{IsAt}

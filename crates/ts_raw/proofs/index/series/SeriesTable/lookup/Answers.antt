@@ -1,4 +1,4 @@
-use Rattle.std.proofs.Common.{◌≡◌, ℕ, ◌+◌, ◌<◌, List, length, subst, sym, ◌∙◌, rules, Option, Some, None, get_or}
+use Rattle.std.proofs.Common.{◌≡◌, ℕ, ◌+◌, ◌<◌, List, length, subst, sym, ◌∙◌, rules, Option, None, get_or}
 use Rattle.ts_core.specs.Members.{Among}
 use Rattle.ts_core.specs.Facts.{Series}
 use Rattle.ts_core.specs.Texts.{lent_series}

@@ -1,0 +1,115 @@
+use Rattle.std.proofs.Common.{◌≡◌, ℕ, ◌<◌, List, [], ◌∷◌, ◌++◌, length, map, get_or, OnOk, sym, ◌∙◌, ap, subst}
+use Rattle.std.proofs.lemmas.Option.{get_or_from_slice_get}
+use Rattle.ts_core.specs.Facts.{Text, Series, Column}
+use Rattle.ts_core.specs.Members.{Among}
+use Rattle.ts_raw.specs.FieldKeys.{FieldKey}
+use Rattle.ts_raw.specs.IndexParts.{column_named, IsIndex}
+use Rattle.ts_raw.specs.Indexed.{Indexed, no_series, column_of}
+use Rattle.ts_raw.specs.Numbered.{IsAt}
+use Rattle.ts_raw.proofs.IndexLemmas.{index_sound}
+use Rattle.ts_raw.proofs.IndexSteps.{IsMaking, index_roomy, made_room, made_absent, made_more, made_same, made_at, made_pushes}
+use Rattle.ts_raw.proofs.NumberedLemmas.{outcome, ok_with, on_ok_so, on_err_so}
+use Rattle.ts_raw.proofs.index.Index.make_column.Given.{Over}
+use Rattle.ts_raw.proofs.index.Index.make_column.Goals as goal
+
+measurement_of : (series : List Series) (s : ℕ) (key : Series) (m : Text) → IsAt series s key → m ≡ key.measurement → (get_or series s no_series).measurement ≡ m
+measurement_of series s key m at e = ap (λ (r : Series). r.measurement) (get_or_from_slice_get series s key no_series at) ∙ sym e
+
+pub invariant_of-self : goal.invariant_of-self
+invariant_of-self g c =
+    index_roomy c.self.inside.series c.self.inside.fields c.self.inside.columns c.make_room.new.self c.self.invariant c.make_room.ensures.columns c.make_room.ensures.more
+
+pub returns-in_err-make_room-clause-sound : goal.returns-in_err-make_room-clause-sound
+returns-in_err-make_room-clause-sound g c = index_sound c.self.inside.series c.self.inside.fields c.make_room.new.self (invariant_of-self g c)
+
+pub invariant_of-self-in_err-field : goal.invariant_of-self-in_err-field
+invariant_of-self-in_err-field g c =
+    let series : List Series = c.self.inside.series in
+    subst (λ (fs : List FieldKey). IsIndex series fs c.make_room.new.self) (sym c.in_err-field.ensures.err)
+    (index_roomy series c.self.inside.fields c.self.inside.columns c.make_room.new.self c.self.invariant c.make_room.ensures.columns c.make_room.ensures.more)
+
+pub returns-in_err-field-clause-sound : goal.returns-in_err-field-clause-sound
+returns-in_err-field-clause-sound g c = index_sound c.self.inside.series c.register.new.self c.make_room.new.self (invariant_of-self-in_err-field g c)
+
+-- before the column is pushed
+making : (g : Over) (c : goal.After-series g)
+    → IsMaking c.self.inside.series c.self.inside.fields c.register.new.self c.self.inside.columns c.make_room.new.self c.args.series c.measurement-measurement.result.now c.args.field.now c.in_ok-field.field
+making g c = record {
+  is = c.self.invariant;
+  there = subst (λ (i : Indexed). c.args.series < length i.series) (sym c.self.view_is) c.requires.series;
+  of = measurement_of c.self.inside.series c.args.series c.key.result.now c.measurement-measurement.result.now c.key.ensures c.measurement-measurement.ensures;
+  same = c.make_room.ensures.columns;
+  room = subst (λ n. n < c.make_room.new.self.fields) c.len.ensures.value c.in_ok-make_room.ensures.ok;
+  more = c.in_ok-field.ensures.ok;
+  once = c.in_ok-field.ensures.once;
+  at = c.in_ok-field.ensures.number;
+}
+
+-- and after
+made : (g : Over) (c : goal.After-push g)
+    → IsMaking c.self.inside.series c.self.inside.fields c.register.new.self c.self.inside.columns c.make_room.new.self c.args.series c.measurement-measurement.result.now c.args.field.now c.in_ok-field.field
+made g c = record {
+  is = c.self.invariant;
+  there = subst (λ (i : Indexed). c.args.series < length i.series) (sym c.self.view_is) c.requires.series;
+  of = measurement_of c.self.inside.series c.args.series c.key.result.now c.measurement-measurement.result.now c.key.ensures c.measurement-measurement.ensures;
+  same = c.make_room.ensures.columns;
+  room = subst (λ n. n < c.make_room.new.self.fields) c.len.ensures.value c.in_ok-make_room.ensures.ok;
+  more = c.in_ok-field.ensures.ok;
+  once = c.in_ok-field.ensures.once;
+  at = c.in_ok-field.ensures.number;
+}
+
+pub push-requires-clause-field : goal.push-requires-clause-field
+push-requires-clause-field g c =
+    made_room c.self.inside.series c.self.inside.fields c.register.new.self c.self.inside.columns c.make_room.new.self c.args.series c.measurement-measurement.result.now c.args.field.now
+    c.in_ok-field.field (making g c)
+
+pub push-requires-clause-absent : goal.push-requires-clause-absent
+push-requires-clause-absent g c =
+    let absent = subst (λ (i : Indexed). Among (column_of i c.args.series c.args.field.now) i.columns → ⊥) (sym c.self.view_is) c.requires.absent in
+    subst (λ s. Among (s, c.in_ok-field.field) c.make_room.new.self.columns → ⊥) (sym c.series.view_is)
+    (made_absent c.self.inside.series c.self.inside.fields c.register.new.self c.self.inside.columns c.make_room.new.self c.args.series c.measurement-measurement.result.now c.args.field.now
+    c.in_ok-field.field (making g c) absent)
+
+pushed : (g : Over) (c : goal.After-push g) → OnOk c.push.result (c.push.new.self.columns ≡ c.make_room.new.self.columns ++ (c.args.series, c.in_ok-field.field) ∷ [])
+pushed g c =
+    on_ok_so c.push.result (λ e. e ∙ ap (λ s. c.make_room.new.self.columns ++ (s, c.in_ok-field.field) ∷ []) c.series.view_is) c.push.ensures.ok
+
+pub invariant_of-self-2 : goal.invariant_of-self-2
+invariant_of-self-2 g c =
+    let absent = subst (λ (i : Indexed). Among (column_of i c.args.series c.args.field.now) i.columns → ⊥) (sym c.self.view_is) c.requires.absent in
+    made_pushes c.self.inside.series c.self.inside.fields c.register.new.self c.self.inside.columns c.make_room.new.self c.args.series c.measurement-measurement.result.now c.args.field.now
+    c.in_ok-field.field (made g c) c.push.new.self absent (outcome c.push.result (pushed g c) c.push.ensures.err) c.push.ensures.fields
+
+pub returns-clause-number : goal.returns-clause-number
+returns-clause-number g c =
+    let series : List Series = c.self.inside.series in
+    ok_with c.push.result
+    (λ n e p.
+    subst (λ (i : Indexed). IsAt (map (column_named series c.register.new.self) c.push.new.self.columns) n (column_of i c.args.series c.args.field.now)) c.self.view_is
+    (made_at series c.self.inside.fields c.register.new.self c.self.inside.columns c.make_room.new.self c.args.series c.measurement-measurement.result.now c.args.field.now c.in_ok-field.field
+    (made g c) c.push.new.self n e p))
+    c.push.ensures.number (pushed g c)
+
+pub returns-clause-ok : goal.returns-clause-ok
+returns-clause-ok g c =
+    let series : List Series = c.self.inside.series in
+    on_ok_so c.push.result
+    (λ p.
+    made_more series c.self.inside.fields c.register.new.self c.self.inside.columns c.make_room.new.self c.args.series c.measurement-measurement.result.now c.args.field.now c.in_ok-field.field
+    (made g c) c.push.new.self p
+    ∙ ap (λ (i : Indexed). i.columns ++ column_of i c.args.series c.args.field.now ∷ []) c.self.view_is)
+    (pushed g c)
+
+pub returns-clause-err : goal.returns-clause-err
+returns-clause-err g c =
+    let series : List Series = c.self.inside.series in
+    on_err_so c.push.result
+    (λ kept.
+    let columns = made_same series c.self.inside.fields c.register.new.self c.self.inside.columns c.make_room.new.self c.args.series c.measurement-measurement.result.now c.args.field.now
+    c.in_ok-field.field (made g c) c.push.new.self kept in
+    ap (λ (cs : List Column). let i : Indexed = record { series = series; columns = cs } in i) columns ∙ c.self.view_is)
+    c.push.ensures.err
+
+pub returns-clause-sound : goal.returns-clause-sound
+returns-clause-sound g c = index_sound c.self.inside.series c.register.new.self c.push.new.self (invariant_of-self-2 g c)
