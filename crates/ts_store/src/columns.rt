@@ -1,6 +1,6 @@
 //! Facts in columns that are found through an index: a line looks its series up once and each of its columns
 //! once, and a count walks the columns of its measurement and its field.
-ghost use Rattle.std.specs.Prelude.{◌≡◌, ◌<◌, ◌≤◌, ◌→◌, [], length, filter, OnOk, OnErr, IfOk, Err, set, get_or};
+ghost use Rattle.std.specs.Prelude.{◌≡◌, ◌<◌, ◌≤◌, [], length, filter, OnOk, OnErr, IfOk, Err, set, get_or};
 ghost use Rattle.std.specs.List.{AllByRecursion};
 ghost use Rattle.ts_core.specs.Times.{least_time};
 ghost use Rattle.ts_core.specs.Facts.{Column as ColumnName, is_of, is_asked};
