@@ -139,7 +139,7 @@ facts-distinct (c ∷ cs) [] d = tt
 facts-distinct (c ∷ cs) (m ∷ ms) d =
     AllDistinct-append (facts_in c m) (facts_of_columns cs ms) (distinct_in c (entries m) (sorted-distinct int_cmp_total (entries m) (entries_sorted m))) (facts-distinct cs ms d.1) (apart_from c cs m ms d.0)
 
-at_among : {X : Type 0} (xs : List X) (n : ℕ) (x : X) → slice_get xs n ≡ Some x → Among x xs
+pub at_among : {X : Type 0} (xs : List X) (n : ℕ) (x : X) → slice_get xs n ≡ Some x → Among x xs
 at_among [] n x e = absurd (none_some x e)
 at_among (y ∷ xs) zero x e = inl (sym (the_same y x e))
 at_among (y ∷ xs) (suc n) x e = inr (at_among xs n x e)
@@ -180,7 +180,7 @@ within : (a b : ℤ) (c : Column) (points : List (ℤ × ℤ)) → length (filte
 within a b c [] = refl
 within a b c (p ∷ points) =
     elim (is_within a b p.0) as (λ o. length (cond o (fact_at c p ∷ filter (λ (x : Fact). is_within a b x.time) (map (fact_at c) points)) (filter (λ (x : Fact). is_within a b x.time) (map (fact_at c) points)))
-        ≡ length (cond o (p ∷ filter (λ (p : ℤ × ℤ). is_within a b p.0) points) (filter (λ (p : ℤ × ℤ). is_within a b p.0) points))) [
+    ≡ length (cond o (p ∷ filter (λ (p : ℤ × ℤ). is_within a b p.0) points) (filter (λ (p : ℤ × ℤ). is_within a b p.0) points))) [
       | true ↦ ap suc (within a b c points)
       | false ↦ within a b c points
     ]
