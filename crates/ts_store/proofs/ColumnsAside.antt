@@ -1,5 +1,5 @@
 -- What the facts of columns become when points that were set aside are put in.
-use Rattle.std.proofs.Common.{◌≡◌, ◌≢◌, ℕ, zero, suc, ℤ, ◌+◌, ◌<◌, List, [], ◌∷◌, ◌++◌, length, map, set, get_or, refl, sym, ◌∙◌, ap, subst, take, true≢false, inl, inr, ◌⊎◌, ⊎_elim, arith, Option, Some, None, IsSome, IfSome, Ok, Err}
+use Rattle.std.proofs.Common.{◌≡◌, ◌≢◌, ℕ, zero, suc, ℤ, ◌+◌, ◌<◌, List, [], ◌∷◌, ◌++◌, length, map, set, get_or, refl, sym, ◌∙◌, ap, subst, take, true≢false, inl, inr, ◌⊎◌, ⊎_elim, arith, Option, Some, None, IsSome, IfSome}
 use Rattle.std.specs.List.{slice_get}
 use Rattle.std.specs.FinMap as finmap
 use Rattle.std.proofs.lemmas.List.{get_or_default, get_or-set_same, map-append, length-append, take_more, map-set, set-get_or, get_or-set_other, length-set, length-map, get_or_append_left}
@@ -234,6 +234,3 @@ columns_there cs ss ns [] a f k = absurd k
 columns_there cs ss [] (g ∷ fs) a f k = absurd a
 columns_there cs ss (n ∷ ns) (g ∷ fs) a f k =
     ⊎_elim {C = Among f.column cs} (λ e. subst (λ (x : Fact). Among x.column cs) (sym e) (at_among cs n g.column a.0)) (λ q. columns_there cs ss ns fs a.2 f q) k
-
-pub ok_is_no_err : {T E : Type 0} (x : T) (e : E) → Ok x ≡ Err e → ⊥
-ok_is_no_err x e q = cc

@@ -1,4 +1,3 @@
-pub mod PlainLemmas
-pub mod Stands
 pub mod ColumnsLemmas
 pub mod ColumnsAside
+pub mod Stands

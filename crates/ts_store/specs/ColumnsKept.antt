@@ -1,5 +1,5 @@
 -- The facts of columns, each with its points, and what becomes of points that were set aside. (Own rule.)
-use Rattle.std.specs.Prelude.{◌≡◌, ◌⊎◌, ℕ, ℤ, List, [], ◌∷◌, ◌++◌, ◌<◌, ◌≤◌, length, map, IsSome, Option, Some, None, slice_get, set, get_or}
+use Rattle.std.specs.Prelude.{◌≡◌, ◌⊎◌, ℕ, ℤ, List, [], ◌∷◌, ◌++◌, ◌<◌, length, map, IsSome, Option, Some, None, slice_get, set, get_or}
 use Rattle.std.specs.FinMap as finmap
 use Rattle.ts_core.specs.Members.{Among}
 use Rattle.ts_core.specs.Facts.{Series, Column, Fact}
@@ -75,8 +75,3 @@ held_of index states = record { series = index.series; columns = index.columns; 
 pub record IsHeld (index : Indexed) (states : List ColumnState) : Type 0 where
   pub sound : IsSound index
   pub each : length states ≡ length index.columns
-
--- so many series are registered that another one is refused
-pub record IsTooMany (series : List Series) (s : Series) : Type 0 where
-  pub full : 1000000 ≤ length series
-  pub new : Among s series → ⊥

@@ -1,4 +1,4 @@
 pub mod Puts
-pub mod Plain
-pub mod Faults
 pub mod ColumnsKept
+pub mod Registered
+pub mod Faults

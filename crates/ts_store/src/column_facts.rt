@@ -1,21 +1,24 @@
 //! Facts in columns that are found through an index.
-ghost use Rattle.std.specs.Prelude.{◌≡◌, ◌⊎◌, ◌≤◌, ◌↔◌, [], length, OnOk, OnErr, Err};
+ghost use Rattle.std.specs.Prelude.{◌≡◌, ◌≤◌, ◌↔◌, [], length, OnOk, OnErr, IsTrue};
 ghost use Rattle.std.specs.List.{AllByRecursion};
 ghost use Rattle.ts_core.specs.Times.{least_time};
 ghost use Rattle.ts_core.specs.Facts.{Column, Fact};
 ghost use Rattle.ts_core.specs.History.{MayBeTaken};
 ghost use Rattle.ts_core.specs.Members.{Among, AllDistinct};
-ghost use Rattle.ts_core.specs.Texts.{lent_pairs, IsTagSet};
+ghost use Rattle.ts_core.specs.Texts.{lent_pairs, lent_series, IsTagSet};
 ghost use Rattle.ts_line.specs.Parts.{series_of, facts_of};
 ghost use Rattle.ts_raw.specs.Numbered.{Gains};
-ghost use Rattle.ts_store.specs.ColumnsKept.{IsTooMany};
+ghost use Rattle.ts_store.specs.Registered.{IsTooMany, MayGain};
 ghost use Rattle.ts_store.specs.Puts.{PutsAll};
 
 use crate::columns::{commit_all, prepare_line};
-use std::alloc::Allocator;
+use std::alloc::{AllocError, Allocator};
 use std::marker::Model;
 use ts_line::Line;
-use ts_raw::{ColumnId, Index, IndexFault, PlainColumn};
+use ts_raw::{ColumnId, Index, PlainColumn};
+
+/// How many series are registered at most.
+const SERIES_LIMIT: usize = 1_000_000;
 
 /// Facts in columns, one for each series and field, and the numbers of the columns that a line touches.
 #[derive(Drop)]
@@ -53,27 +56,38 @@ impl<A: Allocator + Copy> ColumnFacts<A> {
         *self.columns.allocator()
     }
 
+    /// Whether so many series are registered that this one is refused.
+    pub(crate) fn refuses(&self, measurement: &str, tags: &[(&str, &str)]) -> bool
+        ensures { IsTrue result ↔ IsTooMany self.now.series (lent_series measurement.now tags.now) }
+    {
+        self.index.series_count() >= SERIES_LIMIT
+            && self.index.lookup(measurement, tags).is_none()
+    }
+
     /// Puts the facts of a line in, each in place of the one of its id. All room is taken before the first:
     /// after a refusal there is at most the series more, and columns without points.
     pub(crate) fn put_line(
         &mut self,
         line: &Line<'_, A>,
         tags: &[(&str, &str)],
-    ) -> Result<(), IndexFault>
+    ) -> Result<(), AllocError>
         requires set { IsTagSet (lent_pairs tags.now) }
         requires tags { lent_pairs tags.now ≡ (series_of line.now).tags }
+        requires few { IsTooMany self.old.series (series_of line.now) → ⊥ }
         ensures ok { OnOk result (PutsAll self.old.raw self.new.raw (facts_of line.now)) }
         ensures there { OnOk result ((f : Fact) → Among f (facts_of line.now) → Among f.column self.new.columns) }
         ensures taken { OnOk result (AllByRecursion (MayBeTaken least_time) (facts_of line.now)) }
         ensures err { OnErr result (self.new.raw ≡ self.old.raw) }
-        ensures series { (self.new.series ≡ self.old.series) ⊎ Gains self.old.series self.new.series (series_of line.now) }
+        ensures series { OnOk result (Gains self.old.series self.new.series (series_of line.now)) }
+        ensures may_gain { MayGain self.old.series self.new.series (series_of line.now) }
         ensures grown { (c : Column) → Among c self.old.columns → Among c self.new.columns }
         ensures columns_once { AllDistinct self.new.columns }
         ensures registered { (c : Column) → Among c self.new.columns → Among c.series self.new.series }
-        ensures full { (result ≡ Err IndexFault.TooManySeries) ↔ IsTooMany self.old.series (series_of line.now) }
-        ensures full_leaves { result ≡ Err IndexFault.TooManySeries → self.new ≡ self.old }
     {
-        let series = self.index.register(line.measurement().text(), tags)?;
+        let series = match self.index.register(line.measurement().text(), tags) {
+            Ok(series) => series,
+            Err(_) => return Err(AllocError),
+        };
         self.touched.clear();
         self.touched.reserve(line.fields().len())?;
         prepare_line(

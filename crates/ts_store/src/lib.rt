@@ -6,8 +6,6 @@
 mod column_facts;
 mod columns;
 mod fault;
-mod lent;
-mod plain;
 mod store;
 
 pub use fault::WriteFault;

@@ -1,12 +1,13 @@
 //! The store.
-ghost use Rattle.std.specs.Prelude.{◌≡◌, ◌+◌, ◌<◌, ◌^◌, ◌↔◌, [], length, OnOk, OnErr, Err};
+ghost use Rattle.std.specs.Prelude.{◌≡◌, ◌≢◌, ◌⊎◌, ◌+◌, ◌<◌, ◌^◌, ◌↔◌, [], length, OnOk, OnErr, Err};
 ghost use Rattle.ts_core.specs.History.{Line as LineEvent, accepted};
-ghost use Rattle.ts_core.specs.Latest.{count_of};
-ghost use Rattle.ts_core.specs.Kept.{StandsFor, OfEachHistory, GoesOn};
-ghost use Rattle.ts_line.specs.Parts.{facts_of};
+ghost use Rattle.ts_core.specs.Kept.{StandsFor, OfEachHistory, GoesOn, StaysFor};
+ghost use Rattle.ts_line.specs.Parts.{series_of, facts_of};
+ghost use Rattle.ts_raw.specs.Numbered.{Gains};
+ghost use Rattle.ts_store.specs.Registered.{IsTooMany, MayGain};
 
 use crate::fault::WriteFault;
-use crate::plain::PlainFacts;
+use crate::column_facts::ColumnFacts;
 use std::alloc::Allocator;
 use std::marker::Model;
 use ts_core::{Settings, Time};
@@ -20,7 +21,7 @@ const FACT_LIMIT: u64 = 4_611_686_018_427_387_904;
 pub struct Store<A: Allocator> {
     settings: Settings<A>,
     accepted: u64,
-    facts: PlainFacts<A>,
+    facts: ColumnFacts<A>,
 }
 
 impl<A: Allocator> Model for Store<A> {
@@ -30,7 +31,7 @@ impl<A: Allocator> Model for Store<A> {
 
     ghost Value = { Kept };
 
-    ghost view = { λ s. record { settings = s.settings; mark = least_time; accepted = s.accepted; raw = s.facts } };
+    ghost view = { λ s. record { settings = s.settings; mark = least_time; accepted = s.accepted; series = s.facts.series; columns = s.facts.columns; raw = s.facts.raw } };
 
     ghost invariant = { λ s. s.accepted ≤ 2 ^ 62 };
 }
@@ -43,22 +44,32 @@ impl<A: Allocator + Copy> Store<A> {
         Store {
             settings,
             accepted: 0,
-            facts: PlainFacts::new(alloc),
+            facts: ColumnFacts::new(alloc),
         }
     }
 
-    /// Writes a line: its facts are accepted, each in place of an older one of its id. After a fault
-    /// nothing has changed.
+    /// Writes a line: its facts are accepted, each in place of an older one of its id. After a fault it
+    /// stands for what it stood for; where no memory was found, the line's series may be registered and
+    /// have columns without points.
     pub fn write(&mut self, line: &Line<'_, A>) -> Result<(), WriteFault>
         ensures ok { OnOk result (GoesOn self.old (LineEvent (facts_of line.now)) self.new) }
-        ensures err { OnErr result (self.new ≡ self.old) }
-        ensures full { (result ≡ Err WriteFault.TooManyFacts) ↔ (2 ^ 62 < self.old.accepted + length (facts_of line.now)) }
+        ensures err { OnErr result (StaysFor self.old self.new) }
+        ensures registers { OnOk result (Gains self.old.series self.new.series (series_of line.now)) }
+        ensures may_register { MayGain self.old.series self.new.series (series_of line.now) }
+
+        // Where there is memory, each refusal comes exactly so; what was refused changes nothing.
+        ensures series { result ≢ Err WriteFault.OutOfMemory → ((result ≡ Err WriteFault.TooManySeries) ↔ IsTooMany self.old.series (series_of line.now)) }
+        ensures full { result ≢ Err WriteFault.OutOfMemory → ((result ≡ Err WriteFault.TooManyFacts) ↔ ((IsTooMany self.old.series (series_of line.now) → ⊥) × (2 ^ 62 < self.old.accepted + length (facts_of line.now)))) }
+        ensures unchanged { OnErr result ((result ≡ Err WriteFault.OutOfMemory) ⊎ (self.new ≡ self.old)) }
     {
+        let tags = line.tags_by_key(self.facts.allocator())?;
+        if self.facts.refuses(line.measurement().text(), &tags) {
+            return Err(WriteFault::TooManySeries);
+        }
         let count = line.fields().len() as u64;
         if count > FACT_LIMIT - self.accepted {
             return Err(WriteFault::TooManyFacts);
         }
-        let tags = line.tags_by_key(self.facts.allocator())?;
         self.facts.put_line(line, &tags)?;
         self.accepted += count;
         Ok(())
@@ -70,13 +81,5 @@ impl<A: Allocator + Copy> Store<A> {
         ensures facts { OfEachHistory self.now (λ h. result ≡ length (accepted h)) }
     {
         self.accepted
-    }
-
-    /// How many facts there are of a measurement and a field, of each id the latest, from a time on and
-    /// before another.
-    pub fn count(&self, measurement: &str, field: &str, from: Time, to: Time) -> u64
-        ensures { OfEachHistory self.now (λ h. result ≡ count_of h measurement.now field.now from to) }
-    {
-        self.facts.count(measurement, field, from, to) as u64
     }
 }

@@ -7,9 +7,8 @@ use Rattle.ts_raw.specs.Numbered.{Gains}
 use Rattle.ts_store.proofs.Stands.{series_from}
 use Rattle.ts_raw.specs.Columns.{ColumnState}
 use Rattle.ts_store.specs.Puts.{PutsAll}
-use Rattle.ts_store.specs.ColumnsKept.{Held, AreReady, facts_of_columns, points_of, all_committed, IsTooMany}
-use Rattle.ts_store.proofs.ColumnsAside.{ready_of, numbers_distinct, line_columns, all_put, all_committed-length, columns_there, ok_is_no_err}
-use Rattle.ts_raw.specs.declared.index.fault.IndexFault.TheVariants.{TooManySeries}
+use Rattle.ts_store.specs.ColumnsKept.{Held, AreReady, facts_of_columns, points_of, all_committed}
+use Rattle.ts_store.proofs.ColumnsAside.{ready_of, numbers_distinct, line_columns, all_put, all_committed-length, columns_there}
 use Rattle.ts_store.proofs.column_facts.ColumnFacts.put_line.Goals as goal
 
 pub returns-in_err-prepare_line-clause-grown : goal.returns-in_err-prepare_line-clause-grown
@@ -58,11 +57,11 @@ pub returns-clause-grown : goal.returns-clause-grown
 returns-clause-grown g c = λ d a.
     c.prepare_line.ensures.grown d (subst (Among d) (sym (c.register.ensures.columns)) (subst (Among d) (ap (λ (h : Held). h.columns) (sym c.self.view_is)) a))
 
-pub returns-in_err-prepare_line-clause-series : goal.returns-in_err-prepare_line-clause-series
-returns-in_err-prepare_line-clause-series g c =
+pub returns-in_err-prepare_line-clause-may_gain : goal.returns-in_err-prepare_line-clause-may_gain
+returns-in_err-prepare_line-clause-may_gain g c =
     let same = series_from c.args.line.now c.text.result.now (lent_pairs c.args.tags.now) (c.text.ensures ∙ ap (λ (q : Piece). q.text) c.measurement.ensures) c.requires.tags in
     let gains : Gains c.self.inside.index.series c.register.new.self.series (series_of c.args.line.now) =
-    subst (λ (s : Series). Gains c.self.inside.index.series c.register.new.self.series s) same c.in_ok-series.ensures.ok in
+    subst (λ (s : Series). Gains c.self.inside.index.series c.register.new.self.series s) same c.in-Ok.ensures.ok in
     inr (subst (λ (xs : List Series). Gains c.args.self.now.series xs (series_of c.args.line.now)) (sym c.prepare_line.ensures.series)
     (subst (λ (xs : List Series). Gains xs c.register.new.self.series (series_of c.args.line.now)) (ap (λ (h : Held). h.series) c.self.view_is) gains))
 
@@ -70,16 +69,14 @@ pub returns-clause-series : goal.returns-clause-series
 returns-clause-series g c =
     let same = series_from c.args.line.now c.text.result.now (lent_pairs c.args.tags.now) (c.text.ensures ∙ ap (λ (q : Piece). q.text) c.measurement.ensures) c.requires.tags in
     let gains : Gains c.self.inside.index.series c.register.new.self.series (series_of c.args.line.now) =
-    subst (λ (s : Series). Gains c.self.inside.index.series c.register.new.self.series s) same c.in_ok-series.ensures.ok in
-    inr (subst (λ (xs : List Series). Gains c.args.self.now.series xs (series_of c.args.line.now)) (sym c.prepare_line.ensures.series)
+    subst (λ (s : Series). Gains c.self.inside.index.series c.register.new.self.series s) same c.in-Ok.ensures.ok in
+    (subst (λ (xs : List Series). Gains c.args.self.now.series xs (series_of c.args.line.now)) (sym c.prepare_line.ensures.series)
     (subst (λ (xs : List Series). Gains xs c.register.new.self.series (series_of c.args.line.now)) (ap (λ (h : Held). h.series) c.self.view_is) gains))
 
-pub returns-clause-full : goal.returns-clause-full
-returns-clause-full g c =
-    let same = series_from c.args.line.now c.text.result.now (lent_pairs c.args.tags.now) (c.text.ensures ∙ ap (λ (q : Piece). q.text) c.measurement.ensures) c.requires.tags in (
-      λ e. absurd (ok_is_no_err tt TooManySeries e),
-      λ t.
-      let few : IsTooMany c.self.inside.index.series (series_of c.args.line.now) = subst (λ (xs : List Series). IsTooMany xs (series_of c.args.line.now)) (sym (ap (λ (h : Held). h.series) c.self.view_is)) t in
-      let none : Among (record { measurement = c.text.result.now; tags = lent_pairs c.args.tags.now }) c.self.inside.index.series → ⊥ = λ k. few.new (subst (λ (s : Series). Among s c.self.inside.index.series) same k) in
-      absurd (ok_is_no_err c.in_ok-series.series TooManySeries (sym c.in_ok-series.was ∙ c.register.ensures.full.1 (few.full, none))),
-    )
+pub returns-clause-may_gain : goal.returns-clause-may_gain
+returns-clause-may_gain g c =
+    let same = series_from c.args.line.now c.text.result.now (lent_pairs c.args.tags.now) (c.text.ensures ∙ ap (λ (q : Piece). q.text) c.measurement.ensures) c.requires.tags in
+    let gains : Gains c.self.inside.index.series c.register.new.self.series (series_of c.args.line.now) =
+    subst (λ (s : Series). Gains c.self.inside.index.series c.register.new.self.series s) same c.in-Ok.ensures.ok in
+    inr (subst (λ (xs : List Series). Gains c.args.self.now.series xs (series_of c.args.line.now)) (sym c.prepare_line.ensures.series)
+    (subst (λ (xs : List Series). Gains xs c.register.new.self.series (series_of c.args.line.now)) (ap (λ (h : Held). h.series) c.self.view_is) gains))
