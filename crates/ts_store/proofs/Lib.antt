@@ -2,3 +2,4 @@ pub mod PlainLemmas
 pub mod Stands
 pub mod ColumnsLemmas
 pub mod ColumnsAside
+pub mod PutsLengths
