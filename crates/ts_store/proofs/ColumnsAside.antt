@@ -20,7 +20,7 @@ none_some x e = cc
 the_same : {X : Type 0} (x y : X) → Some x ≡ Some y → x ≡ y
 the_same x y e = cc
 
-points_at : (ss : List ColumnState) (n : ℕ) → get_or (points_of ss) n finmap.empty ≡ (get_or ss n no_column).points
+pub points_at : (ss : List ColumnState) (n : ℕ) → get_or (points_of ss) n finmap.empty ≡ (get_or ss n no_column).points
 points_at [] n = refl
 points_at (s ∷ ss) zero = refl
 points_at (s ∷ ss) (suc n) = points_at ss n
@@ -190,7 +190,7 @@ grown_aside cs cs' ss ss' ns fs l grown a =
       subst (λ (xs : List Column). AreAside xs ss' ns fs) (sym made.1) (subst (λ (xs : List ColumnState). AreAside (cs ++ c ∷ []) xs ns fs) (sym made.2) (aside_grown cs ss ns fs c no_column l a)),
       ap length made.2 ∙ length-append ss (no_column ∷ []) ∙ ap (λ k. k + 1) l ∙ sym (length-append cs (c ∷ [])) ∙ sym (ap length made.1),
       (λ i. facts_of_columns (made.1 i) (points_of (made.2 i))) ∙ ap (facts_of_columns (cs ++ c ∷ [])) (map-append (λ (s : ColumnState). s.points) ss (no_column ∷ []))
-      ∙ facts-grown cs (points_of ss) c (length-map ss (λ (s : ColumnState). s.points) ∙ l),
+          ∙ facts-grown cs (points_of ss) c (length-map ss (λ (s : ColumnState). s.points) ∙ l),
     ))
     grown
 

@@ -3,3 +3,4 @@ pub mod Stands
 pub mod ColumnsLemmas
 pub mod ColumnsAside
 pub mod PutsLengths
+pub mod ColumnsReads
