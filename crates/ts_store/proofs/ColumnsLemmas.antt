@@ -19,7 +19,6 @@ use Rattle.ts_core.proofs.Sorted.{sorted-distinct, found_among, among_found}
 use Rattle.ts_store.specs.Puts.{Puts}
 use Rattle.ts_raw.specs.Columns.{PointMap}
 use Rattle.ts_raw.specs.Numbered.{numbers_from, numbers_where}
-use Rattle.ts_raw.proofs.NumberedLemmas.{at_among}
 use Rattle.ts_store.specs.ColumnsKept.{fact_at, facts_in, facts_of_columns}
 
 -- ---- in one column
@@ -141,6 +140,11 @@ facts-distinct [] ms d = tt
 facts-distinct (c ∷ cs) [] d = tt
 facts-distinct (c ∷ cs) (m ∷ ms) d =
     AllDistinct-append (facts_in c m) (facts_of_columns cs ms) (distinct_in c (entries m) (sorted-distinct int_cmp_total (entries m) (entries_sorted m))) (facts-distinct cs ms d.1) (apart_from c cs m ms d.0)
+
+pub at_among : {X : Type 0} (xs : List X) (n : ℕ) (x : X) → slice_get xs n ≡ Some x → Among x xs
+at_among [] n x e = absurd (none_some x e)
+at_among (y ∷ xs) zero x e = inl (sym (the_same y x e))
+at_among (y ∷ xs) (suc n) x e = inr (at_among xs n x e)
 
 -- a point is put into the column of a number
 pub columns_puts : (cs : List Column) (ms : List PointMap) (n : ℕ) (c : Column) (t v : ℤ) → AllDistinct cs → length ms ≡ length cs → slice_get cs n ≡ Some c

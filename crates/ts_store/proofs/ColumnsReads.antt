@@ -13,9 +13,9 @@ use Rattle.ts_core.proofs.MembersLemmas.{filter-none}
 use Rattle.ts_core.proofs.StateLemmas.{same_column-refl, same_column-eq}
 use Rattle.ts_raw.specs.Columns.{PointMap, ColumnState, points_within}
 use Rattle.ts_raw.specs.Numbered.{numbers_from, numbers_where}
-use Rattle.ts_raw.proofs.NumberedLemmas.{at_among}
-use Rattle.ts_store.specs.ColumnsKept.{fact_at, facts_in, facts_of_columns, points_of, no_column, number_of_points, column_points}
-use Rattle.ts_store.proofs.ColumnsLemmas.{asked_of, asked_by_columns, the_same, in_column, column_among}
+use Rattle.ts_store.specs.ColumnsKept.{fact_at, facts_in, facts_of_columns, points_of, no_column}
+use Rattle.ts_store.specs.PointsRead.{number_of_points, column_points}
+use Rattle.ts_store.proofs.ColumnsLemmas.{asked_of, asked_by_columns, the_same, in_column, column_among, at_among}
 use Rattle.ts_store.proofs.ColumnsAside.{points_at}
 
 -- ---- how many

@@ -1,10 +1,8 @@
 -- The facts of columns, each with its points, and what becomes of points that were set aside. (Own rule.)
-use Rattle.std.specs.Prelude.{◌≡◌, ◌⊎◌, ◌&&◌, ℕ, ℤ, List, [], ◌∷◌, ◌++◌, ◌<◌, length, map, filter, IsSome, Option, Some, None, slice_get, set, get_or}
-use Rattle.std.specs.List.{sum_by}
+use Rattle.std.specs.Prelude.{◌≡◌, ◌⊎◌, ℕ, ℤ, List, [], ◌∷◌, ◌++◌, ◌<◌, length, map, IsSome, Option, Some, None, slice_get, set, get_or}
 use Rattle.std.specs.FinMap as finmap
 use Rattle.ts_core.specs.Members.{Among}
-use Rattle.ts_core.specs.Facts.{Column, Fact, is_within}
-use Rattle.ts_core.specs.RawFacts.{same_column}
+use Rattle.ts_core.specs.Facts.{Column, Fact}
 use Rattle.ts_raw.specs.Columns.{PointMap, ColumnState}
 
 abbrev pub fact_at : Column → ℤ × ℤ → Fact
@@ -24,14 +22,6 @@ points_of states = map (λ (s : ColumnState). s.points) states
 
 abbrev pub no_column : ColumnState
 no_column = record { points = finmap.empty; aside = None }
-
--- how many points there are in all columns
-abbrev pub number_of_points : List ColumnState → ℕ
-number_of_points states = sum_by (λ (s : ColumnState). finmap.len s.points) states
-
--- the points of one column among facts, from a on and before b
-abbrev pub column_points : Column → ℤ → ℤ → List Fact → List (ℤ × ℤ)
-column_points c a b facts = map (λ (f : Fact). (f.time, f.value)) (filter (λ (f : Fact). same_column f.column c && is_within a b f.time) facts)
 
 -- a column without points is made behind the others, or none
 abbrev pub MayGrow : List Column → List ColumnState → List Column → List ColumnState → Type 0

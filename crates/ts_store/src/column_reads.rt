@@ -4,7 +4,8 @@ ghost use Rattle.std.specs.Prelude.{◌≡◌, ◌+◌, ◌*◌, ◌≤◌, ◌<
 ghost use Rattle.std.specs.FinMap as map;
 ghost use Rattle.ts_core.specs.Facts.{is_asked};
 ghost use Rattle.ts_raw.specs.Columns.{points_within};
-ghost use Rattle.ts_store.specs.ColumnsKept.{facts_of_columns, points_of, number_of_points};
+ghost use Rattle.ts_store.specs.ColumnsKept.{facts_of_columns, points_of};
+ghost use Rattle.ts_store.specs.PointsRead.{number_of_points};
 
 use std::alloc::Allocator;
 use ts_core::Time;
