@@ -1,5 +1,5 @@
 -- What the facts of columns become when points that were set aside are put in.
-use Rattle.std.proofs.Common.{◌≡◌, ◌≢◌, ℕ, zero, suc, ℤ, ◌+◌, ◌<◌, List, [], ◌∷◌, ◌++◌, length, map, set, get_or, refl, sym, ◌∙◌, ap, subst, take, true≢false, inl, inr, ◌⊎◌, ⊎_elim, arith, Option, Some, None, IsSome, IfSome}
+use Rattle.std.proofs.Common.{◌≡◌, ◌≢◌, ℕ, zero, suc, ℤ, ◌+◌, ◌<◌, List, [], ◌∷◌, ◌++◌, length, map, set, get_or, refl, sym, ◌∙◌, ap, subst, take, true≢false, inl, inr, ◌⊎◌, ⊎_elim, arith, Option, Some, None, IsSome, IfSome, Ok, Err}
 use Rattle.std.specs.List.{slice_get}
 use Rattle.std.specs.FinMap as finmap
 use Rattle.std.proofs.lemmas.List.{get_or_default, get_or-set_same, map-append, length-append, take_more, map-set, set-get_or, get_or-set_other, length-set, length-map, get_or_append_left}
@@ -12,7 +12,8 @@ use Rattle.ts_raw.specs.Columns.{PointMap, ColumnState}
 use Rattle.ts_raw.specs.Indexed.{Indexed, no_series, column_of}
 use Rattle.ts_store.specs.Puts.{Puts, PutsAll}
 use Rattle.ts_store.specs.ColumnsKept.{fact_at, facts_of_columns, points_of, no_column, with_aside, with_point_aside, committed, all_committed, AreReady, AreAside, MayGrow}
-use Rattle.ts_store.proofs.ColumnsLemmas.{columns_puts, facts-grown}
+use Rattle.ts_store.proofs.ColumnsLemmas.{columns_puts, facts-grown, at_among}
+use Rattle.ts_core.proofs.MembersLemmas.{Among-left}
 
 none_some : {X : Type 0} (x : X) → None ≡ Some x → ⊥
 none_some x e = cc
@@ -194,6 +195,15 @@ grown_aside cs cs' ss ss' ns fs l grown a =
     ))
     grown
 
+-- the columns that there were stay
+pub grown_keeps : (cs cs' : List Column) (ss ss' : List ColumnState) → MayGrow cs ss cs' ss' → (c : Column) → Among c cs → Among c cs'
+grown_keeps cs cs' ss ss' grown c a =
+    ⊎_elim {C = Among c cs'} (λ same. subst (Among c) (sym same.0) a) (λ made. subst (Among c) (sym made.1) (Among-left c cs (made.0 ∷ []) a)) grown
+
+pub facts_next : (p : Parts) (i : ℕ) (x : Piece × ℤ) → i < length p.fields → x ≡ get_or p.fields i x → map (fact_of p) (take i p.fields) ++ fact_of p x ∷ [] ≡ map (fact_of p) (take (i + 1) p.fields)
+facts_next p i x within is =
+    sym (map-append (fact_of p) (take i p.fields) (x ∷ [])) ∙ ap (λ (xs : List (Piece × ℤ)). map (fact_of p) xs) (ap (λ (y : Piece × ℤ). take i p.fields ++ y ∷ []) is ∙ sym (take_more p.fields i x within))
+
 pub next_aside : (p : Parts) (cs cs' : List Column) (ss ss' ss'' : List ColumnState) (ns : List ℕ) (n i : ℕ) (x : Piece × ℤ) → length ss ≡ length cs
     → AreAside cs ss ns (map (fact_of p) (take i p.fields)) → MayGrow cs ss cs' ss' → slice_get cs' n ≡ Some (fact_of p x).column → i < length p.fields → x ≡ get_or p.fields i x
     → AllDistinct (map field_text p.fields) → ss'' ≡ set ss' n (with_point_aside (get_or ss' n no_column) p.time x.1)
@@ -204,8 +214,7 @@ next_aside p cs cs' ss ss' ss'' ns n i x l a grown at within is once set_is =
     let g = grown_aside cs cs' ss ss' ns fs l grown a in
     let away : Among n ns → ⊥ = λ k. fresh p.fields i x once within is (text_among p x (take i p.fields) (column_of_number cs' ss' ns fs n (fact_of p x).column g.0 at k)) in
     let there : n < length ss' = let w = slice_get_within cs' n (fact_of p x).column at in omega (arith, w, g.1) in
-    let more : fs ++ fact_of p x ∷ [] ≡ map (fact_of p) (take (i + 1) p.fields) =
-    sym (map-append (fact_of p) (take i p.fields) (x ∷ [])) ∙ ap (λ (xs : List (Piece × ℤ)). map (fact_of p) xs) (ap (λ (y : Piece × ℤ). take i p.fields ++ y ∷ []) is ∙ sym (take_more p.fields i x within)) in
+    let more : fs ++ fact_of p x ∷ [] ≡ map (fact_of p) (take (i + 1) p.fields) = facts_next p i x within is in
     let pushed : AreAside cs' (set ss' n s) (ns ++ n ∷ []) (fs ++ fact_of p x ∷ []) =
     aside_push cs' (set ss' n s) ns fs n (fact_of p x) (aside_others cs' ss' ns fs n s away g.0) at (ap (λ (t : ColumnState). t.aside) (get_or-set_same ss' n s no_column there)) in (
       subst (λ (xs : List ColumnState). AreAside cs' xs (ns ++ n ∷ []) (map (fact_of p) (take (i + 1) p.fields))) (sym set_is) (subst (AreAside cs' (set ss' n s) (ns ++ n ∷ [])) more pushed),
@@ -218,3 +227,13 @@ pub column_at : (p : Parts) (index : Indexed) (series n : ℕ) (field : Text) (x
     → slice_get cs n ≡ Some (column_of index series field) → slice_get cs n ≡ Some (fact_of p x).column
 column_at p index series n field x cs there name at =
     at ∙ ap Some (λ i. record { series = get_or_from_slice_get index.series series (series_of p) no_series there i; field = name i })
+
+-- each fact that is aside has its column
+pub columns_there : (cs : List Column) (ss : List ColumnState) (ns : List ℕ) (fs : List Fact) → AreAside cs ss ns fs → (f : Fact) → Among f fs → Among f.column cs
+columns_there cs ss ns [] a f k = absurd k
+columns_there cs ss [] (g ∷ fs) a f k = absurd a
+columns_there cs ss (n ∷ ns) (g ∷ fs) a f k =
+    ⊎_elim {C = Among f.column cs} (λ e. subst (λ (x : Fact). Among x.column cs) (sym e) (at_among cs n g.column a.0)) (λ q. columns_there cs ss ns fs a.2 f q) k
+
+pub ok_is_no_err : {T E : Type 0} (x : T) (e : E) → Ok x ≡ Err e → ⊥
+ok_is_no_err x e q = cc

@@ -1,9 +1,10 @@
 -- The facts of columns, each with its points, and what becomes of points that were set aside. (Own rule.)
-use Rattle.std.specs.Prelude.{◌≡◌, ◌⊎◌, ℕ, ℤ, List, [], ◌∷◌, ◌++◌, ◌<◌, length, map, IsSome, Option, Some, None, slice_get, set, get_or}
+use Rattle.std.specs.Prelude.{◌≡◌, ◌⊎◌, ℕ, ℤ, List, [], ◌∷◌, ◌++◌, ◌<◌, ◌≤◌, length, map, IsSome, Option, Some, None, slice_get, set, get_or}
 use Rattle.std.specs.FinMap as finmap
 use Rattle.ts_core.specs.Members.{Among}
-use Rattle.ts_core.specs.Facts.{Column, Fact}
+use Rattle.ts_core.specs.Facts.{Series, Column, Fact}
 use Rattle.ts_raw.specs.Columns.{PointMap, ColumnState}
+use Rattle.ts_raw.specs.Indexed.{Indexed, IsSound}
 
 abbrev pub fact_at : Column → ℤ × ℤ → Fact
 fact_at c p = record { column = c; time = p.0; value = p.1 }
@@ -58,3 +59,24 @@ AreAside columns states [] (f ∷ fs) = ⊥
 AreAside columns states (n ∷ ns) [] = ⊥
 AreAside columns states (n ∷ ns) (f ∷ fs) =
     (slice_get columns n ≡ Some f.column) × ((get_or states n no_column).aside ≡ Some (f.time, f.value)) × AreAside columns states ns fs
+
+-- ---- an index with the points of its columns
+
+-- the registered series, the columns, and the facts of all columns
+pub record Held : Type 0 where
+  pub series : List Series
+  pub columns : List Column
+  pub raw : List Fact
+
+abbrev pub held_of : Indexed → List ColumnState → Held
+held_of index states = record { series = index.series; columns = index.columns; raw = facts_of_columns index.columns (points_of states) }
+
+-- each column of the index has its points
+pub record IsHeld (index : Indexed) (states : List ColumnState) : Type 0 where
+  pub sound : IsSound index
+  pub each : length states ≡ length index.columns
+
+-- so many series are registered that another one is refused
+pub record IsTooMany (series : List Series) (s : Series) : Type 0 where
+  pub full : 1000000 ≤ length series
+  pub new : Among s series → ⊥

@@ -36,7 +36,9 @@ fn column_for<A: Allocator + Copy>(
     columns.reserve(1)?;
     let column = index.add_column(series, field)?;
     if columns.len() < index.column_count() {
-        columns.push(PlainColumn::new(*columns.allocator())).unwrap();
+        columns
+            .push(PlainColumn::new(*columns.allocator()))
+            .unwrap();
     }
     Ok(column)
 }
@@ -57,7 +59,10 @@ fn prepare_at<A: Allocator + Copy>(
 }
 
 /// Puts in what is aside in the columns of these numbers. It takes no memory.
-fn commit_all<A: Allocator + Copy>(columns: &mut Vec<PlainColumn<A>, A>, numbers: &[ColumnId])
+pub(crate) fn commit_all<A: Allocator + Copy>(
+    columns: &mut Vec<PlainColumn<A>, A>,
+    numbers: &[ColumnId],
+)
     requires { AreReady columns.old.items numbers.now }
     ensures { columns.new.items ≡ all_committed columns.old.items numbers.now }
 {
@@ -67,7 +72,7 @@ fn commit_all<A: Allocator + Copy>(columns: &mut Vec<PlainColumn<A>, A>, numbers
 }
 
 /// Sets the points of a line aside, each in its column, and tells the columns.
-fn prepare_line<A: Allocator + Copy>(
+pub(crate) fn prepare_line<A: Allocator + Copy>(
     index: &mut Index<A>,
     columns: &mut Vec<PlainColumn<A>, A>,
     touched: &mut Vec<ColumnId, A>,
@@ -79,6 +84,8 @@ fn prepare_line<A: Allocator + Copy>(
     requires series { IsAt index.old.series series (series_of line.now) }
     requires none { touched.old.items ≡ [] }
     ensures aside { OnOk result (AreAside index.new.columns columns.new.items touched.new.items (facts_of line.now)) }
+    ensures taken { OnOk result (AllByRecursion (MayBeTaken least_time) (facts_of line.now)) }
+    ensures grown { (c : ColumnName) → Among c index.old.columns → Among c index.new.columns }
     ensures len { length columns.new.items ≡ length index.new.columns }
     ensures sound { IsSound index.new }
     ensures series { index.new.series ≡ index.old.series }

@@ -3,6 +3,7 @@
 //! answers is what the definitions say of all facts ever accepted.
 #![tactic(auto)]
 
+mod column_facts;
 mod column_reads;
 mod columns;
 mod fault;

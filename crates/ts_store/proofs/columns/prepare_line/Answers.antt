@@ -1,12 +1,15 @@
 use Rattle.std.proofs.Common.{◌≡◌, ◌∙◌, ◌<◌, ◌++◌, ◌∷◌, [], List, ℕ, ℤ, ap, sym, subst, map, take, length, arith, set, get_or, ◌+◌, Some, rules, SFits, w64, to_z, of_z, to_z-of_z}
-use Rattle.std.specs.List.{slice_get}
+use Rattle.std.specs.List.{slice_get, AllByRecursion}
 use Rattle.std.proofs.lemmas.Option.{slice_get_within}
-use Rattle.ts_core.specs.Facts.{Series, Column}
+use Rattle.ts_core.specs.Facts.{Series, Column, Fact}
+use Rattle.ts_core.specs.History.{MayBeTaken}
+use Rattle.ts_core.specs.Times.{IsTime, least_time}
 use Rattle.ts_core.specs.Members.{AllDistinct}
 use Rattle.ts_line.specs.Parts.{Piece, Parts, field_text, fact_of, series_of}
 use Rattle.ts_raw.specs.Columns.{ColumnState}
 use Rattle.ts_store.specs.ColumnsKept.{no_column, with_point_aside, AreAside}
-use Rattle.ts_store.proofs.ColumnsAside.{grown_aside, next_aside, column_at}
+use Rattle.ts_store.proofs.ColumnsAside.{grown_aside, grown_keeps, next_aside, facts_next, column_at}
+use Rattle.ts_store.proofs.Stands.{taken_more}
 use Rattle.ts_store.proofs.columns.prepare_line.Goals as goal
 
 pub column_for-requires-clause-series : goal.column_for-requires-clause-series
@@ -74,13 +77,31 @@ loop-field-preserved g c =
     let at : slice_get cs' n ≡ Some (fact_of p x).column = column_at p c.loop-field.index c.args.series n c.text.result.now x cs' there name c.in_ok-column.ensures.number in
     let fits : SFits w64 c.value.result = search rules in
     let value : to_z w64 (of_z w64 c.value.result) ≡ x.1 = to_z-of_z fits ∙ c.value.ensures in
+    let time : IsTime c.time.result = search rules in
+    let taken : MayBeTaken least_time (fact_of p x) = subst (λ (f : Fact). MayBeTaken least_time f) (λ j. record { column = (fact_of p x).column; time = c.time.ensures j; value = c.value.ensures j }) (record { valid = time; fits = search rules; raw = time.not_before }) in
     let set_is : ss'' ≡ set ss' n (with_point_aside (get_or ss' n no_column) p.time x.1) =
     c.in_ok-prepare_at.ensures.ok ∙ (λ j. set ss' (c.number.ensures j) (with_point_aside (get_or ss' (c.number.ensures j) no_column) (c.time.ensures j) (value j))) in
     let next = next_aside p cs cs' ss ss' ss'' ns n k x i.len aside c.column_for.ensures.grown at within is once set_is in
     record {
       aside = rw c.in_ok-push.ensures.items (subst (λ (fs : List (Piece × ℤ)). AreAside cs' ss'' (ns ++ n ∷ []) (map (fact_of p) (take (k + 1) fs))) (sym e) next.0);
+      taken = subst (λ (fs : List (Piece × ℤ)). AllByRecursion (MayBeTaken least_time) (map (fact_of p) (take (k + 1) fs))) (sym e)
+          (subst (AllByRecursion (MayBeTaken least_time)) (facts_next p k x within is) (taken_more least_time (map (fact_of p) (take k p.fields)) (fact_of p x)
+          (subst (λ (fs : List (Piece × ℤ)). AllByRecursion (MayBeTaken least_time) (map (fact_of p) (take k fs))) e i.taken) taken));
+      grown = λ d a. grown_keeps cs cs' ss ss' c.column_for.ensures.grown d (i.grown d a);
       len = next.1;
       sound = c.column_for.ensures.sound i.sound;
       series = c.column_for.ensures.series ∙ i.series;
       unchanged = next.2 ∙ i.unchanged;
     }
+
+pub returns-in_err-column-clause-grown : goal.returns-in_err-column-clause-grown
+returns-in_err-column-clause-grown g c = λ d a.
+    grown_keeps c.loop-field.index.columns c.column_for.new.index.columns c.loop-field.columns.items c.column_for.new.columns.items c.column_for.ensures.grown d (c.loop-field.invariant.grown d a)
+
+pub returns-in_err-prepare_at-clause-grown : goal.returns-in_err-prepare_at-clause-grown
+returns-in_err-prepare_at-clause-grown g c = λ d a.
+    grown_keeps c.loop-field.index.columns c.column_for.new.index.columns c.loop-field.columns.items c.column_for.new.columns.items c.column_for.ensures.grown d (c.loop-field.invariant.grown d a)
+
+pub returns-in_err-push-clause-grown : goal.returns-in_err-push-clause-grown
+returns-in_err-push-clause-grown g c = λ d a.
+    grown_keeps c.loop-field.index.columns c.column_for.new.index.columns c.loop-field.columns.items c.column_for.new.columns.items c.column_for.ensures.grown d (c.loop-field.invariant.grown d a)
