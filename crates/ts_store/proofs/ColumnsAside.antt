@@ -21,7 +21,7 @@ none_some x e = cc
 the_same : {X : Type 0} (x y : X) → Some x ≡ Some y → x ≡ y
 the_same x y e = cc
 
-points_at : (ss : List ColumnState) (n : ℕ) → get_or (points_of ss) n finmap.empty ≡ (get_or ss n no_column).points
+pub points_at : (ss : List ColumnState) (n : ℕ) → get_or (points_of ss) n finmap.empty ≡ (get_or ss n no_column).points
 points_at [] n = refl
 points_at (s ∷ ss) zero = refl
 points_at (s ∷ ss) (suc n) = points_at ss n

@@ -1,27 +1,29 @@
 -- What the facts of columns become by one more point in one of them, and how many of them are asked for.
-use Rattle.std.proofs.Common.{◌≡◌, ◌≢◌, ℕ, zero, suc, ℤ, ◌+◌, ◌<◌, Bool, true, false, true≢false, cond, List, [], ◌∷◌, ◌++◌, length, map, filter, set, get_or, refl, sym, ◌∙◌, ap, subst, inl, inr, ◌⊎◌, ⊎_elim, arith, ◌&&◌, Option, Some, None, Ordering, Less, Equal, Greater, is_eq, T}
+use Rattle.std.proofs.Common.{◌≡◌, ℕ, zero, suc, ℤ, ◌+◌, Bool, true, false, cond, List, [], ◌∷◌, ◌++◌, length, map, filter, set, get_or, refl, sym, ◌∙◌, ap, subst, inl, inr, ◌⊎◌, ⊎_elim, arith, ◌&&◌, Some, None, is_eq, T}
 use Rattle.std.specs.Ordering.{int_cmp, ordering_then, eq_by_cmp}
 use Rattle.std.specs.List.{slice_get, sum_by}
 use Rattle.std.proofs.lemmas.List.Elements.{filter-append}
 use Rattle.std.proofs.lemmas.List.{length-append}
 use Rattle.std.proofs.lemmas.List.Sums.{sum_by-cons}
-use Rattle.std.specs.Cmp.{IsTotalOrder, int_cmp_total}
+use Rattle.std.proofs.Math.Numerals.{add-one}
+use Rattle.std.specs.Cmp.{int_cmp_total}
 use Rattle.std.specs.FinMap as finmap
-use Rattle.std.specs.FinMap.{find, put, is_sorted, entries, entries-insert, entries_sorted, len-entries, len-empty, int_cmp-IsAntisymmetric}
+use Rattle.std.specs.FinMap.{find, is_sorted, entries, entries-insert, entries_sorted, len-entries, len-empty, int_cmp-IsAntisymmetric}
 use Rattle.std.specs.FinMap.Entries.{find-put}
 use Rattle.std.proofs.lemmas.Cmp.{tied_itself}
 use Rattle.ts_core.specs.Members.{Among, AllDistinct}
-use Rattle.ts_core.specs.Facts.{Text, Column, column_cmp, Fact, Id, id_of, id_cmp, same_id, is_of, is_within, is_asked}
+use Rattle.ts_core.specs.Facts.{Text, Column, Fact, Id, id_of, same_id, is_of, is_within, is_asked}
 use Rattle.ts_core.proofs.MembersLemmas.{Among-left, Among-right, Among-append, AllDistinct-append}
 use Rattle.ts_core.proofs.Ids.{columns_total, equal_of, other_id}
 use Rattle.ts_core.proofs.Sorted.{sorted-distinct, found_among, among_found}
 use Rattle.ts_store.specs.Puts.{Puts}
-use Rattle.ts_raw.specs.Columns.{PointMap, ColumnState, points_within}
-use Rattle.ts_store.specs.ColumnsKept.{fact_at, facts_in, facts_of_columns, points_of, no_column, committed, all_committed, AreAside}
+use Rattle.ts_raw.specs.Columns.{PointMap}
+use Rattle.ts_raw.specs.Numbered.{numbers_from, numbers_where}
+use Rattle.ts_store.specs.ColumnsKept.{fact_at, facts_in, facts_of_columns}
 
 -- ---- in one column
 
-in_column : (c : Column) (points : List (ℤ × ℤ)) (f : Fact) → Among f (map (fact_at c) points) → (f.column ≡ c) × Among (f.time, f.value) points
+pub in_column : (c : Column) (points : List (ℤ × ℤ)) (f : Fact) → Among f (map (fact_at c) points) → (f.column ≡ c) × Among (f.time, f.value) points
 in_column c [] f a = absurd a
 in_column c (p ∷ points) f a =
     ⊎_elim {C = (f.column ≡ c) × Among (f.time, f.value) (p ∷ points)} (λ e. (ap (λ (x : Fact). x.column) e, inl (ap (λ (x : Fact). (x.time, x.value)) e)))
@@ -55,7 +57,7 @@ none_long (x ∷ xs) e = absurd (omega arith)
 none_some : {X : Type 0} (x : X) → None ≡ Some x → ⊥
 none_some x e = cc
 
-the_same : {X : Type 0} (x y : X) → Some x ≡ Some y → x ≡ y
+pub the_same : {X : Type 0} (x y : X) → Some x ≡ Some y → x ≡ y
 the_same x y e = cc
 
 some_value : (x y : ℤ) → Some x ≡ Some y → x ≡ y
@@ -120,7 +122,7 @@ puts_before before after os f d other apart p = record {
 }
 
 -- a fact of the columns is of one of them
-column_among : (cs : List Column) (ms : List PointMap) (g : Fact) → Among g (facts_of_columns cs ms) → Among g.column cs
+pub column_among : (cs : List Column) (ms : List PointMap) (g : Fact) → Among g (facts_of_columns cs ms) → Among g.column cs
 column_among [] ms g a = absurd a
 column_among (c ∷ cs) [] g a = absurd a
 column_among (c ∷ cs) (m ∷ ms) g a =
@@ -201,20 +203,15 @@ asked_in m f a b c points = ap length (of_column m f a b c points)
       | false ↦ none_asked c points
     ]
 
--- the numbers, from n on, of the columns that pass
-abbrev pub numbers_where : {X : Type 0} → (X → Bool) → List X → ℕ → List ℕ
-numbers_where p [] n = []
-numbers_where p (x ∷ xs) n = cond (p x) (n ∷ numbers_where p xs (suc n)) (numbers_where p xs (suc n))
-
 abbrev pub asked_of : List PointMap → ℤ → ℤ → ℕ → ℕ
 asked_of ms a b n = length (filter (λ (p : ℤ × ℤ). is_within a b p.0) (entries (get_or ms n finmap.empty)))
 
-numbers_later : {X : Type 0} (p : X → Bool) (xs : List X) (n : ℕ) → numbers_where p xs (suc n) ≡ map suc (numbers_where p xs n)
-numbers_later p [] n = refl
-numbers_later p (x ∷ xs) n =
-    elim (p x) as (λ b. cond b (suc n ∷ numbers_where p xs (suc (suc n))) (numbers_where p xs (suc (suc n))) ≡ map suc (cond b (n ∷ numbers_where p xs (suc n)) (numbers_where p xs (suc n)))) [
-      | true ↦ ap (λ ns. suc n ∷ ns) (numbers_later p xs (suc n))
-      | false ↦ numbers_later p xs (suc n)
+numbers_later : {X : Type 0} (p : X → Bool) (n : ℕ) (xs : List X) → numbers_from p (n + 1) xs ≡ map suc (numbers_from p n xs)
+numbers_later p n [] = refl
+numbers_later p n (x ∷ xs) =
+    elim (p x) as (λ b. cond b ((n + 1) ∷ numbers_from p (n + 1 + 1) xs) (numbers_from p (n + 1 + 1) xs) ≡ map suc (cond b (n ∷ numbers_from p (n + 1) xs) (numbers_from p (n + 1) xs))) [
+      | true ↦ ap (λ k. k ∷ numbers_from p (n + 1 + 1) xs) (add-one n) ∙ ap (λ ns. suc n ∷ ns) (numbers_later p (n + 1) xs)
+      | false ↦ numbers_later p (n + 1) xs
     ]
 
 sum_later : (m : PointMap) (ms : List PointMap) (a b : ℤ) (ns : List ℕ) → sum_by (asked_of (m ∷ ms) a b) (map suc ns) ≡ sum_by (asked_of ms a b) ns
@@ -224,14 +221,14 @@ sum_later m ms a b (n ∷ ns) =
 
 -- what is asked for is found column by column
 pub asked_by_columns : (m f : Text) (a b : ℤ) (cs : List Column) (ms : List PointMap) → length ms ≡ length cs
-    → length (filter (is_asked m f a b) (facts_of_columns cs ms)) ≡ sum_by (asked_of ms a b) (numbers_where (is_of m f) cs 0)
+    → length (filter (is_asked m f a b) (facts_of_columns cs ms)) ≡ sum_by (asked_of ms a b) (numbers_where (is_of m f) cs)
 asked_by_columns m f a b [] ms l = refl
 asked_by_columns m f a b (c ∷ cs) [] l = absurd (omega (arith, l))
 asked_by_columns m f a b (c ∷ cs) (x ∷ ms) l =
     let p : Fact → Bool = is_asked m f a b in
-    let later : List ℕ = numbers_where (is_of m f) cs 1 in
+    let later : List ℕ = numbers_from (is_of m f) (0 + 1) cs in
     let rest : sum_by (asked_of (x ∷ ms) a b) later ≡ length (filter p (facts_of_columns cs ms)) =
-    ap (sum_by (asked_of (x ∷ ms) a b)) (numbers_later (is_of m f) cs 0) ∙ sum_later x ms a b (numbers_where (is_of m f) cs 0) ∙ sym (asked_by_columns m f a b cs ms (omega (arith, l))) in
+    ap (sum_by (asked_of (x ∷ ms) a b)) (numbers_later (is_of m f) 0 cs) ∙ sum_later x ms a b (numbers_where (is_of m f) cs) ∙ sym (asked_by_columns m f a b cs ms (omega (arith, l))) in
     ap length (filter-append p (facts_in c x) (facts_of_columns cs ms))
     ∙ length-append (filter p (facts_in c x)) (filter p (facts_of_columns cs ms))
     ∙ ap (λ k. k + length (filter p (facts_of_columns cs ms))) (asked_in m f a b c (entries x))

@@ -1,3 +1,5 @@
 pub mod ColumnsLemmas
+pub mod ColumnsReads
+pub mod PutsLengths
 pub mod ColumnsAside
 pub mod Stands

@@ -1,3 +1,4 @@
+pub mod PointsRead
 pub mod Puts
 pub mod ColumnsKept
 pub mod Registered

@@ -4,6 +4,7 @@
 #![tactic(auto)]
 
 mod column_facts;
+mod column_reads;
 mod columns;
 mod fault;
 mod store;
