@@ -12,3 +12,4 @@ pub mod ColumnLemmas
 pub mod ListsLemmas
 pub mod IndexLemmas
 pub mod IndexSteps
+pub mod NumbersLaws

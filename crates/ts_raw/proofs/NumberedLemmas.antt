@@ -5,7 +5,7 @@ use Rattle.ts_core.specs.Members.{Among, AllDistinct}
 use Rattle.ts_core.proofs.MembersLemmas.{AllDistinct-append}
 use Rattle.ts_raw.specs.Numbered.{IsAt, numbers_from, numbers_where}
 
-some_member : {X : Type 0} (x y : X) → Some x ≡ Some y → x ≡ y
+pub some_member : {X : Type 0} (x y : X) → Some x ≡ Some y → x ≡ y
 some_member x y e = cc
 
 module _ {X : Type 0} where

@@ -15,6 +15,12 @@ mod ids;
 mod series;
 
 use columns::ColumnTable;
+
+#[cfg(test)]
+mod memory_tests;
+#[cfg(test)]
+mod tests;
+
 pub use fault::IndexFault;
 use fields::FieldTable;
 pub use ids::{ColumnId, SeriesId};
@@ -97,7 +103,7 @@ impl<A: Allocator + Copy> Index<A> {
 
         // Only a series that isn't there takes memory or is one too many.
         ensures known { Among (lent_series measurement.now tags.now) self.old.series → IsOk result }
-        ensures full { (result ≡ Err IndexFault.TooManySeries) ↔ ((SERIES_LIMIT ≤ length self.old.series) × (Among (lent_series measurement.now tags.now) self.old.series → ⊥)) }
+        ensures full { (result ≡ Err IndexFault.TooManySeries) ↔ ((1_000_000 ≤ length self.old.series) × (Among (lent_series measurement.now tags.now) self.old.series → ⊥)) }
         ensures sound { IsSound self.new }
     {
         self.series.register(SERIES_LIMIT, measurement, tags)
@@ -114,7 +120,8 @@ impl<A: Allocator + Copy> Index<A> {
     /// The series of a column.
     pub fn series_of(&self, column: ColumnId) -> SeriesId
         requires { column < length self.now.columns }
-        ensures { (c : Column) → IsAt self.now.columns column c → IsAt self.now.series result c.series }
+        ensures there { result < length self.now.series }
+        ensures names { (c : Column) → IsAt self.now.columns column c → IsAt self.now.series result c.series }
     {
         let (number, _) = self.columns.numbers(column);
         SeriesId { number }

@@ -9,6 +9,15 @@ pub struct SeriesId {
     pub(crate) number: u32,
 }
 
+impl SeriesId {
+    /// How many series were made before it.
+    pub fn number(self) -> usize
+        ensures { result ≡ self }
+    {
+        self.number as usize
+    }
+}
+
 impl Model for SeriesId {
     ghost use Rattle.std.specs.Prelude.{ℕ};
 
@@ -32,6 +41,15 @@ impl SeriesId {
 #[derive(Clone, Copy, Debug, PartialEq, Eq, PartialOrd, Ord)]
 pub struct ColumnId {
     pub(crate) number: u32,
+}
+
+impl ColumnId {
+    /// How many columns were made before it.
+    pub fn number(self) -> usize
+        ensures { result ≡ self }
+    {
+        self.number as usize
+    }
 }
 
 impl Model for ColumnId {
