@@ -1,10 +1,14 @@
 -- What a store keeps, and when that stands for a history. (Own rules.)
-use Rattle.std.specs.Prelude.{◌≡◌, ◌↔◌, ℕ, ℤ, ◌≤ℤ◌, List, ◌∷◌, length}
+use Rattle.std.specs.Prelude.{◌≡◌, ◌↔◌, ℕ, ℤ, ◌≤ℤ◌, int_le, List, ◌∷◌, length, filter}
 use Rattle.ts_core.specs.Members.{Among, AllDistinct}
 use Rattle.ts_core.specs.Facts.{Series, Column, Fact}
 use Rattle.ts_core.specs.Settings.{Settings}
 use Rattle.ts_core.specs.History.{Event, History, settings_of, raw_mark, accepted, IsLawful}
 use Rattle.ts_core.specs.Latest.{latest_of}
+
+-- the latest facts from the raw mark on
+abbrev pub raw_facts : Settings → History → List Fact
+raw_facts opening h = filter (λ (f : Fact). int_le (raw_mark opening h) f.time) (latest_of h)
 
 -- what a store keeps, as its calls show it
 pub record Kept : Type 0 where

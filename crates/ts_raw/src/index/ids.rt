@@ -28,15 +28,6 @@ impl Model for SeriesId {
     ghost inverse = { λ n. record { number = n } };
 }
 
-impl SeriesId {
-    /// The number.
-    pub fn number(self) -> usize
-        ensures { result ≡ self }
-    {
-        self.number as usize
-    }
-}
-
 /// A column, by its number: the first made has 0.
 #[derive(Clone, Copy, Debug, PartialEq, Eq, PartialOrd, Ord)]
 pub struct ColumnId {
@@ -60,13 +51,4 @@ impl Model for ColumnId {
     ghost view = { λ id. id.number };
 
     ghost inverse = { λ n. record { number = n } };
-}
-
-impl ColumnId {
-    /// The number.
-    pub fn number(self) -> usize
-        ensures { result ≡ self }
-    {
-        self.number as usize
-    }
 }

@@ -26,7 +26,7 @@ returns-clause-ok g c = λ opening h s.
     let line : Parts = c.args.line.now in
     let fs : List Fact = facts_of line in
     let many : length c.fields.result.now ≡ length fs = ap (λ (l : List (Piece × ℤ)). length l) c.fields.ensures.value ∙ sym (length-map line.fields (fact_of line)) in
-    let few : before.accepted + length fs ≤ 2 ^ 62 = omega (arith, many, c.if-count-self.false, c.self.invariant) in
+    let few : before.accepted + length fs ≤ 2 ^ 62 = omega (arith, many, c.if-count-self.false, c.self.invariant.few) in
     let grows : Grows before.facts c.put_line.new.self = record { once = c.put_line.ensures.columns_once; registered = c.put_line.ensures.registered; stay = c.put_line.ensures.grown } in
     subst (λ (n : ℕ). StandsFor opening (Line fs ∷ h) (all_kept before.settings (before.accepted + n) c.put_line.new.self)) (sym many)
     (write_stands opening h before.settings before.accepted before.facts c.put_line.new.self fs c.in_ok-put_line.ensures.ok grows c.in_ok-put_line.ensures.there c.in_ok-put_line.ensures.taken few
