@@ -13,6 +13,8 @@ pub use fault::WriteFault;
 pub use store::Store;
 
 #[cfg(test)]
+mod column_reads_tests;
+#[cfg(test)]
 mod memory_tests;
 #[cfg(test)]
 mod tests;
