@@ -1,5 +1,5 @@
 -- What is kept goes on standing for its history.
-use Rattle.std.proofs.Common.{◌≡◌, ◌↔◌, ℕ, ℤ, ◌+◌, ◌≤◌, ◌≤ℤ◌, ◌^◌, Bool, true, not, List, [], ◌∷◌, length, filter, refl, sym, ◌∙◌, ap, subst, inl, inr, ◌⊎◌, ⊎_elim, arith, map, get_or, ◌++◌, ◌<◌, take, false, true≢false, Option, Some, None, IfSome, IfNone, Result, Ok, Err, OnErr}
+use Rattle.std.proofs.Common.{◌≡◌, ◌↔◌, ℕ, ℤ, ◌+◌, ◌≤◌, ◌≤ℤ◌, ◌^◌, Bool, int_le, true, not, List, [], ◌∷◌, length, filter, refl, sym, ◌∙◌, ap, subst, inl, inr, ◌⊎◌, ⊎_elim, arith, map, get_or, ◌++◌, ◌<◌, take, false, true≢false, Option, Some, None, IfSome, IfNone, Result, Ok, Err, OnErr}
 use Rattle.std.specs.Option.{is_some}
 use Rattle.std.specs.List.{slice_get}
 use Rattle.std.proofs.lemmas.List.{map_more}
@@ -9,9 +9,10 @@ use Rattle.ts_core.specs.Members.{Among, AllDistinct}
 use Rattle.ts_core.specs.Times.{least_time}
 use Rattle.ts_core.specs.Facts.{Text, Series, Column, Fact, id_of, same_id, is_asked}
 use Rattle.ts_core.specs.Settings.{Settings}
-use Rattle.ts_core.specs.History.{History, Line, MayBeTaken, accepted, put_before}
+use Rattle.ts_core.specs.History.{History, Line, MayBeTaken, accepted, put_before, raw_mark}
 use Rattle.ts_core.specs.Latest.{others, latest, latest_of, count_of}
-use Rattle.ts_core.specs.Kept.{Kept, StandsFor}
+use Rattle.ts_core.specs.Kept.{Kept, StandsFor, raw_facts}
+use Rattle.ts_core.proofs.Tests.{le_true, le_from}
 use Rattle.ts_core.proofs.MembersLemmas.{Among-filter_passes, Among-filter_was, Among-filter_stays, AllDistinct-filter}
 use Rattle.ts_core.proofs.Folds.{length-same}
 use Rattle.ts_core.proofs.Latests.{latest-distinct, not_false}
@@ -136,6 +137,18 @@ count_stands opening h kept m f a b above s =
     let from : a ≤ℤ g.time = asked_from m f a b g t in
     let raw : kept.mark ≤ℤ g.time = omega (arith, ints, above, from) in
     Among-filter_stays p g kept.raw ((s.raw g).1 (Among-filter_was p g (latest_of h) k, raw)) t)
+
+-- as many raw facts are kept as are latest from the mark on
+pub raw_stands : (opening : Settings) (h : History) (kept : Kept) → StandsFor opening h kept → length kept.raw ≡ length (raw_facts opening h)
+raw_stands opening h kept s =
+    let p : Fact → Bool = λ (f : Fact). int_le (raw_mark opening h) f.time in
+    length-same kept.raw (raw_facts opening h) s.once (AllDistinct-filter p (latest_of h) (latest-distinct (accepted h)))
+    (λ g a.
+    let r = (s.raw g).0 a in
+    Among-filter_stays p g (latest_of h) r.0 (le_true (raw_mark opening h) g.time (subst (λ (m : ℤ). m ≤ℤ g.time) s.mark r.1)))
+    (λ g a.
+    let t = le_from (raw_mark opening h) g.time (Among-filter_passes p g (latest_of h) a) in
+    (s.raw g).1 (Among-filter_was p g (latest_of h) a, subst (λ (m : ℤ). m ≤ℤ g.time) (sym s.mark) t))
 
 -- ---- the facts of a line
 

@@ -7,6 +7,7 @@ use Rattle.ts_line.specs.Parts.{Piece, Parts, fact_of, series_of, facts_of}
 use Rattle.ts_raw.specs.Numbered.{Gains}
 use Rattle.ts_store.specs.Registered.{MayGain}
 use Rattle.ts_store.proofs.Stands.{Grows, write_stands, stays_stands, all_kept, on_err}
+use Rattle.ts_store.proofs.PutsLengths.{PutsAll-length}
 use Rattle.ts_store.proofs.store.Store.write.Goals as goal
 
 pub returns-in_err-put_line-clause-err : goal.returns-in_err-put_line-clause-err
@@ -39,3 +40,13 @@ returns-clause-registers g c =
 pub returns-clause-may_register : goal.returns-clause-may_register
 returns-clause-may_register g c =
     subst (λ (xs : List Series). MayGain xs c.put_line.new.self.series (series_of c.args.line.now)) (ap (λ (k : Kept). k.series) c.self.view_is) c.put_line.ensures.may_gain
+
+pub invariant_of-self-2 : goal.invariant_of-self-2
+invariant_of-self-2 g c =
+    let line : Parts = c.args.line.now in
+    let many : length c.fields.result.now ≡ length (facts_of line) = ap (λ (l : List (Piece × ℤ)). length l) c.fields.ensures.value ∙ sym (length-map line.fields (fact_of line)) in
+    let more = PutsAll-length c.self.inside.facts.raw c.put_line.new.self.raw (facts_of line) c.in_ok-put_line.ensures.ok in
+    record {
+      few = omega (arith, c.if-count-self.false, c.self.invariant.few);
+      kept = omega (arith, many, more, c.self.invariant.kept);
+    }
