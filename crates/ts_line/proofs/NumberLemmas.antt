@@ -9,8 +9,8 @@ use Rattle.std.proofs.lemmas.Int.{ints, to_z-of_z}
 use Rattle.std.proofs.lemmas.Option.{cond_some}
 use Rattle.ts_core.specs.Facts.{Text}
 use Rattle.ts_core.specs.Times.{IsTime, least_time, greatest_time}
-use Rattle.ts_line.specs.Numbers.{is_number, without_minus}
-use Rattle.ts_line.specs.Reading.{is_within, whole_of, time_of}
+use Rattle.ts_line.specs.Numbers.{is_number, without_minus, is_within, whole_of}
+use Rattle.ts_line.specs.Lines.{time_of}
 use Rattle.ts_line.specs.Units.{unit_of}
 use Rattle.ts_line.specs.declared.precision.Precision.{Precision}
 use Rattle.ts_line.specs.declared.precision.Precision.TheVariants.{Nanoseconds, Microseconds, Milliseconds, Seconds, Minutes, Hours}
@@ -95,15 +95,15 @@ pub within_time : (t : ℤ) → is_within least_time greatest_time t ≡ true �
 within_time t h = record { not_before = grind (arith, ints); not_after = grind (arith, ints) }
 
 -- a number of units, read and multiplied, is a time where that is valid
-pub moment_read : (unit : ℤ) (text : Text) (n m : ℤ) (r : Option ℤ) → is_number text ≡ true → Some n ≡ whole_of text → m ≡ n *ℤ unit
+pub moment_read : (unit : ℤ) (text : Text) (n m : ℤ) (r : Option ℤ) → Some n ≡ whole_of text → m ≡ n *ℤ unit
     → (IsSome r ↔ IsTime m) → IfSome r (λ t. t ≡ m) → r ≡ time_of unit text
 unfolding time_of
-moment_read unit text n m None number whole product valid value =
+moment_read unit text n m None whole product valid value =
     let read = cond_some (is_within (neg_ℤ (pos 9223372036854775808)) (pos 9223372036854775807) (signed_digits_value 10 text)) (signed_digits_value 10 text) n (sym whole) in
     let same : signed_digits_value 10 text *ℤ unit ≡ m = ap (λ x. x *ℤ unit) read.1 ∙ sym product in
     let outside : is_within least_time greatest_time m ≡ false = false_from_ne_true (is_within least_time greatest_time m) (λ w. false≢true (valid.1 (within_time m w))) in
-    rw (number, same, outside) refl
-moment_read unit text n m (Some t) number whole product valid value =
+    rw (same, outside) refl
+moment_read unit text n m (Some t) whole product valid value =
     let read = cond_some (is_within (neg_ℤ (pos 9223372036854775808)) (pos 9223372036854775807) (signed_digits_value 10 text)) (signed_digits_value 10 text) n (sym whole) in
     let same : signed_digits_value 10 text *ℤ unit ≡ m = ap (λ x. x *ℤ unit) read.1 ∙ sym product in
-    rw (number, same, time_within m (valid.0 refl)) (ap (λ x. Some x) value)
+    rw (same, time_within m (valid.0 refl)) (ap (λ x. Some x) value)

@@ -1,7 +1,36 @@
--- The text of a line's fault. (Own rule.)
-use Rattle.std.specs.Prelude.{ℕ, List, codes}
+-- The numbers and texts of a line's faults. (Own numbers.)
+use Rattle.std.specs.Prelude.{ℕ, ◌++◌, codes}
+use Rattle.std.specs.Fmt.{decimal}
+use Rattle.ts_core.specs.Facts.{Text}
 use Rattle.ts_line.specs.declared.fault.LineFault.{LineFault}
-use Rattle.ts_line.specs.declared.fault.LineFault.TheVariants.{NotYet}
+use Rattle.ts_line.specs.declared.fault.LineFault.TheVariants.{NoMeasurement, BadTag, RepeatedTagKey, NoField, BadField, FieldType, IntegerRange, BadTimestamp, TimestampRange, OverLimit, ReservedKey}
 
-unfoldable pub fault_text : LineFault → List ℕ
-fault_text NotYet = codes "fault 95"
+abbrev pub number_of : LineFault → ℕ
+number_of (NoMeasurement at) = 11
+number_of (BadTag at) = 12
+number_of (RepeatedTagKey at) = 13
+number_of (NoField at) = 14
+number_of (BadField at) = 15
+number_of (FieldType at) = 16
+number_of (IntegerRange at) = 17
+number_of (BadTimestamp at) = 18
+number_of (TimestampRange at) = 19
+number_of (OverLimit at) = 20
+number_of (ReservedKey at) = 21
+
+-- the place of the byte at fault, counted from the line's first
+abbrev pub offset_of : LineFault → ℕ
+offset_of (NoMeasurement at) = at
+offset_of (BadTag at) = at
+offset_of (RepeatedTagKey at) = at
+offset_of (NoField at) = at
+offset_of (BadField at) = at
+offset_of (FieldType at) = at
+offset_of (IntegerRange at) = at
+offset_of (BadTimestamp at) = at
+offset_of (TimestampRange at) = at
+offset_of (OverLimit at) = at
+offset_of (ReservedKey at) = at
+
+unfoldable pub fault_text : LineFault → Text
+fault_text fault = codes "fault " ++ decimal (number_of fault) ++ codes " at " ++ decimal (offset_of fault)

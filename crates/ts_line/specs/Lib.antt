@@ -2,7 +2,13 @@ pub mod Parts
 pub mod Sorting
 pub mod Units
 pub mod FaultText
-pub mod Names
 pub mod Numbers
-pub mod Says
-pub mod Reading
+pub mod Scan
+pub mod Pieces
+pub mod Steps
+pub mod Tags
+pub mod Values
+pub mod Fields
+pub mod Lines
+pub mod EscapeLaws
+pub mod Spelling

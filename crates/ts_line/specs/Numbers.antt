@@ -1,7 +1,8 @@
 -- Numbers as text. (InfluxData 1.8, line protocol reference, data types: integers, timestamps.)
-use Rattle.std.specs.Prelude.{[], ◌∷◌, length, Bool, not, ◌&&◌, ◌==◌, if◌then◌else◌}
+use Rattle.std.specs.Prelude.{ℤ, pos, neg_ℤ, int_le, [], ◌∷◌, length, Bool, not, ◌&&◌, ◌==◌, if◌then◌else◌, Option, Some, None}
 use Rattle.std.specs.Char.{is_ascii_digit}
 use Rattle.std.specs.List.{list_all}
+use Rattle.std.specs.Str.Parse.{signed_digits_value}
 use Rattle.ts_core.specs.Facts.{Text}
 
 abbrev pub without_minus : Text → Text
@@ -11,3 +12,10 @@ without_minus (b ∷ bs) = if b == 45 then bs else (b ∷ bs)
 -- digits, perhaps behind a minus
 unfoldable pub is_number : Text → Bool
 is_number text = not (length (without_minus text) == 0) && list_all is_ascii_digit (without_minus text)
+
+abbrev pub is_within : ℤ → ℤ → ℤ → Bool
+is_within least greatest n = int_le least n && int_le n greatest
+
+-- the value of a number, where it has 64 bits
+abbrev pub whole_of : Text → Option ℤ
+whole_of number = if is_within (neg_ℤ (pos 9223372036854775808)) (pos 9223372036854775807) (signed_digits_value 10 number) then Some (signed_digits_value 10 number) else None

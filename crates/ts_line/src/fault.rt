@@ -1,27 +1,91 @@
 //! Why a line is refused.
 ghost use Rattle.std.specs.Prelude.{◌≡◌, ◌+◌, ◌≤◌, ◌++◌, length, IsOk, OnOk, string_bytes, string_len, string_capacity};
-ghost use Rattle.ts_line.specs.FaultText.{fault_text};
+ghost use Rattle.ts_line.specs.FaultText.{number_of, offset_of, fault_text};
 ghost use Rattle.ts_line.specs.declared.fault.ReadLineError.TheVariants as errors;
 
+use itoa::Buffer;
 use std::alloc::{AllocError, AllocFailed, Allocator};
 
-/// Why a line is refused.
+/// Why a line is refused, each with the place of the byte at fault, counted from the line's first byte.
 #[derive(Clone, Copy, Debug, PartialEq, Eq)]
 pub enum LineFault {
-    /// The line isn't of the one form that is read so far.
-    NotYet,
+    /// The measurement is empty (number 11).
+    NoMeasurement(usize),
+    /// A tag has no equals sign, more than one, or an empty side (number 12).
+    BadTag(usize),
+    /// A tag key stands a second time (number 13).
+    RepeatedTagKey(usize),
+    /// No field is there (number 14).
+    NoField(usize),
+    /// A field isn't of the form (number 15).
+    BadField(usize),
+    /// A field is a float, a string, a boolean or unsigned (number 16).
+    FieldType(usize),
+    /// An integer has no 64 bits (number 17).
+    IntegerRange(usize),
+    /// The timestamp is no number (number 18).
+    BadTimestamp(usize),
+    /// The timestamp isn't a valid time (number 19).
+    TimestampRange(usize),
+    /// The line, its key part, its tags or its fields are too many (number 20).
+    OverLimit(usize),
+    /// A tag key or a field key is `time` (number 21).
+    ReservedKey(usize),
 }
 
 impl LineFault {
-    /// Appends its text. Where the room is there, it takes no memory.
-    #[tactic(auto, unfolding(crate::specs::FaultText::fault_text))]
-    pub fn text_to<A: Allocator + Copy>(&self, text: &mut String<A>) -> Result<(), AllocError>
-        ensures ok { OnOk result (string_bytes text.new ≡ string_bytes text.old ++ fault_text self.now) }
-        ensures room { string_len text.old + length (fault_text self.now) ≤ string_capacity text.old → IsOk result }
+    /// Its number.
+    pub fn number(self) -> u8
+        ensures { result ≡ number_of self }
     {
         match self {
-            LineFault::NotYet => text.push_str("fault 95"),
+            LineFault::NoMeasurement(_) => 11,
+            LineFault::BadTag(_) => 12,
+            LineFault::RepeatedTagKey(_) => 13,
+            LineFault::NoField(_) => 14,
+            LineFault::BadField(_) => 15,
+            LineFault::FieldType(_) => 16,
+            LineFault::IntegerRange(_) => 17,
+            LineFault::BadTimestamp(_) => 18,
+            LineFault::TimestampRange(_) => 19,
+            LineFault::OverLimit(_) => 20,
+            LineFault::ReservedKey(_) => 21,
         }
+    }
+
+    /// The place of the byte at fault, counted from the line's first byte.
+    pub fn offset(self) -> usize
+        ensures { result ≡ offset_of self }
+    {
+        match self {
+            LineFault::NoMeasurement(at)
+            | LineFault::BadTag(at)
+            | LineFault::RepeatedTagKey(at)
+            | LineFault::NoField(at)
+            | LineFault::BadField(at)
+            | LineFault::FieldType(at)
+            | LineFault::IntegerRange(at)
+            | LineFault::BadTimestamp(at)
+            | LineFault::TimestampRange(at)
+            | LineFault::OverLimit(at)
+            | LineFault::ReservedKey(at) => at,
+        }
+    }
+
+    /// Appends its text. Where the room is there, it takes no memory.
+    #[tactic(auto, using(crate::proofs::FaultLemmas::fault_text_short), unfolding(crate::specs::FaultText::fault_text))]
+    pub fn text_to<A: Allocator>(&self, text: &mut String<A>) -> Result<(), AllocError>
+        ensures ok { OnOk result (string_bytes text.new ≡ string_bytes text.old ++ fault_text self.now) }
+        ensures room { string_len text.old + length (fault_text self.now) ≤ string_capacity text.old → IsOk result }
+        ensures short { length (fault_text self.now) ≤ 32 }
+        ensures capacity { string_capacity text.old ≤ string_capacity text.new }
+    {
+        let number = self.number();
+        let offset = self.offset();
+        text.push_str("fault ")?;
+        text.push_str(Buffer::new().format(number))?;
+        text.push_str(" at ")?;
+        text.push_str(Buffer::new().format(offset))
     }
 }
 

@@ -1,14 +1,18 @@
 //! The line reader: a text of line protocol is its parts, or a fault.
 //! It stands on ts_core alone. It promises that the parts are just those that the text says, each
-//! with its place, and that a text which says no line is refused.
+//! with its place, and that any other text gives its first fault with the place of its byte.
 #![tactic(auto)]
 
 mod fault;
+mod field;
 mod line;
-mod name;
 mod number;
+mod part;
 mod precision;
 mod read;
+mod scan;
+mod tag;
+mod value;
 
 pub use fault::{LineFault, ReadLineError};
 pub use line::{Field, Line, Part, Tag};

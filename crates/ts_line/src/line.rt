@@ -1,5 +1,6 @@
 //! What a line says, part by part.
 ghost use Rattle.std.specs.Prelude.{◌≡◌, ◌<◌, ◌≤◌, length, map, IfOk, OnOk, MatchResult};
+ghost use Rattle.std.specs.Cow.{cow_str_bytes};
 ghost use Rattle.std.specs.FinMap.{put};
 ghost use Rattle.ts_core.specs.Facts.{text_cmp};
 ghost use Rattle.ts_core.specs.Members.{AllDistinct};
@@ -32,17 +33,11 @@ impl<'a, A: Allocator> Model for Part<'a, A> {
 }
 
 impl<'a, A: Allocator> Part<'a, A> {
-    ghost use Rattle.ts_line.specs.Says.{plain_piece};
-
-    /// A part that spells itself.
-    pub(crate) fn new(raw: &'a str, start: usize) -> Self
-        ensures { result ≡ plain_piece start raw.now }
+    /// A part that spells a text.
+    pub(crate) fn new(start: usize, raw: &'a str, text: CowStr<'a, A>) -> Self
+        ensures { result ≡ record { start = start; raw = raw.now; text = cow_str_bytes text.entry } }
     {
-        Part {
-            start,
-            raw,
-            text: CowStr::Borrowed(raw),
-        }
+        Part { start, raw, text }
     }
 
     /// Where it starts, in bytes from the line's first.
@@ -139,6 +134,13 @@ impl<'a, A: Allocator> Field<'a, A> {
         ensures { result ≡ self.now.1 }
     {
         self.value
+    }
+
+    /// Takes the value of another field.
+    pub(crate) fn take_value(&mut self, newer: &Field<'_, A>)
+        ensures { self.new ≡ (self.old.0, newer.now.1) }
+    {
+        self.value = newer.value;
     }
 }
 

@@ -1,6 +1,6 @@
 //! The unit of a line's timestamp.
 ghost use Rattle.std.specs.Prelude.{◌≡◌};
-ghost use Rattle.ts_line.specs.Units.{unit_of};
+ghost use Rattle.ts_line.specs.Units.{unit_of, precision_of};
 
 /// The unit of a line's timestamp. (InfluxData 1.8, HTTP API, `precision`.)
 #[derive(Clone, Copy, Debug, PartialEq, Eq)]
@@ -14,6 +14,22 @@ pub enum Precision {
 }
 
 impl Precision {
+    /// The precision of that name: `ns`, `n`, `u`, `ms`, `s`, `m` or `h`.
+    #[tactic(auto, unfolding(crate::specs::Units::precision_of))]
+    pub fn named(name: &str) -> Option<Precision>
+        ensures { result ≡ precision_of name.now }
+    {
+        match name {
+            "ns" | "n" => Some(Precision::Nanoseconds),
+            "u" => Some(Precision::Microseconds),
+            "ms" => Some(Precision::Milliseconds),
+            "s" => Some(Precision::Seconds),
+            "m" => Some(Precision::Minutes),
+            "h" => Some(Precision::Hours),
+            _ => None,
+        }
+    }
+
     /// How many nanoseconds a unit has.
     pub fn nanoseconds(self) -> i64
         ensures { result ≡ unit_of self }

@@ -1,67 +1,152 @@
 //! Reading a line.
-ghost use Rattle.std.specs.Prelude.{◌≡◌, Ok, IfOk, IfSome, Some, option_map};
-ghost use Rattle.ts_line.specs.Parts.{Parts};
+ghost use Rattle.std.specs.Prelude.{◌≡◌, ◌<◌, ◌≤◌, true, length, IfOk};
+ghost use Rattle.std.specs.Str.{IsCharBoundary};
 ghost use Rattle.ts_line.specs.Units.{unit_of};
-ghost use Rattle.ts_line.specs.Says.{Says, ArePartsOf, plain_parts};
-ghost use Rattle.ts_line.specs.Reading.{value_and_time, line_of};
+ghost use Rattle.ts_line.specs.Steps.{GivesIfRoom};
+ghost use Rattle.ts_line.specs.Lines.{is_bare_space, trimmed, without_return, content, measurement_at, time_at, parts_at, line_of};
 
 use crate::fault::{LineFault, ReadLineError};
-use crate::line::{Field, Line, Part};
-use crate::name::{name_at, split_first};
-use crate::number::{integer, moment};
+use crate::field::fields;
+use crate::line::{Line, Part};
+use crate::number::{is_number, moment};
+use crate::part::part_at;
 use crate::precision::Precision;
+use crate::scan::{Stops, after_spaces, byte_at, end_at};
+use crate::tag::tags;
 use std::alloc::Allocator;
 use ts_core::Time;
 
-/// Reads a line without its line feed, in the form `measurement field=123i` or `measurement field=123i 456`.
+/// A line has no more bytes than this.
+const LINE_LIMIT: usize = 65_536;
+
+/// A measurement with its tags has no more bytes than this.
+const KEY_LIMIT: usize = 4_096;
+
+/// Reads a line without its line feed: its parts, or `None` for a comment or a blank line.
 /// A timestamp counts units of `precision`; without one the time is `now`.
+#[tactic(auto, unfolding(crate::specs::Lines::line_of, crate::specs::Lines::content))]
 pub fn read_line<A: Allocator + Copy>(
     alloc: A,
     text: &str,
     precision: Precision,
     now: Time,
 ) -> Result<Option<Line<'_, A>>, ReadLineError>
-    ensures reads { IfOk result (λ o. IfSome o (Says (unit_of precision) now text.now)) }
-    ensures spans { IfOk result (λ o. IfSome o (ArePartsOf text.now)) }
+    ensures { GivesIfRoom (λ o. o) result (line_of (unit_of precision) now text.now) }
 {
-    let Some((measurement, field, time)) = line_of::<A>(text, precision, now) else {
-        return Err(ReadLineError::Fault(LineFault::NotYet));
-    };
-    let mut fields = Vec::new(alloc);
-    fields.push(field)?;
-    Ok(Some(Line::new(measurement, Vec::new(alloc), fields, time)))
+    if text.len() > LINE_LIMIT {
+        return Err(ReadLineError::Fault(LineFault::OverLimit(LINE_LIMIT)));
+    }
+    let line = content(text);
+    let start = after_spaces(line, 0);
+    if start == line.len() || byte_at(line, start) == b'#' {
+        return Ok(None);
+    }
+    Ok(Some(parts(alloc, line, start, precision, now)?))
 }
 
-#[tactic(auto, unfolding(crate::specs::Reading::line_of))]
-fn line_of<A: Allocator>(
-    text: &str,
+/// Whether a space stands there that no backslash escapes.
+#[tactic(auto, unfolding(crate::specs::Lines::is_bare_space))]
+fn is_bare_space(line: &str, at: usize) -> bool
+    requires { at < length line.now }
+    ensures value { result ≡ is_bare_space line.now at }
+    ensures boundary { result ≡ true → IsCharBoundary line.now at }
+{
+    byte_at(line, at) == b' ' && (at == 0 || byte_at(line, at - 1) != b'\\')
+}
+
+/// How many of the first bytes are left without the bare spaces at their end.
+#[tactic(auto, using(crate::proofs::LineLemmas::trimmed_step))]
+fn end_without_spaces(line: &str, from: usize) -> usize
+    requires { IsCharBoundary line.now from }
+    ensures value { result ≡ trimmed line.now from }
+    ensures boundary { IsCharBoundary line.now result }
+{
+    let mut end = from;
+    while end > 0 && is_bare_space(line, end - 1) {
+        end -= 1;
+    }
+    end
+}
+
+/// How many bytes are left without one carriage return at the end.
+fn end_without_return(source: &str) -> usize
+    ensures value { result ≡ without_return source.now }
+    ensures boundary { IsCharBoundary source.now result }
+{
+    match source.as_bytes() {
+        [.., b'\r'] => source.len() - 1,
+        _ => source.len(),
+    }
+}
+
+/// The bytes that are read.
+#[tactic(auto, unfolding(crate::specs::Lines::content))]
+fn content(source: &str) -> &str
+    ensures { result.now ≡ content source.now }
+{
+    let end = end_without_spaces(source, end_without_return(source));
+    &source[..end]
+}
+
+/// The measurement that begins at `start`, and its end.
+#[tactic(auto, unfolding(crate::specs::Lines::measurement_at))]
+fn measurement<'a, A: Allocator>(
+    alloc: A,
+    line: &'a str,
+    start: usize,
+) -> Result<(Part<'a, A>, usize), ReadLineError>
+    requires short { length line.now ≤ 65536 }
+    requires boundary { IsCharBoundary line.now start }
+    ensures value { GivesIfRoom (λ x. x) result (measurement_at line.now start) }
+    ensures boundary { IfOk result (λ x. IsCharBoundary line.now x.1) }
+{
+    if end_at(line, start, Stops::Space).at > start + KEY_LIMIT {
+        return Err(ReadLineError::Fault(LineFault::OverLimit(start + KEY_LIMIT)));
+    }
+    let end = end_at(line, start, Stops::Comma);
+    if end.at == start {
+        return Err(ReadLineError::Fault(LineFault::NoMeasurement(start)));
+    }
+    Ok((part_at(alloc, line, start, end, Stops::Comma)?, end.at))
+}
+
+/// The time behind the fields, or the moment at hand.
+#[tactic(auto, unfolding(crate::specs::Lines::time_at))]
+fn time(line: &str, at: usize, precision: Precision, now: Time) -> Result<Time, LineFault>
+    requires { IsCharBoundary line.now at }
+    ensures { result ≡ time_at (unit_of precision) now line.now at }
+{
+    let start = after_spaces(line, at);
+    if start == line.len() {
+        return Ok(now);
+    }
+    let number = &line[start..];
+    if !is_number(number.as_bytes()) {
+        return Err(LineFault::BadTimestamp(start));
+    }
+    moment(number, precision).ok_or(LineFault::TimestampRange(start))
+}
+
+/// The parts of a line from `start` on.
+#[tactic(auto, unfolding(crate::specs::Lines::parts_at))]
+fn parts<A: Allocator + Copy>(
+    alloc: A,
+    line: &str,
+    start: usize,
     precision: Precision,
     now: Time,
-) -> Option<(Part<'_, A>, Field<'_, A>, Time)>
-    ensures { option_map (λ p. plain_parts p.0 p.1.0 p.1.1 p.2) result ≡ line_of (unit_of precision) now text.now }
+) -> Result<Line<'_, A>, ReadLineError>
+    requires short { length line.now ≤ 65536 }
+    requires boundary { IsCharBoundary line.now start }
+    ensures { GivesIfRoom (λ l. l) result (parts_at (unit_of precision) now line.now start) }
 {
-    if text.len() > 65_536 {
-        return None;
+    let (measurement, end) = measurement(alloc, line, start)?;
+    let (tags, end) = tags(alloc, line, end)?;
+    let start = after_spaces(line, end);
+    if start == line.len() {
+        return Err(ReadLineError::Fault(LineFault::NoField(end)));
     }
-    let (measurement, rest) = split_first(text, ' ')?;
-    let (field, rest) = split_first(rest, '=')?;
-    if measurement.len() > 4_096 || field == "time" {
-        return None;
-    }
-    let field_start = measurement.len() + 1;
-    let measurement = name_at(measurement, 0)?;
-    let name = name_at(field, field_start)?;
-    let (value, time) = value_and_time(rest, precision, now)?;
-    Some((measurement, Field::new(name, value), time))
-}
-
-// what stands after the equals sign
-#[tactic(auto, unfolding(crate::specs::Reading::value_and_time))]
-fn value_and_time(text: &str, precision: Precision, now: Time) -> Option<(i64, Time)>
-    ensures { result ≡ value_and_time (unit_of precision) now text.now }
-{
-    match split_first(text, ' ') {
-        None => Some((integer(text)?, now)),
-        Some((value, timestamp)) => Some((integer(value)?, moment(timestamp, precision)?)),
-    }
+    let (fields, end) = fields(alloc, line, start)?;
+    let time = time(line, end, precision, now)?;
+    Ok(Line::new(measurement, tags, fields, time))
 }

@@ -1,70 +1,115 @@
 //! Want of memory: a refused write leaves what was there, and succeeds once there is room.
 use super::*;
 use linked_list_allocator::LocalHeap;
-use std::alloc::{Allocator, Global};
-use std::process::Abort;
+use std::alloc::{AllocError, Allocator, Global};
 use std::test::Fail;
 use ts_core::{Settings, Time};
-use ts_line::{Precision, read_line};
+use ts_line::{Line, Precision, read_line};
 
 /// What the heap of a test has in all, in bytes.
 const HEAP: usize = 16_384;
 
-/// A new series, a newer value, a new time, another field, another measurement, a time between: each line
-/// with the number of facts that were accepted after it, and how many of them `count` tells.
-const LINES: [(&str, u64, u64); 6] = [
-    ("m f=3i 5", 1, 1),
-    ("m f=4i 5", 2, 1),
-    ("m f=1i 9", 3, 2),
-    ("m g=1i 5", 4, 2),
-    ("a_longer_measurement f=1i 7", 5, 2),
-    ("m f=6i 6", 6, 3),
+/// A newer value, another field, another series, and a line of three fields: each with the number of facts
+/// that are accepted after it, and the numbers of `m f`, `m g`, `n f` and `n g`.
+const LINES: [(&str, u64, [u64; 4]); 4] = [
+    ("m f=4i 5", 2, [1, 0, 0, 0]),
+    ("m g=4i 5", 2, [1, 1, 0, 0]),
+    ("n,b=2,a=1 f=1i", 2, [1, 0, 1, 0]),
+    ("n,b=2,a=1 f=1i,g=2i,h=3i 9", 4, [1, 0, 1, 1]),
 ];
 
-fn count<A: Allocator + Copy>(store: &Store<A>) -> Result<u64, Fail> {
-    let end = Time::new(1_000).ok_or("1000 is valid")?;
-    Ok(store.count("m", "f", Time::least(), end))
+/// What a write said, and what the store told then.
+#[derive(Drop)]
+struct Written {
+    result: Result<(), WriteFault>,
+    accepted: u64,
+    counts: Option<[u64; 4]>,
 }
 
-/// Writes the lines while all but `room` bytes of the heap are taken, and frees these after the first
-/// refusal. Tells whether there was one.
-fn refused_within(rt: &impl Abort, alloc: Global, room: usize) -> Result<bool, Fail> {
-    let heap = LocalHeap::new(alloc, HEAP)?;
-    let mut taken: Option<Vec<u8, &LocalHeap>> = Some(Vec::with_capacity(
-        &heap,
-        HEAP.saturating_sub(room),
-    )?);
-    let mut store = Store::new(&heap, Settings::open(&heap));
-    let mut written = 0;
-    let mut counted = 0;
-    for (text, written_after, counted_after) in LINES {
-        let line = read_line(text, Precision::Nanoseconds, Time::least())?;
-        if let Err(fault) = store.write(&line) {
-            assert!(rt; taken.is_some(), "refused with room: {text}");
-            assert!(rt; fault == WriteFault::OutOfMemory, "another fault: {text}");
-            assert_eq!(rt; store.accepted(), written, "{text}");
-            assert_eq!(rt; count(&store)?, counted, "{text}");
-            taken = None;
-            assert!(rt; store.write(&line).is_ok(), "again: {text}");
-        }
-        written = written_after;
-        counted = counted_after;
-        assert_eq!(rt; store.accepted(), written, "{text}");
-        assert_eq!(rt; count(&store)?, counted, "{text}");
+fn counts<A: Allocator + Copy>(store: &Store<A>) -> Option<[u64; 4]> {
+    let end = Time::new(1_000)?;
+    let count = |measurement, field| store.count(measurement, field, Time::least(), end);
+    Some([
+        count("m", "f"),
+        count("m", "g"),
+        count("n", "f"),
+        count("n", "g"),
+    ])
+}
+
+fn write_told<A: Allocator + Copy>(store: &mut Store<A>, line: &Line<'_, A>) -> Written {
+    let result = store.write(line);
+    Written {
+        result,
+        accepted: store.accepted(),
+        counts: counts(store),
     }
-    Ok(taken.is_none())
+}
+
+/// Takes all that is left of a heap, in its least blocks.
+fn rest_of(alloc: Global, heap: &LocalHeap) -> Result<Vec<Vec<u8, &LocalHeap>>, AllocError> {
+    let mut blocks = Vec::new(alloc);
+    for _ in 0..HEAP / 16 {
+        let Ok(block) = Vec::with_capacity(heap, 16) else {
+            break;
+        };
+        blocks.push(block)?;
+    }
+    Ok(blocks)
+}
+
+/// Writes a line while so few blocks of the heap are left, and again with all of them.
+fn write_twice<'a>(
+    alloc: Global,
+    heap: &'a LocalHeap,
+    store: &mut Store<&'a LocalHeap>,
+    line: &Line<'_, &'a LocalHeap>,
+    left: usize,
+) -> Result<(Written, Written), AllocError> {
+    let mut blocks = rest_of(alloc, heap)?;
+    blocks.truncate(blocks.len().saturating_sub(left));
+    let short = write_told(store, line);
+    drop(blocks);
+    Ok((short, write_told(store, line)))
+}
+
+fn read<'a>(heap: &'a LocalHeap, text: &'a str) -> Result<Line<'a, &'a LocalHeap>, Fail> {
+    Ok(read_line(heap, text, Precision::Nanoseconds, Time::least())?.ok_or("no line")?)
+}
+
+fn with_a_point(heap: &LocalHeap) -> Result<Store<&LocalHeap>, Fail> {
+    let mut store = Store::new(heap, Settings::open(heap));
+    store
+        .write(&read(heap, "m f=3i 5")?)
+        .map_err(|_| "no memory at first")?;
+    Ok(store)
+}
+
+/// The same on a new store that has a point.
+fn written_within(alloc: Global, text: &str, left: usize) -> Result<(Written, Written), Fail> {
+    let heap = LocalHeap::new(alloc, HEAP)?;
+    let mut store = with_a_point(&heap)?;
+    let line = read(&heap, text)?;
+    Ok(write_twice(alloc, &heap, &mut store, &line, left)?)
 }
 
 #[test]
 fn each_growth_is_refused_in_turn(rt: HostRuntime) -> Result<(), Fail> {
-    let mut enough = None;
-    for turn in 0..HEAP / 16 {
-        if !refused_within(&rt, rt.alloc(), turn * 16)? {
-            enough = Some(turn);
-            break;
+    for (text, accepted, then) in LINES {
+        // one more block each time, until the write finds its memory
+        for left in 0..HEAP / 16 {
+            let (short, again) = written_within(rt.alloc(), text, left)?;
+            if short.result.is_ok() {
+                assert!(rt; left > 7, "{text} had {left} blocks");
+                break;
+            }
+            assert_eq!(rt; short.result, Err(WriteFault::OutOfMemory), "{text}");
+            assert_eq!(rt; short.accepted, 1, "{text}");
+            assert_eq!(rt; short.counts, Some([1, 0, 0, 0]), "{text}");
+            assert_eq!(rt; again.result, Ok(()), "{text} again");
+            assert_eq!(rt; again.accepted, accepted, "{text} again");
+            assert_eq!(rt; again.counts, Some(then), "{text} again");
         }
     }
-    let refusals = enough.ok_or("never enough")?;
-    assert!(rt; refusals > 6, "only {refusals} refusals");
     Ok(())
 }

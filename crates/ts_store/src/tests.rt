@@ -1,5 +1,6 @@
-//! Lines are written and counted.
+//! Lines are written and counted, in any order.
 use super::*;
+use std::alloc::Allocator;
 use std::test::Fail;
 use ts_core::{Settings, Time};
 use ts_line::{Precision, read_line};
@@ -42,6 +43,51 @@ fn the_newer_value_counts_once(rt: HostRuntime) -> Result<(), Fail> {
         );
     }
     assert_eq!(rt; store.count("m", "f", Time::least(), greatest), 4);
+    Ok(())
+}
+
+// How many points the fields f and g of the measurements m and n have, before the time 100.
+fn counts<A: Allocator + Copy>(store: &Store<A>) -> Option<[u64; 4]> {
+    let to = Time::new(100)?;
+    let count = |measurement, field| store.count(measurement, field, Time::least(), to);
+    Some([
+        count("m", "f"),
+        count("m", "g"),
+        count("n", "f"),
+        count("n", "g"),
+    ])
+}
+
+#[test]
+fn the_order_of_writes_changes_no_count(rt: HostRuntime) -> Result<(), Fail> {
+    let now = Time::new(7).ok_or("7 is valid")?;
+    let lines = [
+        "m,a=1,b=2 f=1i,g=2i 5",
+        "m,b=2,a=1 g=3i,f=4i 5",
+        "m,a=1 f=5i 5",
+        "m f=6i,g=7i,f=8i 9",
+        "n,a=1 f=1i",
+        "m,a=1,b=2 g=9i -3",
+        "n,a=1 g=2i,f=2i 7",
+    ];
+    for start in 0..7usize {
+        for step in 1..7usize {
+            let mut store = Store::new(rt.alloc(), Settings::open(rt.alloc()));
+            for i in 0..7usize {
+                let text = lines[(start + step * i) % 7];
+                let line = read_line(rt.alloc(), text, Precision::Nanoseconds, now)?.ok_or(
+                    "a line",
+                )?;
+                assert!(rt; store.write(&line).is_ok(), "writing {text}");
+            }
+            assert_eq!(rt; store.accepted(), 11);
+            assert_eq!(rt;
+                counts(&store).ok_or("counts")?,
+                [3, 3, 1, 1],
+                "{start} {step}"
+            );
+        }
+    }
     Ok(())
 }
 

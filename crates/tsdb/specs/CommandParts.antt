@@ -1,11 +1,12 @@
 -- A command as it was read, by its texts. (Own rule.)
-use Rattle.tsdb.specs.Commands.{Command, Nothing, At, Write, Count, CountFault, Unknown}
+use Rattle.tsdb.specs.Commands.{Command, Nothing, At, SetPrecision, Write, Count, CountFault, Unknown}
 use Rattle.tsdb.specs.declared.command.Command.{Command as ReadCommand}
 use Rattle.tsdb.specs.declared.command.Command.TheVariants as read
 
 abbrev pub command_view : ReadCommand → Command
 command_view read.Nothing = Nothing
 command_view (read.At t) = At t
+command_view (read.SetPrecision p) = SetPrecision p
 command_view (read.Write text) = Write text.now
 command_view (read.Count m f a b) = Count m.now f.now a b
 command_view read.CountFault = CountFault

@@ -1,8 +1,10 @@
 -- The commands of a script, by their lines. (Own rule.)
-use Rattle.std.specs.Prelude.{ℕ, ℤ, pos, ◌-ℤ◌, int_le, List, length, drop, Bool, not, ◌&&◌, ◌||◌, ◌==◌, nat_eq, if◌then◌else◌, Option, Some, None, codes}
+use Rattle.std.specs.Prelude.{ℕ, ℤ, pos, ◌-ℤ◌, int_le, length, drop, Bool, not, ◌&&◌, ◌||◌, ◌==◌, nat_eq, if◌then◌else◌, Option, Some, None, codes}
 use Rattle.std.specs.List.{list_all, starts_with, before_first, after_first}
 use Rattle.ts_core.specs.Facts.{Text}
 use Rattle.ts_line.specs.Numbers.{is_number}
+use Rattle.ts_line.specs.Units.{precision_of}
+use Rattle.ts_line.specs.declared.precision.Precision.{Precision}
 use Rattle.tsdb.specs.Numbers.{moment_in, moment_of}
 
 pub data Command : Type 0 where
@@ -10,6 +12,8 @@ pub data Command : Type 0 where
   Nothing : Command
   -- the moment is this
   At : ℤ → Command
+  -- timestamps count units of this precision
+  SetPrecision : Precision → Command
   -- a line to be written
   Write : Text → Command
   -- how many values of a measurement and a field stand from one time on and before another
@@ -34,6 +38,11 @@ is_comment line = starts_with nat_eq line (codes "#")
 unfoldable pub at_of : Option ℤ → Command
 at_of (Some t) = At t
 at_of None = Unknown
+
+-- precision P
+unfoldable pub precision_from : Option Precision → Command
+precision_from (Some p) = SetPrecision p
+precision_from None = Unknown
 
 -- a range has at most 2^63 - 1 nanoseconds
 unfoldable pub count_between : Text → Text → Option ℤ → Option ℤ → Command
@@ -62,6 +71,7 @@ unfoldable pub command_of : Text → Command
 command_of line =
     if is_blank line || is_comment line then Nothing
     else if starts_with nat_eq line (codes "at ") then at_of (moment_of (drop 3 line))
+    else if starts_with nat_eq line (codes "precision ") then precision_from (precision_of (drop 10 line))
     else if starts_with nat_eq line (codes "write ") then Write (drop 6 line)
     else if starts_with nat_eq line (codes "count ") then count_of (drop 6 line)
     else Unknown

@@ -1,40 +1,56 @@
 -- The machine that a script runs: what each line prints, and what it changes. (Own rule.)
-use Rattle.std.specs.Prelude.{◌≡◌, ℕ, ℤ, pos, ◌<◌, ◌≤◌, ◌^◌, List, [], ◌∷◌, length, codes}
+use Rattle.std.specs.Prelude.{◌≡◌, ℤ, pos, ◌<◌, ◌≤◌, ◌^◌, List, [], ◌∷◌, length, codes, Option, Some, None, Result, Ok, Err}
 use Rattle.std.specs.Fmt.{decimal}
 use Rattle.std.specs.Str.{IsUtf8}
 use Rattle.ts_core.specs.Facts.{Text}
-use Rattle.ts_core.specs.History.{Event, Line, History, accepted}
+use Rattle.ts_core.specs.History.{Line, History, accepted}
 use Rattle.ts_core.specs.Latest.{count_of}
 use Rattle.ts_line.specs.Parts.{Parts, facts_of}
-use Rattle.ts_line.specs.Says.{Says}
-use Rattle.tsdb.specs.Commands.{Command, Nothing, At, Write, Count, CountFault, Unknown, command_of}
+use Rattle.ts_line.specs.Units.{unit_of}
+use Rattle.ts_line.specs.Lines.{line_of}
+use Rattle.ts_line.specs.FaultText.{fault_text}
+use Rattle.ts_line.specs.declared.fault.LineFault.{LineFault}
+use Rattle.ts_line.specs.declared.precision.Precision.{Precision}
+use Rattle.ts_line.specs.declared.precision.Precision.TheVariants.{Nanoseconds}
+use Rattle.tsdb.specs.Commands.{Command, Nothing, At, SetPrecision, Write, Count, CountFault, Unknown, command_of}
 use Rattle.tsdb.specs.Replies.{line}
 
--- the moment that the script has set, in nanoseconds, and the lines that were accepted so far
+-- the moment that the script has set, in nanoseconds, the precision of its timestamps, and the lines that were
+-- accepted so far
 pub record State : Type 0 where
   pub moment : ℤ
+  pub precision : Precision
   pub history : History
 
 abbrev pub start : State
-start = record { moment = pos 0; history = [] }
+start = record { moment = pos 0; precision = Nanoseconds; history = [] }
 
 abbrev pub at_moment : ℤ → State → State
-at_moment t s = record { moment = t; history = s.history }
+at_moment t s = record { moment = t; precision = s.precision; history = s.history }
+
+abbrev pub in_precision : Precision → State → State
+in_precision p s = record { moment = s.moment; precision = p; history = s.history }
 
 -- the line's facts are accepted
 abbrev pub with_line : Parts → State → State
-with_line parts s = record { moment = s.moment; history = Line (facts_of parts) ∷ s.history }
+with_line parts s = record { moment = s.moment; precision = s.precision; history = Line (facts_of parts) ∷ s.history }
+
+-- what a line says here: its parts, nothing, or a fault; without a time it has the script's moment
+abbrev pub line_in : State → Text → Result (Option Parts) LineFault
+line_in s text = line_of (unit_of s.precision) s.moment text
 
 -- From `old` a command may print this and leave that.
 pub data Does (old : State) : Command → Text → State → Type 0 where
   skips : Does old Nothing [] old
   moves : (t : ℤ) → Does old (At t) [] (at_moment t old)
-  -- a line without a time has the script's moment
-  accepts : (text : Text) (parts : Parts) → Says (pos 1) old.moment text parts → length (accepted (with_line parts old).history) ≤ 2 ^ 62
+  sets : (p : Precision) → Does old (SetPrecision p) [] (in_precision p old)
+  accepts : (text : Text) (parts : Parts) → line_in old text ≡ Ok (Some parts) → length (accepted (with_line parts old).history) ≤ 2 ^ 62
       → Does old (Write text) (line (codes "ok")) (with_line parts old)
-  refuses_more : (text : Text) (parts : Parts) → Says (pos 1) old.moment text parts → 2 ^ 62 < length (accepted (with_line parts old).history)
+  refuses_more : (text : Text) (parts : Parts) → line_in old text ≡ Ok (Some parts) → 2 ^ 62 < length (accepted (with_line parts old).history)
       → Does old (Write text) (line (codes "fault 52")) old
-  refuses : (text : Text) → ((parts : Parts) → Says (pos 1) old.moment text parts → ⊥) → Does old (Write text) (line (codes "fault 95")) old
+  -- a comment or a blank line
+  passes_over : (text : Text) → line_in old text ≡ Ok None → Does old (Write text) (line (codes "none")) old
+  refuses : (text : Text) (fault : LineFault) → line_in old text ≡ Err fault → Does old (Write text) (line (fault_text fault)) old
   -- only a write may want memory that isn't there
   finds_no_memory : (text : Text) → Does old (Write text) (line (codes "fault memory")) old
   -- of all facts ever accepted, of each id the latest

@@ -1,11 +1,12 @@
 -- The answers to commands, by their texts. (Own rule; a fault is told by its number.)
-use Rattle.std.specs.Prelude.{ℕ, List, [], ◌∷◌, ◌++◌, codes}
+use Rattle.std.specs.Prelude.{[], ◌∷◌, ◌++◌, codes}
 use Rattle.std.specs.Fmt.{decimal}
 use Rattle.ts_core.specs.Facts.{Text}
+use Rattle.ts_line.specs.FaultText.{fault_text}
 use Rattle.ts_store.specs.declared.fault.WriteFault.{WriteFault}
 use Rattle.ts_store.specs.declared.fault.WriteFault.TheVariants as write
 use Rattle.tsdb.specs.declared.reply.Reply.{Reply}
-use Rattle.tsdb.specs.declared.reply.Reply.TheVariants.{Nothing, Done, Count, Unknown, BadRange, TooManyFacts, OutOfMemory}
+use Rattle.tsdb.specs.declared.reply.Reply.TheVariants.{Nothing, Done, NoLine, BadLine, Count, Unknown, BadRange, TooManyFacts, OutOfMemory}
 
 -- a text with the LF that ends its line
 abbrev pub line : Text → Text
@@ -14,6 +15,8 @@ line text = text ++ 10 ∷ []
 abbrev pub text_of : Reply → Text
 text_of Nothing = []
 text_of Done = line (codes "ok")
+text_of NoLine = line (codes "none")
+text_of (BadLine fault) = line (fault_text fault)
 text_of (Count n) = line (decimal n)
 text_of Unknown = line (codes "fault 95")
 text_of BadRange = line (codes "fault 74 at 0")

@@ -1,18 +1,21 @@
 -- A machine that serves a script, and the state that it is in. (Own rule.)
-use Rattle.std.specs.Prelude.{◌≡◌, ℤ, List, ◌∷◌, Option, Some}
+use Rattle.std.specs.Prelude.{◌≡◌, ℤ, ◌∷◌, Option, Some}
 use Rattle.ts_core.specs.Facts.{Text}
 use Rattle.ts_core.specs.Settings.{open_settings}
 use Rattle.ts_core.specs.Kept.{Kept, StandsFor}
+use Rattle.ts_line.specs.declared.precision.Precision.{Precision}
 use Rattle.tsdb.specs.Lines.{lines_of}
 use Rattle.tsdb.specs.Commands.{Command}
 use Rattle.tsdb.specs.Machine.{State, Does, Step}
 
 pub record Serving : Type 0 where
   pub moment : ℤ
+  pub precision : Precision
   pub kept : Kept
 
 pub record IsIn (s : State) (m : Serving) : Type 0 where
   pub moment : m.moment ≡ s.moment
+  pub precision : m.precision ≡ s.precision
   pub stands : StandsFor open_settings s.history m.kept
 
 -- from this state a machine that did the command, or was given the line, is in a state that it may leave

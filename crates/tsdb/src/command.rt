@@ -1,12 +1,14 @@
 //! The commands of a script and how they are read.
 ghost use Rattle.std.specs.Prelude.{◌≡◌, length, MatchOption, drop, true, false, nat_eq, ◌||◌};
 ghost use Rattle.std.specs.List.{starts_with};
-ghost use Rattle.tsdb.specs.Commands.{is_blank, is_comment, word, after_word, count_of, at_of, command_of, count_between};
+ghost use Rattle.tsdb.specs.Commands.{is_blank, is_comment, word, after_word, count_of, at_of, precision_from, command_of, count_between};
+ghost use Rattle.ts_line.specs.Units.{precision_of};
 ghost use Rattle.tsdb.specs.Numbers.{moment_of};
 ghost use Rattle.tsdb.specs.CommandParts.{command_view};
 
 use crate::number::{Unit, is_number, moment_in, moment_of};
 use ts_core::Time;
+use ts_line::Precision;
 
 /// What a line asks for.
 #[derive(Clone, Copy, Drop)]
@@ -15,6 +17,8 @@ pub enum Command<'a> {
     Nothing,
     /// To have this moment from now on.
     At(Time),
+    /// To take timestamps in units of this precision from now on.
+    SetPrecision(Precision),
     /// To write this line.
     Write(&'a str),
     /// To count the values of a measurement and a field from one time on and before another.
@@ -72,6 +76,16 @@ fn at(text: &str) -> Command<'_>
     }
 }
 
+#[tactic(auto, unfolding(crate::specs::Commands::precision_from))]
+fn precision(text: &str) -> Command<'_>
+    ensures { command_view result ≡ precision_from (precision_of text.now) }
+{
+    match Precision::named(text) {
+        Some(precision) => Command::SetPrecision(precision),
+        None => Command::Unknown,
+    }
+}
+
 /// The count over a range, where both times are valid and it isn't too long.
 #[tactic(auto, unfolding(crate::specs::Commands::count_between))]
 fn count_between<'a>(
@@ -125,6 +139,9 @@ impl<'a> Command<'a> {
         }
         if let Some(rest) = rest_behind(line, "at ") {
             return at(rest);
+        }
+        if let Some(rest) = rest_behind(line, "precision ") {
+            return precision(rest);
         }
         if let Some(rest) = rest_behind(line, "write ") {
             return Command::Write(rest);

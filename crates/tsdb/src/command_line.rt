@@ -3,6 +3,7 @@ use clap::error::ErrorKind;
 use clap::{ArgMatches, Command, Error};
 use std::alloc::{AllocError, Global};
 use std::env;
+use std::io;
 use std::rt::Env;
 
 const VERSION: &str = "0.1.0";
@@ -14,8 +15,10 @@ Scripts have one command a line; blank lines and lines that begin with # are pas
 
   at N[UNIT]     sets the moment, at first 0. UNIT is ns, u, µ, ms, s, m, h, d or w; without
                  one N is in nanoseconds of the Unix epoch.
-  write LINE     accepts a point, `M F=Vi` or `M F=Vi T`: measurement M, field F, integer V,
-                 time T in nanoseconds. Without T it has the moment. Prints ok.
+  precision P    sets the unit of timestamps, at first ns: ns, n, u, ms, s, m or h.
+  write LINE     accepts a line of line protocol, `M[,TAG=VALUE..] F=Vi[,F=Vi..] [T]`: measurement M,
+                 fields F with integers V, time T. Without T it has the moment. Prints ok; none
+                 for a comment or a blank line; a fault with its place, and then nothing is kept.
   count M F A B  prints how many points field F of measurement M has from time A on and before
                  time B, in nanoseconds. A point that was written again counts once.
 
@@ -59,9 +62,13 @@ fn parse<'a>(alloc: Global, words: &'a [String]) -> Result<ArgMatches<'a>, Error
 
 /// Whether the command line asks for a replay. Where it doesn't, it is answered here.
 pub fn asks_for_replay(rt: &(impl Env + AllocGlobal + Print + Eprint)) -> Result<(), Told> {
-    let Ok(args) = env::args(rt) else {
-        let _ = eprintln!(rt; "tsdb: the command line can't be read as text");
-        return Err(Told::Wrong);
+    let args = match env::args(rt) {
+        Ok(args) => args,
+        Err(error) if error.kind() == io::ErrorKind::OutOfMemory => return Err(Told::OutOfMemory),
+        Err(_) => {
+            let _ = eprintln!(rt; "tsdb: the command line can't be read as text");
+            return Err(Told::Wrong);
+        }
     };
     let words: Vec<String> = match args.collect(rt.alloc()) {
         Ok(words) => words,

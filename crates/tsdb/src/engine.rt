@@ -10,7 +10,7 @@ ghost use Rattle.tsdb.specs.RunFaults.{one_if_reader, one_if_writer};
 
 use crate::line_reader::{LineReader, Next};
 use crate::machine::Machine;
-use crate::reply::Reply;
+use crate::reply::{Reply, TEXT_ROOM};
 use crate::run_fault::RunFault;
 use std::alloc::Allocator;
 use std::io::{Read, Write};
@@ -29,7 +29,7 @@ fn answer<A: Allocator + Copy>(machine: &mut Machine<A>, next: Next, line: &[u8]
 }
 
 /// Answers each line of a script on the sink, from an empty store and the moment 0 on. All memory of
-/// reading is taken before the first line.
+/// reading, and of the texts of faults, is taken before the first line.
 pub fn run<R: Read, W: Write, A: Allocator + Copy>(
     alloc: A,
     source: &mut Source<R>,
@@ -48,12 +48,13 @@ pub fn run<R: Read, W: Write, A: Allocator + Copy>(
 {
     let mut machine = Machine::new(alloc);
     let mut lines = LineReader::new(alloc)?;
+    let mut text = String::with_capacity(alloc, TEXT_ROOM)?;
     loop {
         let next = lines.next(source)?;
         if let Next::End = next {
             return Ok(());
         }
         let reply = answer(&mut machine, next, lines.line());
-        reply.send(sink)?;
+        reply.send(&mut text, sink)?;
     }
 }

@@ -1,7 +1,8 @@
 //! The machine that a script runs.
-ghost use Rattle.std.specs.Prelude.{◌≡◌, ◌≤◌, ◌^◌, length};
+ghost use Rattle.std.specs.Prelude.{◌≡◌, ◌≤◌, ◌^◌, length, Ok, Some};
+ghost use Rattle.ts_core.specs.Facts.{Text};
 ghost use Rattle.tsdb.specs.CommandParts.{command_view};
-ghost use Rattle.tsdb.specs.Machine.{State, start};
+ghost use Rattle.tsdb.specs.Machine.{State, start, line_in};
 ghost use Rattle.tsdb.specs.Commands.{Write as WriteCommand};
 ghost use Rattle.tsdb.specs.Replies.{text_of, refusal_of};
 ghost use Rattle.tsdb.specs.Serving.{IsIn, Did, Stepped};
@@ -12,13 +13,15 @@ use std::alloc::Allocator;
 use std::marker::Model;
 use std::str;
 use ts_core::{Settings, Time};
-use ts_line::{Precision, read_line};
+use ts_line::{Line, Precision, ReadLineError, read_line};
 use ts_store::{Store, WriteFault};
 
-/// The moment that a script has set, and its store.
+/// The moment and the precision that a script has set, and its store.
 #[derive(Drop)]
 pub struct Machine<A: Allocator> {
+    alloc: A,
     moment: Time,
+    precision: Precision,
     store: Store<A>,
 }
 
@@ -27,16 +30,18 @@ impl<A: Allocator> Model for Machine<A> {
 
     ghost Value = { Serving };
 
-    ghost view = { λ m. record { moment = m.moment; kept = m.store } };
+    ghost view = { λ m. record { moment = m.moment; precision = m.precision; kept = m.store } };
 }
 
 impl<A: Allocator + Copy> Machine<A> {
-    /// A machine with an empty store, at the moment 0.
+    /// A machine with an empty store, at the moment 0, with timestamps in nanoseconds.
     pub fn new(alloc: A) -> Machine<A>
         ensures { IsIn start result }
     {
         Machine {
+            alloc,
             moment: Time::new(0).unwrap(),
+            precision: Precision::Nanoseconds,
             store: Store::new(alloc, Settings::open(alloc)),
         }
     }
@@ -62,6 +67,10 @@ impl<A: Allocator + Copy> Machine<A> {
                 self.moment = moment;
                 Reply::Nothing
             }
+            Command::SetPrecision(precision) => {
+                self.precision = precision;
+                Reply::Nothing
+            }
             Command::Write(line) => self.write(line),
             Command::Count {
                 measurement,
@@ -74,14 +83,23 @@ impl<A: Allocator + Copy> Machine<A> {
         }
     }
 
-    /// Writes a line to the store.
+    /// Reads a line and writes it to the store.
     fn write(&mut self, text: &str) -> Reply
         ensures { (s : State) → IsIn s self.old → Did (WriteCommand text.now) s (text_of result) self.new }
     {
-        let Ok(line) = read_line(text, Precision::Nanoseconds, self.moment) else {
-            return Reply::Unknown;
-        };
-        match self.store.write(&line) {
+        match read_line(self.alloc, text, self.precision, self.moment) {
+            Ok(Some(line)) => self.accept(&line),
+            Ok(None) => Reply::NoLine,
+            Err(ReadLineError::Fault(fault)) => Reply::BadLine(fault),
+            Err(ReadLineError::OutOfMemory) => Reply::OutOfMemory,
+        }
+    }
+
+    /// Writes a line to the store.
+    fn accept(&mut self, line: &Line<'_, A>) -> Reply
+        ensures { (s : State) (text : Text) → IsIn s self.old → line_in s text ≡ Ok (Some line.now) → Did (WriteCommand text) s (text_of result) self.new }
+    {
+        match self.store.write(line) {
             Ok(()) => Reply::Done,
             Err(fault) => refusal_of(fault),
         }

@@ -1,13 +1,16 @@
 //! What a line of a script prints.
-ghost use Rattle.std.specs.Prelude.{◌≡◌, ◌+◌, OnOk, OnErr};
+ghost use Rattle.std.specs.Prelude.{◌≡◌, ◌+◌, ◌≤◌, IsOk, OnOk, OnErr, string_bytes, string_capacity};
 ghost use Rattle.std.specs.Fmt.{decimal};
 ghost use Rattle.std.specs.Io.KnownBytes.{Appends};
 ghost use Rattle.ts_core.specs.Devices.{AppendsFront, one_if_err};
+ghost use Rattle.ts_line.specs.FaultText.{fault_text};
 ghost use Rattle.tsdb.specs.Replies.{line, text_of};
 
 use itoa::write_digits;
+use std::alloc::{AllocError, Allocator};
 use std::io::Write;
 use ts_core::{Refused, Sink};
+use ts_line::LineFault;
 
 /// The answer to a line.
 #[derive(Clone, Copy, Debug, Drop)]
@@ -16,9 +19,13 @@ pub enum Reply {
     Nothing,
     /// A line was accepted.
     Done,
+    /// The line was a comment or blank.
+    NoLine,
+    /// The line is at fault (numbers 11 to 21).
+    BadLine(LineFault),
     /// So many values there are.
     Count(u64),
-    /// It is no command, or a line that isn't read (number 95).
+    /// It is no command (number 95).
     Unknown,
     /// A time isn't valid, or a range is too long (number 74).
     BadRange,
@@ -28,9 +35,19 @@ pub enum Reply {
     OutOfMemory,
 }
 
+/// How much room a reply needs for the text of a fault.
+pub const TEXT_ROOM: usize = 33;
+
 impl Reply {
-    /// Writes it, with its LF. After a refusal a beginning of it went out.
-    pub fn send<W: Write>(self, sink: &mut Sink<W>) -> Result<(), Refused>
+    /// Writes it, with its LF. After a refusal a beginning of it went out. The text is where a fault's is
+    /// made: its room is there before, so that no memory is wanted.
+    pub fn send<W: Write, A: Allocator>(
+        self,
+        text: &mut String<A>,
+        sink: &mut Sink<W>,
+    ) -> Result<(), Refused>
+        requires { TEXT_ROOM ≤ string_capacity text.old }
+        ensures room { TEXT_ROOM ≤ string_capacity text.new }
         ensures ok { OnOk result (Appends sink.old.contents sink.new.contents (text_of self)) }
         ensures err { OnErr result (AppendsFront sink.old.contents sink.new.contents (text_of self)) }
         ensures failures { sink.new.failures ≡ sink.old.failures + one_if_err result }
@@ -38,6 +55,8 @@ impl Reply {
         match self {
             Reply::Nothing => sink.put(b""),
             Reply::Done => sink.put(b"ok\n"),
+            Reply::NoLine => sink.put(b"none\n"),
+            Reply::BadLine(fault) => send_fault(text, sink, fault),
             Reply::Count(count) => send_count(sink, count),
             Reply::Unknown => sink.put(b"fault 95\n"),
             Reply::BadRange => sink.put(b"fault 74 at 0\n"),
@@ -45,6 +64,36 @@ impl Reply {
             Reply::OutOfMemory => sink.put(b"fault memory\n"),
         }
     }
+}
+
+/// Writes the text of a fault with an LF, in one piece.
+fn send_fault<W: Write, A: Allocator>(
+    text: &mut String<A>,
+    sink: &mut Sink<W>,
+    fault: LineFault,
+) -> Result<(), Refused>
+    requires { TEXT_ROOM ≤ string_capacity text.old }
+    ensures room { TEXT_ROOM ≤ string_capacity text.new }
+    ensures ok { OnOk result (Appends sink.old.contents sink.new.contents (line (fault_text fault))) }
+    ensures err { OnErr result (AppendsFront sink.old.contents sink.new.contents (line (fault_text fault))) }
+    ensures failures { sink.new.failures ≡ sink.old.failures + one_if_err result }
+{
+    match fault_line(text, fault) {
+        Ok(()) => sink.put(text.as_bytes()),
+        Err(_) => unreachable!(),
+    }
+}
+
+/// Makes the text of a fault with an LF, in place of what the text was.
+fn fault_line<A: Allocator>(text: &mut String<A>, fault: LineFault) -> Result<(), AllocError>
+    requires { TEXT_ROOM ≤ string_capacity text.old }
+    ensures room { TEXT_ROOM ≤ string_capacity text.new }
+    ensures text { OnOk result (string_bytes text.new ≡ line (fault_text fault)) }
+    ensures done { IsOk result }
+{
+    text.clear();
+    fault.text_to(text)?;
+    text.push_str("\n")
 }
 
 /// Writes a number with an LF, in one piece.

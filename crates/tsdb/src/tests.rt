@@ -102,7 +102,7 @@ fn scripts_are_answered(rt: HostRuntime) -> Result<(), Fail> {
             b"fault 95\nfault 95\nfault 95\n".as_slice(),
         ),
         (
-            b"write\nat\ncount\nwrite \nat \ncount ".as_slice(),
+            b"write\nat\ncount\nprecision\nat \ncount ".as_slice(),
             b"fault 95\nfault 95\nfault 95\nfault 95\nfault 95\nfault 95\n".as_slice(),
         ),
         (
@@ -152,6 +152,75 @@ fn scripts_are_answered(rt: HostRuntime) -> Result<(), Fail> {
     ] {
         let output = answers(rt.alloc(), script)?;
         assert_eq!(rt; output.as_slice(), printed);
+    }
+    Ok(())
+}
+
+// A script of raw text.
+fn prints(alloc: Global, script: &str, printed: &str) -> Result<bool, AllocError> {
+    let output = answers(alloc, script.as_bytes())?;
+    Ok(output.as_slice() == printed.as_bytes())
+}
+
+#[test]
+fn lines_are_written_or_at_fault(rt: HostRuntime) -> Result<(), Fail> {
+    // a script, and what it prints
+    for (script, printed) in [
+        ("write m,=1 f=1i", "fault 12 at 2\n"),
+        ("write m,a=1, f=1i", "fault 12 at 6\n"),
+        ("write m,time=1 f=1i", "fault 21 at 2\n"),
+        ("write m f=\"a,b c\"", "fault 16 at 2\n"),
+        ("write m f=\"a\\\\\"", "fault 16 at 2\n"),
+        ("write m f=1i -9223372036854775807", "fault 19 at 7\n"),
+        ("write m\\\\ x a\\=b=1i 1", "ok\n"),
+        (
+            "write  m  f=1i,f=2i  3 \ncount m f 3 4",
+            "ok\n1\n",
+        ),
+        (
+            "precision h\nwrite m f=1i 2562047\nwrite m f=1i 2562048\ncount m f 9223369200000000000 9223369200000000001",
+            "ok\nfault 19 at 7\n1\n",
+        ),
+        (
+            "write a\\,b,t\\ x=1 f=-9223372036854775808i -9223372036854775806\ncount a,b f -9223372036854775806 0",
+            "ok\n1\n",
+        ),
+        ("write m f=9223372036854775808i 1", "fault 17 at 2\n"),
+        ("write m f=1.5 1", "fault 16 at 2\n"),
+        ("write m,a=1,a=2 f=1i", "fault 13 at 6\n"),
+        ("write m f=1i 1x", "fault 18 at 7\n"),
+        ("write m", "fault 14 at 1\n"),
+        ("write ,a=1 f=1i", "fault 11 at 0\n"),
+        ("write m f", "fault 15 at 2\n"),
+        ("write # x\nwrite \nwrite    \n", "none\nnone\nnone\n"),
+        (
+            "write m,b=1,a=2 f=1i 5\nwrite m,a=2,b=1 f=3i,g=4i 5\ncount m f 0 10\ncount m g 0 10",
+            "ok\nok\n1\n1\n",
+        ),
+    ] {
+        assert!(rt; prints(rt.alloc(), script, printed)?, "{script}");
+    }
+    Ok(())
+}
+
+#[test]
+fn precisions_are_the_listed_ones(rt: HostRuntime) -> Result<(), Fail> {
+    // a precision, and the nanoseconds of its unit; after any other word the last one stands
+    for (precision, count) in [
+        ("ns", "count m f 3 4"),
+        ("n", "count m f 3 4"),
+        ("u", "count m f 3000 3001"),
+        ("ms", "count m f 3000000 3000001"),
+        ("s", "count m f 3000000000 3000000001"),
+        ("m", "count m f 180000000000 180000000001"),
+        ("h", "count m f 10800000000000 10800000000001"),
+    ] {
+        let script = format!(in rt.alloc(); "precision {precision}\nprecision x\nwrite m f=1i 3\n{count}")?;
+        assert!(rt; prints(rt.alloc(), script.as_str(), "fault 95\nok\n1\n")?, "{precision}");
+    }
+    for precision in ["\u{b5}", "d", "w", "NS", "", " s", "s ", "text"] {
+        let script = format!(in rt.alloc(); "precision {precision}")?;
+        assert!(rt; prints(rt.alloc(), script.as_str(), "fault 95\n")?, "{precision}");
     }
     Ok(())
 }

@@ -1,11 +1,12 @@
-use Rattle.std.proofs.Common.{◌≡◌, ◌+◌, ◌≤◌, ◌^◌}
+use Rattle.std.proofs.Common.{◌≡◌, ◌+◌, ◌≤◌, ◌^◌, string_capacity}
+use Rattle.tsdb.specs.declared.reply.TheConstants.{TEXT_ROOM}
 use Rattle.ts_core.specs.ReadingAhead.{EndIsEnd, bit, weight}
 use Rattle.tsdb.specs.LineReading.{to_come}
 use Rattle.tsdb.proofs.Progress.{Progress}
 use Rattle.tsdb.proofs.engine.run.Given as goal
 
-abbrev pub invariant-loop-lines : goal.invariant-loop-lines
-invariant-loop-lines g l = record {
+abbrev pub invariant-loop-text : goal.invariant-loop-text
+invariant-loop-text g l = record {
   progress : Progress l.initial.source.remaining (to_come l.lines l.source) l.initial.sink.contents l.sink.contents l.machine;
   end : EndIsEnd l.lines.ahead l.source;
   turns : l.source.turns ≡ l.initial.source.turns + l.lines.ahead.turns;
@@ -13,7 +14,8 @@ invariant-loop-lines g l = record {
   ends : l.source.ends ≡ l.initial.source.ends + bit l.lines.ahead.ended;
   reader : l.source.failures ≡ l.initial.source.failures;
   writer : l.sink.failures ≡ l.initial.sink.failures;
+  room : TEXT_ROOM ≤ string_capacity l.text;
 }
 
-abbrev pub decreases-loop-lines : goal.decreases-loop-lines
-decreases-loop-lines g l = weight l.lines.ahead
+abbrev pub decreases-loop-text : goal.decreases-loop-text
+decreases-loop-text g l = weight l.lines.ahead

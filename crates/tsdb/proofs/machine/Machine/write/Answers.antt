@@ -1,27 +1,28 @@
-use Rattle.std.proofs.Common.{sym, ap, subst, codes, Err, refl}
-use Rattle.ts_core.specs.Kept.{Kept}
+use Rattle.std.proofs.Common.{sym, subst, codes, refl, ap, ◌∙◌, Ok}
+use Rattle.ts_line.specs.FaultText.{fault_text}
 use Rattle.tsdb.specs.Commands.{Write}
 use Rattle.tsdb.specs.Replies.{line}
 use Rattle.tsdb.specs.Serving.{Serving, IsIn, Did}
-use Rattle.tsdb.proofs.MachineLemmas.{wrote, not_written, refused}
+use Rattle.tsdb.proofs.MachineLemmas.{was_said, was_no_line, refused, found_no_memory}
 use Rattle.tsdb.proofs.machine.Machine.write.Goals as goal
-use Rattle.tsdb.proofs.machine.Machine.write.Goals.{in-Ok-write, in-Err}
 
-pub returns-in_default : goal.returns-in_default
-returns-in_default g c = λ s i.
-    let m : Serving = record { moment = c.self.inside.moment; kept = c.self.inside.store } in
+pub returns-in-Ok-None : goal.returns-in-Ok-None
+returns-in-Ok-None g c = λ s i.
+    let m : Serving = record { moment = c.self.inside.moment; precision = c.self.inside.precision; kept = c.self.inside.store } in
     let before = subst (λ (k : Serving). IsIn s k) (sym c.self.view_is) i in
-    let did = refused c.args.text.now s m before (λ parts says. let e = c.in_default.ensures.only parts says in cc) in
-    subst (λ (k : Serving). Did (Write c.args.text.now) s (line (codes "fault 95")) k) c.self.view_is did
+    subst (λ (k : Serving). Did (Write c.args.text.now) s (line (codes "none")) k) c.self.view_is (was_no_line c.args.text.now s m before (c.in-Ok-None.ensures ∙ ap Ok c.in-Ok-None.field-0-is))
 
-pub returns : goal.returns
-returns g c = λ s i.
-    let m : Serving = record { moment = c.self.inside.moment; kept = c.self.inside.store } in
-    let m' : Serving = record { moment = c.self.inside.moment; kept = c.write.new.self } in
+pub returns-in-Err-Fault : goal.returns-in-Err-Fault
+returns-in-Err-Fault g c = λ s i.
+    let m : Serving = record { moment = c.self.inside.moment; precision = c.self.inside.precision; kept = c.self.inside.store } in
     let before = subst (λ (k : Serving). IsIn s k) (sym c.self.view_is) i in
-    let kept_as : Kept → Serving = λ k. record { moment = c.self.inside.moment; kept = k } in
-    elim c.match-write.branch [
-      | in-Ok-write w ↦ rw w.result-is (wrote c.args.text.now c.in-Ok.line s m m' before c.in-Ok.ensures.reads w.in-Ok-write.ensures.ok refl)
-      | in-Err w ↦ rw (w.result-is, w.refusal_of.ensures)
-          (not_written c.args.text.now c.in-Ok.line s m m' w.in-Err.fault before c.in-Ok.ensures.reads (λ e. w.in-Err.ensures.full.0 (ap Err e)) (ap kept_as w.in-Err.ensures.err))
-    ]
+    subst (λ (k : Serving). Did (Write c.args.text.now) s (line (fault_text c.in-Err-Fault.fault)) k) c.self.view_is (refused c.args.text.now c.in-Err-Fault.fault s m before (rw c.in-Err-Fault.field-0-is at c.in-Err-Fault.ensures))
+
+pub returns-in-Err-OutOfMemory : goal.returns-in-Err-OutOfMemory
+returns-in-Err-OutOfMemory g c = λ s i. found_no_memory c.args.text.now s c.args.self.now c.args.self.now i refl
+
+pub returns-in-Ok-Some : goal.returns-in-Ok-Some
+returns-in-Ok-Some g c = λ s i.
+    let m : Serving = record { moment = c.self.inside.moment; precision = c.self.inside.precision; kept = c.self.inside.store } in
+    let before = subst (λ (k : Serving). IsIn s k) (sym c.self.view_is) i in
+    c.accept.ensures s c.args.text.now i (was_said c.args.text.now c.in-Ok-Some.line s m before (c.in-Ok-Some.ensures ∙ ap Ok c.in-Ok-Some.field-0-is))

@@ -1,0 +1,37 @@
+-- One step back over the spaces at a line's end, and how its parts are read in turn.
+use Rattle.std.proofs.Common.{◌≡◌, ℕ, ℤ, zero, suc, ◌-◌, ◌<◌, false, eqb, ltb, cond, List, [], length, slice_index, Ok, Err, Some, refl, arith}
+use Rattle.ts_core.specs.Facts.{Text}
+use Rattle.ts_line.specs.declared.fault.LineFault.{LineFault}
+use Rattle.ts_line.specs.Parts.{Piece, Parts}
+use Rattle.ts_line.specs.Scan.{spaces_end}
+use Rattle.ts_line.specs.Tags.{tags_at}
+use Rattle.ts_line.specs.Fields.{fields_at}
+use Rattle.ts_line.specs.Lines.{is_bare_space, trimmed, content, measurement_at, time_at, parts_at, line_of}
+
+pub trimmed_step : (line : Text) (n : ℕ) → 0 < n → trimmed line n ≡ cond (is_bare_space line (n - 1)) (trimmed line (n - 1)) n
+trimmed_step line zero h = absurd (omega arith)
+trimmed_step line (suc n) h =
+    let e : suc n - 1 ≡ n = omega arith in
+    rw e refl
+
+-- ---- a line is read step by step
+
+pub parts_read : (unit now : ℤ) (line : Text) (start end end' end'' : ℕ) (m : Piece) (tags : List (Piece × Piece)) (fields : List (Piece × ℤ)) (time : ℤ)
+    → measurement_at line start ≡ Ok (m, end) → tags_at 65 [] line end ≡ Ok (tags, end') → eqb (spaces_end line end') (length line) ≡ false
+    → fields_at 256 [] line (spaces_end line end') ≡ Ok (fields, end'') → time_at unit now line end'' ≡ Ok time
+    → parts_at unit now line start ≡ Ok (record { measurement = m; tags = tags; fields = fields; time = time })
+unfolding parts_at
+parts_read unit now line start end end' end'' m tags fields time a b c d e = rw (a, b, c, d, e) refl
+
+pub time_fails : (unit now : ℤ) (line : Text) (start end end' end'' : ℕ) (m : Piece) (tags : List (Piece × Piece)) (fields : List (Piece × ℤ)) (f : LineFault)
+    → measurement_at line start ≡ Ok (m, end) → tags_at 65 [] line end ≡ Ok (tags, end') → eqb (spaces_end line end') (length line) ≡ false
+    → fields_at 256 [] line (spaces_end line end') ≡ Ok (fields, end'') → time_at unit now line end'' ≡ Err f
+    → parts_at unit now line start ≡ Err f
+unfolding parts_at
+time_fails unit now line start end end' end'' m tags fields f a b c d e = rw (a, b, c, d, e) refl
+
+pub line_read : (unit now : ℤ) (source : Text) (p : Parts) → ltb 65536 (length source) ≡ false → eqb (spaces_end (content source) 0) (length (content source)) ≡ false
+    → eqb (slice_index (content source) (spaces_end (content source) 0)) 35 ≡ false → parts_at unit now (content source) (spaces_end (content source) 0) ≡ Ok p
+    → line_of unit now source ≡ Ok (Some p)
+unfolding line_of
+line_read unit now source p a b c d = rw (a, b, c, d) refl

@@ -1,0 +1,62 @@
+-- One step of a scan.
+use Rattle.std.proofs.Common.{◌≡◌, ℕ, ◌+◌, ◌<◌, ◌≤◌, ◌-◌, ◌||◌, take, slice_range, length-drop, Bool, true, false, cond, eqb, [], ◌∷◌, ◌++◌, length, get_or, drop, ap, ◌∙◌, arith, refl}
+use Rattle.std.specs.List.{list_any}
+use Rattle.std.proofs.lemmas.List.{at_drop_more, at_drop_all, take_more, get_or-drop}
+use Rattle.std.proofs.lemmas.List.Folds.{list_any-append}
+use Rattle.std.proofs.lemmas.Bool.Decides.{nat_tests}
+use Rattle.ts_core.specs.Facts.{Text}
+use Rattle.ts_line.specs.declared.scan.Stops.{Stops}
+use Rattle.ts_line.specs.declared.scan.Stops.TheVariants.{Space, Comma, Equals, Plain}
+use Rattle.ts_line.specs.Scan.{is_backslash, ends, part_len, spaces}
+
+pub part_len_step : (stops : Stops) (before : ℕ) (line : Text) (i : ℕ) → i < length line
+    → part_len stops before (drop i line) ≡ cond (ends stops before (get_or line i 0)) 0 (part_len stops (get_or line i 0) (drop (i + 1) line) + 1)
+part_len_step stops before line i lt = at_drop_more (part_len stops before) line i 0 lt
+
+pub part_len_end : (stops : Stops) (before : ℕ) (line : Text) (i : ℕ) → length line ≤ i → part_len stops before (drop i line) ≡ 0
+part_len_end stops before line i le = at_drop_all (part_len stops before) line i le
+
+pub spaces_step : (line : Text) (i : ℕ) → i < length line
+    → spaces (drop i line) ≡ cond (eqb (get_or line i 0) 32) (spaces (drop (i + 1) line) + 1) 0
+spaces_step line i lt = at_drop_more spaces line i 0 lt
+
+pub spaces_past : (line : Text) (i : ℕ) → length line ≤ i → spaces (drop i line) ≡ 0
+spaces_past line i le = at_drop_all spaces line i le
+
+stop_space : (before byte : ℕ) → ends Space before byte ≡ true → byte < 128
+stop_space before byte e = grind (arith, nat_tests)
+
+stop_comma : (before byte : ℕ) → ends Comma before byte ≡ true → byte < 128
+stop_comma before byte e = grind (arith, nat_tests)
+
+stop_equals : (before byte : ℕ) → ends Equals before byte ≡ true → byte < 128
+stop_equals before byte e = grind (arith, nat_tests)
+
+stop_plain : (byte : ℕ) → ends Plain 0 byte ≡ true → byte < 128
+stop_plain byte e = grind (arith, nat_tests)
+
+pub ends_ascii : (stops : Stops) (before byte : ℕ) → ends stops before byte ≡ true → byte < 128
+ends_ascii Space before byte e = stop_space before byte e
+ends_ascii Comma before byte e = stop_comma before byte e
+ends_ascii Equals before byte e = stop_equals before byte e
+ends_ascii Plain before byte e = stop_plain byte e
+
+or_false : (b : Bool) → (b || false) ≡ b
+or_false true = refl
+or_false false = refl
+
+-- one more byte of a part
+pub slice_step : (line : Text) (from i : ℕ) → from ≤ i → i < length line → slice_range line from (i + 1) ≡ slice_range line from i ++ get_or line i 0 ∷ []
+slice_step line from i le lt =
+    let n : (i + 1) - from ≡ (i - from) + 1 = omega arith in
+    let within : i - from < length (drop from line) = omega (arith, length-drop from line) in
+    let back : from + (i - from) ≡ i = omega arith in
+    let byte : get_or (drop from line) (i - from) 0 ≡ get_or line i 0 = get_or-drop from line (i - from) 0 ∙ ap (λ k. get_or line k 0) back in
+    ap (λ k. take k (drop from line)) n ∙ take_more (drop from line) (i - from) 0 within ∙ ap (λ b. take (i - from) (drop from line) ++ b ∷ []) byte
+
+pub backslash_step : (line : Text) (from i : ℕ) → from ≤ i → i < length line
+    → list_any is_backslash (slice_range line from (i + 1)) ≡ (list_any is_backslash (slice_range line from i) || is_backslash (get_or line i 0))
+backslash_step line from i le lt =
+    ap (list_any is_backslash) (slice_step line from i le lt)
+    ∙ list_any-append is_backslash (slice_range line from i) (get_or line i 0 ∷ [])
+    ∙ ap (λ b. list_any is_backslash (slice_range line from i) || b) (or_false (is_backslash (get_or line i 0)))

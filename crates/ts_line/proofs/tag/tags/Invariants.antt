@@ -1,0 +1,13 @@
+use Rattle.std.proofs.Common.{◌≡◌, ◌-◌, ◌≤◌, length, [], vec_len, IsCharBoundary}
+use Rattle.ts_line.specs.Tags.{tags_at}
+use Rattle.ts_line.proofs.tag.tags.Given as goal
+
+abbrev pub invariant-loop-alloc : goal.invariant-loop-alloc
+invariant-loop-alloc g l = record {
+  boundary : IsCharBoundary l.line l.at;
+  few : vec_len l.tags ≤ 64;
+  value : tags_at (65 - vec_len l.tags) l.tags.items l.line l.at ≡ tags_at 65 [] l.line l.start;
+}
+
+abbrev pub decreases-loop-alloc : goal.decreases-loop-alloc
+decreases-loop-alloc g l = length l.line - l.at

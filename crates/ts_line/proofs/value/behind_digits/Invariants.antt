@@ -1,0 +1,9 @@
+use Rattle.std.proofs.Common.{◌≡◌, false, length}
+use Rattle.ts_line.specs.Values.{behind_digits}
+use Rattle.ts_line.proofs.value.behind_digits.Given as goal
+
+abbrev pub invariant-loop-rest : goal.invariant-loop-rest
+invariant-loop-rest l = behind_digits l.some l.rest ≡ behind_digits false l.text
+
+abbrev pub decreases-loop-rest : goal.decreases-loop-rest
+decreases-loop-rest l = length l.rest

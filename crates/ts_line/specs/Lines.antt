@@ -1,0 +1,71 @@
+-- A whole line: no line at all, its parts, or its first fault with the place of its byte.
+-- (InfluxData 1.8, line protocol reference, syntax, comments, whitespace; own limits.)
+use Rattle.std.specs.Prelude.{ℕ, ℤ, zero, suc, ◌+◌, ◌-◌, ◌*ℤ◌, length, take, Bool, not, ◌&&◌, ◌||◌, ◌==◌, nat_lt, if◌then◌else◌, slice_index, slice_range, Option, Some, None, Result, Ok, Err, []}
+use Rattle.std.specs.Str.Parse.{signed_digits_value}
+use Rattle.ts_core.specs.Facts.{Text}
+use Rattle.ts_core.specs.Times.{least_time, greatest_time}
+use Rattle.ts_line.specs.declared.fault.LineFault.{LineFault}
+use Rattle.ts_line.specs.declared.fault.LineFault.TheVariants.{NoMeasurement, NoField, BadTimestamp, TimestampRange, OverLimit}
+use Rattle.ts_line.specs.declared.scan.Stops.TheVariants.{Space, Comma}
+use Rattle.ts_line.specs.Parts.{Piece, Parts}
+use Rattle.ts_line.specs.Numbers.{is_number, is_within}
+use Rattle.ts_line.specs.Scan.{is_backslash, end_of, spaces_end}
+use Rattle.ts_line.specs.Pieces.{piece_at}
+use Rattle.ts_line.specs.Steps.{◌>>=◌}
+use Rattle.ts_line.specs.Tags.{tags_at}
+use Rattle.ts_line.specs.Fields.{fields_at}
+
+-- a space that no backslash escapes
+unfoldable pub is_bare_space : Text → ℕ → Bool
+is_bare_space line at = slice_index line at == 32 && (at == 0 || not (is_backslash (slice_index line (at - 1))))
+
+-- how many of the first n bytes are left without the bare spaces at their end
+abbrev pub trimmed : Text → ℕ → ℕ
+trimmed line zero = 0
+trimmed line (suc n) = if is_bare_space line n then trimmed line n else suc n
+
+-- how many are left without one carriage return at the end
+abbrev pub without_return : Text → ℕ
+without_return line = if not (length line == 0) && slice_index line (length line - 1) == 13 then (length line - 1) else length line
+
+-- the bytes that are read
+unfoldable pub content : Text → Text
+content source = take (trimmed source (without_return source)) source
+
+-- the measurement, and its end; with the tags it has no more than 4,096 bytes
+unfoldable pub measurement_at : Text → ℕ → Result (Piece × ℕ) LineFault
+measurement_at line start =
+    if nat_lt (start + 4096) (end_of Space line start) then Err (OverLimit (start + 4096)) else
+    (if end_of Comma line start == start then Err (NoMeasurement start) else Ok (piece_at Comma line start (end_of Comma line start), end_of Comma line start))
+
+-- the time of so many units
+unfoldable pub time_of : ℤ → Text → Option ℤ
+time_of unit number = if is_within least_time greatest_time (signed_digits_value 10 number *ℤ unit) then Some (signed_digits_value 10 number *ℤ unit) else None
+
+abbrev pub time_by : ℕ → Option ℤ → Result ℤ LineFault
+time_by start None = Err (TimestampRange start)
+time_by start (Some t) = Ok t
+
+-- the time, or the moment at hand
+unfoldable pub time_at : ℤ → ℤ → Text → ℕ → Result ℤ LineFault
+time_at unit now line at =
+    let start = spaces_end line at in
+    let number = slice_range line start (length line) in
+    if start == length line then Ok now else (if is_number number then time_by start (time_of unit number) else Err (BadTimestamp start))
+
+-- the parts of a line from `start` on
+unfoldable pub parts_at : ℤ → ℤ → Text → ℕ → Result Parts LineFault
+parts_at unit now line start =
+    measurement_at line start >>= λ m.
+    tags_at 65 [] line m.1 >>= λ tags.
+    (if spaces_end line tags.1 == length line then Err (NoField tags.1) else fields_at 256 [] line (spaces_end line tags.1)) >>= λ fields.
+    time_at unit now line fields.1 >>= λ time.
+    Ok (record { measurement = m.0; tags = tags.0; fields = fields.0; time = time })
+
+-- a line without its line feed
+unfoldable pub line_of : ℤ → ℤ → Text → Result (Option Parts) LineFault
+line_of unit now source =
+    if nat_lt 65536 (length source) then Err (OverLimit 65536) else
+    (let line = content source in
+    let start = spaces_end line 0 in
+    if start == length line || slice_index line start == 35 then Ok None else (parts_at unit now line start >>= λ p. Ok (Some p)))

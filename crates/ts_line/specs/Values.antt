@@ -1,0 +1,88 @@
+-- The values of fields, told by their shape. (InfluxData 1.8, line protocol reference, data types and format; the store takes integers alone.)
+use Rattle.std.specs.Prelude.{ℕ, ℤ, ◌+◌, ◌-◌, [], ◌∷◌, length, take, drop, Bool, true, false, not, ◌&&◌, ◌||◌, ◌==◌, if◌then◌else◌, slice_index, slice_range, Option, Some, None, Result, Ok, Err, bytes_eq, codes}
+use Rattle.std.specs.Char.{is_ascii_digit}
+use Rattle.std.specs.List.{list_all}
+use Rattle.ts_core.specs.Facts.{Text}
+use Rattle.ts_line.specs.declared.fault.LineFault.{LineFault}
+use Rattle.ts_line.specs.declared.fault.LineFault.TheVariants.{BadField, FieldType, IntegerRange}
+use Rattle.ts_line.specs.declared.scan.Stops.TheVariants.{Plain}
+use Rattle.ts_line.specs.Numbers.{is_number, without_minus, whole_of}
+use Rattle.ts_line.specs.Scan.{end_of}
+use Rattle.ts_line.specs.Steps.{◌>>=◌}
+
+-- ---- shapes
+
+abbrev pub are_digits : Text → Bool
+are_digits text = not (length text == 0) && list_all is_ascii_digit text
+
+-- this text and one more byte
+abbrev pub ends_in : ℕ → (Text → Bool) → Text → Bool
+ends_in last is_front text = not (length text == 0) && slice_index text (length text - 1) == last && is_front (take (length text - 1) text)
+
+abbrev pub is_integer : Text → Bool
+is_integer = ends_in 105 is_number
+
+abbrev pub is_unsigned : Text → Bool
+is_unsigned = ends_in 117 are_digits
+
+unfoldable pub is_boolean : Text → Bool
+is_boolean text = bytes_eq text (codes "t") || bytes_eq text (codes "T") || bytes_eq text (codes "true") || bytes_eq text (codes "True") || bytes_eq text (codes "TRUE")
+    || bytes_eq text (codes "f") || bytes_eq text (codes "F") || bytes_eq text (codes "false") || bytes_eq text (codes "False") || bytes_eq text (codes "FALSE")
+
+-- what stands behind the digits that a text begins with, of which there is one or more
+abbrev pub behind_digits : Bool → Text → Option Text
+behind_digits some [] = if some then Some [] else None
+behind_digits some (b ∷ bs) = if is_ascii_digit b then behind_digits true bs else (if some then Some (b ∷ bs) else None)
+
+-- a point and digits, or nothing
+abbrev pub behind_fraction : Text → Option Text
+behind_fraction [] = Some []
+behind_fraction (b ∷ bs) = if b == 46 then behind_digits false bs else Some (b ∷ bs)
+
+abbrev pub without_sign : Text → Text
+without_sign [] = []
+without_sign (b ∷ bs) = if b == 43 || b == 45 then bs else (b ∷ bs)
+
+-- an `e` and digits, perhaps behind a sign, or nothing
+abbrev pub is_exponent : Text → Bool
+is_exponent [] = true
+is_exponent (b ∷ bs) = (b == 101 || b == 69) && are_digits (without_sign bs)
+
+abbrev pub then_is : Option Text → (Text → Bool) → Bool
+then_is None is_rest = false
+then_is (Some rest) is_rest = is_rest rest
+
+abbrev pub is_float : Text → Bool
+is_float text = then_is (behind_digits false (without_minus text)) (λ rest. then_is (behind_fraction rest) is_exponent)
+
+-- What stands behind a text in double quotes, from behind its first quote on. A backslash and a quote or a
+-- backslash directly behind it are passed over as a pair.
+abbrev pub behind_quotes : Bool → Text → Option Text
+behind_quotes escaped [] = None
+behind_quotes escaped (b ∷ bs) =
+    if escaped && (b == 34 || b == 92) then behind_quotes false bs else
+    (if b == 34 then Some bs else behind_quotes (b == 92) bs)
+
+-- a comma, a space or the end
+abbrev pub is_value_end : Text → Bool
+is_value_end [] = true
+is_value_end (b ∷ bs) = b == 44 || b == 32
+
+-- ---- values
+
+abbrev pub integer_by : ℕ → Option ℤ → Result ℤ LineFault
+integer_by start None = Err (IntegerRange start)
+integer_by start (Some n) = Ok n
+
+-- the value of a field that starts there; it is an integer, or a fault
+unfoldable pub value_of : ℕ → Text → Result ℤ LineFault
+value_of start text =
+    if is_integer text then integer_by start (whole_of (take (length text - 1) text)) else
+    (if is_unsigned text || is_boolean text || is_float text then Err (FieldType start) else Err (BadField start))
+
+-- the value that begins at `at`, and its end
+unfoldable pub value_at : ℕ → Text → ℕ → Result (ℤ × ℕ) LineFault
+value_at start line at =
+    if slice_index line at == 34
+    then (if then_is (behind_quotes false (drop (at + 1) line)) is_value_end then Err (FieldType start) else Err (BadField start))
+    else (value_of start (slice_range line at (end_of Plain line at)) >>= λ n. Ok (n, end_of Plain line at))

@@ -1,0 +1,91 @@
+//! The fields of a line.
+ghost use Rattle.std.specs.Prelude.{◌≡◌, ◌≤◌, ◌<◌, length, [], IfOk, IfSome, OnOk};
+ghost use Rattle.std.specs.Str.{IsCharBoundary};
+ghost use Rattle.ts_line.specs.Steps.{GivesIfRoom};
+ghost use Rattle.ts_line.specs.Fields.{next_field, place_from, with_field, fields_at};
+
+use crate::fault::{LineFault, ReadLineError};
+use crate::line::Field;
+use crate::part::part_at;
+use crate::scan::{Stops, after, byte_at, end_at};
+use crate::value::value_at;
+use std::alloc::{AllocError, Allocator};
+
+/// A line has no more fields than this.
+const FIELD_LIMIT: usize = 256;
+
+/// The field that begins at `start`, and its end.
+#[tactic(auto, unfolding(crate::specs::Fields::next_field))]
+fn next<'a, A: Allocator + Copy>(
+    alloc: A,
+    line: &'a str,
+    start: usize,
+) -> Result<(Field<'a, A>, usize), ReadLineError>
+    requires { IsCharBoundary line.now start }
+    ensures value { GivesIfRoom (λ x. x) result (next_field line.now start) }
+    ensures boundary { IfOk result (λ x. IsCharBoundary line.now x.1) }
+{
+    let key_end = end_at(line, start, Stops::Equals);
+    if key_end.at == start || byte_at(line, key_end.at) != b'=' {
+        return Err(ReadLineError::Fault(LineFault::BadField(start)));
+    }
+    let key = part_at(alloc, line, start, key_end, Stops::Equals)?;
+    if key.text() == "time" {
+        return Err(ReadLineError::Fault(LineFault::ReservedKey(start)));
+    }
+    let (value, end) = value_at(start, line, after(line, key_end.at))?;
+    Ok((Field::new(key, value), end))
+}
+
+/// The place of the first field of a name.
+fn place_of<A: Allocator>(fields: &[Field<'_, A>], name: &str) -> Option<usize>
+    ensures value { result ≡ place_from 0 name.now fields.now }
+    ensures bound { IfSome result (λ at. at < length fields.now) }
+{
+    for (at, field) in fields.iter().enumerate() {
+        if field.name().text() == name {
+            return Some(at);
+        }
+    }
+    None
+}
+
+/// Puts a field behind others, or its value in place of the one of its name.
+fn put<'a, A: Allocator>(
+    fields: &mut Vec<Field<'a, A>, A>,
+    field: Field<'a, A>,
+) -> Result<(), AllocError>
+    ensures { OnOk result (fields.new.items ≡ with_field fields.old.items field.entry) }
+{
+    match place_of(fields, field.name().text()) {
+        Some(at) => {
+            let older = &mut fields[at];
+            older.take_value(&field);
+        }
+        None => fields.push(field)?,
+    }
+    Ok(())
+}
+
+/// The fields from `start` on, with commas between them, and the end of the last.
+pub fn fields<'a, A: Allocator + Copy>(
+    alloc: A,
+    line: &'a str,
+    start: usize,
+) -> Result<(Vec<Field<'a, A>, A>, usize), ReadLineError>
+    requires { IsCharBoundary line.now start }
+    ensures value { GivesIfRoom (λ x. (x.0.items, x.1)) result (fields_at 256 [] line.now start) }
+    ensures boundary { IfOk result (λ x. IsCharBoundary line.now x.1) }
+{
+    let mut fields = Vec::new(alloc);
+    let mut at = start;
+    for _ in 0..FIELD_LIMIT {
+        let (field, end) = next(alloc, line, at)?;
+        put(&mut fields, field)?;
+        if byte_at(line, end) != b',' {
+            return Ok((fields, end));
+        }
+        at = after(line, end);
+    }
+    Err(ReadLineError::Fault(LineFault::OverLimit(at)))
+}

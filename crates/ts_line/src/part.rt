@@ -1,0 +1,79 @@
+//! Parts with the texts that they spell.
+ghost use Rattle.std.specs.Prelude.{◌≡◌, ◌≤◌, ◌<◌, ◌+◌, ◌&&◌, length, IfOk, slice_index, slice_range, drop, string_bytes};
+ghost use Rattle.std.specs.Cow.{cow_str_bytes};
+ghost use Rattle.std.specs.List.{list_any};
+ghost use Rattle.std.specs.Str.{IsCharBoundary};
+ghost use Rattle.ts_line.specs.Scan.{is_backslash};
+ghost use Rattle.ts_line.specs.Pieces.{begins_escapable, unescaped, piece_at};
+
+use crate::line::Part;
+use crate::scan::{End, Stops, after, is_stop};
+use std::alloc::{AllocError, Allocator};
+use std::borrow::CowStr;
+
+/// The part of a line from `start` to an end.
+pub fn part_at<'a, A: Allocator>(
+    alloc: A,
+    line: &'a str,
+    start: usize,
+    end: End,
+    stops: Stops,
+) -> Result<Part<'a, A>, AllocError>
+    requires ordered { start ≤ end.at }
+    requires first { IsCharBoundary line.now start }
+    requires last { IsCharBoundary line.now end.at }
+    requires plain { end.has_backslash ≡ list_any is_backslash (slice_range line.now start end.at) }
+    ensures { IfOk result (λ p. p ≡ piece_at stops line.now start end.at) }
+{
+    let raw = &line[start..end.at];
+    let text = spelled(alloc, raw, end.has_backslash, stops)?;
+    Ok(Part::new(start, raw, text))
+}
+
+/// The text that a part spells.
+#[tactic(auto, using(crate::proofs::PieceLemmas::plain_text))]
+fn spelled<'a, A: Allocator>(
+    alloc: A,
+    raw: &'a str,
+    has_backslash: bool,
+    stops: Stops,
+) -> Result<CowStr<'a, A>, AllocError>
+    requires { has_backslash ≡ list_any is_backslash raw.now }
+    ensures { IfOk result (λ t. cow_str_bytes t ≡ unescaped stops raw.now) }
+{
+    if !has_backslash {
+        return Ok(CowStr::Borrowed(raw));
+    }
+    Ok(CowStr::Owned(unescaped(alloc, raw, stops)?))
+}
+
+/// Whether a backslash stands there that escapes a byte.
+fn is_escape_at(bytes: &[u8], at: usize, stops: Stops) -> bool
+    requires { at < length bytes.now }
+    ensures { result ≡ (is_backslash (slice_index bytes.now at) && begins_escapable stops (drop (at + 1) bytes.now)) }
+{
+    match bytes.get(at + 1) {
+        Some(next) => bytes[at] == b'\\' && is_stop(stops, *next),
+        None => false,
+    }
+}
+
+/// A text without the backslashes that escape a byte.
+#[cold]
+fn unescaped<A: Allocator>(alloc: A, raw: &str, stops: Stops) -> Result<String<A>, AllocError>
+    ensures { IfOk result (λ s. string_bytes s ≡ unescaped stops raw.now) }
+{
+    let bytes = raw.as_bytes();
+    let mut text = String::new(alloc);
+    let mut from = 0;
+    let mut at = 0;
+    while at < bytes.len() {
+        if is_escape_at(bytes, at, stops) {
+            text.push_str(&raw[from..at])?;
+            from = after(raw, at);
+        }
+        at += 1;
+    }
+    text.push_str(&raw[from..])?;
+    Ok(text)
+}

@@ -1,0 +1,105 @@
+//! Where the parts of a line end.
+ghost use Rattle.std.specs.Prelude.{◌≡◌, ◌≤◌, ◌<◌, ◌+◌, length, slice_index, slice_range, false};
+ghost use Rattle.std.specs.List.{list_any};
+ghost use Rattle.std.specs.Str.{IsCharBoundary};
+ghost use Rattle.ts_line.specs.Scan.{is_backslash, is_stop, ends, end_of, spaces_end};
+
+/// Which bytes end a part.
+#[derive(Clone, Copy, Debug, PartialEq, Eq)]
+pub enum Stops {
+    /// A space that no backslash escapes.
+    Space,
+    /// A comma or a space that no backslash escapes.
+    Comma,
+    /// A comma, an equals sign or a space that no backslash escapes.
+    Equals,
+    /// A comma or a space.
+    Plain,
+}
+
+/// The end of a part, and whether a backslash may stand in the part.
+#[derive(Clone, Copy, Debug)]
+pub struct End {
+    pub at: usize,
+    pub has_backslash: bool,
+}
+
+/// Whether a byte is one of those that end a part.
+pub fn is_stop(stops: Stops, byte: u8) -> bool
+    ensures { result ≡ is_stop stops byte }
+{
+    match stops {
+        Stops::Space => byte == b' ',
+        Stops::Comma | Stops::Plain => byte == b' ' || byte == b',',
+        Stops::Equals => byte == b' ' || byte == b',' || byte == b'=',
+    }
+}
+
+/// Whether a part ends at a byte, behind another.
+fn is_end(stops: Stops, before: u8, byte: u8) -> bool
+    ensures { result ≡ ends stops before byte }
+{
+    is_stop(stops, byte) && (before != b'\\' || matches!(stops, Stops::Plain))
+}
+
+/// The end of the part that begins at `from`.
+#[tactic(auto, using(crate::proofs::ScanLemmas::part_len_step, crate::proofs::ScanLemmas::part_len_end, crate::proofs::ScanLemmas::ends_ascii), unfolding(crate::specs::Scan::end_of))]
+pub fn end_at(line: &str, from: usize, stops: Stops) -> End
+    requires { from ≤ length line.now }
+    ensures value { result.at ≡ end_of stops line.now from }
+    ensures from { from ≤ result.at }
+    ensures within { result.at ≤ length line.now }
+    ensures boundary { IsCharBoundary line.now result.at }
+    ensures plain { result.has_backslash ≡ list_any is_backslash (slice_range line.now from result.at) }
+{
+    let bytes = line.as_bytes();
+    let mut at = from;
+    let mut before = 0;
+    let mut has_backslash = false;
+    while at < bytes.len() {
+        let byte = bytes[at];
+        if is_end(stops, before, byte) {
+            break;
+        }
+        has_backslash |= byte == b'\\';
+        before = byte;
+        at += 1;
+    }
+    End { at, has_backslash }
+}
+
+/// The first place from `from` on that has no space.
+#[tactic(auto, using(crate::proofs::ScanLemmas::spaces_step, crate::proofs::ScanLemmas::spaces_past), unfolding(crate::specs::Scan::spaces_end))]
+pub fn after_spaces(line: &str, from: usize) -> usize
+    requires { IsCharBoundary line.now from }
+    ensures value { result ≡ spaces_end line.now from }
+    ensures from { from ≤ result }
+    ensures boundary { IsCharBoundary line.now result }
+{
+    let bytes = line.as_bytes();
+    let mut at = from;
+    while at < bytes.len() && bytes[at] == b' ' {
+        at = after(line, at);
+    }
+    at
+}
+
+/// The byte at a place, and 0 at the end.
+pub fn byte_at(line: &str, at: usize) -> u8
+    ensures { result ≡ slice_index line.now at }
+{
+    match line.as_bytes().get(at) {
+        Some(byte) => *byte,
+        None => 0,
+    }
+}
+
+/// The place after an ASCII character.
+pub fn after(line: &str, at: usize) -> usize
+    requires in_range { at < length line.now }
+    requires ascii { slice_index line.now at < 128 }
+    ensures value { result ≡ at + 1 }
+    ensures boundary { IsCharBoundary line.now result }
+{
+    at + 1
+}

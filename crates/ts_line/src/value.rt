@@ -1,0 +1,154 @@
+//! The values of fields, told by their shape.
+ghost use Rattle.std.specs.Prelude.{◌≡◌, ◌≤◌, ◌<◌, length, IfOk, drop, slice_index, option_map, if◌then◌else◌, false};
+ghost use Rattle.std.specs.Str.{IsCharBoundary};
+ghost use Rattle.ts_line.specs.Values.{is_unsigned, is_boolean, is_float, are_digits, behind_digits, behind_fraction, is_exponent, without_sign, behind_quotes, is_value_end, then_is, value_of, value_at};
+
+use crate::fault::LineFault;
+use crate::number::{after_minus, are_digits, is_number, whole};
+use crate::scan::{Stops, byte_at, end_at};
+
+fn is_unsigned(text: &[u8]) -> bool
+    ensures { result ≡ is_unsigned text.now }
+{
+    match text {
+        [digits @ .., b'u'] => are_digits(digits),
+        _ => false,
+    }
+}
+
+#[tactic(auto, unfolding(crate::specs::Values::is_boolean))]
+fn is_boolean(text: &str) -> bool
+    ensures { result ≡ is_boolean text.now }
+{
+    matches!(
+        text,
+        "t" | "T" | "true" | "True" | "TRUE" | "f" | "F" | "false" | "False" | "FALSE"
+    )
+}
+
+#[tactic(auto, using(crate::proofs::ValueLemmas::digits_step, crate::proofs::ValueLemmas::digits_end))]
+/// What stands behind the digits that a text begins with, of which there is one or more.
+fn behind_digits(text: &[u8]) -> Option<&[u8]>
+    ensures { option_map (λ rest. rest.now) result ≡ behind_digits false text.now }
+{
+    let mut rest = text;
+    let mut some = false;
+    while let [byte, others @ ..] = rest {
+        if !byte.is_ascii_digit() {
+            break;
+        }
+        rest = others;
+        some = true;
+    }
+    if some { Some(rest) } else { None }
+}
+
+fn behind_fraction(text: &[u8]) -> Option<&[u8]>
+    ensures { option_map (λ rest. rest.now) result ≡ behind_fraction text.now }
+{
+    match text {
+        [b'.', digits @ ..] => behind_digits(digits),
+        _ => Some(text),
+    }
+}
+
+fn after_sign(text: &[u8]) -> &[u8]
+    ensures { result.now ≡ without_sign text.now }
+{
+    match text {
+        [b'+' | b'-', digits @ ..] => digits,
+        _ => text,
+    }
+}
+
+fn is_exponent(text: &[u8]) -> bool
+    ensures { result ≡ is_exponent text.now }
+{
+    match text {
+        [] => true,
+        [b'e' | b'E', digits @ ..] => are_digits(after_sign(digits)),
+        _ => false,
+    }
+}
+
+fn is_float(text: &[u8]) -> bool
+    ensures { result ≡ is_float text.now }
+{
+    match behind_digits(after_minus(text)) {
+        Some(rest) => match behind_fraction(rest) {
+            Some(rest) => is_exponent(rest),
+            None => false,
+        },
+        None => false,
+    }
+}
+
+#[tactic(auto, using(crate::proofs::ValueLemmas::quotes_step, crate::proofs::ValueLemmas::quotes_end))]
+/// What stands behind a text in double quotes, from behind its first quote on.
+fn behind_quotes(text: &[u8]) -> Option<&[u8]>
+    ensures { option_map (λ rest. rest.now) result ≡ behind_quotes false text.now }
+{
+    let mut rest = text;
+    let mut escaped = false;
+    while let [byte, others @ ..] = rest {
+        rest = others;
+        if escaped && (*byte == b'"' || *byte == b'\\') {
+            escaped = false;
+        } else if *byte == b'"' {
+            return Some(rest);
+        } else {
+            escaped = *byte == b'\\';
+        }
+    }
+    None
+}
+
+fn is_value_end(text: &[u8]) -> bool
+    ensures { result ≡ is_value_end text.now }
+{
+    matches!(text, [] | [b',' | b' ', ..])
+}
+
+/// The value of a field that starts there.
+#[tactic(auto, unfolding(crate::specs::Values::value_of))]
+fn value_of(start: usize, text: &str) -> Result<i64, LineFault>
+    ensures { result ≡ value_of start text.now }
+{
+    let bytes = text.as_bytes();
+    if let [.., b'i'] = bytes {
+        let number = &text[..text.len() - 1];
+        if is_number(number.as_bytes()) {
+            return whole(number).ok_or(LineFault::IntegerRange(start));
+        }
+    }
+    if is_unsigned(bytes) || is_boolean(text) || is_float(bytes) {
+        return Err(LineFault::FieldType(start));
+    }
+    Err(LineFault::BadField(start))
+}
+
+/// The fault of a field whose value is a text in double quotes.
+#[cold]
+fn quoted(start: usize, text: &[u8]) -> LineFault
+    ensures { result ≡ (if then_is (behind_quotes false text.now) is_value_end then LineFault.FieldType start else LineFault.BadField start) }
+{
+    match behind_quotes(text) {
+        Some(rest) if is_value_end(rest) => LineFault::FieldType(start),
+        _ => LineFault::BadField(start),
+    }
+}
+
+/// The value that begins at `at`, of a field that starts there, and its end.
+#[tactic(auto, unfolding(crate::specs::Values::value_at))]
+pub fn value_at(start: usize, line: &str, at: usize) -> Result<(i64, usize), LineFault>
+    requires { IsCharBoundary line.now at }
+    ensures value { result ≡ value_at start line.now at }
+    ensures further { IfOk result (λ x. at ≤ x.1) }
+    ensures boundary { IfOk result (λ x. IsCharBoundary line.now x.1) }
+{
+    if byte_at(line, at) == b'"' {
+        return Err(quoted(start, &line.as_bytes()[at + 1..]));
+    }
+    let end = end_at(line, at, Stops::Plain).at;
+    Ok((value_of(start, &line[at..end])?, end))
+}
