@@ -1,5 +1,5 @@
 -- Fields that are spelled are read.
-use Rattle.std.proofs.Common.{◌≡◌, ℕ, ℤ, zero, suc, ◌+◌, ◌-◌, ◌<◌, ◌≤◌, Bool, true, false, not, cond, ◌&&◌, ◌||◌, eqb, List, [], ◌∷◌, ◌++◌, length, get_or, take, slice_range, slice_index, bytes_eq, codes, Ok, Some, None, refl, sym, ap, ◌∙◌, arith, append_assoc, append-nil, length-append, FitsSigned, w64, pos, neg_ℤ}
+use Rattle.std.proofs.Common.{◌≡◌, ℕ, ℤ, zero, suc, ◌+◌, ◌-◌, ◌≤◌, Bool, true, false, not, ◌||◌, eqb, List, [], ◌∷◌, ◌++◌, length, get_or, take, slice_range, slice_index, bytes_eq, codes, Ok, Some, None, refl, sym, ap, ◌∙◌, arith, append_assoc, length-append, FitsSigned, w64, pos, neg_ℤ}
 use Rattle.std.specs.Char.{is_ascii_digit}
 use Rattle.std.specs.List.{list_all, AllByRecursion}
 use Rattle.std.specs.Str.Parse.{signed_digits_value}
@@ -15,7 +15,7 @@ use Rattle.ts_line.specs.Scan.{end_of}
 use Rattle.ts_line.specs.Pieces.{unescaped}
 use Rattle.ts_line.specs.Values.{value_of, value_at, integer_by}
 use Rattle.ts_line.specs.Fields.{next_field, with_field, fields_at}
-use Rattle.ts_line.specs.Spelling.{is_closed, written_piece, field_spelling, more_fields_text, IsWrittenField, field_from, with_fields}
+use Rattle.ts_line.specs.Spelling.{is_closed, field_spelling, more_fields_text, IsWrittenField, field_from, with_fields}
 use Rattle.ts_line.proofs.NumberLemmas.{fits_within}
 use Rattle.ts_line.proofs.Suffixes.{At, at_next, at_byte, at_after, at_slice, is_end, at_end}
 use Rattle.ts_line.proofs.TagsSpelled.{not_eqb}
@@ -101,7 +101,7 @@ value_read line number rest start at h number_is fits e =
 field_len : (f : Text × Text) → length (field_spelling f) ≡ length f.0 + 1 + length f.1 + 1
 field_len f = omega (arith, length-append f.0 (61 ∷ (f.1 ++ (105 ∷ []))), length-append f.1 (105 ∷ []))
 
-flat : (k v rest : Text) → (k ++ (61 ∷ (v ++ (105 ∷ [])))) ++ rest ≡ k ++ (61 ∷ (v ++ (105 ∷ rest)))
+pub flat : (k v rest : Text) → (k ++ (61 ∷ (v ++ (105 ∷ [])))) ++ rest ≡ k ++ (61 ∷ (v ++ (105 ∷ rest)))
 flat k v rest = simp append_assoc
 
 pub field_read : (f : Text × Text) (line rest : Text) (n : ℕ) → At line n (field_spelling f ++ rest) → IsWrittenField f → is_end Plain rest ≡ true

@@ -1,8 +1,8 @@
 -- Fields that are read are spelled so.
-use Rattle.std.proofs.Common.{◌≡◌, ℕ, ℤ, zero, suc, ◌+◌, ◌-◌, ◌<◌, ◌≤◌, Bool, true, false, not, cond, ◌&&◌, ◌||◌, eqb, List, [], ◌∷◌, ◌++◌, length, get_or, take, drop, slice_range, slice_index, bytes_eq, codes, Option, Some, None, Result, Ok, Err, refl, sym, ap, subst, ◌∙◌, arith, append_assoc, length-drop, length-append, inl, inr, ◌⊎◌, ⊎_elim, FitsSigned, w64, pos, neg_ℤ}
+use Rattle.std.proofs.Common.{◌≡◌, ℕ, ℤ, zero, suc, ◌+◌, ◌-◌, ◌<◌, ◌≤◌, Bool, true, false, not, cond, ◌&&◌, ◌||◌, eqb, List, [], ◌∷◌, ◌++◌, length, get_or, take, drop, slice_range, slice_index, bytes_eq, codes, Option, Some, None, Ok, Err, refl, sym, ap, subst, ◌∙◌, arith, append_assoc, length-append, inl, inr, ◌⊎◌, ⊎_elim, FitsSigned, w64, pos, neg_ℤ}
 use Rattle.std.specs.List.{AllByRecursion}
 use Rattle.std.specs.Str.Parse.{signed_digits_value}
-use Rattle.std.proofs.lemmas.Bool.{and_parts, or_parts, both_ways, eqb-true}
+use Rattle.std.proofs.lemmas.Bool.{not-false, and_parts, or_parts, both_ways, eqb-true}
 use Rattle.std.proofs.lemmas.Bool.Decides.{nat_tests}
 use Rattle.std.proofs.lemmas.List.{take_all, take_more, length_push}
 use Rattle.std.proofs.lemmas.Option.{cond_some}
@@ -18,10 +18,11 @@ use Rattle.ts_line.specs.Pieces.{unescaped, piece_at}
 use Rattle.ts_line.specs.Values.{is_integer, is_unsigned, is_boolean, is_float, behind_quotes, is_value_end, then_is, value_of, value_at, integer_by}
 use Rattle.ts_line.specs.Fields.{next_field, with_field, fields_at}
 use Rattle.ts_line.specs.Steps.{◌>>=◌}
-use Rattle.ts_line.specs.Spelling.{is_closed, IsWritten, written_piece, field_spelling, more_fields_text, IsWrittenField, field_from, with_fields}
+use Rattle.ts_line.specs.Spelling.{is_closed, written_piece, field_spelling, more_fields_text, IsWrittenField, field_from, with_fields}
 use Rattle.ts_line.proofs.NumberLemmas.{within_fits}
 use Rattle.ts_line.proofs.PartsTold.{bind_ok, not_err, cut, first_of, slice_len, within, end_within, part_closes}
-use Rattle.ts_line.proofs.TagsTold.{EndsKey, is_one}
+use Rattle.ts_line.proofs.FieldsSpelled.{flat}
+use Rattle.ts_line.proofs.TagsTold.{EndsKey}
 
 -- ---- a value
 
@@ -125,9 +126,6 @@ pub record IsFieldAt (line : Text) (n : ℕ) (g : Piece × ℤ) (end : ℕ) : Ty
   pub inside : end ≤ length line
   pub ends : EndsKey line end
 
-flat : (k v rest : Text) → (k ++ (61 ∷ (v ++ (105 ∷ [])))) ++ rest ≡ k ++ (61 ∷ (v ++ (105 ∷ rest)))
-flat k v rest = simp append_assoc
-
 field_of : (line : Text) (n key_end : ℕ) (value : ℤ) (end : ℕ) → n ≤ length line → end_of Equals line n ≡ key_end → (key_end ≡ n → ⊥) → slice_index line key_end ≡ 61
     → (unescaped Equals (slice_range line n key_end) ≡ codes "time" → ⊥) → IsValueAt line (key_end + 1) value end → IsFieldAt line n (piece_at Equals line n key_end, value) end
 field_of line n key_end value end le e ne equals other v =
@@ -156,7 +154,7 @@ field_told line n g le e =
     let b = not_err (bytes_eq key.text (codes "time")) (ReservedKey n) _ g a.1 in
     let v = bind_ok (value_at n line (key_end + 1)) _ g b.1 in
     let p = or_parts (eqb key_end n) (not (eqb (slice_index line key_end) 61)) a.0 in
-    let equals : slice_index line key_end ≡ 61 = eqb-true (slice_index line key_end) 61 (is_one (eqb (slice_index line key_end) 61) p.1) in
+    let equals : slice_index line key_end ≡ 61 = eqb-true (slice_index line key_end) 61 (not-false (eqb (slice_index line key_end) 61) p.1) in
     let ne : key_end ≡ n → ⊥ = λ x. let no = p.0 in let yes : eqb key_end n ≡ true = grind (arith, nat_tests) in both_ways (eqb key_end n) no yes in
     let other : key.text ≡ codes "time" → ⊥ = λ is. both_ways (bytes_eq key.text (codes "time")) b.0 ((bytes_eq-Decides key.text (codes "time")).1 is) in
     let lt : key_end < length line = within line key_end 61 equals (omega arith) in
@@ -200,7 +198,7 @@ next_fields n line at before g next out end f comma lt later = record {
   first_is = f.is;
   more_are = (later.first_is, later.more_are);
   told = later.told ∙ ap (λ x. with_fields (with_field (with_field before x) (field_from (next + 1) later.first)) (next + 1 + length (field_spelling later.first)) later.more) f.told
-  ∙ ap (λ m. with_fields (with_field (with_field before (field_from at f.field)) (field_from (m + 1) later.first)) (m + 1 + length (field_spelling later.first)) later.more) f.end_is;
+      ∙ ap (λ m. with_fields (with_field (with_field before (field_from at f.field)) (field_from (m + 1) later.first)) (m + 1 + length (field_spelling later.first)) later.more) f.end_is;
   end_is = omega (arith, later.end_is, f.end_is, length-append (field_spelling later.first) (more_fields_text later.more));
   few = omega (arith, later.few);
   inside = later.inside;

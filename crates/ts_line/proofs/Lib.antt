@@ -17,3 +17,5 @@ pub mod TagsTold
 pub mod FieldsTold
 pub mod LineTold
 pub mod SpellingTold
+pub mod Laws
+pub mod SpansLemmas

@@ -1,18 +1,25 @@
 -- One step back over the spaces at a line's end, and how its parts are read in turn.
-use Rattle.std.proofs.Common.{◌≡◌, ℕ, ℤ, zero, suc, ◌-◌, ◌<◌, false, eqb, ltb, cond, List, [], length, slice_index, Ok, Err, Some, refl, arith}
+use Rattle.std.proofs.Common.{◌≡◌, ℕ, ℤ, zero, suc, ◌+◌, ◌-◌, ◌<◌, ◌≤◌, false, eqb, ltb, cond, List, [], length, slice_index, Ok, Err, Some, refl, arith}
+use Rattle.std.proofs.lemmas.Bool.{le-ltb}
 use Rattle.ts_core.specs.Facts.{Text}
 use Rattle.ts_line.specs.declared.fault.LineFault.{LineFault}
 use Rattle.ts_line.specs.Parts.{Piece, Parts}
-use Rattle.ts_line.specs.Scan.{spaces_end}
+use Rattle.ts_line.specs.declared.scan.Stops.TheVariants.{Space}
+use Rattle.ts_line.specs.Scan.{end_of, spaces_end}
 use Rattle.ts_line.specs.Tags.{tags_at}
 use Rattle.ts_line.specs.Fields.{fields_at}
 use Rattle.ts_line.specs.Lines.{is_bare_space, trimmed, content, measurement_at, time_at, parts_at, line_of}
+use Rattle.ts_line.proofs.PartsTold.{end_within}
 
 pub trimmed_step : (line : Text) (n : ℕ) → 0 < n → trimmed line n ≡ cond (is_bare_space line (n - 1)) (trimmed line (n - 1)) n
 trimmed_step line zero h = absurd (omega arith)
 trimmed_step line (suc n) h =
     let e : suc n - 1 ≡ n = omega arith in
     rw e refl
+
+-- in a short line no part is long
+pub short_key : (line : Text) (start : ℕ) → start ≤ length line → length line ≤ start + 4096 → ltb (start + 4096) (end_of Space line start) ≡ false
+short_key line start le short = le-ltb (start + 4096) (end_of Space line start) (omega (arith, (end_within Space line start le).1))
 
 -- ---- a line is read step by step
 

@@ -1,24 +1,14 @@
 -- A line that is spelled is read.
-use Rattle.std.proofs.Common.{◌≡◌, ℕ, ℤ, zero, suc, ◌+◌, ◌-◌, ◌*ℤ◌, ◌<◌, ◌≤◌, Bool, true, false, not, cond, ◌&&◌, ◌||◌, eqb, ltb, List, [], ◌∷◌, ◌++◌, length, get_or, take, drop, slice_range, slice_index, map, Result, Ok, Some, None, refl, sym, ap, subst, ◌∙◌, arith, append_assoc, append-nil, length-append, length-drop, inl, inr, ◌⊎◌, ⊎_elim}
-use Rattle.std.specs.List.{list_all}
-use Rattle.std.specs.Str.Parse.{signed_digits_value}
-use Rattle.std.proofs.lemmas.Bool.{and_parts, cond-true, le-ltb, ne_eqb}
+use Rattle.std.proofs.Common.{◌≡◌, ℕ, zero, suc, ◌+◌, ◌-◌, ◌<◌, ◌≤◌, true, false, eqb, [], ◌∷◌, ◌++◌, length, get_or, take, refl, sym, ap, ◌∙◌, arith, append_assoc, length-append, inl, inr, ◌⊎◌}
+use Rattle.std.proofs.lemmas.Bool.{and_parts}
 use Rattle.std.proofs.lemmas.Bool.Decides.{nat_tests}
-use Rattle.std.proofs.lemmas.List.{take_at, drop_at, length_push, get_or_push, get_or-append-add}
+use Rattle.std.proofs.lemmas.List.{take_at, length_push, get_or_push, get_or-append-add}
 use Rattle.ts_core.specs.Facts.{Text}
-use Rattle.ts_core.specs.Times.{IsTime, least_time, greatest_time}
-use Rattle.ts_line.specs.declared.scan.Stops.{Stops}
-use Rattle.ts_line.specs.declared.scan.Stops.TheVariants.{Space, Comma, Equals}
-use Rattle.ts_line.specs.Numbers.{is_number, is_within}
-use Rattle.ts_line.specs.Scan.{is_backslash, is_stop, is_escaped, ends, end_of, spaces_end}
-use Rattle.ts_line.specs.Lines.{is_bare_space, trimmed, without_return, content, measurement_at, time_of, time_by, time_at, parts_at, line_of}
-use Rattle.ts_line.specs.Parts.{Piece, Parts}
-use Rattle.ts_line.specs.Spelling.{are_spaces, is_closed, IsWritten, written_piece, tags_text, AreTags, field_spelling, more_fields_text, IsStamp, SaysTime}
-use Rattle.ts_line.proofs.NumberLemmas.{time_within}
+use Rattle.ts_line.specs.Scan.{is_backslash}
+use Rattle.ts_line.specs.Lines.{is_bare_space, trimmed, without_return, content}
+use Rattle.ts_line.specs.Spelling.{are_spaces}
 use Rattle.ts_line.proofs.LineLemmas.{trimmed_step}
-use Rattle.ts_line.proofs.Suffixes.{At, at_next, at_byte, at_after, at_slice, at_length, is_end, at_end, is_no_space, at_spaces}
 use Rattle.ts_line.proofs.TagsSpelled.{not_eqb}
-use Rattle.ts_line.proofs.FieldsSpelled.{is_number_byte, number_bytes, number_some}
 
 -- ---- what is read of a text with spaces and a carriage return at its end
 

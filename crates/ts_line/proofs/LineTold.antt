@@ -1,23 +1,21 @@
 -- What stands around the parts that were read.
-use Rattle.std.proofs.Common.{◌≡◌, ℕ, ℤ, zero, suc, ◌+◌, ◌-◌, ◌*ℤ◌, ◌<◌, ◌≤◌, Bool, true, false, not, cond, ◌&&◌, eqb, List, [], ◌∷◌, ◌++◌, length, get_or, take, drop, slice_range, slice_index, Option, Some, None, Result, Ok, Err, refl, sym, ap, subst, ◌∙◌, arith, append_assoc, append-nil, length-drop, length-append, inl, inr, ◌⊎◌}
-use Rattle.std.specs.List.{list_all}
+use Rattle.std.proofs.Common.{◌≡◌, ℕ, ℤ, zero, suc, ◌+◌, ◌-◌, ◌*ℤ◌, ◌<◌, ◌≤◌, Bool, true, false, not, cond, ◌&&◌, eqb, [], ◌∷◌, ◌++◌, length, take, drop, slice_range, slice_index, Option, Some, None, Ok, Err, refl, sym, ap, ◌∙◌, arith, append-nil, inl, inr, ◌⊎◌}
 use Rattle.std.specs.Str.Parse.{signed_digits_value}
 use Rattle.std.proofs.lemmas.Bool.{and_parts, and_from, eqb-true}
 use Rattle.std.proofs.lemmas.Bool.Decides.{nat_tests}
-use Rattle.std.proofs.lemmas.List.{take-append-drop, take_all}
+use Rattle.std.proofs.lemmas.List.{take-append-drop}
 use Rattle.std.proofs.lemmas.List.Folds.{list_all-append}
 use Rattle.std.proofs.lemmas.Option.{cond_some}
 use Rattle.ts_core.specs.Facts.{Text}
 use Rattle.ts_core.specs.Times.{least_time, greatest_time}
-use Rattle.ts_line.specs.declared.fault.LineFault.{LineFault}
 use Rattle.ts_line.specs.declared.fault.LineFault.TheVariants.{BadTimestamp}
 use Rattle.ts_line.specs.Numbers.{is_number, is_within}
-use Rattle.ts_line.specs.Scan.{is_backslash, spaces, spaces_end}
+use Rattle.ts_line.specs.Scan.{spaces, spaces_end}
 use Rattle.ts_line.specs.Lines.{is_bare_space, trimmed, without_return, content, time_of, time_by, time_at}
 use Rattle.ts_line.specs.Spelling.{are_spaces, IsStamp, SaysTime}
 use Rattle.ts_line.proofs.NumberLemmas.{within_time}
 use Rattle.ts_line.proofs.ScanLemmas.{slice_step}
-use Rattle.ts_line.proofs.PartsTold.{cut, first_of, nothing_left, slice_len, within, spaces_within, spaces_are}
+use Rattle.ts_line.proofs.PartsTold.{cut, first_of, nothing_left, slice_len, spaces_within, spaces_are}
 
 -- ---- a gap: one space or more
 

@@ -1,11 +1,12 @@
 -- The text that a part spells, byte by byte.
-use Rattle.std.proofs.Common.{◌≡◌, ℕ, ◌+◌, ◌-◌, ◌<◌, ◌≤◌, Bool, true, false, cond, ◌&&◌, [], ◌∷◌, ◌++◌, length, get_or, drop, slice_range, refl, sym, ap, ◌∙◌, arith, append_assoc, append-nil, length-drop}
+use Rattle.std.proofs.Common.{◌≡◌, ℕ, ◌+◌, ◌-◌, ◌<◌, ◌≤◌, Bool, true, false, cond, ◌&&◌, [], ◌∷◌, ◌++◌, length, get_or, drop, slice_range, refl, sym, ap, ◌∙◌, arith, append_assoc, append-nil}
 use Rattle.std.specs.List.{list_any}
+use Rattle.std.proofs.Math.Bool.{and-false}
 use Rattle.std.proofs.lemmas.Bool.{or_parts}
-use Rattle.std.proofs.lemmas.List.{at_drop_more, at_drop_all, take_all}
+use Rattle.std.proofs.lemmas.List.{at_drop_more}
 use Rattle.ts_core.specs.Facts.{Text}
 use Rattle.ts_line.specs.declared.scan.Stops.{Stops}
-use Rattle.ts_line.specs.Scan.{is_backslash}
+use Rattle.ts_line.specs.Scan.{is_backslash, is_stop}
 use Rattle.ts_line.specs.Pieces.{begins_escapable, unescaped}
 use Rattle.ts_line.proofs.ScanLemmas.{slice_step}
 
@@ -29,18 +30,16 @@ byte_passed stops raw from i le lt e =
     ∙ sym (append_assoc (slice_range raw from i) (get_or raw i 0 ∷ []) (unescaped stops (drop (i + 1) raw)))
     ∙ ap (λ bs. bs ++ unescaped stops (drop (i + 1) raw)) (sym (slice_step raw from i le lt))
 
--- at the end all is passed
-pub all_passed : (stops : Stops) (raw : Text) (from i : ℕ) → length raw ≤ i → slice_range raw from i ++ unescaped stops (drop i raw) ≡ drop from raw ++ []
-all_passed stops raw from i le =
-    let short : length (drop from raw) ≤ i - from = omega (arith, length-drop from raw) in
-    rw (at_drop_all (unescaped stops) raw i le, take_all (i - from) (drop from raw) short) refl
+no_escape : (stops : Stops) (bs : Text) → list_any (is_stop stops) bs ≡ false → begins_escapable stops bs ≡ false
+no_escape stops [] e = refl
+no_escape stops (c ∷ bs) e = (or_parts (is_stop stops c) (list_any (is_stop stops) bs) e).0
 
--- a text without a backslash spells itself
-pub plain_text : (stops : Stops) (raw : Text) → list_any is_backslash raw ≡ false → unescaped stops raw ≡ raw
+-- a text without a byte that may be escaped spells itself
+pub plain_text : (stops : Stops) (raw : Text) → list_any (is_stop stops) raw ≡ false → unescaped stops raw ≡ raw
 plain_text stops [] e = refl
 plain_text stops (b ∷ bs) e =
-    let p = or_parts (is_backslash b) (list_any is_backslash bs) e in
-    rw p.0 (ap (λ (xs : Text). b ∷ xs) (plain_text stops bs p.1))
+    let p = or_parts (is_stop stops b) (list_any (is_stop stops) bs) e in
+    rw (no_escape stops bs p.1, and-false (is_backslash b)) (ap (λ (xs : Text). b ∷ xs) (plain_text stops bs p.1))
 
 -- ---- the text so far, what is passed and not yet in it, and what is left
 
@@ -57,8 +56,3 @@ text_cut stops raw from i before total lt e so_far =
     let zero : (i + 1) - (i + 1) ≡ 0 = omega arith in
     let none : slice_range raw (i + 1) (i + 1) ≡ [] = rw zero refl in
     rw (none, append-nil (before ++ slice_range raw from i), ← escape_passed stops raw i lt e) so_far
-
-pub text_done : (stops : Stops) (raw : Text) (from i : ℕ) (before total : Text) → length raw ≤ i
-    → before ++ slice_range raw from i ++ unescaped stops (drop i raw) ≡ total → before ++ drop from raw ≡ total
-text_done stops raw from i before total le so_far =
-    ap (λ bs. before ++ bs) (sym (all_passed stops raw from i le ∙ append-nil (drop from raw))) ∙ sym (append_assoc before (slice_range raw from i) (unescaped stops (drop i raw))) ∙ so_far

@@ -1,13 +1,14 @@
 -- One step of a scan.
-use Rattle.std.proofs.Common.{◌≡◌, ℕ, ◌+◌, ◌<◌, ◌≤◌, ◌-◌, ◌||◌, take, slice_range, length-drop, Bool, true, false, cond, eqb, [], ◌∷◌, ◌++◌, length, get_or, drop, ap, ◌∙◌, arith, refl}
+use Rattle.std.proofs.Common.{◌≡◌, ℕ, ◌+◌, ◌<◌, ◌≤◌, ◌-◌, ◌||◌, take, slice_range, length-drop, Bool, true, cond, eqb, [], ◌∷◌, ◌++◌, length, get_or, drop, ap, ◌∙◌, arith}
 use Rattle.std.specs.List.{list_any}
 use Rattle.std.proofs.lemmas.List.{at_drop_more, at_drop_all, take_more, get_or-drop}
 use Rattle.std.proofs.lemmas.List.Folds.{list_any-append}
+use Rattle.std.proofs.Math.Bool.{or-false}
 use Rattle.std.proofs.lemmas.Bool.Decides.{nat_tests}
 use Rattle.ts_core.specs.Facts.{Text}
 use Rattle.ts_line.specs.declared.scan.Stops.{Stops}
 use Rattle.ts_line.specs.declared.scan.Stops.TheVariants.{Space, Comma, Equals, Plain}
-use Rattle.ts_line.specs.Scan.{is_backslash, ends, part_len, spaces}
+use Rattle.ts_line.specs.Scan.{ends, part_len, spaces}
 
 pub part_len_step : (stops : Stops) (before : ℕ) (line : Text) (i : ℕ) → i < length line
     → part_len stops before (drop i line) ≡ cond (ends stops before (get_or line i 0)) 0 (part_len stops (get_or line i 0) (drop (i + 1) line) + 1)
@@ -41,10 +42,6 @@ ends_ascii Comma before byte e = stop_comma before byte e
 ends_ascii Equals before byte e = stop_equals before byte e
 ends_ascii Plain before byte e = stop_plain byte e
 
-or_false : (b : Bool) → (b || false) ≡ b
-or_false true = refl
-or_false false = refl
-
 -- one more byte of a part
 pub slice_step : (line : Text) (from i : ℕ) → from ≤ i → i < length line → slice_range line from (i + 1) ≡ slice_range line from i ++ get_or line i 0 ∷ []
 slice_step line from i le lt =
@@ -54,9 +51,7 @@ slice_step line from i le lt =
     let byte : get_or (drop from line) (i - from) 0 ≡ get_or line i 0 = get_or-drop from line (i - from) 0 ∙ ap (λ k. get_or line k 0) back in
     ap (λ k. take k (drop from line)) n ∙ take_more (drop from line) (i - from) 0 within ∙ ap (λ b. take (i - from) (drop from line) ++ b ∷ []) byte
 
-pub backslash_step : (line : Text) (from i : ℕ) → from ≤ i → i < length line
-    → list_any is_backslash (slice_range line from (i + 1)) ≡ (list_any is_backslash (slice_range line from i) || is_backslash (get_or line i 0))
-backslash_step line from i le lt =
-    ap (list_any is_backslash) (slice_step line from i le lt)
-    ∙ list_any-append is_backslash (slice_range line from i) (get_or line i 0 ∷ [])
-    ∙ ap (λ b. list_any is_backslash (slice_range line from i) || b) (or_false (is_backslash (get_or line i 0)))
+pub any_step : (p : ℕ → Bool) (line : Text) (from i : ℕ) → from ≤ i → i < length line → list_any p (slice_range line from (i + 1)) ≡ (list_any p (slice_range line from i) || p (get_or line i 0))
+any_step p line from i le lt =
+    ap (list_any p) (slice_step line from i le lt) ∙ list_any-append p (slice_range line from i) (get_or line i 0 ∷ [])
+    ∙ ap (λ b. list_any p (slice_range line from i) || b) (or-false (p (get_or line i 0)))

@@ -1,8 +1,8 @@
 -- What is spelled is read.
-use Rattle.std.proofs.Common.{◌≡◌, ℕ, ℤ, zero, suc, ◌+◌, ◌-◌, ◌*ℤ◌, ◌<◌, ◌≤◌, Bool, true, false, not, cond, ◌&&◌, ◌||◌, eqb, ltb, List, [], ◌∷◌, ◌++◌, length, drop, slice_range, slice_index, codes, Result, Ok, Some, None, refl, sym, ap, subst, ◌∙◌, arith, append_assoc, append-nil, length-append, zero-add, inl, inr, ◌⊎◌, ⊎_elim}
-use Rattle.std.specs.List.{list_all, AllByRecursion}
+use Rattle.std.proofs.Common.{◌≡◌, ℕ, ℤ, ◌+◌, ◌*ℤ◌, ◌≤◌, Bool, true, false, not, ◌&&◌, ◌||◌, eqb, ltb, List, [], ◌∷◌, ◌++◌, length, drop, slice_range, slice_index, codes, Ok, Some, None, refl, sym, ap, subst, ◌∙◌, arith, append_assoc, append-nil, length-append, zero-add, inl, inr}
+use Rattle.std.specs.List.{list_all}
 use Rattle.std.specs.Str.Parse.{signed_digits_value}
-use Rattle.std.proofs.lemmas.Bool.{and_parts, and_from, cond-true, le-ltb}
+use Rattle.std.proofs.lemmas.Bool.{not-true, and_parts, and_from, cond-true, le-ltb}
 use Rattle.std.proofs.lemmas.Bool.Decides.{nat_tests}
 use Rattle.std.proofs.lemmas.List.{drop_at}
 use Rattle.ts_core.specs.Facts.{Text}
@@ -10,15 +10,13 @@ use Rattle.ts_core.specs.Times.{IsTime, least_time, greatest_time}
 use Rattle.ts_line.specs.declared.scan.Stops.TheVariants.{Space, Comma, Equals}
 use Rattle.ts_line.specs.Numbers.{is_number, is_within}
 use Rattle.ts_line.specs.Scan.{is_backslash, ends, end_of, spaces_end}
-use Rattle.ts_line.specs.Pieces.{unescaped}
 use Rattle.ts_line.specs.Fields.{fields_at}
-use Rattle.ts_line.specs.Tags.{tags_at}
-use Rattle.ts_line.specs.Lines.{content, measurement_at, time_of, time_by, time_at, line_of}
-use Rattle.ts_line.specs.Parts.{Piece, Parts}
-use Rattle.ts_line.specs.Spelling.{are_spaces, is_closed, IsWritten, written_piece, tags_text, tags_from, AreTags, field_spelling, more_fields_text, IsWrittenField, field_from, with_fields, IsStamp, SaysTime, IsSpelling}
+use Rattle.ts_line.specs.Lines.{content, measurement_at, time_of, time_at, line_of}
+use Rattle.ts_line.specs.Parts.{Parts}
+use Rattle.ts_line.specs.Spelling.{is_closed, IsWritten, written_piece, tags_text, tags_from, AreTags, field_spelling, more_fields_text, field_from, with_fields, SaysTime, IsSpelling}
 use Rattle.ts_line.proofs.NumberLemmas.{time_within}
 use Rattle.ts_line.proofs.LineLemmas.{parts_read, line_read}
-use Rattle.ts_line.proofs.Suffixes.{At, at_next, at_byte, at_after, at_slice, at_length, is_end, at_end, is_no_space, at_spaces, false_of_not}
+use Rattle.ts_line.proofs.Suffixes.{At, at_next, at_byte, at_slice, is_end, at_end, is_no_space, at_spaces}
 use Rattle.ts_line.proofs.TagsSpelled.{not_eqb, tags_read}
 use Rattle.ts_line.proofs.FieldsSpelled.{is_number_byte, number_bytes, number_some, fields_read}
 use Rattle.ts_line.proofs.LineSpelled.{IsPlainByte, content_read}
@@ -110,7 +108,7 @@ closed_from b [] e c = rw e refl
 closed_from b (y ∷ ys) e c = rw e c
 
 pub closed_both : (before : ℕ) (xs ys : Text) → is_closed Space before xs ≡ true → is_closed Space 0 ys ≡ true → is_closed Space before (xs ++ ys) ≡ true
-closed_both before [] ys c d = closed_from before ys (false_of_not (is_backslash before) c) d
+closed_both before [] ys c d = closed_from before ys (not-true (is_backslash before) c) d
 closed_both before (x ∷ xs) ys c d =
     let p = and_parts (not (ends Space before x)) (is_closed Space x xs) c in
     and_from (not (ends Space before x)) (is_closed Space x (xs ++ ys)) p.0 (closed_both x xs ys p.1 d)
@@ -214,8 +212,15 @@ spelling_read unit now source parts p =
     let at_more : At line (f + length (field_spelling p.first)) (more_fields_text p.more ++ p.stamp) = at_next line (field_spelling p.first) (more_fields_text p.more ++ p.stamp) f at_fields in
     let at_stamp : At line e p.stamp = at_next line (more_fields_text p.more) p.stamp (f + length (field_spelling p.first)) at_more in
     let len : length line ≡ e + length p.stamp =
-    omega (arith, length-append p.before (p.measurement ++ (tags ++ (32 ∷ (p.gap ++ fields)))), length-append p.measurement (tags ++ (32 ∷ (p.gap ++ fields))), length-append tags (32 ∷ (p.gap ++ fields)), length-append p.gap fields,
-      length-append (field_spelling p.first) (more_fields_text p.more ++ p.stamp), length-append (more_fields_text p.more) p.stamp) in
+    omega (
+      arith,
+      length-append p.before (p.measurement ++ (tags ++ (32 ∷ (p.gap ++ fields)))),
+      length-append p.measurement (tags ++ (32 ∷ (p.gap ++ fields))),
+      length-append tags (32 ∷ (p.gap ++ fields)),
+      length-append p.gap fields,
+      length-append (field_spelling p.first) (more_fields_text p.more ++ p.stamp),
+      length-append (more_fields_text p.more) p.stamp,
+    ) in
     let content_line : content source ≡ line = content_is unit now source parts p in
     let start : spaces_end line 0 ≡ n = at_spaces line p.before (p.measurement ++ (tags ++ (32 ∷ (p.gap ++ fields)))) 0 refl p.before_is (measurement_first p.measurement (tags ++ (32 ∷ (p.gap ++ fields))) p.measurement_is) ∙ zero-add n in
     let short : ltb 65536 (length source) ≡ false = le-ltb 65536 (length source) p.short in

@@ -1,6 +1,5 @@
 -- What is read is spelled so.
-use Rattle.std.proofs.Common.{◌≡◌, ℕ, ℤ, zero, suc, ◌+◌, ◌-◌, ◌<◌, ◌≤◌, Bool, true, false, not, cond, ◌||◌, eqb, ltb, List, [], ◌∷◌, ◌++◌, length, map, drop, slice_range, slice_index, codes, Option, Some, None, Result, Ok, Err, refl, sym, ap, subst, ◌∙◌, arith, append_assoc, length-append, inl, inr, ◌⊎◌, zero-add}
-use Rattle.std.specs.List.{list_all}
+use Rattle.std.proofs.Common.{◌≡◌, ℕ, ℤ, zero, suc, ◌+◌, ◌-◌, ◌<◌, ◌≤◌, Bool, true, false, cond, ◌||◌, eqb, ltb, List, [], ◌∷◌, ◌++◌, length, drop, slice_range, slice_index, codes, Option, Some, None, Result, Ok, Err, refl, sym, ap, subst, ◌∙◌, arith, append_assoc, length-append, inl, inr, ◌⊎◌}
 use Rattle.std.proofs.lemmas.List.Folds.{list_all-append}
 use Rattle.std.proofs.lemmas.Bool.{or_parts, and_from, both_ways, ltb-false, eqb-true}
 use Rattle.std.proofs.lemmas.Bool.Decides.{nat_tests}
@@ -15,10 +14,10 @@ use Rattle.ts_line.specs.Steps.{◌>>=◌}
 use Rattle.ts_line.specs.Tags.{tags_at, next_tag}
 use Rattle.ts_line.specs.Fields.{fields_at}
 use Rattle.ts_line.specs.Lines.{content, measurement_at, time_at, parts_at, line_of}
-use Rattle.ts_line.specs.Spelling.{are_spaces, is_closed, IsWritten, written_piece, tags_text, tags_from, AreTags, field_spelling, more_fields_text, field_from, with_fields, IsSpelling}
+use Rattle.ts_line.specs.Spelling.{are_spaces, is_closed, written_piece, tags_text, tags_from, AreTags, field_spelling, more_fields_text, field_from, with_fields, IsSpelling}
 use Rattle.ts_line.proofs.Suffixes.{at_end}
 use Rattle.ts_line.proofs.SpellingRead.{closed_both, comma_space, tags_closed}
-use Rattle.ts_line.proofs.PartsTold.{bind_ok, not_err, cut, first_of, slice_len, within, end_within, part_closes, spaces_within, spaces_are, nothing_left}
+use Rattle.ts_line.proofs.PartsTold.{bind_ok, not_err, cut, first_of, slice_len, within, end_within, part_closes, spaces_within, spaces_are}
 use Rattle.ts_line.proofs.TagsTold.{EndsKey, AreTold, tags_told, IsTag, tag_is}
 use Rattle.ts_line.proofs.FieldsTold.{AreFieldsTold, fields_told}
 use Rattle.ts_line.proofs.LineTold.{IsGap, gap_told, IsTimeAt, time_told, IsContent, content_told}
@@ -220,12 +219,12 @@ spelled_by unit now source line start parts short content start_is le other p =
       few_tags = omega (arith, tags.few);
       few_fields = omega (arith, fields.few);
       told = told_parts parts p.m.0 p.tags.0 p.fields.0 p.time start p.m.1 p.tags.1 (spaces_end line p.tags.1) measurement.raw tags.tags (length gap.gap) fields.first fields.more p.told measurement.told measurement.end_is tags.told tags.end_is gap.end_is fields.told
-      ∙ ap (λ n. record {
-        measurement = written_piece Comma n measurement.raw;
-        tags = tags_from (n + length measurement.raw) tags.tags;
-        fields = with_fields (field_from (n + length measurement.raw + length (tags_text tags.tags) + 1 + length gap.gap) fields.first ∷ []) (n + length measurement.raw + length (tags_text tags.tags) + 1 + length gap.gap + length (field_spelling fields.first)) fields.more;
-        time = p.time;
-      }) (sym before_len);
+          ∙ ap (λ n. record {
+            measurement = written_piece Comma n measurement.raw;
+            tags = tags_from (n + length measurement.raw) tags.tags;
+            fields = with_fields (field_from (n + length measurement.raw + length (tags_text tags.tags) + 1 + length gap.gap) fields.first ∷ []) (n + length measurement.raw + length (tags_text tags.tags) + 1 + length gap.gap + length (field_spelling fields.first)) fields.more;
+            time = p.time;
+          }) (sym before_len);
     }
 
 pub spelling_told : (unit now : ℤ) (source : Text) (parts : Parts) → line_of unit now source ≡ Ok (Some parts) → IsSpelling unit now source parts

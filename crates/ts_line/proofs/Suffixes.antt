@@ -1,10 +1,10 @@
 -- What stands in a line from a place on.
-use Rattle.std.proofs.Common.{◌≡◌, ℕ, zero, suc, ◌+◌, ◌-◌, ◌<◌, ◌≤◌, Bool, true, false, not, cond, ◌&&◌, eqb, [], ◌∷◌, ◌++◌, length, get_or, take, drop, slice_range, slice_index, refl, sym, ap, ◌∙◌, arith, append_assoc, length-drop, length-append}
-use Rattle.std.proofs.lemmas.Bool.{and_parts, not_from_false}
+use Rattle.std.proofs.Common.{◌≡◌, ℕ, ◌+◌, ◌-◌, ◌≤◌, Bool, true, not, eqb, [], ◌∷◌, ◌++◌, length, get_or, take, drop, slice_range, slice_index, refl, sym, ap, ◌∙◌, arith, length-drop}
+use Rattle.std.proofs.lemmas.Bool.{not-true, and_parts}
 use Rattle.std.proofs.lemmas.List.{take_at, drop_at, drop-drop, get_or-drop}
 use Rattle.ts_core.specs.Facts.{Text}
 use Rattle.ts_line.specs.declared.scan.Stops.{Stops}
-use Rattle.ts_line.specs.Scan.{is_stop, is_escaped, ends, part_len, end_of, spaces, spaces_end}
+use Rattle.ts_line.specs.Scan.{is_stop, ends, part_len, end_of, spaces, spaces_end}
 use Rattle.ts_line.specs.Spelling.{are_spaces, is_closed}
 
 -- the line has this text from there on
@@ -37,17 +37,13 @@ abbrev pub is_end : Stops → Text → Bool
 is_end stops [] = true
 is_end stops (b ∷ bs) = is_stop stops b
 
-pub false_of_not : (b : Bool) → not b ≡ true → b ≡ false
-false_of_not true e = absurd cc
-false_of_not false e = refl
-
 pub closed_len : (stops : Stops) (before : ℕ) (raw rest : Text) → is_closed stops before raw ≡ true → is_end stops rest ≡ true → part_len stops before (raw ++ rest) ≡ length raw
 closed_len stops before [] [] c e = refl
 closed_len stops before [] (s ∷ rest) c e = rw (e, c) refl
 closed_len stops before (b ∷ bs) rest c e =
     let p = and_parts (not (ends stops before b)) (is_closed stops b bs) c in
     let tail : part_len stops b (bs ++ rest) ≡ length bs = closed_len stops b bs rest p.1 e in
-    rw (false_of_not (ends stops before b) p.0) (omega (arith, tail))
+    rw (not-true (ends stops before b) p.0) (omega (arith, tail))
 
 pub at_end : (stops : Stops) (line raw rest : Text) (n : ℕ) → At line n (raw ++ rest) → is_closed stops 0 raw ≡ true → is_end stops rest ≡ true → end_of stops line n ≡ n + length raw
 unfolding end_of
@@ -62,7 +58,7 @@ is_no_space (b ∷ bs) = not (eqb b 32)
 
 spaces_len : (gap rest : Text) → are_spaces gap ≡ true → is_no_space rest ≡ true → spaces (gap ++ rest) ≡ length gap
 spaces_len [] [] g e = refl
-spaces_len [] (b ∷ rest) g e = rw (false_of_not (eqb b 32) e) refl
+spaces_len [] (b ∷ rest) g e = rw (not-true (eqb b 32) e) refl
 spaces_len (b ∷ gap) rest g e =
     let p = and_parts (eqb b 32) (are_spaces gap) g in
     let tail : spaces (gap ++ rest) ≡ length gap = spaces_len gap rest p.1 e in

@@ -1,12 +1,10 @@
 -- Tags that are spelled are read.
-use Rattle.std.proofs.Common.{◌≡◌, ℕ, zero, suc, ◌+◌, ◌-◌, ◌<◌, ◌≤◌, Bool, true, false, not, cond, ◌||◌, eqb, leb, List, [], ◌∷◌, ◌++◌, length, map, slice_range, slice_index, bytes_eq, codes, Result, Ok, Err, refl, sym, ap, subst, ◌∙◌, arith, append_assoc, append-nil, inl, inr, ◌⊎◌, ⊎_elim, length-append}
-use Rattle.std.specs.List.{list_any}
+use Rattle.std.proofs.Common.{◌≡◌, ℕ, zero, suc, ◌+◌, ◌≤◌, Bool, true, false, eqb, leb, List, [], ◌∷◌, ◌++◌, length, map, slice_index, bytes_eq, codes, Ok, refl, sym, ap, subst, ◌∙◌, arith, append_assoc, append-nil, inl, inr, ⊎_elim, length-append}
 use Rattle.std.proofs.lemmas.Bool.{false_from_ne_true}
 use Rattle.std.proofs.lemmas.Bool.Decides.{nat_tests}
 use Rattle.std.proofs.lemmas.Slice.Eq.{bytes_eq-Decides}
 use Rattle.ts_core.specs.Facts.{Text}
 use Rattle.ts_core.specs.Members.{Among, AllDistinct}
-use Rattle.ts_line.specs.declared.fault.LineFault.{LineFault}
 use Rattle.ts_line.specs.declared.scan.Stops.TheVariants.{Equals}
 use Rattle.ts_line.specs.Parts.{Piece}
 use Rattle.ts_line.specs.Scan.{end_of}
@@ -66,11 +64,11 @@ no_key (t ∷ ts) key absent = key_by (bytes_eq t.0.text key) t ts key refl abse
 
 -- ---- all tags
 
-map_snoc : (before : Tags) (t : Piece × Piece) (keys : List Text) → map piece_key (before ++ t ∷ []) ++ keys ≡ map piece_key before ++ piece_key t ∷ keys
+pub map_snoc : (before : Tags) (t : Piece × Piece) (keys : List Text) → map piece_key (before ++ t ∷ []) ++ keys ≡ map piece_key before ++ piece_key t ∷ keys
 map_snoc [] t keys = refl
 map_snoc (b ∷ before) t keys = ap (λ (ks : List Text). piece_key b ∷ ks) (map_snoc before t keys)
 
-flat : (k v more rest : Text) → (k ++ (61 ∷ (v ++ more))) ++ rest ≡ k ++ (61 ∷ (v ++ (more ++ rest)))
+pub flat : (k v more rest : Text) → (k ++ (61 ∷ (v ++ more))) ++ rest ≡ k ++ (61 ∷ (v ++ (more ++ rest)))
 flat k v more rest = simp append_assoc
 
 -- behind the tags stands a space

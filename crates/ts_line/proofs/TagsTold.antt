@@ -1,20 +1,20 @@
 -- Tags that are read are spelled so.
-use Rattle.std.proofs.Common.{◌≡◌, ℕ, zero, suc, ◌+◌, ◌-◌, ◌<◌, ◌≤◌, Bool, true, false, not, cond, ◌||◌, eqb, leb, List, [], ◌∷◌, ◌++◌, length, map, drop, slice_range, slice_index, bytes_eq, codes, Result, Ok, Err, refl, sym, ap, subst, ◌∙◌, arith, append_assoc, append-nil, length-drop, length-append, inl, inr, ◌⊎◌, ⊎_elim}
+use Rattle.std.proofs.Common.{◌≡◌, ℕ, zero, suc, ◌+◌, ◌-◌, ◌<◌, ◌≤◌, Bool, true, false, not, ◌||◌, eqb, leb, List, [], ◌∷◌, ◌++◌, length, map, drop, slice_range, slice_index, bytes_eq, codes, Ok, refl, sym, ap, subst, ◌∙◌, arith, append_assoc, append-nil, length-drop, length-append, inl, inr, ◌⊎◌, ⊎_elim}
 use Rattle.std.proofs.lemmas.Bool.{or_parts, both_ways, not-false, eqb-true}
 use Rattle.std.proofs.lemmas.Bool.Decides.{nat_tests}
+use Rattle.std.proofs.lemmas.List.{map_push}
 use Rattle.std.proofs.lemmas.Slice.Eq.{bytes_eq-Decides}
 use Rattle.ts_core.specs.Facts.{Text}
 use Rattle.ts_core.specs.Members.{Among, AllDistinct}
-use Rattle.ts_line.specs.declared.fault.LineFault.{LineFault}
 use Rattle.ts_line.specs.declared.fault.LineFault.TheVariants.{BadTag, RepeatedTagKey, OverLimit, ReservedKey}
 use Rattle.ts_line.specs.declared.scan.Stops.TheVariants.{Equals}
 use Rattle.ts_line.specs.Parts.{Piece}
 use Rattle.ts_line.specs.Scan.{is_stop, end_of}
-use Rattle.ts_line.specs.Pieces.{unescaped, piece_at}
+use Rattle.ts_line.specs.Pieces.{piece_at}
 use Rattle.ts_line.specs.Tags.{pair_at, has_key, next_tag, tags_at}
 use Rattle.ts_line.specs.Steps.{◌>>=◌}
 use Rattle.ts_line.specs.Spelling.{IsWritten, written_piece, tags_text, tags_from, tag_key, AreTags}
-use Rattle.ts_line.proofs.TagsSpelled.{piece_key}
+use Rattle.ts_line.proofs.TagsSpelled.{piece_key, flat, map_snoc}
 use Rattle.ts_line.proofs.PartsTold.{bind_ok, not_err, cut, first_of, slice_len, within, end_within, part_closes}
 
 abbrev Tags : Type 0
@@ -38,10 +38,6 @@ pub record IsPair (line : Text) (n : ℕ) (t : Piece × Piece) (end : ℕ) : Typ
   pub inside : end ≤ length line
   pub ends : EndsKey line end
 
-pub is_one : (b : Bool) → not b ≡ false → b ≡ true
-is_one true e = refl
-is_one false e = absurd cc
-
 ends_cases : (b : ℕ) (s : Bool) → eqb b 32 ≡ s → is_stop Equals b ≡ true → eqb b 61 ≡ false → (b ≡ 44) ⊎ (b ≡ 32)
 ends_cases b true s e other = inr (eqb-true b 32 s)
 ends_cases b false s e other = inl (grind (arith, nat_tests))
@@ -60,7 +56,7 @@ pair_told line n t end le e =
     let a = or_parts (eqb key_end n || not (eqb (slice_index line key_end) 61) || eqb value_end (key_end + 1)) (eqb (slice_index line value_end) 61) all.0 in
     let b = or_parts (eqb key_end n || not (eqb (slice_index line key_end) 61)) (eqb value_end (key_end + 1)) a.0 in
     let c = or_parts (eqb key_end n) (not (eqb (slice_index line key_end) 61)) b.0 in
-    let equals : slice_index line key_end ≡ 61 = eqb-true (slice_index line key_end) 61 (is_one (eqb (slice_index line key_end) 61) c.1) in
+    let equals : slice_index line key_end ≡ 61 = eqb-true (slice_index line key_end) 61 (not-false (eqb (slice_index line key_end) 61) c.1) in
     let key_in = end_within Equals line n le in
     let key_lt : key_end < length line = within line key_end 61 equals (omega arith) in
     let value_in = end_within Equals line (key_end + 1) (omega arith) in
@@ -95,9 +91,6 @@ distinct_push [] key d n = (λ a. a, tt)
 distinct_push (k ∷ keys) key d n =
     (λ a. among_push k keys key d.0 (λ e. n (inl (sym e))) a, distinct_push keys key d.1 (λ a. n (inr a)))
 
-flat : (k v more rest : Text) → (k ++ (61 ∷ (v ++ more))) ++ rest ≡ k ++ (61 ∷ (v ++ (more ++ rest)))
-flat k v more rest = simp append_assoc
-
 pub record AreTold (line : Text) (at : ℕ) (before out : Tags) (end : ℕ) : Type 0 where
   pub tags : List (Text × Text)
   pub spelled : drop at line ≡ tags_text tags ++ drop end line
@@ -113,13 +106,6 @@ key_missing [] key e a = a
 key_missing (t ∷ ts) key e a =
     let p = or_parts (bytes_eq t.0.text key) (has_key ts key) e in
     ⊎_elim (λ is. both_ways (bytes_eq t.0.text key) p.0 ((bytes_eq-Decides t.0.text key).1 (sym is))) (λ later. key_missing ts key p.1 later) a
-
-map_push_key : (before : Tags) (t : Piece × Piece) → map piece_key (before ++ t ∷ []) ≡ map piece_key before ++ piece_key t ∷ []
-map_push_key [] t = refl
-map_push_key (b ∷ before) t = ap (λ (ks : List Text). piece_key b ∷ ks) (map_push_key before t)
-
-snoc_keys : (before : Tags) (t : Piece × Piece) (keys : List Text) → map piece_key (before ++ t ∷ []) ++ keys ≡ map piece_key before ++ piece_key t ∷ keys
-snoc_keys before t keys = ap (λ (ks : List Text). ks ++ keys) (map_push_key before t) ∙ append_assoc (map piece_key before) (piece_key t ∷ []) keys
 
 -- what a tag that was taken tells
 pub record IsTag (before : Tags) (line : Text) (n : ℕ) (tag : Piece × Piece) (next : ℕ) : Type 0 where
@@ -158,7 +144,7 @@ join_told before out tag key value tags at next later at_is is =
 join_keys : (before : Tags) (tag : Piece × Piece) (key value : Text) (tags : List (Text × Text)) → piece_key tag ≡ tag_key (key, value) → AllDistinct (map piece_key (before ++ tag ∷ []) ++ map tag_key tags)
     → AllDistinct (map piece_key before ++ map tag_key ((key, value) ∷ tags))
 join_keys before tag key value tags key_is d =
-    subst (λ (ks : List Text). AllDistinct ks) (snoc_keys before tag (map tag_key tags) ∙ ap (λ k. map piece_key before ++ k ∷ map tag_key tags) key_is) d
+    subst (λ (ks : List Text). AllDistinct ks) (map_snoc before tag (map tag_key tags) ∙ ap (λ k. map piece_key before ++ k ∷ map tag_key tags) key_is) d
 
 joined : (before : Tags) (line : Text) (at : ℕ) (out : Tags) (end : ℕ) (tag : Piece × Piece) (next : ℕ) → at < length line → slice_index line at ≡ 44 → end < length line
     → IsTag before line (at + 1) tag next → AreTold line next (before ++ tag ∷ []) out end → AreTold line at before out end
@@ -183,7 +169,7 @@ taken : (n : ℕ) (before : Tags) (line : Text) (at : ℕ) (out : Tags) (end : �
     → tags_at n (before ++ tag ∷ []) line next ≡ Ok (out, end) → AreTold line at before out end
 taken n before line at out end tag next here byte lt d fuel is ih go =
     let count : length (before ++ tag ∷ []) ≡ length before + 1 = omega (arith, length-append before (tag ∷ [])) in
-    let distinct : AllDistinct (map piece_key (before ++ tag ∷ [])) = subst (λ (ks : List Text). AllDistinct ks) (sym (map_push_key before tag)) (distinct_push (map piece_key before) (piece_key tag) d (key_missing before (piece_key tag) is.new)) in
+    let distinct : AllDistinct (map piece_key (before ++ tag ∷ [])) = subst (λ (ks : List Text). AllDistinct ks) (sym (map_push piece_key before tag)) (distinct_push (map piece_key before) (piece_key tag) d (key_missing before (piece_key tag) is.new)) in
     joined before line at out end tag next here byte lt is (ih (before ++ tag ∷ []) next is.pair.inside lt is.pair.ends distinct (omega (arith, is.room, count)) (omega (arith, fuel, count)) go)
 
 told_by : (n : ℕ) (before : Tags) (line : Text) (at : ℕ) (out : Tags) (end : ℕ) (comma : Bool) → eqb (slice_index line at) 44 ≡ comma → at ≤ length line → end < length line → EndsKey line at → AllDistinct (map piece_key before)

@@ -1,12 +1,13 @@
 -- That a backslash directly before a byte takes its meaning away is the same as reading escapes in pairs from left
 -- to right, since nothing escapes a backslash. (InfluxData 1.8, line protocol reference, special characters.)
-use Rattle.std.proofs.Common.{◌≡◌, ℕ, ◌+◌, Bool, true, false, cond, not, ◌&&◌, ◌||◌, eqb, [], ◌∷◌, refl, sym, ap, ◌∙◌, arith}
+use Rattle.std.proofs.Common.{◌≡◌, ℕ, ◌+◌, Bool, true, false, cond, ◌&&◌, [], ◌∷◌, refl, sym, ap, ◌∙◌, arith}
+use Rattle.std.proofs.Math.Bool.{and-false, and-true}
 use Rattle.std.proofs.lemmas.Bool.Decides.{nat_tests}
 use Rattle.ts_core.specs.Facts.{Text}
 use Rattle.ts_line.specs.declared.scan.Stops.{Stops}
 use Rattle.ts_line.specs.declared.scan.Stops.TheVariants.{Space, Comma, Equals, Plain}
 use Rattle.ts_line.specs.Scan.{is_backslash, is_stop, is_escaped, ends, part_len}
-use Rattle.ts_line.specs.Pieces.{begins_escapable, unescaped}
+use Rattle.ts_line.specs.Pieces.{unescaped}
 
 -- the byte may be escaped in such a part
 abbrev pub is_escapable : Stops → ℕ → Bool
@@ -38,10 +39,6 @@ stop_is_other Comma b e = grind (arith, nat_tests)
 stop_is_other Equals b e = grind (arith, nat_tests)
 stop_is_other Plain b e = grind (arith, nat_tests)
 
-and_false : (x : Bool) → (x && false) ≡ false
-and_false true = refl
-and_false false = refl
-
 unescaped_behind : (stops : Stops) (before : ℕ) → is_backslash before ≡ false → is_escaped stops before ≡ false
 unescaped_behind Space before e = e
 unescaped_behind Comma before e = e
@@ -53,21 +50,17 @@ len_from : (stops : Stops) (before : ℕ) (bs : Text) → is_backslash before �
 len_from stops before [] e = refl
 len_from stops before (b ∷ bs) e = rw (unescaped_behind stops before e, unescaped_behind stops 0 refl) refl
 
-and_true : (x : Bool) → (x && true) ≡ x
-and_true true = refl
-and_true false = refl
-
 -- a stop behind a backslash ends a part exactly where it may not be escaped
 ends_behind : (stops : Stops) (b c : ℕ) → is_escapable stops c ≡ false → ends stops b c ≡ is_stop stops c
 ends_behind Space b c n = rw n refl
 ends_behind Comma b c n = rw n refl
 ends_behind Equals b c n = rw n refl
-ends_behind Plain b c n = and_true (is_stop Plain c)
+ends_behind Plain b c n = and-true (is_stop Plain c)
 
 ends_escaped : (stops : Stops) (b c : ℕ) → is_backslash b ≡ true → is_escapable stops c ≡ true → ends stops b c ≡ false
-ends_escaped Space b c w e = rw w (and_false (is_stop Space c))
-ends_escaped Comma b c w e = rw w (and_false (is_stop Comma c))
-ends_escaped Equals b c w e = rw w (and_false (is_stop Equals c))
+ends_escaped Space b c w e = rw w (and-false (is_stop Space c))
+ends_escaped Comma b c w e = rw w (and-false (is_stop Comma c))
+ends_escaped Equals b c w e = rw w (and-false (is_stop Equals c))
 ends_escaped Plain b c w e = absurd cc
 
 escapable_stop : (stops : Stops) (c : ℕ) → is_escapable stops c ≡ true → is_stop stops c ≡ true
@@ -77,7 +70,7 @@ escapable_stop Equals c e = e
 escapable_stop Plain c e = absurd cc
 
 starts_bare : (stops : Stops) (b : ℕ) → ends stops 0 b ≡ is_stop stops b
-starts_bare stops b = rw (unescaped_behind stops 0 refl) (and_true (is_stop stops b))
+starts_bare stops b = rw (unescaped_behind stops 0 refl) (and-true (is_stop stops b))
 
 -- ---- lengths
 
@@ -113,7 +106,7 @@ text_by stops b c bs true false w-is e-is one two = rw (w-is, e-is) (ap (λ (t :
 text_by stops b c bs false e w-is e-is one two = rw w-is (ap (λ (t : Text). b ∷ t) two)
 
 last_text : (stops : Stops) (b : ℕ) → unescaped stops (b ∷ []) ≡ b ∷ []
-last_text stops b = rw (and_false (is_backslash b)) refl
+last_text stops b = rw (and-false (is_backslash b)) refl
 
 same_texts : (stops : Stops) (raw : Text) → unescaped stops raw ≡ pair_text stops raw
 same_texts stops [] = refl

@@ -12,3 +12,4 @@ pub mod Fields
 pub mod Lines
 pub mod EscapeLaws
 pub mod Spelling
+pub mod Spans

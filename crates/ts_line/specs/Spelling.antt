@@ -1,11 +1,11 @@
 -- How a line is spelled: the grammar of a line, from its parts to its text.
 -- (InfluxData 1.8, line protocol reference, syntax, whitespace, special characters; own limits.)
-use Rattle.std.specs.Prelude.{◌≡◌, ◌⊎◌, ℕ, ℤ, ◌+◌, ◌≤◌, ◌*ℤ◌, Bool, true, false, not, ◌&&◌, ◌==◌, List, [], ◌∷◌, ◌++◌, length, map, codes, FitsSigned}
+use Rattle.std.specs.Prelude.{◌≡◌, ◌⊎◌, ℕ, ℤ, ◌+◌, ◌≤◌, ◌*ℤ◌, Bool, true, not, ◌&&◌, ◌==◌, List, [], ◌∷◌, ◌++◌, length, map, codes, FitsSigned}
 use Rattle.std.specs.Int.{w64}
 use Rattle.std.specs.List.{list_all, AllByRecursion}
 use Rattle.std.specs.Str.Parse.{signed_digits_value}
 use Rattle.ts_core.specs.Facts.{Text}
-use Rattle.ts_core.specs.Members.{Among, AllDistinct}
+use Rattle.ts_core.specs.Members.{AllDistinct}
 use Rattle.ts_core.specs.Times.{IsTime}
 use Rattle.ts_line.specs.declared.scan.Stops.{Stops}
 use Rattle.ts_line.specs.declared.scan.Stops.TheVariants.{Comma, Equals}
@@ -119,6 +119,6 @@ pub record IsSpelling (unit now : ℤ) (source : Text) (parts : Parts) : Type 0 
     measurement = written_piece Comma (length before) measurement;
     tags = tags_from (length before + length measurement) tags;
     fields = with_fields (field_from (length before + length measurement + length (tags_text tags) + 1 + length gap) first ∷ [])
-      (length before + length measurement + length (tags_text tags) + 1 + length gap + length (field_spelling first)) more;
+        (length before + length measurement + length (tags_text tags) + 1 + length gap + length (field_spelling first)) more;
     time = time;
   }

@@ -3,7 +3,7 @@ ghost use Rattle.std.specs.Prelude.{◌≡◌, ◌≤◌, ◌<◌, ◌+◌, ◌&
 ghost use Rattle.std.specs.Cow.{cow_str_bytes};
 ghost use Rattle.std.specs.List.{list_any};
 ghost use Rattle.std.specs.Str.{IsCharBoundary};
-ghost use Rattle.ts_line.specs.Scan.{is_backslash};
+ghost use Rattle.ts_line.specs.Scan.{is_backslash, is_stop};
 ghost use Rattle.ts_line.specs.Pieces.{begins_escapable, unescaped, piece_at};
 
 use crate::line::Part;
@@ -22,11 +22,11 @@ pub fn part_at<'a, A: Allocator>(
     requires ordered { start ≤ end.at }
     requires first { IsCharBoundary line.now start }
     requires last { IsCharBoundary line.now end.at }
-    requires plain { end.has_backslash ≡ list_any is_backslash (slice_range line.now start end.at) }
+    requires escape { end.has_escape ≡ list_any (is_stop stops) (slice_range line.now start end.at) }
     ensures { IfOk result (λ p. p ≡ piece_at stops line.now start end.at) }
 {
     let raw = &line[start..end.at];
-    let text = spelled(alloc, raw, end.has_backslash, stops)?;
+    let text = spelled(alloc, raw, end.has_escape, stops)?;
     Ok(Part::new(start, raw, text))
 }
 
@@ -35,13 +35,13 @@ pub fn part_at<'a, A: Allocator>(
 fn spelled<'a, A: Allocator>(
     alloc: A,
     raw: &'a str,
-    has_backslash: bool,
+    has_escape: bool,
     stops: Stops,
 ) -> Result<CowStr<'a, A>, AllocError>
-    requires { has_backslash ≡ list_any is_backslash raw.now }
+    requires { has_escape ≡ list_any (is_stop stops) raw.now }
     ensures { IfOk result (λ t. cow_str_bytes t ≡ unescaped stops raw.now) }
 {
-    if !has_backslash {
+    if !has_escape {
         return Ok(CowStr::Borrowed(raw));
     }
     Ok(CowStr::Owned(unescaped(alloc, raw, stops)?))

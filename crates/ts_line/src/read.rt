@@ -1,8 +1,12 @@
 //! Reading a line.
-ghost use Rattle.std.specs.Prelude.{◌≡◌, ◌<◌, ◌≤◌, true, length, IfOk};
+ghost use Rattle.std.specs.Prelude.{◌≡◌, ◌<◌, ◌≤◌, true, length, Ok, IfOk, Some, IfSome};
 ghost use Rattle.std.specs.Str.{IsCharBoundary};
-ghost use Rattle.ts_line.specs.Units.{unit_of};
+ghost use Rattle.ts_line.specs.Parts.{Parts};
+ghost use Rattle.ts_line.specs.EscapeLaws.{ReadsPairs};
+ghost use Rattle.ts_line.specs.Spans.{ArePlaced, pieces_of};
+ghost use Rattle.ts_line.specs.Spelling.{IsSpelling};
 ghost use Rattle.ts_line.specs.Steps.{GivesIfRoom};
+ghost use Rattle.ts_line.specs.Units.{unit_of};
 ghost use Rattle.ts_line.specs.Lines.{is_bare_space, trimmed, without_return, content, measurement_at, time_at, parts_at, line_of};
 
 use crate::fault::{LineFault, ReadLineError};
@@ -24,8 +28,30 @@ const KEY_LIMIT: usize = 4_096;
 
 /// Reads a line without its line feed: its parts, or `None` for a comment or a blank line.
 /// A timestamp counts units of `precision`; without one the time is `now`.
-#[tactic(auto, unfolding(crate::specs::Lines::line_of, crate::specs::Lines::content))]
 pub fn read_line<A: Allocator + Copy>(
+    alloc: A,
+    text: &str,
+    precision: Precision,
+    now: Time,
+) -> Result<Option<Line<'_, A>>, ReadLineError>
+    // no line, its parts, or its first fault, exactly
+    ensures value { GivesIfRoom (λ o. o) result (line_of (unit_of precision) now text.now) }
+
+    // what is read is spelled so, and what is spelled so is read
+    ensures spelled { IfOk result (λ o. IfSome o (IsSpelling (unit_of precision) now text.now)) }
+    ensures only { (parts : Parts) → IsSpelling (unit_of precision) now text.now parts → GivesIfRoom (λ o. o) result (Ok (Some parts)) }
+
+    // each part is the slice of the text at its span, one behind the other
+    ensures spans { IfOk result (λ o. IfSome o (λ p. ArePlaced text.now 0 (pieces_of p))) }
+
+    // a backslash directly before a byte counts as escapes in pairs do
+    ensures pairs { ReadsPairs }
+{
+    whole_line(alloc, text, precision, now)
+}
+
+#[tactic(auto, unfolding(crate::specs::Lines::line_of, crate::specs::Lines::content))]
+fn whole_line<A: Allocator + Copy>(
     alloc: A,
     text: &str,
     precision: Precision,
@@ -89,7 +115,7 @@ fn content(source: &str) -> &str
 }
 
 /// The measurement that begins at `start`, and its end.
-#[tactic(auto, unfolding(crate::specs::Lines::measurement_at))]
+#[tactic(auto, using(crate::proofs::LineLemmas::short_key), unfolding(crate::specs::Lines::measurement_at))]
 fn measurement<'a, A: Allocator>(
     alloc: A,
     line: &'a str,
@@ -100,8 +126,9 @@ fn measurement<'a, A: Allocator>(
     ensures value { GivesIfRoom (λ x. x) result (measurement_at line.now start) }
     ensures boundary { IfOk result (λ x. IsCharBoundary line.now x.1) }
 {
-    if end_at(line, start, Stops::Space).at > start + KEY_LIMIT {
-        return Err(ReadLineError::Fault(LineFault::OverLimit(start + KEY_LIMIT)));
+    let limit = start + KEY_LIMIT;
+    if line.len() > limit && end_at(line, start, Stops::Space).at > limit {
+        return Err(ReadLineError::Fault(LineFault::OverLimit(limit)));
     }
     let end = end_at(line, start, Stops::Comma);
     if end.at == start {

@@ -2,7 +2,7 @@
 ghost use Rattle.std.specs.Prelude.{◌≡◌, ◌≤◌, ◌<◌, ◌+◌, length, slice_index, slice_range, false};
 ghost use Rattle.std.specs.List.{list_any};
 ghost use Rattle.std.specs.Str.{IsCharBoundary};
-ghost use Rattle.ts_line.specs.Scan.{is_backslash, is_stop, ends, end_of, spaces_end};
+ghost use Rattle.ts_line.specs.Scan.{is_stop, ends, end_of, spaces_end};
 
 /// Which bytes end a part.
 #[derive(Clone, Copy, Debug, PartialEq, Eq)]
@@ -17,11 +17,11 @@ pub enum Stops {
     Plain,
 }
 
-/// The end of a part, and whether a backslash may stand in the part.
+/// The end of a part, and whether an escape stands in the part.
 #[derive(Clone, Copy, Debug)]
 pub struct End {
     pub at: usize,
-    pub has_backslash: bool,
+    pub has_escape: bool,
 }
 
 /// Whether a byte is one of those that end a part.
@@ -50,22 +50,22 @@ pub fn end_at(line: &str, from: usize, stops: Stops) -> End
     ensures from { from ≤ result.at }
     ensures within { result.at ≤ length line.now }
     ensures boundary { IsCharBoundary line.now result.at }
-    ensures plain { result.has_backslash ≡ list_any is_backslash (slice_range line.now from result.at) }
+    ensures escape { result.has_escape ≡ list_any (is_stop stops) (slice_range line.now from result.at) }
 {
     let bytes = line.as_bytes();
     let mut at = from;
     let mut before = 0;
-    let mut has_backslash = false;
+    let mut has_escape = false;
     while at < bytes.len() {
         let byte = bytes[at];
         if is_end(stops, before, byte) {
             break;
         }
-        has_backslash |= byte == b'\\';
+        has_escape |= is_stop(stops, byte);
         before = byte;
         at += 1;
     }
-    End { at, has_backslash }
+    End { at, has_escape }
 }
 
 /// The first place from `from` on that has no space.

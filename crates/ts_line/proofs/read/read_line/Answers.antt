@@ -1,22 +1,17 @@
-use Rattle.std.proofs.Common.{◌≡◌, false, eqb, ltb, length, slice_index, ◌∙◌}
-use Rattle.std.proofs.lemmas.Bool.{ne_eqb, le-ltb}
-use Rattle.std.proofs.lemmas.Str.{IsCharBoundary-start}
-use Rattle.ts_core.specs.Facts.{Text}
+use Rattle.ts_line.specs.EscapeLaws.{reads_pairs}
 use Rattle.ts_line.specs.Units.{unit_of}
-use Rattle.ts_line.specs.Scan.{spaces_end}
-use Rattle.ts_line.specs.Lines.{content}
-use Rattle.ts_line.proofs.LineLemmas.{line_read}
+use Rattle.ts_line.proofs.Laws.{told_of, read_of}
+use Rattle.ts_line.proofs.SpansLemmas.{placed_by}
 use Rattle.ts_line.proofs.read.read_line.Goals as goal
 
-pub after_spaces-start-requires : goal.after_spaces-start-requires
-after_spaces-start-requires g c = IsCharBoundary-start c.content-line.result.now c.content-line.utf8
+pub returns-clause-spelled : goal.returns-clause-spelled
+returns-clause-spelled g c = told_of (unit_of c.args.precision) c.args.now c.args.text.now c.whole_line.result c.whole_line.ensures
 
-pub returns : goal.returns
-returns g c =
-    let source : Text = c.args.text.now in
-    let line : c.content-line.result.now ≡ content source = c.content-line.ensures in
-    let start : c.after_spaces-start.result ≡ spaces_end c.content-line.result.now 0 = c.after_spaces-start.ensures.value in
-    let short : ltb 65536 (length source) ≡ false = le-ltb 65536 (length source) c.if-text-gt-LINE_LIMIT.false in
-    let some : eqb (spaces_end (content source) 0) (length (content source)) ≡ false = rw (← line, ← start) (ne_eqb _ _ c.if-start-line.false) in
-    let told : eqb (slice_index (content source) (spaces_end (content source) 0)) 35 ≡ false = rw (← line, ← start) (ne_eqb _ _ (λ e. c.if-byte_at-eq35.false (c.byte_at.ensures ∙ e))) in
-    line_read (unit_of c.args.precision) c.args.now source c.in_ok-parts.field-0 short some told (rw (← line, ← start) c.in_ok-parts.ensures)
+pub returns-clause-only : goal.returns-clause-only
+returns-clause-only g c = read_of (unit_of c.args.precision) c.args.now c.args.text.now c.whole_line.result c.whole_line.ensures
+
+pub returns-clause-pairs : goal.returns-clause-pairs
+returns-clause-pairs g c = reads_pairs
+
+pub returns-clause-spans : goal.returns-clause-spans
+returns-clause-spans g c = placed_by (unit_of c.args.precision) c.args.now c.args.text.now c.whole_line.result (told_of (unit_of c.args.precision) c.args.now c.args.text.now c.whole_line.result c.whole_line.ensures)

@@ -1,6 +1,6 @@
 use Rattle.std.proofs.Common.{length, ◌-◌, ◌≡◌, ◌≤◌, drop, ◌+◌, slice_range}
 use Rattle.std.specs.List.{list_any}
-use Rattle.ts_line.specs.Scan.{is_backslash, part_len, end_of}
+use Rattle.ts_line.specs.Scan.{is_stop, part_len, end_of}
 use Rattle.ts_line.proofs.scan.end_at.Given as goal
 
 abbrev pub invariant-loop-at : goal.invariant-loop-at
@@ -8,7 +8,7 @@ invariant-loop-at l = record {
   from : l.from ≤ l.at;
   within : l.at ≤ length l.bytes;
   length : l.at + part_len l.stops l.before (drop l.at l.bytes) ≡ end_of l.stops l.line l.from;
-  plain : l.has_backslash ≡ list_any is_backslash (slice_range l.line l.from l.at);
+  escape : l.has_escape ≡ list_any (is_stop l.stops) (slice_range l.line l.from l.at);
 }
 
 abbrev pub decreases-loop-at : goal.decreases-loop-at
