@@ -2,9 +2,8 @@
 use clap::error::ErrorKind;
 use clap::{ArgMatches, Command, Error};
 use std::alloc::{AllocError, Global};
-use std::env;
-use std::io;
 use std::rt::Env;
+use std::{env, io};
 
 const VERSION: &str = "0.1.0";
 

@@ -173,10 +173,7 @@ fn lines_are_written_or_at_fault(rt: HostRuntime) -> Result<(), Fail> {
         ("write m f=\"a\\\\\"", "fault 16 at 2\n"),
         ("write m f=1i -9223372036854775807", "fault 19 at 7\n"),
         ("write m\\\\ x a\\=b=1i 1", "ok\n"),
-        (
-            "write  m  f=1i,f=2i  3 \ncount m f 3 4",
-            "ok\n1\n",
-        ),
+        ("write  m  f=1i,f=2i  3 \ncount m f 3 4", "ok\n1\n"),
         (
             "precision h\nwrite m f=1i 2562047\nwrite m f=1i 2562048\ncount m f 9223369200000000000 9223369200000000001",
             "ok\nfault 19 at 7\n1\n",
@@ -215,12 +212,20 @@ fn precisions_are_the_listed_ones(rt: HostRuntime) -> Result<(), Fail> {
         ("m", "count m f 180000000000 180000000001"),
         ("h", "count m f 10800000000000 10800000000001"),
     ] {
-        let script = format!(in rt.alloc(); "precision {precision}\nprecision x\nwrite m f=1i 3\n{count}")?;
-        assert!(rt; prints(rt.alloc(), script.as_str(), "fault 95\nok\n1\n")?, "{precision}");
+        let script = format!(in rt.alloc();
+            "precision {precision}\nprecision x\nwrite m f=1i 3\n{count}"
+        )?;
+        assert!(rt;
+            prints(rt.alloc(), script.as_str(), "fault 95\nok\n1\n")?,
+            "{precision}"
+        );
     }
     for precision in ["\u{b5}", "d", "w", "NS", "", " s", "s ", "text"] {
         let script = format!(in rt.alloc(); "precision {precision}")?;
-        assert!(rt; prints(rt.alloc(), script.as_str(), "fault 95\n")?, "{precision}");
+        assert!(rt;
+            prints(rt.alloc(), script.as_str(), "fault 95\n")?,
+            "{precision}"
+        );
     }
     Ok(())
 }
