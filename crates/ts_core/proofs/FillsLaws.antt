@@ -8,7 +8,10 @@ use Rattle.ts_core.specs.Facts.{Fact}
 use Rattle.ts_core.specs.Aggregates.{Aggregate, aggregate_of, aggregate_of_one, empty_aggregate}
 use Rattle.ts_core.specs.MergeLaws.{aggregate_laws}
 use Rattle.ts_core.specs.Answers.{Row}
-use Rattle.ts_core.specs.Fills.{Function, Fill, NullFill, NoneFill, PreviousFill, NumberFill, value_of, number_value, has_data, shown, numbered, repeated, last_data, with_previous, filled_rows, FilledRow}
+use Rattle.ts_core.specs.declared.value.Function.{Function}
+use Rattle.ts_core.specs.declared.fill.Fill.{Fill}
+use Rattle.ts_core.specs.declared.fill.Fill.TheVariants.{Null as NullFill, None as NoneFill, Previous as PreviousFill, Number as NumberFill}
+use Rattle.ts_core.specs.Fills.{value_of, number_value, has_data, shown, numbered, repeated, last_data, with_previous, filled_rows, FilledRow}
 use Rattle.ts_core.proofs.MembersLemmas.{Among-filter_passes, Among-filter_was, Among-filter_stays}
 use Rattle.ts_core.proofs.Folds.{fold-count}
 

@@ -1,5 +1,5 @@
 -- There is a plan exactly where some list of pieces is valid: else no rule leads on, as far as the walk comes.
-use Rattle.std.proofs.Common.{◌≡◌, ◌↔◌, ℕ, ℤ, pos, ◌+◌, ◌<◌, ◌+ℤ◌, ◌-ℤ◌, ◌≤ℤ◌, ◌<ℤ◌, arith, refl, sym, ap, ◌∙◌, suc, zero, subst, unsigned_abs, List, [], ◌∷◌, Some, None, ◌⊎◌, inl, inr, zero-add}
+use Rattle.std.proofs.Common.{◌≡◌, ◌↔◌, ℕ, ℤ, pos, ◌+◌, ◌+ℤ◌, ◌-ℤ◌, ◌≤ℤ◌, ◌<ℤ◌, arith, refl, sym, ap, ◌∙◌, suc, zero, subst, unsigned_abs, List, [], ◌∷◌, Some, None, ◌⊎◌, inl, inr, zero-add}
 use Rattle.std.specs.Prelude.{slice_get}
 use Rattle.std.specs.Int.Signed.{yes_non_neg, pos-nat_abs}
 use Rattle.std.proofs.lemmas.Int.{ints, by_lt_z}
@@ -9,7 +9,7 @@ use Rattle.ts_core.specs.Marks.{Marks}
 use Rattle.ts_core.specs.Queries.{Query}
 use Rattle.ts_core.specs.Pieces.{Raw, Piece, MarkedRule, marked_rules, Asked, asked, HasIntervals, IsValidPiece, IsValid}
 use Rattle.ts_core.specs.Faults.{piece_fault}
-use Rattle.ts_core.specs.Plans.{IsGood, rollup_piece, LeadsOn, IsWalk, joined, IsPlan}
+use Rattle.ts_core.specs.Plans.{IsGood, rollup_piece, LeadsOn, NoneBefore, IsWalk, joined, IsPlan}
 use Rattle.ts_core.proofs.Validity.{source_from, source_none}
 use Rattle.ts_core.proofs.GoodPlaces.{good_leads, good_within}
 use Rattle.ts_core.proofs.Walks.{walk_valid, plan_valid, plan_same}
@@ -37,10 +37,6 @@ valid_or_not t b =
       | None ↦ λ e. inl (source_from t b.source b.from b.to e)
       | Some f ↦ λ e. inr (λ v. let q : Some f ≡ None = sym e ∙ source_none t b.source b.from b.to v in absurd cc)
     ] refl
-
--- rules before number n don't lead on
-abbrev pub NoneBefore : Asked → ℤ → ℕ → Type 0
-NoneBefore t p n = (m : ℕ) (d : ℤ) → m < n → LeadsOn t m p d → ⊥
 
 pub one_more : (t : Asked) (p : ℤ) (n : ℕ) → NoneBefore t p n → ((d : ℤ) → LeadsOn t n p d → ⊥) → NoneBefore t p (n + 1)
 one_more t p n b h m d l k =

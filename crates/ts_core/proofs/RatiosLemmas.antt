@@ -1,11 +1,12 @@
 -- The mean that is computed is the mean: the sum over the count, in lowest terms.
-use Rattle.std.proofs.Common.{ℕ, ◌<◌, ◌≤◌, ◌%◌, suc, zero, arith, refl, mod-lt, unsigned_abs}
+use Rattle.std.proofs.Common.{◌≡◌, ℕ, ◌<◌, ◌≤◌, ◌%◌, suc, zero, arith, refl, mod-lt, unsigned_abs}
 use Rattle.std.specs.Int.{IsGcd}
 use Rattle.std.proofs.lemmas.Nat.Gcd.{IsGcd-from_zero, IsGcd-from_mod}
+use Rattle.ts_core.specs.declared.means.Frac.{Frac}
 use Rattle.ts_core.specs.Aggregates.{Aggregate}
 use Rattle.ts_core.specs.Means.{IsMean}
 use Rattle.ts_core.specs.Ratios.{divisor_within, common_divisor, mean_of}
-use Rattle.ts_core.proofs.MeansLemmas.{IsMean-from_quotients}
+use Rattle.ts_core.proofs.MeansLemmas.{IsMean-from_quotients, only_mean}
 
 divisor_within-is : (n a b : ℕ) → b ≤ n → IsGcd a b (divisor_within n a b)
 divisor_within-is n a zero h = IsGcd-from_zero a 0 refl
@@ -17,3 +18,9 @@ common_divisor-is a b = divisor_within-is b a b (omega arith)
 
 pub mean_of-is : (a : Aggregate) → 0 < a.count → IsMean a.count a.sum (mean_of a).numerator (mean_of a).denominator
 mean_of-is a h = IsMean-from_quotients a.sum a.count (common_divisor (unsigned_abs a.sum) a.count) h (common_divisor-is (unsigned_abs a.sum) a.count)
+
+-- no other fraction is
+pub mean_of-only : (a : Aggregate) (f : Frac) → 0 < a.count → IsMean a.count a.sum f.numerator f.denominator → f ≡ mean_of a
+mean_of-only a f h m =
+    let e = only_mean a.count a.sum f.numerator (mean_of a).numerator f.denominator (mean_of a).denominator h m (mean_of-is a h) in
+    λ i. record { numerator = e.0 i; denominator = e.1 i }

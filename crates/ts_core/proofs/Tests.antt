@@ -40,6 +40,9 @@ lt_from x y h = grind (arith, ints)
 pub lt_true : (x y : ℤ) → x <ℤ y → int_lt x y ≡ true
 lt_true x y h = grind (arith, ints)
 
+pub lt_not : (x y : ℤ) → int_lt x y ≡ false → y ≤ℤ x
+lt_not x y h = grind (arith, ints)
+
 -- two tests that say the same are the same
 pub same_bool : (a b : Bool) → (a ≡ true → b ≡ true) → (b ≡ true → a ≡ true) → a ≡ b
 same_bool true b f g = sym (f refl)

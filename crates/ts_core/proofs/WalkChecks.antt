@@ -6,12 +6,12 @@ use Rattle.std.proofs.lemmas.Bool.Decides.{Decides-int_eq}
 use Rattle.ts_core.specs.Facts.{Text, same_text}
 use Rattle.ts_core.specs.Pieces.{Source, Raw, Rollup, Piece, MarkedRule, Asked, HasIntervals, IsValidPiece}
 use Rattle.ts_core.specs.Faults.{piece_fault}
-use Rattle.ts_core.specs.Plans.{IsGood, rollup_piece, LeadsOn, IsFirstToLead, Steps, IsWalk, is_faultless}
+use Rattle.ts_core.specs.Plans.{IsGood, rollup_piece, LeadsOn, NoneBefore, IsFirstToLead, Steps, IsWalk, is_faultless}
 use Rattle.ts_core.proofs.Tests.{and_parts, lt_from, le_from}
 use Rattle.ts_core.proofs.Ids.{same_text-eq}
 use Rattle.ts_core.proofs.Validity.{source_from, source_none}
 use Rattle.ts_core.proofs.Walks.{walk_valid, faultless_none}
-use Rattle.ts_core.proofs.Plannable.{leads_of, NoneBefore, one_more, StandFrom}
+use Rattle.ts_core.proofs.Plannable.{leads_of, one_more, StandFrom}
 
 -- the bucket of the rule at p has no fault
 abbrev is_open : Asked → MarkedRule → ℤ → Bool

@@ -4,7 +4,11 @@ use Rattle.ts_core.specs.Facts.{Text, Fact}
 use Rattle.ts_core.specs.Latest.{latest}
 use Rattle.ts_core.specs.Queries.{Query}
 use Rattle.ts_core.specs.Answers.{answer_of, buckets_in}
-use Rattle.ts_core.specs.Fills.{Count, Sum, Min, Max, First, Last, Mean, Value, Null, Number, Fraction, NullFill, NoneFill, PreviousFill, NumberFill, FilledRow, FilledGroup, filled}
+use Rattle.ts_core.specs.declared.value.Function.TheVariants.{Count, Sum, Min, Max, First, Last, Mean}
+use Rattle.ts_core.specs.declared.value.Value.{Value}
+use Rattle.ts_core.specs.declared.value.Value.TheVariants.{Null, Number, Fraction}
+use Rattle.ts_core.specs.declared.fill.Fill.TheVariants.{Null as NullFill, None as NoneFill, Previous as PreviousFill, Number as NumberFill}
+use Rattle.ts_core.specs.Fills.{FilledRow, FilledGroup, filled}
 
 -- ---- words: measurement m, field f
 

@@ -3,6 +3,8 @@ use Rattle.std.specs.Prelude.{ℕ, ◌+◌, ℤ, pos, ◌-ℤ◌, int_lt, int_le
 use Rattle.std.specs.Ordering.{int_eq}
 use Rattle.std.specs.Int.{int_rem_euclid}
 use Rattle.std.specs.List.{list_any, list_all}
+pub use Rattle.ts_core.specs.declared.fault.Fault.{Fault}
+pub use Rattle.ts_core.specs.declared.fault.Fault.TheVariants.{Gap, BelowMark, NoSuchRule, OtherMeasurement, OffBoundary, BelowLow, Straddles, TagNotKept}
 use Rattle.ts_core.specs.Facts.{Text, same_text}
 use Rattle.ts_core.specs.Settings.{Rule, Settings}
 use Rattle.ts_core.specs.Buckets.{bucket_of}
@@ -10,31 +12,21 @@ use Rattle.ts_core.specs.Marks.{Marks, index_of}
 use Rattle.ts_core.specs.Queries.{Query}
 use Rattle.ts_core.specs.Pieces.{Source, Raw, Rollup, Piece, MarkedRule, Asked, asked, rule_named, start_of, tags_of}
 
-pub data Fault : Type 0 where
-  -- the pieces don't lead from the start of the range to its end
-  Gap : Fault
-  -- a raw piece starts below the raw mark
-  BelowMark : Fault
-  NoSuchRule : Fault
-  OtherMeasurement : Fault
-  -- an end isn't a boundary of the rule
-  OffBoundary : Fault
-  -- the first bucket lies below the rule's low index
-  BelowLow : Fault
-  -- the rule's buckets don't fit the query's
-  Straddles : Fault
-  -- the rule doesn't keep a tag that the query names
-  TagNotKept : Fault
-
 -- the number that a fault is answered by
 abbrev pub fault_number : Fault → ℕ
+-- the pieces don't lead from the start of the range to its end
 fault_number Gap = 82
+-- a raw piece starts below the raw mark
 fault_number BelowMark = 83
 fault_number NoSuchRule = 84
 fault_number OtherMeasurement = 85
+-- an end isn't a boundary of the rule
 fault_number OffBoundary = 86
+-- the first bucket lies below the rule's low index
 fault_number BelowLow = 87
+-- the rule's buckets don't fit the query's
 fault_number Straddles = 88
+-- the rule doesn't keep a tag that the query names
 fault_number TagNotKept = 89
 
 -- ---- of one piece

@@ -2,31 +2,16 @@
 -- (InfluxData 1.8, InfluxQL: GROUP BY time intervals and fill(). Own rules: COUNT under fill, and means as fractions.)
 use Rattle.std.specs.Prelude.{◌==◌, ℤ, pos, Bool, not, List, [], ◌∷◌, map, filter, Option, Some, None, if◌then◌else◌}
 use Rattle.ts_core.specs.declared.aggregate.Extremes.{Extremes}
+use Rattle.ts_core.specs.declared.value.Function.{Function}
+use Rattle.ts_core.specs.declared.value.Function.TheVariants.{Count, Sum, Min, Max, First, Last, Mean}
+use Rattle.ts_core.specs.declared.value.Value.{Value}
+use Rattle.ts_core.specs.declared.value.Value.TheVariants.{Null, Number, Fraction}
+use Rattle.ts_core.specs.declared.fill.Fill.{Fill}
+use Rattle.ts_core.specs.declared.fill.Fill.TheVariants.{Null as NullFill, None as NoneFill, Previous as PreviousFill, Number as NumberFill}
 use Rattle.ts_core.specs.Facts.{Text}
 use Rattle.ts_core.specs.Aggregates.{Aggregate}
-use Rattle.ts_core.specs.Ratios.{Ratio, mean_of}
+use Rattle.ts_core.specs.Ratios.{mean_of}
 use Rattle.ts_core.specs.Answers.{Row, Group}
-
--- the function of a column
-pub data Function : Type 0 where
-  Count : Function
-  Sum : Function
-  Min : Function
-  Max : Function
-  First : Function
-  Last : Function
-  Mean : Function
-
-pub data Value : Type 0 where
-  Null : Value
-  Number : ℤ → Value
-  Fraction : Ratio → Value
-
-pub data Fill : Type 0 where
-  NullFill : Fill
-  NoneFill : Fill
-  PreviousFill : Fill
-  NumberFill : ℤ → Fill
 
 -- ---- values
 

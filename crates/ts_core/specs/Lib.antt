@@ -2,10 +2,13 @@ pub mod Times
 pub mod Members
 pub mod Facts
 pub mod Settings
+pub mod SettingsFaults
 pub mod History
+pub mod Events
 pub mod Latest
 pub mod Kept
 pub mod Partials
+pub mod Lent
 pub mod Texts
 pub mod Devices
 pub mod ReadingAhead
@@ -14,6 +17,7 @@ pub mod Tags
 pub mod Queries
 pub mod Marks
 pub mod Pieces
+pub mod LentPieces
 pub mod Faults
 pub mod Plans
 pub mod Orders

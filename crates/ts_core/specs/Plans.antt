@@ -17,6 +17,9 @@ IsGood t p = (ps : List Piece) × IsValidFrom t p ps
 abbrev pub rollup_piece : Text → ℤ → ℤ → Piece
 rollup_piece name a b = record { source = Rollup name; from = a; to = b }
 
+abbrev pub raw_piece : ℤ → ℤ → Piece
+raw_piece a b = record { source = Raw; from = a; to = b }
+
 -- the bucket of rule n that starts at p is a valid piece, and ends at a good place e
 pub record LeadsOn (t : Asked) (n : ℕ) (p e : ℤ) : Type 0 where
   pub rule : MarkedRule
@@ -25,12 +28,16 @@ pub record LeadsOn (t : Asked) (n : ℕ) (p e : ℤ) : Type 0 where
   pub valid : IsValidPiece t (rollup_piece rule.rule.name p e)
   pub good : IsGood t e
 
+-- the rules before number n don't lead on from p
+abbrev pub NoneBefore : Asked → ℤ → ℕ → Type 0
+NoneBefore t p n = (m : ℕ) (d : ℤ) → m < n → LeadsOn t m p d → ⊥
+
 -- rule n leads on, and none before it in the order of the settings
 pub record IsFirstToLead (t : Asked) (name : Text) (p e : ℤ) : Type 0 where
   pub n : ℕ
   pub leads : LeadsOn t n p e
   pub named : leads.rule.rule.name ≡ name
-  pub first : (m : ℕ) (d : ℤ) → m < n → LeadsOn t m p d → ⊥
+  pub first : NoneBefore t p n
 
 -- the step of the walk from p to e: at or above the raw mark the rest is one raw piece, below it one bucket is taken, and then more
 abbrev pub Steps : Asked → ℤ → ℤ → Source → List Piece → Type 0 → Type 0

@@ -1,12 +1,9 @@
 -- The mean of an aggregate as a fraction: its sum and its count, both divided by their greatest common divisor.
 -- (InfluxData 1.8, InfluxQL functions: MEAN. Own rule: exact, in lowest terms.)
-use Rattle.std.specs.Prelude.{ℕ, zero, suc, ◌/◌, ◌%◌, ℤ, unsigned_abs}
+use Rattle.std.specs.Prelude.{ℕ, zero, suc, ◌/◌, ◌%◌, unsigned_abs}
+use Rattle.ts_core.specs.declared.means.Frac.{Frac}
 use Rattle.ts_core.specs.Means.{signed_as_of}
 use Rattle.ts_core.specs.Aggregates.{Aggregate}
-
-pub record Ratio : Type 0 where
-  pub numerator : ℤ
-  pub denominator : ℕ
 
 -- Euclid's rule, in at most n turns
 abbrev pub divisor_within : ℕ → ℕ → ℕ → ℕ
@@ -17,7 +14,7 @@ divisor_within (suc n) a (suc b) = divisor_within n (suc b) (a % suc b)
 abbrev pub common_divisor : ℕ → ℕ → ℕ
 common_divisor a b = divisor_within b a b
 
-abbrev pub mean_of : Aggregate → Ratio
+abbrev pub mean_of : Aggregate → Frac
 mean_of a = record {
   numerator = signed_as_of a.sum (unsigned_abs a.sum / common_divisor (unsigned_abs a.sum) a.count);
   denominator = a.count / common_divisor (unsigned_abs a.sum) a.count;

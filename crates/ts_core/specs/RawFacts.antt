@@ -27,6 +27,15 @@ earlier_mark opening (Step ended ∷ h) = earlier_mark opening h
 abbrev pub kept_from : Settings → History → List Column → Column → ℤ
 kept_from opening h waiting c = if is_waiting waiting c then earlier_mark opening h else raw_mark opening h
 
+-- a cut by two moments: one for the columns that wait, and one for the others
+pub record Cut : Type 0 where
+  pub waiting : List Column
+  pub earlier : ℤ
+  pub mark : ℤ
+
+abbrev pub cut_at : Cut → Column → ℤ
+cut_at cut c = if is_waiting cut.waiting c then cut.earlier else cut.mark
+
 -- the fact is from the cut of its column on
 abbrev pub is_kept : (Column → ℤ) → Fact → Bool
 is_kept cut f = int_le (cut f.column) f.time

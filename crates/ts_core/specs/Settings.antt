@@ -1,6 +1,7 @@
 -- Retention and rollup rules, as the operator sets them.
 -- (InfluxData 1.8, downsampling and data retention; a rule stands for a retention policy with its continuous query.)
-use Rattle.std.specs.Prelude.{ℕ, ℤ, List, []}
+use Rattle.std.specs.Prelude.{◌≢◌, ℕ, ℤ, pos, ◌≤ℤ◌, List, []}
+use Rattle.std.specs.List.{AllByRecursion}
 use Rattle.ts_core.specs.Facts.{Text}
 
 -- A rollup rule keeps aggregates of one measurement by time buckets and by the values of some tags.
@@ -12,6 +13,12 @@ pub record Rule : Type 0 where
   pub offset : ℤ
   pub kept_tags : List Text
   pub duration : ℕ
+
+-- these may be parts of a rule: no empty measurement, no empty tag, no duration below 0. (Own rule.)
+pub record IsRule (measurement : Text) (kept_tags : List Text) (duration : ℤ) : Type 0 where
+  pub measured : measurement ≢ []
+  pub tagged : AllByRecursion (λ tag. tag ≢ []) kept_tags
+  pub lasting : pos 0 ≤ℤ duration
 
 -- how long raw points are kept (0 is for ever), and the rules in their order
 pub record Settings : Type 0 where

@@ -2,6 +2,7 @@
 ghost use Rattle.std.specs.Prelude.{◌≡◌, IfOk};
 ghost use Rattle.std.specs.Cmp.Lexicographic.{slice_cmp};
 ghost use Rattle.ts_core.specs.Facts.{tag_cmp, series_cmp};
+ghost use Rattle.ts_core.specs.Tags.{value_among, tag_value};
 ghost use Rattle.ts_core.specs.Texts.{owned_pairs, lent_pairs, lent_series, IsTagSet};
 
 use std::alloc::{AllocError, Allocator};
@@ -61,6 +62,22 @@ fn compare_tags<A: Allocator>(tags: &[(String<A>, String<A>)], others: &[(&str, 
     }
 }
 
+/// The value of a tag, or the empty text where it isn't among them.
+fn value_among<'a, A: Allocator>(tags: &'a [(String<A>, String<A>)], tag: &str) -> &'a str
+    ensures { result.now ≡ value_among (owned_pairs tags.now) tag.now }
+{
+    match tags.split_first() {
+        None => "",
+        Some((first, others)) => {
+            if first.0.as_str() == tag {
+                first.1.as_str()
+            } else {
+                value_among(others, tag)
+            }
+        }
+    }
+}
+
 impl<A: Allocator + Copy> Key<A> {
     /// Copies a measurement and its tags, which stand in byte order of their keys, each key once.
     pub fn new(alloc: A, measurement: &str, tags: &[(&str, &str)]) -> Result<Key<A>, AllocError>
@@ -86,6 +103,13 @@ impl<A: Allocator + Copy> Key<A> {
         ensures set { IsTagSet (owned_pairs result.now) }
     {
         self.tags.as_slice()
+    }
+
+    /// The value of a tag; a tag that the series doesn't have counts as the empty text.
+    pub fn tag_value(&self, tag: &str) -> &str
+        ensures { result.now ≡ tag_value self.now tag.now }
+    {
+        value_among(self.tags.as_slice(), tag)
     }
 
     /// The order of this key and the one of a measurement and its tags.

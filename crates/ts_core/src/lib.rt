@@ -7,35 +7,49 @@
 mod aggregate;
 mod bucket;
 mod fact;
+mod fault;
 mod field_name;
+mod fill;
 mod fold;
 mod key;
+mod marks;
 mod means;
 mod partial;
+pub mod plain;
 mod read_ahead;
 mod remainder;
 mod settings;
+mod settings_fault;
 mod sink;
 mod source;
 mod tally;
+mod texts;
 mod time;
+mod value;
 
 pub use aggregate::{Agg, Extremes};
 pub use bucket::bucket_index;
 pub use fact::Fact;
+pub use fault::Fault;
 pub use field_name::FieldName;
+pub use fill::Fill;
 pub use fold::{aggregate_points, fold_points};
 pub use key::Key;
+pub use marks::Marks;
 pub use means::{Frac, mean};
 pub use partial::Partial;
 pub use read_ahead::{ReadAhead, ReadFault};
 pub use remainder::Remainder;
 pub use settings::{Rule, Settings};
+pub use settings_fault::{RuleFault, SettingsFault};
 pub use sink::{Refused, Sink};
 pub use source::Source;
 pub use time::Time;
+pub use value::{Function, Value};
 
 #[cfg(test)]
 mod devices_tests;
+#[cfg(test)]
+mod settings_tests;
 #[cfg(test)]
 mod words_tests;

@@ -2,6 +2,7 @@
 ghost use Rattle.std.specs.Prelude.{◌≡◌, ◌↔◌, ◌^◌, ◌<◌, IsNone, IfSome, unsigned_abs};
 ghost use Rattle.std.specs.Int.{IsGcd};
 ghost use Rattle.ts_core.specs.Means.{IsMean, signed_as_of};
+ghost use Rattle.ts_core.specs.Ratios.{mean_of};
 
 use crate::aggregate::Agg;
 use crate::partial::Partial;
@@ -57,6 +58,7 @@ fn lowest_terms(sum: i128, count: u64) -> Frac
 pub fn mean(a: &Agg) -> Option<Frac>
     ensures none { IsNone result ↔ (a.now.count ≡ 0) }
     ensures value { IfSome result (λ f. IsMean a.now.count a.now.sum f.numerator f.denominator) }
+    ensures ratio { IfSome result (λ f. f ≡ mean_of a.now) }
 {
     if a.count() == 0 {
         None

@@ -1,8 +1,13 @@
 //! Settings of retention and rollups.
-ghost use Rattle.std.specs.Prelude.{◌≡◌};
-ghost use Rattle.ts_core.specs.Settings.{open_settings};
+ghost use Rattle.std.specs.Prelude.{◌≡◌, ◌≢◌, ◌↔◌, [], pos, ◌≤ℤ◌, map, string_bytes, unsigned_abs, Some, None, IsTrue, IfOk, IfErr, IsSome, IfSome};
+ghost use Rattle.std.specs.List.{AllByRecursion};
+ghost use Rattle.ts_core.specs.Settings.{IsRule, open_settings};
+ghost use Rattle.ts_core.specs.SettingsFaults.{settings_fault};
+ghost use Rattle.ts_core.specs.Marks.{Outlasts};
+ghost use Rattle.ts_core.specs.Lent.{lent};
 
-use std::alloc::Allocator;
+use crate::settings_fault::{SettingsFault, settings_fault};
+use std::alloc::{AllocError, Allocator};
 use std::marker::Model;
 
 /// A rollup rule: aggregates of one measurement, kept by time buckets and by the values of some tags.
@@ -34,6 +39,105 @@ impl<A: Allocator> Model for Rule<A> {
         } };
 }
 
+fn owned<A: Allocator + Copy>(alloc: A, texts: &[&str]) -> Result<Vec<String<A>, A>, AllocError>
+    ensures { IfOk result (λ v. map string_bytes v.items ≡ lent texts.now) }
+{
+    let mut all = Vec::new(alloc);
+    for text in texts {
+        all.push(String::from_str(alloc, text)?)?;
+    }
+    Ok(all)
+}
+
+/// Whether no text is empty.
+fn all_written(texts: &[&str]) -> bool
+    ensures { IsTrue result ↔ AllByRecursion (λ text. text ≢ []) (lent texts.now) }
+{
+    match texts.split_first() {
+        None => true,
+        Some((text, others)) => !text.is_empty() && all_written(others),
+    }
+}
+
+fn is_rule(measurement: &str, kept_tags: &[&str], duration: &i64) -> bool
+    ensures { IsTrue result ↔ IsRule measurement.now (lent kept_tags.now) duration.now }
+{
+    *duration >= 0 && !measurement.is_empty() && all_written(kept_tags)
+}
+
+impl<A: Allocator + Copy> Rule<A> {
+    /// A rule of these parts, or `None` where the duration is below 0, or the measurement or a kept tag is
+    /// empty. Interval, offset and duration are in nanoseconds; a duration of 0 is for ever.
+    pub fn new(
+        alloc: A,
+        name: &str,
+        measurement: &str,
+        interval: i64,
+        offset: i64,
+        kept_tags: &[&str],
+        duration: i64,
+    ) -> Result<Option<Rule<A>>, AllocError>
+        ensures possible { IfOk result (λ r. IsSome r ↔ IsRule measurement.now (lent kept_tags.now) duration) }
+        ensures parts { IfOk result (λ r. IfSome r (λ r. r ≡ record { name = name.now; measurement = measurement.now; interval = interval; offset = offset; kept_tags = lent kept_tags.now; duration = unsigned_abs duration })) }
+    {
+        if !is_rule(measurement, kept_tags, &duration) {
+            return Ok(None);
+        }
+        Ok(Some(Rule {
+            name: String::from_str(alloc, name)?,
+            measurement: String::from_str(alloc, measurement)?,
+            interval,
+            offset,
+            kept_tags: owned(alloc, kept_tags)?,
+            duration: duration.unsigned_abs(),
+        }))
+    }
+}
+
+impl<A: Allocator> Rule<A> {
+    /// The name.
+    pub fn name(&self) -> &str
+        ensures { result.now ≡ self.now.name }
+    {
+        self.name.as_str()
+    }
+
+    /// The measurement that it rolls up.
+    pub fn measurement(&self) -> &str
+        ensures { result.now ≡ self.now.measurement }
+    {
+        self.measurement.as_str()
+    }
+
+    /// The length of its buckets, in nanoseconds.
+    pub fn interval(&self) -> i64
+        ensures { result ≡ self.now.interval }
+    {
+        self.interval
+    }
+
+    /// Where its buckets start, in nanoseconds.
+    pub fn offset(&self) -> i64
+        ensures { result ≡ self.now.offset }
+    {
+        self.offset
+    }
+
+    /// The keys of the tags that its cells are grouped by.
+    pub fn kept_tags(&self) -> &[String<A>]
+        ensures { map string_bytes result.now ≡ self.now.kept_tags }
+    {
+        self.kept_tags.as_slice()
+    }
+
+    /// How long its cells are kept, in nanoseconds; 0 is for ever.
+    pub fn duration(&self) -> u64
+        ensures { result ≡ self.now.duration }
+    {
+        self.duration
+    }
+}
+
 /// How long raw points are kept (nanoseconds; 0 is for ever), and the rollup rules in their order.
 #[derive(Drop)]
 pub struct Settings<A: Allocator> {
@@ -58,5 +162,38 @@ impl<A: Allocator> Settings<A> {
             raw_duration: 0,
             rules: Vec::new(alloc),
         }
+    }
+
+    /// Settings of these parts, or their first fault. The raw duration is in nanoseconds; 0 is for ever.
+    pub fn new(raw_duration: i64, rules: Vec<Rule<A>, A>) -> Result<Settings<A>, SettingsFault>
+        requires { pos 0 ≤ℤ raw_duration }
+        ensures parts { IfOk result (λ s. s ≡ record { raw_duration = unsigned_abs raw_duration; rules = rules.items }) }
+        ensures faultless { IfOk result (λ s. settings_fault s ≡ None) }
+        ensures fault { IfErr result (λ e. settings_fault (record { raw_duration = unsigned_abs raw_duration; rules = rules.items }) ≡ Some e) }
+        ensures intervals { IfOk result (λ s. AllByRecursion (λ r. pos 1 ≤ℤ r.interval) s.rules) }
+        ensures lasting { IfOk result (λ s. AllByRecursion (λ r. Outlasts r.duration s.raw_duration) s.rules) }
+    {
+        let raw_duration = raw_duration.unsigned_abs();
+        match settings_fault(raw_duration, rules.as_slice()) {
+            Some(fault) => Err(fault),
+            None => Ok(Settings {
+                raw_duration,
+                rules,
+            }),
+        }
+    }
+
+    /// How long raw points are kept, in nanoseconds; 0 is for ever.
+    pub fn raw_duration(&self) -> u64
+        ensures { result ≡ self.now.raw_duration }
+    {
+        self.raw_duration
+    }
+
+    /// The rules in their order.
+    pub fn rules(&self) -> &[Rule<A>]
+        ensures { result.now ≡ self.now.rules }
+    {
+        self.rules.as_slice()
     }
 }

@@ -1,0 +1,80 @@
+-- The first fault of settings. (Own rules.)
+use Rattle.std.specs.Prelude.{ℕ, ℤ, pos, int_le, nat_lt, nat_le, ◌==◌, Bool, true, not, ◌&&◌, ◌||◌, List, [], ◌∷◌, ◌++◌, length, Option, Some, None, if◌then◌else◌}
+use Rattle.std.specs.List.{list_any, list_all}
+use Rattle.ts_core.specs.declared.settings_fault.RuleFault.{RuleFault}
+use Rattle.ts_core.specs.declared.settings_fault.RuleFault.TheVariants.{BadName, RepeatedName, Interval, KeptTags, Duration}
+use Rattle.ts_core.specs.declared.settings_fault.SettingsFault.{SettingsFault}
+use Rattle.ts_core.specs.declared.settings_fault.SettingsFault.TheVariants.{TooManyRules, OfRule}
+use Rattle.ts_core.specs.Facts.{Text, same_text}
+use Rattle.ts_core.specs.Settings.{Rule, Settings}
+
+-- ---- names, intervals, tags and durations
+
+-- from low to high
+abbrev pub is_between : ℕ → ℕ → ℕ → Bool
+is_between low high b = nat_le low b && nat_le b high
+
+-- a to z, 0 to 9, or _
+abbrev pub is_name_byte : ℕ → Bool
+is_name_byte b = is_between 97 122 b || (is_between 48 57 b || b == 95)
+
+-- 1 to 32 of these
+abbrev pub is_rule_name : Text → Bool
+is_rule_name name = is_between 1 32 (length name) && list_all is_name_byte name
+
+-- one of the rules has this name
+abbrev pub is_named : List Rule → Text → Bool
+is_named rules name = list_any (λ (r : Rule). same_text r.name name) rules
+
+-- a second to 366 days
+abbrev pub is_interval : ℤ → Bool
+is_interval i = int_le (pos 1000000000) i && int_le i (pos 31622400000000000)
+
+-- no text stands twice
+abbrev pub are_distinct : List Text → Bool
+are_distinct [] = true
+are_distinct (t ∷ ts) = not (list_any (same_text t) ts) && are_distinct ts
+
+-- at most 16, each once
+abbrev pub are_kept_tags : List Text → Bool
+are_kept_tags tags = nat_le (length tags) 16 && are_distinct tags
+
+-- a duration lasts at least as long as another; 0 is for ever
+abbrev pub outlasts : ℕ → ℕ → Bool
+outlasts long short = long == 0 || (nat_lt 0 short && nat_le short long)
+
+-- ---- faults
+
+-- the number that a rule's fault is answered by; too many rules are answered by 5
+abbrev pub fault_number : RuleFault → ℕ
+fault_number Interval = 1
+fault_number Duration = 2
+fault_number RepeatedName = 3
+fault_number BadName = 4
+fault_number KeptTags = 6
+
+-- the next fault where all is well, else this one
+abbrev pub unless : Bool → RuleFault → Option RuleFault → Option RuleFault
+unless well fault next = if well then next else Some fault
+
+-- of a rule behind others
+abbrev pub rule_fault : ℕ → List Rule → Rule → Option RuleFault
+rule_fault raw earlier r =
+    unless (is_rule_name r.name) BadName
+    (unless (not (is_named earlier r.name)) RepeatedName
+    (unless (is_interval r.interval) Interval
+    (unless (are_kept_tags r.kept_tags) KeptTags
+    (unless (outlasts r.duration raw) Duration None))))
+
+abbrev pub or_fault : ℕ → Option RuleFault → Option SettingsFault → Option SettingsFault
+or_fault n None next = next
+or_fault n (Some fault) next = Some (OfRule fault n)
+
+-- of rules behind others, one by one
+abbrev pub rules_fault : ℕ → List Rule → List Rule → Option SettingsFault
+rules_fault raw earlier [] = None
+rules_fault raw earlier (r ∷ rs) = or_fault (length earlier) (rule_fault raw earlier r) (rules_fault raw (earlier ++ r ∷ []) rs)
+
+-- more than 32 rules, or the first fault of a rule
+abbrev pub settings_fault : Settings → Option SettingsFault
+settings_fault s = if nat_le (length s.rules) 32 then rules_fault s.raw_duration [] s.rules else Some TooManyRules

@@ -1,0 +1,45 @@
+//! Marks.
+ghost use Rattle.std.specs.Prelude.{◌≡◌};
+
+use crate::time::Time;
+use std::alloc::Allocator;
+use std::marker::Model;
+
+/// From where on a store still knows everything: its raw points, and the cells of each rule in the order of
+/// the settings, by the index of the least bucket that is still whole.
+#[derive(Drop)]
+pub struct Marks<A: Allocator> {
+    raw: Time,
+    lows: Vec<i128, A>,
+}
+
+impl<A: Allocator> Model for Marks<A> {
+    ghost use Rattle.ts_core.specs.Marks.{Marks as MarksValue};
+
+    ghost Value = { MarksValue };
+
+    ghost view = { λ m. record { raw = m.raw; lows = m.lows.items } };
+}
+
+impl<A: Allocator> Marks<A> {
+    /// Marks of these parts.
+    pub fn new(raw: Time, lows: Vec<i128, A>) -> Marks<A>
+        ensures { result ≡ record { raw = raw; lows = lows.items } }
+    {
+        Marks { raw, lows }
+    }
+
+    /// The raw mark.
+    pub fn raw(&self) -> Time
+        ensures { result ≡ self.now.raw }
+    {
+        self.raw
+    }
+
+    /// The low index of each rule.
+    pub fn lows(&self) -> &[i128]
+        ensures { result.now ≡ self.now.lows }
+    {
+        self.lows.as_slice()
+    }
+}

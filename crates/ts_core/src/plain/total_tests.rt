@@ -1,0 +1,130 @@
+//! What cells hold of worked facts.
+ghost use Rattle.std.specs.Prelude.{pos, ◌≤ℤ◌, IfOk};
+
+use super::cut::{Column, Cut};
+use super::event::Event;
+use super::total::{Cell, frozen_of, live_of, total_of};
+use crate::fact::Fact;
+use crate::field_name::FieldName;
+use crate::key::Key;
+use crate::partial::Partial;
+use crate::settings::{Rule, Settings};
+use crate::time::Time;
+use std::alloc::Global;
+use std::test::Fail;
+
+const SECOND: i64 = 1_000_000_000;
+
+const MINUTE: i64 = 60_000_000_000;
+
+fn minute_rule(alloc: Global) -> Result<Rule<Global>, Fail>
+    ensures { IfOk result (λ r. pos 1 ≤ℤ r.interval) }
+{
+    let rule = Rule::new(alloc, "m1", "cpu", MINUTE, 0, &["host"], 0)?;
+    Ok(rule.ok_or("a rule")?)
+}
+
+fn fact(
+    alloc: Global,
+    measurement: &str,
+    host: &str,
+    field: &str,
+    time: i64,
+    value: i64,
+) -> Result<Fact<Global>, Fail> {
+    let key = Key::new(alloc, measurement, &[("host", host)])?;
+    let field = FieldName::new(alloc, field)?;
+    Ok(Fact::new(key, field, Time::new(time).ok_or("a valid time")?, value))
+}
+
+#[test]
+fn cells_hold_the_facts_of_their_bucket_field_and_group(rt: HostRuntime) -> Result<(), Fail> {
+    let rule = minute_rule(rt.alloc())?;
+    let mut facts = Vec::new(rt.alloc());
+    for (measurement, host, field, time, value) in [
+        ("cpu", "a", "v", 10 * SECOND, 5),
+        ("cpu", "a", "v", 90 * SECOND, 3),
+        ("cpu", "b", "v", 90 * SECOND, 4),
+        ("cpu", "a", "v", 100 * SECOND, 5),
+        ("cpu", "b", "v", 100 * SECOND, 6),
+        ("cpu", "a", "w", 100 * SECOND, 70),
+        ("mem", "a", "v", 100 * SECOND, 80),
+        ("cpu", "a", "v", -1, 9),
+    ] {
+        facts.push(fact(rt.alloc(), measurement, host, field, time, value)?)?;
+    }
+    for (index, field, host, count, sum) in [
+        (0, "v", "a", 1, 5),
+        (1, "v", "a", 2, 8),
+        (1, "v", "b", 2, 10),
+        (1, "w", "a", 1, 70),
+        (1, "w", "b", 0, 0),
+        (-1, "v", "a", 1, 9),
+        (2, "v", "a", 0, 0),
+    ] {
+        let group = [host];
+        let cell = Cell {
+            index,
+            field,
+            group: &group,
+        };
+        let total = total_of(&rule, &cell, facts.as_slice());
+        assert_eq!(rt; total.count(), count);
+        assert_eq!(rt; total.sum(), sum);
+    }
+    let cell = Cell {
+        index: 1,
+        field: "v",
+        group: &[],
+    };
+    assert_eq!(rt; total_of(&rule, &cell, facts.as_slice()).count(), 0);
+    Ok(())
+}
+
+/// A rule of a minute in settings that keep raw points for two minutes.
+fn settings(alloc: Global) -> Result<Settings<Global>, Fail> {
+    let mut rules = Vec::new(alloc);
+    rules.push(minute_rule(alloc)?)?;
+    Ok(Settings::new(2 * MINUTE, rules)?)
+}
+
+#[test]
+fn a_column_that_waits_keeps_its_live_part(rt: HostRuntime) -> Result<(), Fail> {
+    let settings = settings(rt.alloc())?;
+    let rule = minute_rule(rt.alloc())?;
+    let mut facts = Vec::new(rt.alloc());
+    for (host, time, value) in [("b", 100, 6), ("a", 100, 5), ("b", 90, 4), ("a", 90, 3)] {
+        facts.push(fact(rt.alloc(), "cpu", host, "v", time * SECOND, value)?)?;
+    }
+    let mut history = Vec::new(rt.alloc());
+    history.push(Event::begin(Time::new(220 * SECOND).ok_or("a valid time")?))?;
+    let key_of_a = Key::new(rt.alloc(), "cpu", &[("host", "a")])?;
+    let key_of_b = Key::new(rt.alloc(), "cpu", &[("host", "b")])?;
+    let field = FieldName::new(rt.alloc(), "v")?;
+    let mut waiting = Vec::new(rt.alloc());
+    for (moved, frozen_of_a, live_of_a, frozen_of_b, live_of_b) in [
+        (2, 3, 5, 4, 6),
+        (1, 3, 5, 0, 10),
+        (0, 0, 8, 0, 10),
+    ] {
+        let cut = Cut::new(&settings, history.as_slice(), waiting.as_slice());
+        for (host, frozen, live) in [("a", frozen_of_a, live_of_a), ("b", frozen_of_b, live_of_b)] {
+            let group = [host];
+            let cell = Cell {
+                index: 1,
+                field: "v",
+                group: &group,
+            };
+            assert_eq!(rt;
+                frozen_of(&cut, &rule, &cell, facts.as_slice()).sum(),
+                frozen
+            );
+            assert_eq!(rt; live_of(&cut, &rule, &cell, facts.as_slice()).sum(), live);
+        }
+        waiting.push(Column {
+            key: if moved == 2 { &key_of_b } else { &key_of_a },
+            field: &field,
+        })?;
+    }
+    Ok(())
+}

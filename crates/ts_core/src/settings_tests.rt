@@ -1,0 +1,154 @@
+//! Settings and their faults, over a table.
+use super::*;
+use std::alloc::Global;
+use std::test::Fail;
+
+const SECOND: i64 = 1_000_000_000;
+
+const MINUTE: i64 = 60_000_000_000;
+
+const DAY: i64 = 86_400_000_000_000;
+
+/// What a rule of cpu has.
+#[derive(Clone, Copy)]
+struct Parts {
+    name: &'static str,
+    interval: i64,
+    kept_tags: &'static [&'static str],
+    duration: i64,
+}
+
+const PLAIN: Parts = Parts {
+    name: "x",
+    interval: MINUTE,
+    kept_tags: &[],
+    duration: 2 * MINUTE,
+};
+
+fn settings(
+    alloc: Global,
+    raw: u32,
+    rules: &[Parts],
+) -> Result<Result<Settings<Global>, SettingsFault>, Fail> {
+    let mut made = Vec::new(alloc);
+    for parts in rules {
+        let rule = Rule::new(
+            alloc,
+            parts.name,
+            "cpu",
+            parts.interval,
+            0,
+            parts.kept_tags,
+            parts.duration,
+        )?;
+        made.push(rule.ok_or("a rule")?)?;
+    }
+    Ok(Settings::new(i64::from(raw) * SECOND, made))
+}
+
+#[test]
+fn the_first_fault_of_a_rule_is_told(rt: HostRuntime) -> Result<(), Fail> {
+    let other = Parts { name: "y", ..PLAIN };
+    let rows: [(u32, &[Parts], Option<(u8, usize)>); 15] = [
+        (60, &[PLAIN], None),
+        (60, &[PLAIN, other], None),
+        (
+            60,
+            &[Parts {
+                duration: 0,
+                ..PLAIN
+            }],
+            None,
+        ),
+        (
+            60,
+            &[Parts {
+                interval: 500_000_000,
+                ..PLAIN
+            }],
+            Some((1, 0)),
+        ),
+        (
+            60,
+            &[Parts {
+                interval: 366 * DAY,
+                ..PLAIN
+            }],
+            None,
+        ),
+        (
+            60,
+            &[Parts {
+                interval: 366 * DAY + 1,
+                ..PLAIN
+            }],
+            Some((1, 0)),
+        ),
+        (
+            60,
+            &[Parts {
+                duration: 30 * SECOND,
+                ..PLAIN
+            }],
+            Some((2, 0)),
+        ),
+        (0, &[PLAIN], Some((2, 0))),
+        (60, &[Parts { name: "X", ..PLAIN }], Some((4, 0))),
+        (60, &[Parts { name: "", ..PLAIN }], Some((4, 0))),
+        (
+            60,
+            &[Parts {
+                name: "a23456789_123456789_123456789_12",
+                ..PLAIN
+            }],
+            None,
+        ),
+        (
+            60,
+            &[Parts {
+                name: "a23456789_123456789_123456789_123",
+                ..PLAIN
+            }],
+            Some((4, 0)),
+        ),
+        (
+            60,
+            &[Parts {
+                kept_tags: &["a", "a"],
+                ..PLAIN
+            }],
+            Some((6, 0)),
+        ),
+        (60, &[PLAIN, PLAIN], Some((3, 1))),
+        (
+            60,
+            &[
+                PLAIN,
+                other,
+                Parts {
+                    interval: 1,
+                    ..PLAIN
+                },
+            ],
+            Some((3, 2)),
+        ),
+    ];
+    for (raw, rules, fault) in rows {
+        let found = match settings(rt.alloc(), raw, rules)? {
+            Ok(_) => None,
+            Err(SettingsFault::OfRule(fault, place)) => Some((fault.number(), place)),
+            Err(SettingsFault::TooManyRules) => Some((5, 0)),
+        };
+        assert_eq!(rt; found, fault);
+    }
+    Ok(())
+}
+
+#[test]
+fn settings_have_at_most_32_rules(rt: HostRuntime) -> Result<(), Fail> {
+    match settings(rt.alloc(), 60, &[PLAIN; 33])? {
+        Ok(_) => assert!(rt; false, "33 rules"),
+        Err(fault) => assert_eq!(rt; fault, SettingsFault::TooManyRules),
+    }
+    Ok(())
+}
