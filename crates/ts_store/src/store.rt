@@ -44,7 +44,8 @@ impl<A: Allocator> Model for Store<A> {
 impl<A: Allocator + Copy> Store<A> {
     /// An empty store.
     pub fn new(alloc: A, settings: Settings<A>) -> Store<A>
-        ensures { StandsFor settings [] result }
+        ensures stands { StandsFor settings [] result }
+        ensures series { result.series ≡ [] }
     {
         Store {
             settings,
