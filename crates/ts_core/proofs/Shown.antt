@@ -10,7 +10,7 @@ use Rattle.ts_core.specs.Kept as first
 use Rattle.ts_core.specs.Marks.{Marks}
 use Rattle.ts_core.specs.Aggregates.{merged}
 use Rattle.ts_core.specs.RawFacts.{kept_from}
-use Rattle.ts_core.specs.StoreStates.{RuleCells, StoreState, StandsFor, HasCells, rule_of, lowest_of, facts_of}
+use Rattle.ts_core.specs.StoreStates.{RuleCells, StoreState, StandsFor, HasCells, column_of, rule_of, lowest_of, facts_of}
 use Rattle.ts_core.specs.Views.{HasTotals, Shows, totals_in, seen_of, seen_rule, seen_low}
 use Rattle.ts_core.proofs.Tests.{le_true, le_from}
 use Rattle.ts_core.proofs.Cuts.{total_of-parts, Holds}
@@ -56,7 +56,14 @@ stands_shows opening h s st =
 -- ---- the form of raw facts alone
 
 abbrev pub kept_of : StoreState → Kept
-kept_of s = record { settings = s.settings; mark = s.marks.raw; accepted = s.accepted; raw = facts_of s.columns }
+kept_of s = record {
+  settings = s.settings;
+  mark = s.marks.raw;
+  accepted = s.accepted;
+  series = s.series;
+  columns = map column_of s.columns;
+  raw = facts_of s.columns;
+}
 
 pub stands_raw : (opening : Settings) (h : History) (s : StoreState) → StandsFor opening h s → s.waiting ≡ [] → first.StandsFor opening h (kept_of s)
 stands_raw opening h s st e =
@@ -67,6 +74,9 @@ stands_raw opening h s st e =
       settings = st.settings;
       mark = raw;
       accepted = st.accepted;
+      columns_once = st.columns_once;
+      columns_there = st.columns_there;
+      registered = st.registered;
       once = st.once;
       raw = λ f. (
         λ a. let n = held.only f a in (n.0, subst (λ x. x ≤ℤ f.time) (sym raw) (le_from (raw_mark opening h) f.time n.1)),

@@ -1,10 +1,14 @@
 -- What a store keeps, and when that stands for a history. (Own rules.)
-use Rattle.std.specs.Prelude.{◌≡◌, ◌↔◌, ℕ, ℤ, ◌≤ℤ◌, List, ◌∷◌, length}
+use Rattle.std.specs.Prelude.{◌≡◌, ◌↔◌, ℕ, ℤ, ◌≤ℤ◌, int_le, List, ◌∷◌, length, filter}
 use Rattle.ts_core.specs.Members.{Among, AllDistinct}
-use Rattle.ts_core.specs.Facts.{Fact}
+use Rattle.ts_core.specs.Facts.{Series, Column, Fact}
 use Rattle.ts_core.specs.Settings.{Settings}
 use Rattle.ts_core.specs.History.{Event, History, settings_of, raw_mark, accepted, IsLawful}
 use Rattle.ts_core.specs.Latest.{latest_of}
+
+-- the latest facts from the raw mark on
+abbrev pub raw_facts : Settings → History → List Fact
+raw_facts opening h = filter (λ (f : Fact). int_le (raw_mark opening h) f.time) (latest_of h)
 
 -- what a store keeps, as its calls show it
 pub record Kept : Type 0 where
@@ -12,6 +16,9 @@ pub record Kept : Type 0 where
   pub mark : ℤ
   -- how many facts it has accepted, repeats counted
   pub accepted : ℕ
+  -- the registered series and the columns, each in the order of making
+  pub series : List Series
+  pub columns : List Column
   -- the raw facts of all its columns
   pub raw : List Fact
 
@@ -21,6 +28,10 @@ pub record StandsFor (opening : Settings) (h : History) (kept : Kept) : Type 0 w
   pub settings : kept.settings ≡ settings_of opening h
   pub mark : kept.mark ≡ raw_mark opening h
   pub accepted : kept.accepted ≡ length (accepted h)
+  -- each latest fact has its column, and each column its series
+  pub columns_once : AllDistinct kept.columns
+  pub columns_there : (f : Fact) → Among f (latest_of h) → Among f.column kept.columns
+  pub registered : (c : Column) → Among c kept.columns → Among c.series kept.series
   pub once : AllDistinct kept.raw
   pub raw : (f : Fact) → Among f kept.raw ↔ (Among f (latest_of h) × (kept.mark ≤ℤ f.time))
 
@@ -31,3 +42,7 @@ OfEachHistory kept P = (opening : Settings) (h : History) → StandsFor opening 
 -- an event goes by: what stood for a history stands for it with this event
 abbrev pub GoesOn : Kept → Event → Kept → Type 0
 GoesOn old event new = (opening : Settings) (h : History) → StandsFor opening h old → StandsFor opening (event ∷ h) new
+
+-- no event went by: it stands for whatever it stood for
+abbrev pub StaysFor : Kept → Kept → Type 0
+StaysFor old new = (opening : Settings) (h : History) → StandsFor opening h old → StandsFor opening h new

@@ -1,2 +1,5 @@
-pub mod PlainLemmas
+pub mod ColumnsLemmas
+pub mod ColumnsReads
+pub mod PutsLengths
+pub mod ColumnsAside
 pub mod Stands

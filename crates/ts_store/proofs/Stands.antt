@@ -1,33 +1,42 @@
 -- What is kept goes on standing for its history.
-use Rattle.std.proofs.Common.{◌≡◌, ◌↔◌, ℕ, ℤ, ◌+◌, ◌≤◌, ◌≤ℤ◌, ◌^◌, Bool, true, not, List, [], ◌∷◌, length, filter, refl, sym, ◌∙◌, ap, subst, inl, inr, ◌⊎◌, ⊎_elim, arith, map, get_or, ◌++◌, ◌<◌, take}
+use Rattle.std.proofs.Common.{◌≡◌, ◌↔◌, ℕ, ℤ, ◌+◌, ◌≤◌, ◌≤ℤ◌, ◌^◌, Bool, int_le, true, not, List, [], ◌∷◌, length, filter, refl, sym, ◌∙◌, ap, subst, inl, inr, ◌⊎◌, ⊎_elim, arith, map, get_or, ◌++◌, ◌<◌, take, false, true≢false, Option, Some, None, IfSome, IfNone, Result, Ok, Err, OnErr}
+use Rattle.std.specs.Option.{is_some}
+use Rattle.std.specs.List.{slice_get}
 use Rattle.std.proofs.lemmas.List.{map_more}
 use Rattle.std.proofs.lemmas.Int.{ints}
 use Rattle.std.specs.List.{AllByRecursion}
 use Rattle.ts_core.specs.Members.{Among, AllDistinct}
 use Rattle.ts_core.specs.Times.{least_time}
-use Rattle.ts_core.specs.Facts.{Text, Series, Fact, id_of, same_id, is_asked}
+use Rattle.ts_core.specs.Facts.{Text, Series, Column, Fact, id_of, same_id, is_asked}
 use Rattle.ts_core.specs.Settings.{Settings}
-use Rattle.ts_core.specs.History.{History, Line, MayBeTaken, accepted, put_before}
+use Rattle.ts_core.specs.History.{History, Line, MayBeTaken, accepted, put_before, raw_mark}
 use Rattle.ts_core.specs.Latest.{others, latest, latest_of, count_of}
-use Rattle.ts_core.specs.Kept.{Kept, StandsFor}
+use Rattle.ts_core.specs.Kept.{Kept, StandsFor, raw_facts}
+use Rattle.ts_core.proofs.Tests.{le_true, le_from}
 use Rattle.ts_core.proofs.MembersLemmas.{Among-filter_passes, Among-filter_was, Among-filter_stays, AllDistinct-filter}
 use Rattle.ts_core.proofs.Folds.{length-same}
 use Rattle.ts_core.proofs.Latests.{latest-distinct, not_false}
 use Rattle.ts_line.specs.Parts.{Piece, Parts, series_of, fact_of}
+use Rattle.ts_store.specs.ColumnsKept.{Held}
 use Rattle.ts_store.specs.Puts.{Puts, PutsAll}
+use Rattle.ts_store.specs.Registered.{IsTooMany}
+use Rattle.ts_store.proofs.ColumnsLemmas.{at_among}
 
 -- what is kept in a store that has never dropped a fact
-abbrev pub all_kept : Settings → ℕ → List Fact → Kept
-all_kept settings n raw = record { settings = settings; mark = least_time; accepted = n; raw = raw }
+abbrev pub all_kept : Settings → ℕ → Held → Kept
+all_kept settings n held = record { settings = settings; mark = least_time; accepted = n; series = held.series; columns = held.columns; raw = held.raw }
 
-pub new_stands : (settings : Settings) → StandsFor settings [] (all_kept settings 0 [])
-new_stands settings = record {
+pub new_stands : (settings : Settings) (held : Held) → held.columns ≡ [] → held.raw ≡ [] → StandsFor settings [] (all_kept settings 0 held)
+new_stands settings held columns raw = record {
   lawful = tt;
   settings = refl;
   mark = refl;
   accepted = refl;
-  once = tt;
-  raw = λ f. (λ a. absurd a, λ p. absurd p.0);
+  columns_once = subst (λ (cs : List Column). AllDistinct cs) (sym columns) tt;
+  columns_there = λ f a. absurd a;
+  registered = λ d a. absurd (subst (λ (cs : List Column). Among d cs) columns a);
+  once = subst (λ (fs : List Fact). AllDistinct fs) (sym raw) tt;
+  raw = λ f. (λ a. absurd (subst (λ (fs : List Fact). Among f fs) raw a), λ p. absurd p.0);
 }
 
 -- from a mark on, just the latest of the facts so far are kept, each once
@@ -66,20 +75,52 @@ pub length-put_before : (fs older : List Fact) → length (put_before fs older) 
 length-put_before [] older = omega arith
 length-put_before (f ∷ fs) older = let e = length-put_before fs (f ∷ older) in omega (arith, e)
 
-pub write_stands : (opening : Settings) (h : History) (settings : Settings) (n : ℕ) (before after fs : List Fact)
-    → PutsAll before after fs → AllByRecursion (MayBeTaken least_time) fs → n + length fs ≤ 2 ^ 62 → StandsFor opening h (all_kept settings n before)
+-- what is latest after a line is of the line, or was latest before
+latest_among : (f : Fact) (fs older : List Fact) → Among f (latest (put_before fs older)) → Among f fs ⊎ Among f (latest older)
+latest_among f [] older a = inr a
+latest_among f (g ∷ fs) older a =
+    ⊎_elim {C = Among f (g ∷ fs) ⊎ Among f (latest older)} (λ k. inl (inr k))
+    (λ k. ⊎_elim {C = Among f (g ∷ fs) ⊎ Among f (latest older)} (λ e. inl (inl e)) (λ q. inr (Among-filter_was (λ (x : Fact). not (same_id (id_of x) (id_of g))) f (latest older) q)) k)
+    (latest_among f fs (g ∷ older) a)
+
+-- columns once, each with its series registered, and those that there were
+pub record Grows (before after : Held) : Type 0 where
+  pub once : AllDistinct after.columns
+  pub registered : (c : Column) → Among c after.columns → Among c.series after.series
+  pub stay : (c : Column) → Among c before.columns → Among c after.columns
+
+pub write_stands : (opening : Settings) (h : History) (settings : Settings) (n : ℕ) (before after : Held) (fs : List Fact) → PutsAll before.raw after.raw fs → Grows before after
+    → ((f : Fact) → Among f fs → Among f.column after.columns) → AllByRecursion (MayBeTaken least_time) fs → n + length fs ≤ 2 ^ 62 → StandsFor opening h (all_kept settings n before)
     → StandsFor opening (Line fs ∷ h) (all_kept settings (n + length fs) after)
-write_stands opening h settings n before after fs puts taken few s =
-    let kept : Keeps least_time after (put_before fs (accepted h)) = keeps_all least_time before after (accepted h) fs taken puts (record { once = s.once; raw = s.raw }) in
+write_stands opening h settings n before after fs puts grows there taken few s =
+    let kept : Keeps least_time after.raw (put_before fs (accepted h)) = keeps_all least_time before.raw after.raw (accepted h) fs taken puts (record { once = s.once; raw = s.raw }) in
     let more = length-put_before fs (accepted h) in
     record {
       lawful = (s.lawful, subst (λ (m : ℤ). AllByRecursion (MayBeTaken m) fs) s.mark taken, omega (arith, s.accepted, more));
       settings = s.settings;
       mark = s.mark;
       accepted = omega (arith, s.accepted, more);
+      columns_once = grows.once;
+      columns_there = λ f a. ⊎_elim {C = Among f.column after.columns} (there f) (λ k. grows.stay f.column (s.columns_there f k)) (latest_among f fs (accepted h) a);
+      registered = grows.registered;
       once = kept.once;
       raw = kept.raw;
     }
+
+-- more columns without points change nothing
+pub stays_stands : (opening : Settings) (h : History) (settings : Settings) (n : ℕ) (before after : Held) → after.raw ≡ before.raw → Grows before after → StandsFor opening h (all_kept settings n before)
+    → StandsFor opening h (all_kept settings n after)
+stays_stands opening h settings n before after same grows s = record {
+  lawful = s.lawful;
+  settings = s.settings;
+  mark = s.mark;
+  accepted = s.accepted;
+  columns_once = grows.once;
+  columns_there = λ f a. grows.stay f.column (s.columns_there f a);
+  registered = grows.registered;
+  once = subst (λ (fs : List Fact). AllDistinct fs) (sym same) s.once;
+  raw = λ f. (λ a. (s.raw f).0 (subst (λ (fs : List Fact). Among f fs) same a), λ p. subst (λ (fs : List Fact). Among f fs) (sym same) ((s.raw f).1 p));
+}
 
 asked_from : (m f : Text) (a b : ℤ) (g : Fact) → is_asked m f a b g ≡ true → a ≤ℤ g.time
 asked_from m f a b g e = grind (arith, ints)
@@ -97,22 +138,37 @@ count_stands opening h kept m f a b above s =
     let raw : kept.mark ≤ℤ g.time = omega (arith, ints, above, from) in
     Among-filter_stays p g kept.raw ((s.raw g).1 (Among-filter_was p g (latest_of h) k, raw)) t)
 
+-- as many raw facts are kept as are latest from the mark on
+pub raw_stands : (opening : Settings) (h : History) (kept : Kept) → StandsFor opening h kept → length kept.raw ≡ length (raw_facts opening h)
+raw_stands opening h kept s =
+    let p : Fact → Bool = λ (f : Fact). int_le (raw_mark opening h) f.time in
+    length-same kept.raw (raw_facts opening h) s.once (AllDistinct-filter p (latest_of h) (latest-distinct (accepted h)))
+    (λ g a.
+    let r = (s.raw g).0 a in
+    Among-filter_stays p g (latest_of h) r.0 (le_true (raw_mark opening h) g.time (subst (λ (m : ℤ). m ≤ℤ g.time) s.mark r.1)))
+    (λ g a.
+    let t = le_from (raw_mark opening h) g.time (Among-filter_passes p g (latest_of h) a) in
+    (s.raw g).1 (Among-filter_was p g (latest_of h) a, subst (λ (m : ℤ). m ≤ℤ g.time) (sym s.mark) t))
+
 -- ---- the facts of a line
 
 pub series_from : (p : Parts) (measurement : Text) (tags : List (Text × Text)) → measurement ≡ p.measurement.text → tags ≡ (series_of p).tags → record { measurement = measurement; tags = tags } ≡ series_of p
 series_from p measurement tags m t = λ i. record { measurement = m i; tags = t i }
 
--- each is of the line's series
-pub of_series : (p : Parts) (s : Series) (fields : List (Piece × ℤ)) → s ≡ series_of p → AllByRecursion (λ (f : Fact). s ≡ f.column.series) (map (fact_of p) fields)
-of_series p s [] e = tt
-of_series p s (f ∷ fields) e = (e, of_series p s fields e)
-
--- one more field's fact
-pub facts_more : (p : Parts) (facts : List Fact) (f : Fact) (fields : List (Piece × ℤ)) (i : ℕ) (x : Piece × ℤ) → i < length fields → x ≡ get_or fields i x → f ≡ fact_of p x
-    → facts ≡ map (fact_of p) (take i fields) → facts ++ f ∷ [] ≡ map (fact_of p) (take (i + 1) fields)
-facts_more p facts f fields i x l is e so =
-    ap (λ (fs : List Fact). fs ++ f ∷ []) so ∙ ap (λ (g : Fact). map (fact_of p) (take i fields) ++ g ∷ []) (e ∙ ap (fact_of p) is) ∙ sym (map_more (fact_of p) fields i x l)
-
 pub taken_more : (mark : ℤ) (facts : List Fact) (f : Fact) → AllByRecursion (MayBeTaken mark) facts → MayBeTaken mark f → AllByRecursion (MayBeTaken mark) (facts ++ f ∷ [])
 taken_more mark [] f all one = (one, tt)
 taken_more mark (g ∷ facts) f all one = (all.0, taken_more mark facts f all.1 one)
+
+-- ---- answers
+
+pub on_err : {T E : Type 0} (r : Result T E) (X : Type 0) → X → OnErr r X
+on_err (Ok v) X x = tt
+on_err (Err e) X x = x
+
+-- where enough are registered, just the series that isn't found is refused
+pub refused : (series : List Series) (s : Series) (r : Option ℕ) (none : Bool) → is_some r ≡ not none → IfSome r (λ id. slice_get series id ≡ Some s) → IfNone r (Among s series → ⊥) → 1000000 ≤ length series
+    → (none ≡ true → IsTooMany series s) × (IsTooMany series s → none ≡ true)
+refused series s None true e found absent full = (λ t. record { full = full; new = absent }, λ m. refl)
+refused series s None false e found absent full = absurd (true≢false (sym e))
+refused series s (Some id) true e found absent full = absurd (true≢false e)
+refused series s (Some id) false e found absent full = (λ t. absurd (true≢false (sym t)), λ m. absurd (m.new (at_among series id s found)))

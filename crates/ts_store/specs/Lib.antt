@@ -1,3 +1,5 @@
+pub mod PointsRead
 pub mod Puts
-pub mod Plain
+pub mod ColumnsKept
+pub mod Registered
 pub mod Faults

@@ -8,6 +8,9 @@ use thiserror::Error;
 /// Why a line was not written.
 #[derive(Clone, Copy, Debug, PartialEq, Eq, Error)]
 pub enum WriteFault {
+    /// 1,000,000 series are registered, and this one isn't (number 41).
+    #[error("too many series")]
+    TooManySeries,
     /// The facts that were accepted, repeats counted, would pass 2^62 (number 52).
     #[error("too many facts")]
     TooManyFacts,
@@ -23,6 +26,7 @@ impl WriteFault {
         ensures room { string_len text.old + length (write_fault_text self.now) ≤ string_capacity text.old → IsOk result }
     {
         match self {
+            WriteFault::TooManySeries => text.push_str("fault 41"),
             WriteFault::TooManyFacts => text.push_str("fault 52"),
             WriteFault::OutOfMemory => text.push_str("fault memory"),
         }

@@ -3,14 +3,17 @@
 //! answers is what the definitions say of all facts ever accepted.
 #![tactic(auto)]
 
+mod column_facts;
+mod column_reads;
+mod columns;
 mod fault;
-mod lent;
-mod plain;
 mod store;
 
 pub use fault::WriteFault;
 pub use store::Store;
 
+#[cfg(test)]
+mod column_reads_tests;
 #[cfg(test)]
 mod memory_tests;
 #[cfg(test)]

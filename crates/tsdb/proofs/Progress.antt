@@ -141,6 +141,14 @@ pub reader_told : {T S : Type 0} (f : ReadFault) (r : Result T RunFault) (q : Re
 reader_told read.Device r q e d = rw (e, d) refl
 reader_told read.Turns r q e d = rw (e, d) refl
 
+device_is_other : {T : Type 0} (r : Result T RunFault) → r ≡ Err (fault_of_read read.Device) → r ≡ Err (fault_of_read read.Turns) → ⊥
+device_is_other r d t = cc
+
+-- turns are told only where the reader told them
+pub turns_told : {T S : Type 0} (f : ReadFault) (r : Result T RunFault) (q : Result S ReadFault) → r ≡ Err (fault_of_read f) → q ≡ Err f → r ≡ Err (fault_of_read read.Turns) → q ≡ Err read.Turns
+turns_told read.Device r q e d t = absurd (device_is_other r e t)
+turns_told read.Turns r q e d t = d
+
 pub writer_silent : {T : Type 0} (r : Result T RunFault) (f : ReadFault) → r ≡ Err (fault_of_read f) → one_if_writer r ≡ 0
 writer_silent r read.Device e = rw e refl
 writer_silent r read.Turns e = rw e refl

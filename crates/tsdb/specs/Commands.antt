@@ -1,7 +1,7 @@
 -- The commands of a script, by their lines. (Own rule.)
 use Rattle.std.specs.Prelude.{ℕ, ℤ, pos, ◌-ℤ◌, int_le, length, drop, Bool, not, ◌&&◌, ◌||◌, ◌==◌, nat_eq, if◌then◌else◌, Option, Some, None, codes}
 use Rattle.std.specs.List.{list_all, starts_with, before_first, after_first}
-use Rattle.ts_core.specs.Facts.{Text}
+use Rattle.ts_core.specs.Facts.{Text, same_text}
 use Rattle.ts_line.specs.Numbers.{is_number}
 use Rattle.ts_line.specs.Units.{precision_of}
 use Rattle.ts_line.specs.declared.precision.Precision.{Precision}
@@ -16,6 +16,8 @@ pub data Command : Type 0 where
   SetPrecision : Precision → Command
   -- a line to be written
   Write : Text → Command
+  -- how many raw facts are kept
+  Live : Command
   -- how many values of a measurement and a field stand from one time on and before another
   Count : Text → Text → ℤ → ℤ → Command
   -- the same, with a time that isn't valid or a range that is too long
@@ -73,5 +75,6 @@ command_of line =
     else if starts_with nat_eq line (codes "at ") then at_of (moment_of (drop 3 line))
     else if starts_with nat_eq line (codes "precision ") then precision_from (precision_of (drop 10 line))
     else if starts_with nat_eq line (codes "write ") then Write (drop 6 line)
+    else if same_text line (codes "live") then Live
     else if starts_with nat_eq line (codes "count ") then count_of (drop 6 line)
     else Unknown

@@ -2,38 +2,47 @@
 use Rattle.std.specs.Prelude.{◌≡◌, ℤ, pos, ◌<◌, ◌≤◌, ◌^◌, List, [], ◌∷◌, length, codes, Option, Some, None, Result, Ok, Err}
 use Rattle.std.specs.Fmt.{decimal}
 use Rattle.std.specs.Str.{IsUtf8}
-use Rattle.ts_core.specs.Facts.{Text}
+use Rattle.ts_core.specs.Facts.{Text, Series}
+use Rattle.ts_core.specs.Kept.{raw_facts}
+use Rattle.ts_core.specs.Settings.{open_settings}
 use Rattle.ts_core.specs.History.{Line, History, accepted}
 use Rattle.ts_core.specs.Latest.{count_of}
-use Rattle.ts_line.specs.Parts.{Parts, facts_of}
+use Rattle.ts_line.specs.Parts.{Parts, series_of, facts_of}
 use Rattle.ts_line.specs.Units.{unit_of}
 use Rattle.ts_line.specs.Lines.{line_of}
 use Rattle.ts_line.specs.FaultText.{fault_text}
 use Rattle.ts_line.specs.declared.fault.LineFault.{LineFault}
 use Rattle.ts_line.specs.declared.precision.Precision.{Precision}
 use Rattle.ts_line.specs.declared.precision.Precision.TheVariants.{Nanoseconds}
-use Rattle.tsdb.specs.Commands.{Command, Nothing, At, SetPrecision, Write, Count, CountFault, Unknown, command_of}
+use Rattle.ts_raw.specs.Numbered.{Gains}
+use Rattle.ts_store.specs.Registered.{IsTooMany}
+use Rattle.tsdb.specs.Commands.{Command, Nothing, At, SetPrecision, Write, Live, Count, CountFault, Unknown, command_of}
 use Rattle.tsdb.specs.Replies.{line}
 
--- the moment that the script has set, in nanoseconds, the precision of its timestamps, and the lines that were
--- accepted so far
+-- the moment that the script has set, in nanoseconds, the precision of its timestamps, the lines that were
+-- accepted so far, and the series that are registered
 pub record State : Type 0 where
   pub moment : ℤ
   pub precision : Precision
   pub history : History
+  pub series : List Series
 
 abbrev pub start : State
-start = record { moment = pos 0; precision = Nanoseconds; history = [] }
+start = record { moment = pos 0; precision = Nanoseconds; history = []; series = [] }
 
 abbrev pub at_moment : ℤ → State → State
-at_moment t s = record { moment = t; precision = s.precision; history = s.history }
+at_moment t s = record { moment = t; precision = s.precision; history = s.history; series = s.series }
 
 abbrev pub in_precision : Precision → State → State
-in_precision p s = record { moment = s.moment; precision = p; history = s.history }
+in_precision p s = record { moment = s.moment; precision = p; history = s.history; series = s.series }
 
--- the line's facts are accepted
-abbrev pub with_line : Parts → State → State
-with_line parts s = record { moment = s.moment; precision = s.precision; history = Line (facts_of parts) ∷ s.history }
+-- these series are registered
+abbrev pub with_series : List Series → State → State
+with_series series s = record { moment = s.moment; precision = s.precision; history = s.history; series = series }
+
+-- the line's facts are accepted, and these series are registered
+abbrev pub with_line : Parts → List Series → State → State
+with_line parts series s = record { moment = s.moment; precision = s.precision; history = Line (facts_of parts) ∷ s.history; series = series }
 
 -- what a line says here: its parts, nothing, or a fault; without a time it has the script's moment
 abbrev pub line_in : State → Text → Result (Option Parts) LineFault
@@ -44,15 +53,21 @@ pub data Does (old : State) : Command → Text → State → Type 0 where
   skips : Does old Nothing [] old
   moves : (t : ℤ) → Does old (At t) [] (at_moment t old)
   sets : (p : Precision) → Does old (SetPrecision p) [] (in_precision p old)
-  accepts : (text : Text) (parts : Parts) → line_in old text ≡ Ok (Some parts) → length (accepted (with_line parts old).history) ≤ 2 ^ 62
-      → Does old (Write text) (line (codes "ok")) (with_line parts old)
-  refuses_more : (text : Text) (parts : Parts) → line_in old text ≡ Ok (Some parts) → 2 ^ 62 < length (accepted (with_line parts old).history)
+  -- the line's series is registered where it wasn't, and its facts are accepted
+  accepts : (text : Text) (parts : Parts) (series : List Series) → line_in old text ≡ Ok (Some parts) → (IsTooMany old.series (series_of parts) → ⊥) → Gains old.series series (series_of parts)
+      → length (accepted (with_line parts series old).history) ≤ 2 ^ 62 → Does old (Write text) (line (codes "ok")) (with_line parts series old)
+  refuses_series : (text : Text) (parts : Parts) → line_in old text ≡ Ok (Some parts) → IsTooMany old.series (series_of parts) → Does old (Write text) (line (codes "fault 41")) old
+  refuses_more : (text : Text) (parts : Parts) → line_in old text ≡ Ok (Some parts) → (IsTooMany old.series (series_of parts) → ⊥) → 2 ^ 62 < length (accepted (with_line parts old.series old).history)
       → Does old (Write text) (line (codes "fault 52")) old
   -- a comment or a blank line
   passes_over : (text : Text) → line_in old text ≡ Ok None → Does old (Write text) (line (codes "none")) old
   refuses : (text : Text) (fault : LineFault) → line_in old text ≡ Err fault → Does old (Write text) (line (fault_text fault)) old
-  -- only a write may want memory that isn't there
+  -- only a write may want memory that isn't there; the line's series may be registered then
   finds_no_memory : (text : Text) → Does old (Write text) (line (codes "fault memory")) old
+  registers_alone : (text : Text) (parts : Parts) (series : List Series) → line_in old text ≡ Ok (Some parts) → Gains old.series series (series_of parts)
+      → Does old (Write text) (line (codes "fault memory")) (with_series series old)
+  -- how many of the latest facts have their raw points
+  tells_live : Does old Live (line (decimal (length (raw_facts open_settings old.history)))) old
   -- of all facts ever accepted, of each id the latest
   counts : (measurement field : Text) (a b : ℤ) → Does old (Count measurement field a b) (line (decimal (count_of old.history measurement field a b))) old
   refuses_count : Does old CountFault (line (codes "fault 74 at 0")) old

@@ -6,7 +6,7 @@ use Rattle.ts_line.specs.FaultText.{fault_text}
 use Rattle.ts_store.specs.declared.fault.WriteFault.{WriteFault}
 use Rattle.ts_store.specs.declared.fault.WriteFault.TheVariants as write
 use Rattle.tsdb.specs.declared.reply.Reply.{Reply}
-use Rattle.tsdb.specs.declared.reply.Reply.TheVariants.{Nothing, Done, NoLine, BadLine, Count, Unknown, BadRange, TooManyFacts, OutOfMemory}
+use Rattle.tsdb.specs.declared.reply.Reply.TheVariants.{Nothing, Done, NoLine, BadLine, Count, Unknown, BadRange, TooManySeries, TooManyFacts, OutOfMemory}
 
 -- a text with the LF that ends its line
 abbrev pub line : Text → Text
@@ -20,10 +20,12 @@ text_of (BadLine fault) = line (fault_text fault)
 text_of (Count n) = line (decimal n)
 text_of Unknown = line (codes "fault 95")
 text_of BadRange = line (codes "fault 74 at 0")
+text_of TooManySeries = line (codes "fault 41")
 text_of TooManyFacts = line (codes "fault 52")
 text_of OutOfMemory = line (codes "fault memory")
 
 -- how a refused write is told
 abbrev pub refusal_of : WriteFault → Reply
+refusal_of write.TooManySeries = TooManySeries
 refusal_of write.TooManyFacts = TooManyFacts
 refusal_of write.OutOfMemory = OutOfMemory

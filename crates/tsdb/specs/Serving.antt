@@ -17,6 +17,7 @@ pub record IsIn (s : State) (m : Serving) : Type 0 where
   pub moment : m.moment ≡ s.moment
   pub precision : m.precision ≡ s.precision
   pub stands : StandsFor open_settings s.history m.kept
+  pub series : m.kept.series ≡ s.series
 
 -- from this state a machine that did the command, or was given the line, is in a state that it may leave
 abbrev pub Did : Command → State → Text → Serving → Type 0

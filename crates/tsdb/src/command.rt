@@ -21,6 +21,8 @@ pub enum Command<'a> {
     SetPrecision(Precision),
     /// To write this line.
     Write(&'a str),
+    /// To tell how many raw facts are kept.
+    Live,
     /// To count the values of a measurement and a field from one time on and before another.
     Count {
         measurement: &'a str,
@@ -145,6 +147,9 @@ impl<'a> Command<'a> {
         }
         if let Some(rest) = rest_behind(line, "write ") {
             return Command::Write(rest);
+        }
+        if line == "live" {
+            return Command::Live;
         }
         if let Some(rest) = rest_behind(line, "count ") {
             return count(rest);

@@ -72,6 +72,7 @@ impl<A: Allocator + Copy> Machine<A> {
                 Reply::Nothing
             }
             Command::Write(line) => self.write(line),
+            Command::Live => Reply::Count(self.store.raw_points()),
             Command::Count {
                 measurement,
                 field,
@@ -111,6 +112,7 @@ fn refusal_of(fault: WriteFault) -> Reply
     ensures { result ≡ refusal_of fault }
 {
     match fault {
+        WriteFault::TooManySeries => Reply::TooManySeries,
         WriteFault::TooManyFacts => Reply::TooManyFacts,
         WriteFault::OutOfMemory => Reply::OutOfMemory,
     }

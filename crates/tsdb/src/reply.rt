@@ -29,6 +29,8 @@ pub enum Reply {
     Unknown,
     /// A time isn't valid, or a range is too long (number 74).
     BadRange,
+    /// Too many series are registered (number 41).
+    TooManySeries,
     /// The facts that were accepted would pass 2^62 (number 52).
     TooManyFacts,
     /// No memory was found. Nothing has changed.
@@ -60,6 +62,7 @@ impl Reply {
             Reply::Count(count) => send_count(sink, count),
             Reply::Unknown => sink.put(b"fault 95\n"),
             Reply::BadRange => sink.put(b"fault 74 at 0\n"),
+            Reply::TooManySeries => sink.put(b"fault 41\n"),
             Reply::TooManyFacts => sink.put(b"fault 52\n"),
             Reply::OutOfMemory => sink.put(b"fault memory\n"),
         }

@@ -3,7 +3,7 @@ use Rattle.std.proofs.lemmas.Result.{err_from_is_err_and}
 use Rattle.ts_core.specs.ReadingAhead.{bit}
 use Rattle.tsdb.specs.LineReading.{to_come}
 use Rattle.tsdb.specs.Replies.{text_of}
-use Rattle.tsdb.proofs.Progress.{begins, goes_on, some_answered, cut_short, answers_next, on_any_err, all_answered, nothing_left, reader_told, writer_silent}
+use Rattle.tsdb.proofs.Progress.{begins, goes_on, some_answered, cut_short, answers_next, on_any_err, all_answered, nothing_left, reader_told, turns_told, writer_silent}
 use Rattle.tsdb.proofs.engine.run.Goals as goal
 
 pub returns-in_err-lines-clause-begun : goal.returns-in_err-lines-clause-begun
@@ -89,3 +89,10 @@ returns-in-End-clause-answered g c =
     all_answered c.args.source.now.remaining (to_come c.loop-text.lines c.loop-text.source) c.args.sink.now.contents c.loop-text.sink.contents c.loop-text.machine
     c.loop-text.invariant.progress
     (nothing_left (to_come c.loop-text.lines c.loop-text.source) (to_come c.next.new.self c.next.new.source) c.in_ok-next.next c.next.new.self.line c.in-End.is c.in_ok-next.ensures.next)
+
+pub returns-in_err-next-clause-limit : goal.returns-in_err-next-clause-limit
+returns-in_err-next-clause-limit g c = λ t.
+    let p = err_from_is_err_and c.from_residual-in_err-next.result c.from_residual-in_err-next.ensures.1 in
+    let told = turns_told c.in_err-next.field-0.0 c.from_residual-in_err-next.result c.next.result (p.1 ∙ ap Err p.2) c.in_err-next.was t in
+    let at = c.next.ensures.limit told in
+    (omega (arith, c.loop-text.invariant.turns, c.next.ensures.turns, at), omega (arith, c.loop-text.invariant.ends, c.next.ensures.ends, ap bit c.in_err-next.ensures.stays))

@@ -8,7 +8,7 @@ use Rattle.ts_store.proofs.store.Store.count.Goals as goal
 pub returns : goal.returns
 returns g c = λ opening h s.
     let kept : Kept = c.args.self.now in
-    let raw : c.self.inside.facts ≡ kept.raw = ap (λ (k : Kept). k.raw) c.self.view_is in
+    let raw : c.self.inside.facts.raw ≡ kept.raw = ap (λ (k : Kept). k.raw) c.self.view_is in
     let mark : least_time ≡ kept.mark = ap (λ (k : Kept). k.mark) c.self.view_is in
     let from : least_time ≤ℤ c.args.from = search rules in
     c.count.ensures ∙ ap (λ (fs : List Fact). length (filter (is_asked c.args.measurement.now c.args.field.now c.args.from c.args.to) fs)) raw

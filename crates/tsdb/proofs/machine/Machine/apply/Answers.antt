@@ -1,9 +1,9 @@
 use Rattle.std.proofs.Common.{sym, subst}
 use Rattle.std.specs.Fmt.{decimal}
-use Rattle.tsdb.specs.Commands.{Count}
+use Rattle.tsdb.specs.Commands.{Count, Live}
 use Rattle.tsdb.specs.Replies.{line}
 use Rattle.tsdb.specs.Serving.{Serving, IsIn, Did}
-use Rattle.tsdb.proofs.MachineLemmas.{skipped, moved, was_set, counted, count_refused, not_known}
+use Rattle.tsdb.proofs.MachineLemmas.{skipped, moved, was_set, told_live, counted, count_refused, not_known}
 use Rattle.tsdb.proofs.machine.Machine.apply.Goals as goal
 
 pub returns-in-Nothing : goal.returns-in-Nothing
@@ -31,3 +31,10 @@ pub returns-in-SetPrecision : goal.returns-in-SetPrecision
 returns-in-SetPrecision g c = λ s i.
     let m : Serving = record { moment = c.self-in-SetPrecision.inside.moment; precision = c.self-in-SetPrecision.inside.precision; kept = c.self-in-SetPrecision.inside.store } in
     rw c.in-SetPrecision.is (was_set c.in-SetPrecision.precision s m (subst (λ (k : Serving). IsIn s k) (sym c.self-in-SetPrecision.view_is) i))
+
+pub returns-in-Live : goal.returns-in-Live
+returns-in-Live g c = λ s i.
+    let m : Serving = record { moment = c.self-in-Live.inside.moment; precision = c.self-in-Live.inside.precision; kept = c.self-in-Live.inside.store } in
+    let before = subst (λ (k : Serving). IsIn s k) (sym c.self-in-Live.view_is) i in
+    let did = told_live c.raw_points.result s m before c.raw_points.ensures.facts in
+    rw c.in-Live.is (subst (λ (k : Serving). Did Live s (line (decimal c.raw_points.result)) k) c.self-in-Live.view_is did)

@@ -1,0 +1,236 @@
+-- What the facts of columns become when points that were set aside are put in.
+use Rattle.std.proofs.Common.{◌≡◌, ◌≢◌, ℕ, zero, suc, ℤ, ◌+◌, ◌<◌, List, [], ◌∷◌, ◌++◌, length, map, set, get_or, refl, sym, ◌∙◌, ap, subst, take, true≢false, inl, inr, ◌⊎◌, ⊎_elim, arith, Option, Some, None, IsSome, IfSome}
+use Rattle.std.specs.List.{slice_get}
+use Rattle.std.specs.FinMap as finmap
+use Rattle.std.proofs.lemmas.List.{get_or_default, get_or-set_same, map-append, length-append, take_more, map-set, set-get_or, get_or-set_other, length-set, length-map, get_or_append_left}
+use Rattle.std.proofs.lemmas.Option.{slice_get_within, get_or_from_slice_get}
+use Rattle.std.proofs.Math.Seq.{map-set_same}
+use Rattle.ts_core.specs.Members.{Among, AllDistinct}
+use Rattle.ts_core.specs.Facts.{Text, Column, Fact}
+use Rattle.ts_line.specs.Parts.{Piece, Parts, field_text, series_of, fact_of}
+use Rattle.ts_raw.specs.Columns.{PointMap, ColumnState}
+use Rattle.ts_raw.specs.Indexed.{Indexed, no_series, column_of}
+use Rattle.ts_store.specs.Puts.{Puts, PutsAll}
+use Rattle.ts_store.specs.ColumnsKept.{fact_at, facts_of_columns, points_of, no_column, with_aside, with_point_aside, committed, all_committed, AreReady, AreAside, MayGrow}
+use Rattle.ts_store.proofs.ColumnsLemmas.{columns_puts, facts-grown, at_among}
+use Rattle.ts_core.proofs.MembersLemmas.{Among-left}
+
+none_some : {X : Type 0} (x : X) → None ≡ Some x → ⊥
+none_some x e = cc
+
+the_same : {X : Type 0} (x y : X) → Some x ≡ Some y → x ≡ y
+the_same x y e = cc
+
+pub points_at : (ss : List ColumnState) (n : ℕ) → get_or (points_of ss) n finmap.empty ≡ (get_or ss n no_column).points
+points_at [] n = refl
+points_at (s ∷ ss) zero = refl
+points_at (s ∷ ss) (suc n) = points_at ss n
+
+-- one point is put in
+one_committed : (cs : List Column) (ss : List ColumnState) (n : ℕ) (f : Fact) → AllDistinct cs → length ss ≡ length cs → slice_get cs n ≡ Some f.column
+    → (get_or ss n no_column).aside ≡ Some (f.time, f.value)
+    → Puts (facts_of_columns cs (points_of ss)) (facts_of_columns cs (points_of (set ss n (committed (get_or ss n no_column))))) f
+one_committed cs ss n f d l at is =
+    let s : ColumnState = get_or ss n no_column in
+    let after : finmap.insert (get_or (points_of ss) n finmap.empty) f.time f.value ≡ (committed s).points =
+    ap (λ (m : PointMap). finmap.insert m f.time f.value) (points_at ss n) ∙ sym (ap (with_aside s.points) is) in
+    let all : set (points_of ss) n (finmap.insert (get_or (points_of ss) n finmap.empty) f.time f.value) ≡ points_of (set ss n (committed s)) =
+    ap (set (points_of ss) n) after ∙ sym (map-set (λ (t : ColumnState). t.points) ss n (committed s)) in
+    subst (λ (ms : List PointMap). Puts (facts_of_columns cs (points_of ss)) (facts_of_columns cs ms) f) all
+    (columns_puts cs (points_of ss) n f.column f.time f.value d (length-map ss (λ (t : ColumnState). t.points) ∙ l) at)
+
+-- what is aside in other columns stays there
+pub aside_others : (cs : List Column) (ss : List ColumnState) (ns : List ℕ) (fs : List Fact) (n : ℕ) (s : ColumnState) → (Among n ns → ⊥) → AreAside cs ss ns fs → AreAside cs (set ss n s) ns fs
+aside_others cs ss [] [] n s away a = tt
+aside_others cs ss [] (f ∷ fs) n s away a = absurd a
+aside_others cs ss (m ∷ ns) [] n s away a = absurd a
+aside_others cs ss (m ∷ ns) (f ∷ fs) n s away a = (
+  a.0,
+  ap (λ (t : ColumnState). t.aside) (get_or-set_other ss n m s no_column (λ e. away (inl (sym e)))) ∙ a.1,
+  aside_others cs ss ns fs n s (λ k. away (inr k)) a.2,
+)
+
+-- the column of a number that has something aside is the column of one of the facts
+column_of_number : (cs : List Column) (ss : List ColumnState) (ns : List ℕ) (fs : List Fact) (n : ℕ) (c : Column) → AreAside cs ss ns fs → slice_get cs n ≡ Some c → Among n ns
+    → Among c (map (λ (f : Fact). f.column) fs)
+column_of_number cs ss [] fs n c a at k = absurd k
+column_of_number cs ss (m ∷ ns) [] n c a at k = absurd a
+column_of_number cs ss (m ∷ ns) (f ∷ fs) n c a at k =
+    ⊎_elim {C = Among c (map (λ (g : Fact). g.column) (f ∷ fs))} (λ e. inl (the_same c f.column (sym at ∙ ap (slice_get cs) e ∙ a.0)))
+    (λ q. inr (column_of_number cs ss ns fs n c a.2 at q)) k
+
+pub numbers_distinct : (cs : List Column) (ss : List ColumnState) (ns : List ℕ) (fs : List Fact) → AreAside cs ss ns fs → AllDistinct (map (λ (f : Fact). f.column) fs) → AllDistinct ns
+numbers_distinct cs ss [] fs a d = tt
+numbers_distinct cs ss (n ∷ ns) [] a d = absurd a
+numbers_distinct cs ss (n ∷ ns) (f ∷ fs) a d = (λ k. d.0 (column_of_number cs ss ns fs n f.column a.2 a.0 k), numbers_distinct cs ss ns fs a.2 d.1)
+
+-- all are put in, one after another
+pub all_put : (cs : List Column) (ss : List ColumnState) (ns : List ℕ) (fs : List Fact) → AllDistinct cs → length ss ≡ length cs → AllDistinct ns → AreAside cs ss ns fs
+    → PutsAll (facts_of_columns cs (points_of ss)) (facts_of_columns cs (points_of (all_committed ss ns))) fs
+all_put cs ss [] [] d l once a = refl
+all_put cs ss [] (f ∷ fs) d l once a = absurd a
+all_put cs ss (n ∷ ns) [] d l once a = absurd a
+all_put cs ss (n ∷ ns) (f ∷ fs) d l once a =
+    let ss' : List ColumnState = set ss n (committed (get_or ss n no_column)) in (
+      facts_of_columns cs (points_of ss'),
+      one_committed cs ss n f d l a.0 a.1,
+      all_put cs ss' ns fs d (length-set ss n (committed (get_or ss n no_column)) ∙ l) once.1 (aside_others cs ss ns fs n (committed (get_or ss n no_column)) once.0 a.2),
+    )
+
+pub all_committed-length : (ss : List ColumnState) (ns : List ℕ) → length (all_committed ss ns) ≡ length ss
+all_committed-length ss [] = refl
+all_committed-length ss (n ∷ ns) = all_committed-length (set ss n (committed (get_or ss n no_column))) ns ∙ length-set ss n (committed (get_or ss n no_column))
+
+-- ---- one more
+
+pub aside_push : (cs : List Column) (ss : List ColumnState) (ns : List ℕ) (fs : List Fact) (n : ℕ) (f : Fact) → AreAside cs ss ns fs → slice_get cs n ≡ Some f.column
+    → (get_or ss n no_column).aside ≡ Some (f.time, f.value) → AreAside cs ss (ns ++ n ∷ []) (fs ++ f ∷ [])
+aside_push cs ss [] [] n f a at is = (at, is, tt)
+aside_push cs ss [] (g ∷ fs) n f a at is = absurd a
+aside_push cs ss (m ∷ ns) [] n f a at is = absurd a
+aside_push cs ss (m ∷ ns) (g ∷ fs) n f a at is = (a.0, a.1, aside_push cs ss ns fs n f a.2 at is)
+
+slice_get_left : {X : Type 0} (xs ys : List X) (n : ℕ) (x : X) → slice_get xs n ≡ Some x → slice_get (xs ++ ys) n ≡ Some x
+slice_get_left [] ys n x e = absurd (none_some x e)
+slice_get_left (y ∷ xs) ys zero x e = e
+slice_get_left (y ∷ xs) ys (suc n) x e = slice_get_left xs ys n x e
+
+-- columns that are made behind leave what is aside
+pub aside_grown : (cs : List Column) (ss : List ColumnState) (ns : List ℕ) (fs : List Fact) (c : Column) (s : ColumnState) → length ss ≡ length cs → AreAside cs ss ns fs → AreAside (cs ++ c ∷ []) (ss ++ s ∷ []) ns fs
+aside_grown cs ss [] [] c s l a = tt
+aside_grown cs ss [] (f ∷ fs) c s l a = absurd a
+aside_grown cs ss (n ∷ ns) [] c s l a = absurd a
+aside_grown cs ss (n ∷ ns) (f ∷ fs) c s l a =
+    let within : n < length ss = let w = slice_get_within cs n f.column a.0 in omega (arith, w, l) in (
+      slice_get_left cs (c ∷ []) n f.column a.0,
+      ap (λ (t : ColumnState). t.aside) (get_or_append_left ss (s ∷ []) no_column n within) ∙ a.1,
+      aside_grown cs ss ns fs c s l a.2,
+    )
+
+-- what is set aside changes no points
+pub aside_leaves : (ss : List ColumnState) (n : ℕ) (s : ColumnState) → s.points ≡ (get_or ss n no_column).points → points_of (set ss n s) ≡ points_of ss
+aside_leaves ss n s e = map-set_same (λ (t : ColumnState). t.points) ss n s no_column e
+
+-- ---- the facts of a line are of different columns
+
+column_text : (p : Parts) (f g : Piece × ℤ) → (fact_of p f).column ≡ (fact_of p g).column → field_text f ≡ field_text g
+column_text p f g e = ap (λ (c : Column). c.field) e
+
+text_among : (p : Parts) (f : Piece × ℤ) (fields : List (Piece × ℤ)) → Among (fact_of p f).column (map (λ (x : Fact). x.column) (map (fact_of p) fields)) → Among (field_text f) (map field_text fields)
+text_among p f [] a = absurd a
+text_among p f (g ∷ fields) a = ⊎_elim {C = Among (field_text f) (map field_text (g ∷ fields))} (λ e. inl (column_text p f g e)) (λ k. inr (text_among p f fields k)) a
+
+pub line_columns : (p : Parts) (fields : List (Piece × ℤ)) → AllDistinct (map field_text fields) → AllDistinct (map (λ (f : Fact). f.column) (map (fact_of p) fields))
+line_columns p [] d = tt
+line_columns p (f ∷ fields) d = (λ a. d.0 (text_among p f fields a), line_columns p fields d.1)
+
+-- ---- points are put in from the left to the right
+
+committed_is : (s t : ColumnState) → IfSome s.aside (λ (p : ℤ × ℤ). t.points ≡ finmap.insert s.points p.0 p.1) → IsSome s.aside → t.aside ≡ None → t ≡ committed s
+committed_is s t put is none =
+    let points : t.points ≡ with_aside s.points s.aside =
+    elim s.aside as (λ a. IfSome a (λ (p : ℤ × ℤ). t.points ≡ finmap.insert s.points p.0 p.1) → IsSome a → t.points ≡ with_aside s.points a) [
+      | None ↦ λ q i. absurd (true≢false (sym i))
+      | Some p ↦ λ q i. q
+    ] put is in
+    λ i. record { points = points i; aside = none i }
+
+ready_others : (ss : List ColumnState) (ns : List ℕ) (n : ℕ) (s : ColumnState) → (Among n ns → ⊥) → AreReady ss ns → AreReady (set ss n s) ns
+ready_others ss [] n s away r = tt
+ready_others ss (m ∷ ns) n s away r = (
+  subst (λ l. m < l) (sym (length-set ss n s)) r.0,
+  subst (λ (t : ColumnState). IsSome t.aside) (sym (get_or-set_other ss n m s no_column (λ e. away (inl (sym e))))) r.1,
+  r.2,
+  ready_others ss ns n s (λ k. away (inr k)) r.3,
+)
+
+pub next_committed : (ss : List ColumnState) (n : ℕ) (ns : List ℕ) (s t : ColumnState) → AreReady ss (n ∷ ns) → s ≡ get_or ss n s → IfSome s.aside (λ (p : ℤ × ℤ). t.points ≡ finmap.insert s.points p.0 p.1) → t.aside ≡ None
+    → (all_committed ss (n ∷ ns) ≡ all_committed (set ss n t) ns) × AreReady (set ss n t) ns
+next_committed ss n ns s t r is put none =
+    let same : s ≡ get_or ss n no_column = is ∙ get_or_default ss n s no_column r.0 in
+    let after : t ≡ committed (get_or ss n no_column) = committed_is s t put (subst (λ (u : ColumnState). IsSome u.aside) (sym same) r.1) none ∙ ap committed same in
+    (ap (λ (u : ColumnState). all_committed (set ss n u) ns) (sym after), ready_others ss ns n t r.2 r.3)
+
+-- what is aside in different columns is ready
+pub ready_of : (cs : List Column) (ss : List ColumnState) (ns : List ℕ) (fs : List Fact) → length ss ≡ length cs → AreAside cs ss ns fs → AllDistinct ns → AreReady ss ns
+ready_of cs ss [] fs l a d = tt
+ready_of cs ss (n ∷ ns) [] l a d = absurd a
+ready_of cs ss (n ∷ ns) (f ∷ fs) l a d = (
+  let w = slice_get_within cs n f.column a.0 in omega (arith, w, l),
+  subst (λ (o : Option (ℤ × ℤ)). IsSome o) (sym a.1) refl,
+  d.0,
+  ready_of cs ss ns fs l a.2 d.1,
+)
+
+-- ---- one field after another
+
+text_at : (fields : List (Piece × ℤ)) (i : ℕ) (d : Piece × ℤ) → i < length fields → Among (field_text (get_or fields i d)) (map field_text fields)
+text_at [] i d l = absurd (omega arith)
+text_at (f ∷ fields) zero d l = inl refl
+text_at (f ∷ fields) (suc i) d l = inr (text_at fields i d (omega (arith, l)))
+
+-- the name of a field doesn't stand before it
+fresh : (fields : List (Piece × ℤ)) (i : ℕ) (x : Piece × ℤ) → AllDistinct (map field_text fields) → i < length fields → x ≡ get_or fields i x → Among (field_text x) (map field_text (take i fields)) → ⊥
+fresh [] i x d l e a = absurd (omega arith)
+fresh (f ∷ fields) zero x d l e a = absurd a
+fresh (f ∷ fields) (suc i) x d l e a =
+    ⊎_elim {C = ⊥} (λ q. d.0 (subst (λ t. Among t (map field_text fields)) q (subst (λ (y : Piece × ℤ). Among (field_text y) (map field_text fields)) (sym e) (text_at fields i x (omega (arith, l))))))
+    (λ k. fresh fields i x d.1 (omega (arith, l)) e k) a
+
+pub grown_aside : (cs cs' : List Column) (ss ss' : List ColumnState) (ns : List ℕ) (fs : List Fact) → length ss ≡ length cs → MayGrow cs ss cs' ss' → AreAside cs ss ns fs
+    → AreAside cs' ss' ns fs × (length ss' ≡ length cs') × (facts_of_columns cs' (points_of ss') ≡ facts_of_columns cs (points_of ss))
+grown_aside cs cs' ss ss' ns fs l grown a =
+    ⊎_elim {C = AreAside cs' ss' ns fs × (length ss' ≡ length cs') × (facts_of_columns cs' (points_of ss') ≡ facts_of_columns cs (points_of ss))}
+    (λ same. (
+      subst (λ (xs : List Column). AreAside xs ss' ns fs) (sym same.0) (subst (λ (xs : List ColumnState). AreAside cs xs ns fs) (sym same.1) a),
+      ap length same.1 ∙ l ∙ sym (ap length same.0),
+      λ i. facts_of_columns (same.0 i) (points_of (same.1 i)),
+    ))
+    (λ made.
+    let c : Column = made.0 in (
+      subst (λ (xs : List Column). AreAside xs ss' ns fs) (sym made.1) (subst (λ (xs : List ColumnState). AreAside (cs ++ c ∷ []) xs ns fs) (sym made.2) (aside_grown cs ss ns fs c no_column l a)),
+      ap length made.2 ∙ length-append ss (no_column ∷ []) ∙ ap (λ k. k + 1) l ∙ sym (length-append cs (c ∷ [])) ∙ sym (ap length made.1),
+      (λ i. facts_of_columns (made.1 i) (points_of (made.2 i))) ∙ ap (facts_of_columns (cs ++ c ∷ [])) (map-append (λ (s : ColumnState). s.points) ss (no_column ∷ []))
+          ∙ facts-grown cs (points_of ss) c (length-map ss (λ (s : ColumnState). s.points) ∙ l),
+    ))
+    grown
+
+-- the columns that there were stay
+pub grown_keeps : (cs cs' : List Column) (ss ss' : List ColumnState) → MayGrow cs ss cs' ss' → (c : Column) → Among c cs → Among c cs'
+grown_keeps cs cs' ss ss' grown c a =
+    ⊎_elim {C = Among c cs'} (λ same. subst (Among c) (sym same.0) a) (λ made. subst (Among c) (sym made.1) (Among-left c cs (made.0 ∷ []) a)) grown
+
+pub facts_next : (p : Parts) (i : ℕ) (x : Piece × ℤ) → i < length p.fields → x ≡ get_or p.fields i x → map (fact_of p) (take i p.fields) ++ fact_of p x ∷ [] ≡ map (fact_of p) (take (i + 1) p.fields)
+facts_next p i x within is =
+    sym (map-append (fact_of p) (take i p.fields) (x ∷ [])) ∙ ap (λ (xs : List (Piece × ℤ)). map (fact_of p) xs) (ap (λ (y : Piece × ℤ). take i p.fields ++ y ∷ []) is ∙ sym (take_more p.fields i x within))
+
+pub next_aside : (p : Parts) (cs cs' : List Column) (ss ss' ss'' : List ColumnState) (ns : List ℕ) (n i : ℕ) (x : Piece × ℤ) → length ss ≡ length cs
+    → AreAside cs ss ns (map (fact_of p) (take i p.fields)) → MayGrow cs ss cs' ss' → slice_get cs' n ≡ Some (fact_of p x).column → i < length p.fields → x ≡ get_or p.fields i x
+    → AllDistinct (map field_text p.fields) → ss'' ≡ set ss' n (with_point_aside (get_or ss' n no_column) p.time x.1)
+    → AreAside cs' ss'' (ns ++ n ∷ []) (map (fact_of p) (take (i + 1) p.fields)) × (length ss'' ≡ length cs') × (facts_of_columns cs' (points_of ss'') ≡ facts_of_columns cs (points_of ss))
+next_aside p cs cs' ss ss' ss'' ns n i x l a grown at within is once set_is =
+    let fs : List Fact = map (fact_of p) (take i p.fields) in
+    let s : ColumnState = with_point_aside (get_or ss' n no_column) p.time x.1 in
+    let g = grown_aside cs cs' ss ss' ns fs l grown a in
+    let away : Among n ns → ⊥ = λ k. fresh p.fields i x once within is (text_among p x (take i p.fields) (column_of_number cs' ss' ns fs n (fact_of p x).column g.0 at k)) in
+    let there : n < length ss' = let w = slice_get_within cs' n (fact_of p x).column at in omega (arith, w, g.1) in
+    let more : fs ++ fact_of p x ∷ [] ≡ map (fact_of p) (take (i + 1) p.fields) = facts_next p i x within is in
+    let pushed : AreAside cs' (set ss' n s) (ns ++ n ∷ []) (fs ++ fact_of p x ∷ []) =
+    aside_push cs' (set ss' n s) ns fs n (fact_of p x) (aside_others cs' ss' ns fs n s away g.0) at (ap (λ (t : ColumnState). t.aside) (get_or-set_same ss' n s no_column there)) in (
+      subst (λ (xs : List ColumnState). AreAside cs' xs (ns ++ n ∷ []) (map (fact_of p) (take (i + 1) p.fields))) (sym set_is) (subst (AreAside cs' (set ss' n s) (ns ++ n ∷ [])) more pushed),
+      ap length set_is ∙ length-set ss' n s ∙ g.1,
+      ap (λ (xs : List ColumnState). facts_of_columns cs' (points_of xs)) set_is ∙ ap (facts_of_columns cs') (aside_leaves ss' n s refl) ∙ g.2,
+    )
+
+-- the column that an index gives for a field of the line
+pub column_at : (p : Parts) (index : Indexed) (series n : ℕ) (field : Text) (x : Piece × ℤ) (cs : List Column) → slice_get index.series series ≡ Some (series_of p) → field ≡ x.0.text
+    → slice_get cs n ≡ Some (column_of index series field) → slice_get cs n ≡ Some (fact_of p x).column
+column_at p index series n field x cs there name at =
+    at ∙ ap Some (λ i. record { series = get_or_from_slice_get index.series series (series_of p) no_series there i; field = name i })
+
+-- each fact that is aside has its column
+pub columns_there : (cs : List Column) (ss : List ColumnState) (ns : List ℕ) (fs : List Fact) → AreAside cs ss ns fs → (f : Fact) → Among f fs → Among f.column cs
+columns_there cs ss ns [] a f k = absurd k
+columns_there cs ss [] (g ∷ fs) a f k = absurd a
+columns_there cs ss (n ∷ ns) (g ∷ fs) a f k =
+    ⊎_elim {C = Among f.column cs} (λ e. subst (λ (x : Fact). Among x.column cs) (sym e) (at_among cs n g.column a.0)) (λ q. columns_there cs ss ns fs a.2 f q) k

@@ -1,0 +1,238 @@
+-- What the facts of columns become by one more point in one of them, and how many of them are asked for.
+use Rattle.std.proofs.Common.{◌≡◌, ℕ, zero, suc, ℤ, ◌+◌, Bool, true, false, cond, List, [], ◌∷◌, ◌++◌, length, map, filter, set, get_or, refl, sym, ◌∙◌, ap, subst, inl, inr, ◌⊎◌, ⊎_elim, arith, ◌&&◌, Some, None, is_eq, T}
+use Rattle.std.specs.Ordering.{int_cmp, ordering_then, eq_by_cmp}
+use Rattle.std.specs.List.{slice_get, sum_by}
+use Rattle.std.proofs.lemmas.List.Elements.{filter-append}
+use Rattle.std.proofs.lemmas.List.{length-append}
+use Rattle.std.proofs.lemmas.List.Sums.{sum_by-cons}
+use Rattle.std.proofs.Math.Numerals.{add-one}
+use Rattle.std.specs.Cmp.{int_cmp_total}
+use Rattle.std.specs.FinMap as finmap
+use Rattle.std.specs.FinMap.{find, is_sorted, entries, entries-insert, entries_sorted, len-entries, len-empty, int_cmp-IsAntisymmetric}
+use Rattle.std.specs.FinMap.Entries.{find-put}
+use Rattle.std.proofs.lemmas.Cmp.{tied_itself}
+use Rattle.ts_core.specs.Members.{Among, AllDistinct}
+use Rattle.ts_core.specs.Facts.{Text, Column, Fact, Id, id_of, same_id, is_of, is_within, is_asked}
+use Rattle.ts_core.proofs.MembersLemmas.{Among-left, Among-right, Among-append, AllDistinct-append}
+use Rattle.ts_core.proofs.Ids.{columns_total, equal_of, other_id}
+use Rattle.ts_core.proofs.Sorted.{sorted-distinct, found_among, among_found}
+use Rattle.ts_store.specs.Puts.{Puts}
+use Rattle.ts_raw.specs.Columns.{PointMap}
+use Rattle.ts_raw.specs.Numbered.{numbers_from, numbers_where}
+use Rattle.ts_store.specs.ColumnsKept.{fact_at, facts_in, facts_of_columns}
+
+-- ---- in one column
+
+pub in_column : (c : Column) (points : List (ℤ × ℤ)) (f : Fact) → Among f (map (fact_at c) points) → (f.column ≡ c) × Among (f.time, f.value) points
+in_column c [] f a = absurd a
+in_column c (p ∷ points) f a =
+    ⊎_elim {C = (f.column ≡ c) × Among (f.time, f.value) (p ∷ points)} (λ e. (ap (λ (x : Fact). x.column) e, inl (ap (λ (x : Fact). (x.time, x.value)) e)))
+    (λ k. let r = in_column c points f k in (r.0, inr r.1)) a
+
+to_column : (c : Column) (points : List (ℤ × ℤ)) (p : ℤ × ℤ) → Among p points → Among (fact_at c p) (map (fact_at c) points)
+to_column c [] p a = absurd a
+to_column c (q ∷ points) p a = ⊎_elim {C = Among (fact_at c p) (map (fact_at c) (q ∷ points))} (λ e. inl (ap (fact_at c) e)) (λ k. inr (to_column c points p k)) a
+
+same_as : (c : Column) (f : Fact) → f.column ≡ c → fact_at c (f.time, f.value) ≡ f
+same_as c f e = λ i. record { column = sym e i; time = f.time; value = f.value }
+
+distinct_in : (c : Column) (points : List (ℤ × ℤ)) → AllDistinct points → AllDistinct (map (fact_at c) points)
+distinct_in c [] d = tt
+distinct_in c (p ∷ points) d = (λ a. d.0 (in_column c points (fact_at c p) a).1, distinct_in c points d.1)
+
+-- facts of one column have one id where they have one time
+same_id_in : (c : Column) (t s : ℤ) → same_id (record { column = c; time = t }) (record { column = c; time = s }) ≡ eq_by_cmp int_cmp t s
+same_id_in c t s = ap (λ o. is_eq (ordering_then o (int_cmp t s))) (tied_itself columns_total c)
+
+same_id_of : (c : Column) (f : Fact) (t : ℤ) → f.column ≡ c → same_id (id_of f) (record { column = c; time = t }) ≡ eq_by_cmp int_cmp f.time t
+same_id_of c f t e = ap (λ (d : Column). same_id (record { column = d; time = f.time }) (record { column = c; time = t })) e ∙ same_id_in c f.time t
+
+zero_plus : (n : ℕ) → 0 + n ≡ n
+zero_plus n = omega arith
+
+none_long : {X : Type 0} (xs : List X) → length xs ≡ 0 → xs ≡ []
+none_long [] e = refl
+none_long (x ∷ xs) e = absurd (omega arith)
+
+none_some : {X : Type 0} (x : X) → None ≡ Some x → ⊥
+none_some x e = cc
+
+pub the_same : {X : Type 0} (x y : X) → Some x ≡ Some y → x ≡ y
+the_same x y e = cc
+
+some_value : (x y : ℤ) → Some x ≡ Some y → x ≡ y
+some_value x y e = cc
+
+-- a point is put in
+pub column_puts : (c : Column) (m : PointMap) (t v : ℤ) → Puts (facts_in c m) (facts_in c (finmap.insert m t v)) (fact_at c (t, v))
+column_puts c m t v =
+    let es : List (ℤ × ℤ) = entries m in
+    let m' : PointMap = finmap.insert m t v in
+    let es' : List (ℤ × ℤ) = entries m' in
+    let f : Fact = fact_at c (t, v) in
+    let s : T (is_sorted int_cmp es) = entries_sorted m in
+    let s' : T (is_sorted int_cmp es') = entries_sorted m' in
+    let found : (q : ℤ) → find int_cmp q es' ≡ cond (eq_by_cmp int_cmp q t) (Some v) (find int_cmp q es) =
+    λ q. ap (find int_cmp q) (entries-insert int_cmp_total m t v) ∙ find-put int_cmp int_cmp_total q t v es in
+    let there : (g : Fact) → g.column ≡ c → find int_cmp g.time es' ≡ Some g.value → Among g (facts_in c m') =
+    λ g e h. subst (λ (x : Fact). Among x (facts_in c m')) (same_as c g e) (to_column c es' (g.time, g.value) (among_found int_cmp-IsAntisymmetric es' g.time g.value h)) in
+    record {
+      once = distinct_in c es' (sorted-distinct int_cmp_total es' s');
+      new = there f refl (found t ∙ ap (λ b. cond b (Some v) (find int_cmp t es)) (ap is_eq (tied_itself int_cmp_total t)));
+      kept = λ g a other.
+          let r = in_column c es g a in
+          there g r.0 (found g.time ∙ ap (λ b. cond b (Some v) (find int_cmp g.time es)) (sym (same_id_of c g t r.0) ∙ other) ∙ found_among int_cmp_total es s (g.time, g.value) r.1);
+      only = λ g a.
+          let r = in_column c es' g a in
+          let h : cond (eq_by_cmp int_cmp g.time t) (Some v) (find int_cmp g.time es) ≡ Some g.value = sym (found g.time) ∙ found_among int_cmp_total es' s' (g.time, g.value) r.1 in
+          elim (eq_by_cmp int_cmp g.time t) as (λ b. eq_by_cmp int_cmp g.time t ≡ b → cond b (Some v) (find int_cmp g.time es) ≡ Some g.value → (g ≡ f) ⊎ (Among g (facts_in c m) × (same_id (id_of g) (id_of f) ≡ false))) [
+            | true ↦ λ e q. inl (sym (same_as c g r.0) ∙ ap (fact_at c) (λ i. (int_cmp-IsAntisymmetric g.time t (equal_of _ e) i, sym (some_value v g.value q) i)))
+            | false ↦ λ e q. inr (
+              subst (λ (x : Fact). Among x (facts_in c m)) (same_as c g r.0) (to_column c es (g.time, g.value) (among_found int_cmp-IsAntisymmetric es g.time g.value q)),
+              same_id_of c g t r.0 ∙ e,
+            )
+          ] refl h;
+    }
+
+-- ---- beside other columns
+
+-- among other facts that are of other ids
+puts_behind : (os before after : List Fact) (f : Fact) → AllDistinct os → ((g : Fact) → Among g os → same_id (id_of g) (id_of f) ≡ false) → ((g : Fact) → Among g os → Among g after → ⊥)
+    → Puts before after f → Puts (os ++ before) (os ++ after) f
+puts_behind os before after f d other apart p = record {
+  once = AllDistinct-append os after d p.once apart;
+  new = Among-right f os after p.new;
+  kept = λ g a o. ⊎_elim {C = Among g (os ++ after)} (λ l. Among-left g os after l) (λ r. Among-right g os after (p.kept g r o)) (Among-append g os before a);
+  only = λ g a. ⊎_elim {C = (g ≡ f) ⊎ (Among g (os ++ before) × (same_id (id_of g) (id_of f) ≡ false))}
+      (λ l. inr (Among-left g os before l, other g l))
+      (λ r. ⊎_elim {C = (g ≡ f) ⊎ (Among g (os ++ before) × (same_id (id_of g) (id_of f) ≡ false))} (λ e. inl e) (λ k. inr (Among-right g os before k.0, k.1)) (p.only g r))
+      (Among-append g os after a);
+}
+
+puts_before : (before after os : List Fact) (f : Fact) → AllDistinct os → ((g : Fact) → Among g os → same_id (id_of g) (id_of f) ≡ false) → ((g : Fact) → Among g after → Among g os → ⊥)
+    → Puts before after f → Puts (before ++ os) (after ++ os) f
+puts_before before after os f d other apart p = record {
+  once = AllDistinct-append after os p.once d apart;
+  new = Among-left f after os p.new;
+  kept = λ g a o. ⊎_elim {C = Among g (after ++ os)} (λ l. Among-left g after os (p.kept g l o)) (λ r. Among-right g after os r) (Among-append g before os a);
+  only = λ g a. ⊎_elim {C = (g ≡ f) ⊎ (Among g (before ++ os) × (same_id (id_of g) (id_of f) ≡ false))}
+      (λ l. ⊎_elim {C = (g ≡ f) ⊎ (Among g (before ++ os) × (same_id (id_of g) (id_of f) ≡ false))} (λ e. inl e) (λ k. inr (Among-left g before os k.0, k.1)) (p.only g l))
+      (λ r. inr (Among-right g before os r, other g r))
+      (Among-append g after os a);
+}
+
+-- a fact of the columns is of one of them
+pub column_among : (cs : List Column) (ms : List PointMap) (g : Fact) → Among g (facts_of_columns cs ms) → Among g.column cs
+column_among [] ms g a = absurd a
+column_among (c ∷ cs) [] g a = absurd a
+column_among (c ∷ cs) (m ∷ ms) g a =
+    ⊎_elim {C = Among g.column (c ∷ cs)} (λ l. inl (in_column c (entries m) g l).0) (λ r. inr (column_among cs ms g r)) (Among-append g (facts_in c m) (facts_of_columns cs ms) a)
+
+-- facts of other columns are other facts
+other_column : (g f : Fact) → (g.column ≡ f.column → ⊥) → same_id (id_of g) (id_of f) ≡ false
+other_column g f h = other_id (id_of g) (id_of f) (λ e. h (ap (λ (x : Id). x.column) e))
+
+apart_from : (c : Column) (cs : List Column) (m : PointMap) (ms : List PointMap) → (Among c cs → ⊥) → (g : Fact) → Among g (facts_in c m) → Among g (facts_of_columns cs ms) → ⊥
+apart_from c cs m ms away g a b = away (subst (λ (d : Column). Among d cs) (in_column c (entries m) g a).0 (column_among cs ms g b))
+
+pub facts-distinct : (cs : List Column) (ms : List PointMap) → AllDistinct cs → AllDistinct (facts_of_columns cs ms)
+facts-distinct [] ms d = tt
+facts-distinct (c ∷ cs) [] d = tt
+facts-distinct (c ∷ cs) (m ∷ ms) d =
+    AllDistinct-append (facts_in c m) (facts_of_columns cs ms) (distinct_in c (entries m) (sorted-distinct int_cmp_total (entries m) (entries_sorted m))) (facts-distinct cs ms d.1) (apart_from c cs m ms d.0)
+
+pub at_among : {X : Type 0} (xs : List X) (n : ℕ) (x : X) → slice_get xs n ≡ Some x → Among x xs
+at_among [] n x e = absurd (none_some x e)
+at_among (y ∷ xs) zero x e = inl (sym (the_same y x e))
+at_among (y ∷ xs) (suc n) x e = inr (at_among xs n x e)
+
+-- a point is put into the column of a number
+pub columns_puts : (cs : List Column) (ms : List PointMap) (n : ℕ) (c : Column) (t v : ℤ) → AllDistinct cs → length ms ≡ length cs → slice_get cs n ≡ Some c
+    → Puts (facts_of_columns cs ms) (facts_of_columns cs (set ms n (finmap.insert (get_or ms n finmap.empty) t v))) (fact_at c (t, v))
+columns_puts [] ms n c t v d l e = absurd (none_some c e)
+columns_puts (b ∷ cs) [] n c t v d l e = absurd (omega arith)
+columns_puts (b ∷ cs) (m ∷ ms) zero c t v d l e =
+    let same : b ≡ c = the_same b c e in
+    let at : Puts (facts_in b m) (facts_in b (finmap.insert m t v)) (fact_at c (t, v)) = subst (λ (x : Column). Puts (facts_in b m) (facts_in b (finmap.insert m t v)) (fact_at x (t, v))) same (column_puts b m t v) in
+    puts_before (facts_in b m) (facts_in b (finmap.insert m t v)) (facts_of_columns cs ms) (fact_at c (t, v)) (facts-distinct cs ms d.1)
+    (λ g a. other_column g (fact_at c (t, v)) (λ q. d.0 (subst (λ (x : Column). Among x cs) (q ∙ sym same) (column_among cs ms g a))))
+    (λ g a b'. apart_from b cs (finmap.insert m t v) ms d.0 g a b')
+    at
+columns_puts (b ∷ cs) (m ∷ ms) (suc n) c t v d l e =
+    let ms' : List PointMap = set ms n (finmap.insert (get_or ms n finmap.empty) t v) in
+    puts_behind (facts_in b m) (facts_of_columns cs ms) (facts_of_columns cs ms') (fact_at c (t, v)) (distinct_in b (entries m) (sorted-distinct int_cmp_total (entries m) (entries_sorted m)))
+    (λ g a. other_column g (fact_at c (t, v)) (λ q. d.0 (subst (λ (x : Column). Among x cs) (sym q ∙ (in_column b (entries m) g a).0) (at_among cs n c e))))
+    (apart_from b cs m ms' d.0)
+    (columns_puts cs ms n c t v d.1 (omega (arith, l)) e)
+
+-- ---- a column without points
+
+no_entries : entries (finmap.empty {X = ℤ} {R = int_cmp}) ≡ []
+no_entries = none_long _ (sym (len-entries (finmap.empty {X = ℤ} {R = int_cmp})) ∙ len-empty int_cmp ℤ)
+
+pub facts-grown : (cs : List Column) (ms : List PointMap) (c : Column) → length ms ≡ length cs → facts_of_columns (cs ++ c ∷ []) (ms ++ finmap.empty ∷ []) ≡ facts_of_columns cs ms
+facts-grown [] [] c l = ap (λ es. map (fact_at c) es ++ []) no_entries
+facts-grown [] (m ∷ ms) c l = absurd (omega (arith, l))
+facts-grown (b ∷ cs) [] c l = absurd (omega (arith, l))
+facts-grown (b ∷ cs) (m ∷ ms) c l = ap (λ fs. facts_in b m ++ fs) (facts-grown cs ms c (omega (arith, l)))
+
+-- ---- how many are asked for
+
+within : (a b : ℤ) (c : Column) (points : List (ℤ × ℤ)) → length (filter (λ (x : Fact). is_within a b x.time) (map (fact_at c) points)) ≡ length (filter (λ (p : ℤ × ℤ). is_within a b p.0) points)
+within a b c [] = refl
+within a b c (p ∷ points) =
+    elim (is_within a b p.0) as (λ o. length (cond o (fact_at c p ∷ filter (λ (x : Fact). is_within a b x.time) (map (fact_at c) points)) (filter (λ (x : Fact). is_within a b x.time) (map (fact_at c) points)))
+    ≡ length (cond o (p ∷ filter (λ (p : ℤ × ℤ). is_within a b p.0) points) (filter (λ (p : ℤ × ℤ). is_within a b p.0) points))) [
+      | true ↦ ap suc (within a b c points)
+      | false ↦ within a b c points
+    ]
+
+none_asked : (c : Column) (points : List (ℤ × ℤ)) → length (filter (λ (x : Fact). false) (map (fact_at c) points)) ≡ 0
+none_asked c [] = refl
+none_asked c (p ∷ points) = none_asked c points
+
+of_column : (m f : Text) (a b : ℤ) (c : Column) (points : List (ℤ × ℤ)) → filter (is_asked m f a b) (map (fact_at c) points) ≡ filter (λ (x : Fact). is_of m f c && is_within a b x.time) (map (fact_at c) points)
+of_column m f a b c [] = refl
+of_column m f a b c (p ∷ points) = ap (λ (xs : List Fact). cond (is_of m f c && is_within a b p.0) (fact_at c p ∷ xs) xs) (of_column m f a b c points)
+
+asked_in : (m f : Text) (a b : ℤ) (c : Column) (points : List (ℤ × ℤ))
+    → length (filter (is_asked m f a b) (map (fact_at c) points)) ≡ cond (is_of m f c) (length (filter (λ (p : ℤ × ℤ). is_within a b p.0) points)) 0
+asked_in m f a b c points = ap length (of_column m f a b c points)
+    ∙ elim (is_of m f c) as (λ o. length (filter (λ (x : Fact). o && is_within a b x.time) (map (fact_at c) points)) ≡ cond o (length (filter (λ (p : ℤ × ℤ). is_within a b p.0) points)) 0) [
+      | true ↦ within a b c points
+      | false ↦ none_asked c points
+    ]
+
+abbrev pub asked_of : List PointMap → ℤ → ℤ → ℕ → ℕ
+asked_of ms a b n = length (filter (λ (p : ℤ × ℤ). is_within a b p.0) (entries (get_or ms n finmap.empty)))
+
+numbers_later : {X : Type 0} (p : X → Bool) (n : ℕ) (xs : List X) → numbers_from p (n + 1) xs ≡ map suc (numbers_from p n xs)
+numbers_later p n [] = refl
+numbers_later p n (x ∷ xs) =
+    elim (p x) as (λ b. cond b ((n + 1) ∷ numbers_from p (n + 1 + 1) xs) (numbers_from p (n + 1 + 1) xs) ≡ map suc (cond b (n ∷ numbers_from p (n + 1) xs) (numbers_from p (n + 1) xs))) [
+      | true ↦ ap (λ k. k ∷ numbers_from p (n + 1 + 1) xs) (add-one n) ∙ ap (λ ns. suc n ∷ ns) (numbers_later p (n + 1) xs)
+      | false ↦ numbers_later p (n + 1) xs
+    ]
+
+sum_later : (m : PointMap) (ms : List PointMap) (a b : ℤ) (ns : List ℕ) → sum_by (asked_of (m ∷ ms) a b) (map suc ns) ≡ sum_by (asked_of ms a b) ns
+sum_later m ms a b [] = refl
+sum_later m ms a b (n ∷ ns) =
+    sum_by-cons (asked_of (m ∷ ms) a b) (suc n) (map suc ns) ∙ ap (λ k. asked_of ms a b n + k) (sum_later m ms a b ns) ∙ sym (sum_by-cons (asked_of ms a b) n ns)
+
+-- what is asked for is found column by column
+pub asked_by_columns : (m f : Text) (a b : ℤ) (cs : List Column) (ms : List PointMap) → length ms ≡ length cs
+    → length (filter (is_asked m f a b) (facts_of_columns cs ms)) ≡ sum_by (asked_of ms a b) (numbers_where (is_of m f) cs)
+asked_by_columns m f a b [] ms l = refl
+asked_by_columns m f a b (c ∷ cs) [] l = absurd (omega (arith, l))
+asked_by_columns m f a b (c ∷ cs) (x ∷ ms) l =
+    let p : Fact → Bool = is_asked m f a b in
+    let later : List ℕ = numbers_from (is_of m f) (0 + 1) cs in
+    let rest : sum_by (asked_of (x ∷ ms) a b) later ≡ length (filter p (facts_of_columns cs ms)) =
+    ap (sum_by (asked_of (x ∷ ms) a b)) (numbers_later (is_of m f) 0 cs) ∙ sum_later x ms a b (numbers_where (is_of m f) cs) ∙ sym (asked_by_columns m f a b cs ms (omega (arith, l))) in
+    ap length (filter-append p (facts_in c x) (facts_of_columns cs ms))
+    ∙ length-append (filter p (facts_in c x)) (filter p (facts_of_columns cs ms))
+    ∙ ap (λ k. k + length (filter p (facts_of_columns cs ms))) (asked_in m f a b c (entries x))
+    ∙ elim (is_of m f c) as (λ o. cond o (asked_of (x ∷ ms) a b 0) 0 + length (filter p (facts_of_columns cs ms)) ≡ sum_by (asked_of (x ∷ ms) a b) (cond o (0 ∷ later) later)) [
+      | true ↦ ap (λ k. asked_of (x ∷ ms) a b 0 + k) (sym rest) ∙ sym (sum_by-cons (asked_of (x ∷ ms) a b) 0 later)
+      | false ↦ zero_plus (length (filter p (facts_of_columns cs ms))) ∙ sym rest
+    ]

@@ -1,0 +1,77 @@
+-- The facts of columns, each with its points, and what becomes of points that were set aside. (Own rule.)
+use Rattle.std.specs.Prelude.{◌≡◌, ◌⊎◌, ℕ, ℤ, List, [], ◌∷◌, ◌++◌, ◌<◌, length, map, IsSome, Option, Some, None, slice_get, set, get_or}
+use Rattle.std.specs.FinMap as finmap
+use Rattle.ts_core.specs.Members.{Among}
+use Rattle.ts_core.specs.Facts.{Series, Column, Fact}
+use Rattle.ts_raw.specs.Columns.{PointMap, ColumnState}
+use Rattle.ts_raw.specs.Indexed.{Indexed, IsSound}
+
+abbrev pub fact_at : Column → ℤ × ℤ → Fact
+fact_at c p = record { column = c; time = p.0; value = p.1 }
+
+abbrev pub facts_in : Column → PointMap → List Fact
+facts_in c points = map (fact_at c) (finmap.entries points)
+
+-- the facts of all columns, in the order of making
+abbrev pub facts_of_columns : List Column → List PointMap → List Fact
+facts_of_columns [] maps = []
+facts_of_columns (c ∷ cs) [] = []
+facts_of_columns (c ∷ cs) (m ∷ ms) = facts_in c m ++ facts_of_columns cs ms
+
+abbrev pub points_of : List ColumnState → List PointMap
+points_of states = map (λ (s : ColumnState). s.points) states
+
+abbrev pub no_column : ColumnState
+no_column = record { points = finmap.empty; aside = None }
+
+-- a column without points is made behind the others, or none
+abbrev pub MayGrow : List Column → List ColumnState → List Column → List ColumnState → Type 0
+MayGrow columns states columns' states' =
+    ((columns' ≡ columns) × (states' ≡ states)) ⊎ ((made : Column) × (columns' ≡ columns ++ made ∷ []) × (states' ≡ states ++ no_column ∷ []))
+
+-- ---- points aside
+
+abbrev pub with_point_aside : ColumnState → ℤ → ℤ → ColumnState
+with_point_aside s time value = record { points = s.points; aside = Some (time, value) }
+
+-- the point that is aside is put among the others
+abbrev pub with_aside : PointMap → Option (ℤ × ℤ) → PointMap
+with_aside points None = points
+with_aside points (Some p) = finmap.insert points p.0 p.1
+
+abbrev pub committed : ColumnState → ColumnState
+committed s = record { points = with_aside s.points s.aside; aside = None }
+
+-- so in each of the columns of these numbers
+abbrev pub all_committed : List ColumnState → List ℕ → List ColumnState
+all_committed states [] = states
+all_committed states (n ∷ ns) = all_committed (set states n (committed (get_or states n no_column))) ns
+
+-- each of these columns is there and has something aside; each number stands once
+abbrev pub AreReady : List ColumnState → List ℕ → Type 0
+AreReady states [] = Unit {0}
+AreReady states (n ∷ ns) = (n < length states) × IsSome (get_or states n no_column).aside × (Among n ns → ⊥) × AreReady states ns
+
+-- in the columns of these numbers the facts are aside, each in its column
+abbrev pub AreAside : List Column → List ColumnState → List ℕ → List Fact → Type 0
+AreAside columns states [] [] = Unit {0}
+AreAside columns states [] (f ∷ fs) = ⊥
+AreAside columns states (n ∷ ns) [] = ⊥
+AreAside columns states (n ∷ ns) (f ∷ fs) =
+    (slice_get columns n ≡ Some f.column) × ((get_or states n no_column).aside ≡ Some (f.time, f.value)) × AreAside columns states ns fs
+
+-- ---- an index with the points of its columns
+
+-- the registered series, the columns, and the facts of all columns
+pub record Held : Type 0 where
+  pub series : List Series
+  pub columns : List Column
+  pub raw : List Fact
+
+abbrev pub held_of : Indexed → List ColumnState → Held
+held_of index states = record { series = index.series; columns = index.columns; raw = facts_of_columns index.columns (points_of states) }
+
+-- each column of the index has its points
+pub record IsHeld (index : Indexed) (states : List ColumnState) : Type 0 where
+  pub sound : IsSound index
+  pub each : length states ≡ length index.columns

@@ -1,0 +1,100 @@
+//! Facts in columns that are found through an index: a line looks its series up once and each of its columns
+//! once, and a count walks the columns of its measurement and its field.
+ghost use Rattle.std.specs.Prelude.{◌≡◌, ◌<◌, ◌≤◌, [], length, filter, OnOk, OnErr, IfOk, Err, set, get_or};
+ghost use Rattle.std.specs.List.{AllByRecursion};
+ghost use Rattle.ts_core.specs.Times.{least_time};
+ghost use Rattle.ts_core.specs.Facts.{Column as ColumnName, is_of, is_asked};
+ghost use Rattle.ts_core.specs.History.{MayBeTaken};
+ghost use Rattle.ts_core.specs.Members.{Among};
+ghost use Rattle.ts_core.specs.Texts.{lent_pairs, lent_series, IsTagSet};
+ghost use Rattle.ts_line.specs.Parts.{series_of, facts_of};
+ghost use Rattle.ts_raw.specs.Indexed.{IsSound, column_of};
+ghost use Rattle.ts_raw.specs.Numbered.{IsAt, Gains};
+ghost use Rattle.ts_store.specs.ColumnsKept.{no_column, points_of, facts_of_columns, with_point_aside, all_committed, AreReady, AreAside, MayGrow};
+ghost use Rattle.ts_store.specs.Puts.{PutsAll};
+
+use std::alloc::{AllocError, Allocator};
+use std::marker::Model;
+use ts_core::Time;
+use ts_line::Line;
+use ts_raw::{Column, ColumnId, Index, PlainColumn, SeriesId};
+
+/// The column of a series and a field, made without points where there is none yet.
+fn column_for<A: Allocator + Copy>(
+    index: &mut Index<A>,
+    columns: &mut Vec<PlainColumn<A>, A>,
+    series: SeriesId,
+    field: &str,
+) -> Result<ColumnId, AllocError>
+    requires len { length columns.old.items ≡ length index.old.columns }
+    requires series { series < length index.old.series }
+    ensures number { IfOk result (λ id. IsAt index.new.columns id (column_of index.old series field.now)) }
+    ensures grown { MayGrow index.old.columns columns.old.items index.new.columns columns.new.items }
+    ensures series { index.new.series ≡ index.old.series }
+    ensures sound { IsSound index.old → IsSound index.new }
+{
+    columns.reserve(1)?;
+    let column = index.add_column(series, field)?;
+    if columns.len() < index.column_count() {
+        columns
+            .push(PlainColumn::new(*columns.allocator()))
+            .unwrap();
+    }
+    Ok(column)
+}
+
+/// Sets a point aside in one of the columns. No column's points change.
+fn prepare_at<A: Allocator + Copy>(
+    columns: &mut Vec<PlainColumn<A>, A>,
+    at: usize,
+    time: Time,
+    value: &i64,
+) -> Result<(), AllocError>
+    requires { at < length columns.old.items }
+    ensures ok { OnOk result (columns.new.items ≡ set columns.old.items at (with_point_aside (get_or columns.old.items at no_column) time value.now)) }
+    ensures len { length columns.new.items ≡ length columns.old.items }
+    ensures unchanged { points_of columns.new.items ≡ points_of columns.old.items }
+{
+    columns[at].prepare(time, *value)
+}
+
+/// Puts in what is aside in the columns of these numbers. It takes no memory.
+pub(crate) fn commit_all<A: Allocator + Copy>(
+    columns: &mut Vec<PlainColumn<A>, A>,
+    numbers: &[ColumnId],
+)
+    requires { AreReady columns.old.items numbers.now }
+    ensures { columns.new.items ≡ all_committed columns.old.items numbers.now }
+{
+    for number in numbers {
+        columns[number.number()].commit();
+    }
+}
+
+/// Sets the points of a line aside, each in its column, and tells the columns.
+pub(crate) fn prepare_line<A: Allocator + Copy>(
+    index: &mut Index<A>,
+    columns: &mut Vec<PlainColumn<A>, A>,
+    touched: &mut Vec<ColumnId, A>,
+    series: SeriesId,
+    line: &Line<'_, A>,
+) -> Result<(), AllocError>
+    requires len { length columns.old.items ≡ length index.old.columns }
+    requires sound { IsSound index.old }
+    requires series { IsAt index.old.series series (series_of line.now) }
+    requires none { touched.old.items ≡ [] }
+    ensures aside { OnOk result (AreAside index.new.columns columns.new.items touched.new.items (facts_of line.now)) }
+    ensures taken { OnOk result (AllByRecursion (MayBeTaken least_time) (facts_of line.now)) }
+    ensures grown { (c : ColumnName) → Among c index.old.columns → Among c index.new.columns }
+    ensures len { length columns.new.items ≡ length index.new.columns }
+    ensures sound { IsSound index.new }
+    ensures series { index.new.series ≡ index.old.series }
+    ensures unchanged { facts_of_columns index.new.columns (points_of columns.new.items) ≡ facts_of_columns index.old.columns (points_of columns.old.items) }
+{
+    for field in line.fields() {
+        let column = column_for(index, columns, series, field.name().text())?;
+        prepare_at(columns, column.number(), line.time(), &field.value())?;
+        touched.push(column)?;
+    }
+    Ok(())
+}
