@@ -2,21 +2,24 @@
 -- (InfluxData 1.8, InfluxQL: the basic SELECT statement, functions, GROUP BY time intervals and fill().)
 use Rattle.std.specs.Prelude.{ℤ, List, map, codes, String, string_bytes}
 use Rattle.ts_core.specs.Facts.{Text}
-use Rattle.ts_core.specs.Fills as core
+use Rattle.ts_core.specs.declared.fill.Fill.{Fill as CoreFill}
+use Rattle.ts_core.specs.declared.fill.Fill.TheVariants as fills
+use Rattle.ts_core.specs.declared.value.Function.{Function as CoreFunction}
+use Rattle.ts_core.specs.declared.value.Function.TheVariants as functions
 use Rattle.ts_core.specs.Queries as queries
 use Rattle.ts_ql.specs.declared.query.Function.{Function}
 use Rattle.ts_ql.specs.declared.query.Function.TheVariants.{Count, Sum, Min, Max, First, Last, Mean}
 use Rattle.ts_ql.specs.declared.query.Fill.{Fill}
 use Rattle.ts_ql.specs.declared.query.Fill.TheVariants.{Null, None, Previous, Number}
 
-abbrev pub function_of : Function → core.Function
-function_of Count = core.Count
-function_of Sum = core.Sum
-function_of Min = core.Min
-function_of Max = core.Max
-function_of First = core.First
-function_of Last = core.Last
-function_of Mean = core.Mean
+abbrev pub function_of : Function → CoreFunction
+function_of Count = functions.Count
+function_of Sum = functions.Sum
+function_of Min = functions.Min
+function_of Max = functions.Max
+function_of First = functions.First
+function_of Last = functions.Last
+function_of Mean = functions.Mean
 
 -- the name of a column that isn't named by AS
 abbrev pub function_name : Function → Text
@@ -28,11 +31,11 @@ function_name First = codes "first"
 function_name Last = codes "last"
 function_name Mean = codes "mean"
 
-abbrev pub fill_of : Fill → core.Fill
-fill_of Null = core.NullFill
-fill_of None = core.NoneFill
-fill_of Previous = core.PreviousFill
-fill_of (Number n) = core.NumberFill n
+abbrev pub fill_of : Fill → CoreFill
+fill_of Null = fills.Null
+fill_of None = fills.None
+fill_of Previous = fills.Previous
+fill_of (Number n) = fills.Number n
 
 -- buckets of time: an interval of a nanosecond or more, and an offset
 pub record Buckets : Type 0 where
@@ -40,12 +43,12 @@ pub record Buckets : Type 0 where
   pub offset : ℤ
 
 pub record Column : Type 0 where
-  pub function : core.Function
+  pub function : CoreFunction
   pub name : Text
 
 pub record Select : Type 0 where
   pub columns : List Column
-  pub fill : core.Fill
+  pub fill : CoreFill
   pub query : queries.Query
 
 abbrev pub texts : {A : Type 0} → List (String A) → List Text

@@ -9,7 +9,7 @@ use Rattle.ts_core.specs.Members.{Among, AllDistinct}
 use Rattle.ts_core.specs.Facts.{Text, Column, Fact}
 use Rattle.ts_line.specs.Parts.{Piece, Parts, field_text, series_of, fact_of}
 use Rattle.ts_raw.specs.Columns.{PointMap, ColumnState}
-use Rattle.ts_raw.specs.Indexed.{Indexed, no_series, column_of}
+use Rattle.ts_raw.specs.Indexed.{Indexed, no_series, column_in}
 use Rattle.ts_store.specs.Puts.{Puts, PutsAll}
 use Rattle.ts_store.specs.ColumnsKept.{fact_at, facts_of_columns, points_of, no_column, with_aside, with_point_aside, committed, all_committed, AreReady, AreAside, MayGrow}
 use Rattle.ts_store.proofs.ColumnsLemmas.{columns_puts, facts-grown, at_among}
@@ -224,7 +224,7 @@ next_aside p cs cs' ss ss' ss'' ns n i x l a grown at within is once set_is =
 
 -- the column that an index gives for a field of the line
 pub column_at : (p : Parts) (index : Indexed) (series n : ℕ) (field : Text) (x : Piece × ℤ) (cs : List Column) → slice_get index.series series ≡ Some (series_of p) → field ≡ x.0.text
-    → slice_get cs n ≡ Some (column_of index series field) → slice_get cs n ≡ Some (fact_of p x).column
+    → slice_get cs n ≡ Some (column_in index series field) → slice_get cs n ≡ Some (fact_of p x).column
 column_at p index series n field x cs there name at =
     at ∙ ap Some (λ i. record { series = get_or_from_slice_get index.series series (series_of p) no_series there i; field = name i })
 

@@ -8,7 +8,7 @@ ghost use Rattle.ts_core.specs.History.{MayBeTaken};
 ghost use Rattle.ts_core.specs.Members.{Among};
 ghost use Rattle.ts_core.specs.Texts.{lent_pairs, lent_series, IsTagSet};
 ghost use Rattle.ts_line.specs.Parts.{series_of, facts_of};
-ghost use Rattle.ts_raw.specs.Indexed.{IsSound, column_of};
+ghost use Rattle.ts_raw.specs.Indexed.{IsSound, column_in};
 ghost use Rattle.ts_raw.specs.Numbered.{IsAt, Gains};
 ghost use Rattle.ts_store.specs.ColumnsKept.{no_column, points_of, facts_of_columns, with_point_aside, all_committed, AreReady, AreAside, MayGrow};
 ghost use Rattle.ts_store.specs.Puts.{PutsAll};
@@ -28,7 +28,7 @@ fn column_for<A: Allocator + Copy>(
 ) -> Result<ColumnId, AllocError>
     requires len { length columns.old.items ≡ length index.old.columns }
     requires series { series < length index.old.series }
-    ensures number { IfOk result (λ id. IsAt index.new.columns id (column_of index.old series field.now)) }
+    ensures number { IfOk result (λ id. IsAt index.new.columns id (column_in index.old series field.now)) }
     ensures grown { MayGrow index.old.columns columns.old.items index.new.columns columns.new.items }
     ensures series { index.new.series ≡ index.old.series }
     ensures sound { IsSound index.old → IsSound index.new }
