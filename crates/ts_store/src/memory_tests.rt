@@ -9,10 +9,10 @@ use ts_line::{Line, Precision, read_line};
 /// What the heap of a test has in all, in bytes.
 const HEAP: usize = 16_384;
 
-/// A newer value, another field, another series, and a line of three fields: each with the number of facts
+/// Another series, another field, another measurement, and a line of three fields: each with the number of facts
 /// that are accepted after it, and the numbers of `m f`, `m g`, `n f` and `n g`.
 const LINES: [(&str, u64, [u64; 4]); 4] = [
-    ("m f=4i 5", 2, [1, 0, 0, 0]),
+    ("m,a=1 f=4i 5", 2, [2, 0, 0, 0]),
     ("m g=4i 5", 2, [1, 1, 0, 0]),
     ("n,b=2,a=1 f=1i", 2, [1, 0, 1, 0]),
     ("n,b=2,a=1 f=1i,g=2i,h=3i 9", 4, [1, 0, 1, 1]),
@@ -100,7 +100,7 @@ fn each_growth_is_refused_in_turn(rt: HostRuntime) -> Result<(), Fail> {
         for left in 0..HEAP / 16 {
             let (short, again) = written_within(rt.alloc(), text, left)?;
             if short.result.is_ok() {
-                assert!(rt; left > 7, "{text} had {left} blocks");
+                assert!(rt; left > 0, "{text} had {left} blocks");
                 break;
             }
             assert_eq!(rt; short.result, Err(WriteFault::OutOfMemory), "{text}");

@@ -92,8 +92,23 @@ fn the_order_of_writes_changes_no_count(rt: HostRuntime) -> Result<(), Fail> {
 }
 
 #[test]
+fn points_and_columns_are_told(rt: HostRuntime) -> Result<(), Fail> {
+    let mut store = Store::new(rt.alloc(), Settings::open(rt.alloc()));
+    let now = Time::new(7).ok_or("7 is valid")?;
+    for text in ["m,a=1 f=3i,g=1i 5", "m,a=2 f=4i 5", "m,a=1 f=6i 5"] {
+        let line = read_line(rt.alloc(), text, Precision::Nanoseconds, now)?.ok_or("a line")?;
+        assert!(rt; store.write(&line).is_ok(), "writing {text}");
+    }
+    assert_eq!(rt; store.raw_points(), 3);
+    assert_eq!(rt; store.held_points(), 3);
+    assert_eq!(rt; store.columns_of("m", "f").len(), 2);
+    Ok(())
+}
+
+#[test]
 fn faults_have_texts(rt: HostRuntime) -> Result<(), Fail> {
     for (fault, want) in [
+        (WriteFault::TooManySeries, "fault 41"),
         (WriteFault::TooManyFacts, "fault 52"),
         (WriteFault::OutOfMemory, "fault memory"),
     ] {

@@ -18,6 +18,8 @@ Scripts have one command a line; blank lines and lines that begin with # are pas
   write LINE     accepts a line of line protocol, `M[,TAG=VALUE..] F=Vi[,F=Vi..] [T]`: measurement M,
                  fields F with integers V, time T. Without T it has the moment. Prints ok; none
                  for a comment or a blank line; a fault with its place, and then nothing is kept.
+  live           prints how many raw points are kept, each field of a line counted: of a point that was
+                 written again only the newer values.
   count M F A B  prints how many points field F of measurement M has from time A on and before
                  time B, in nanoseconds. A point that was written again counts once.
 

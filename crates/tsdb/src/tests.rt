@@ -182,6 +182,11 @@ fn lines_are_written_or_at_fault(rt: HostRuntime) -> Result<(), Fail> {
             "write a\\,b,t\\ x=1 f=-9223372036854775808i -9223372036854775806\ncount a,b f -9223372036854775806 0",
             "ok\n1\n",
         ),
+        (
+            "write m,b=1,a=2 f=1i 5\nwrite m,a=2,b=1 f=3i,g=4i 5\ncount m f 0 10\nlive",
+            "ok\nok\n1\n2\n",
+        ),
+        ("live \nlive\nlive 5", "fault 95\n0\nfault 95\n"),
         ("write m f=9223372036854775808i 1", "fault 17 at 2\n"),
         ("write m f=1.5 1", "fault 16 at 2\n"),
         ("write m,a=1,a=2 f=1i", "fault 13 at 6\n"),
