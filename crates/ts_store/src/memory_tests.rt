@@ -23,6 +23,7 @@ const LINES: [(&str, u64, [u64; 4]); 4] = [
 struct Written {
     result: Result<(), WriteFault>,
     accepted: u64,
+    live: u64,
     counts: Option<[u64; 4]>,
 }
 
@@ -42,6 +43,7 @@ fn write_told<A: Allocator + Copy>(store: &mut Store<A>, line: &Line<'_, A>) -> 
     Written {
         result,
         accepted: store.accepted(),
+        live: store.raw_points(),
         counts: counts(store),
     }
 }
@@ -105,9 +107,11 @@ fn each_growth_is_refused_in_turn(rt: HostRuntime) -> Result<(), Fail> {
             }
             assert_eq!(rt; short.result, Err(WriteFault::OutOfMemory), "{text}");
             assert_eq!(rt; short.accepted, 1, "{text}");
+            assert_eq!(rt; short.live, 1, "{text}");
             assert_eq!(rt; short.counts, Some([1, 0, 0, 0]), "{text}");
             assert_eq!(rt; again.result, Ok(()), "{text} again");
             assert_eq!(rt; again.accepted, accepted, "{text} again");
+            assert_eq!(rt; again.live, accepted, "{text} again");
             assert_eq!(rt; again.counts, Some(then), "{text} again");
         }
     }
