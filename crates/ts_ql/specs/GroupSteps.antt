@@ -5,11 +5,11 @@ use Rattle.std.specs.List.{insert}
 use Rattle.std.specs.declared.cmp.Ordering.{Ordering}
 use Rattle.std.specs.declared.cmp.Ordering.TheVariants as orders
 use Rattle.ts_core.specs.Facts.{Text, text_cmp}
+use Rattle.ts_core.specs.declared.fill.Fill.{Fill}
+use Rattle.ts_core.specs.declared.fill.Fill.TheVariants as fills
 use Rattle.ts_ql.specs.Selects.{texts, Buckets}
 use Rattle.ts_ql.specs.declared.groups.Groups.{Groups}
 use Rattle.ts_ql.specs.declared.filling.Filling.{Filling}
-use Rattle.ts_ql.specs.declared.query.Fill.{Fill}
-use Rattle.ts_ql.specs.declared.query.Fill.TheVariants as fills
 use Rattle.ts_ql.specs.declared.place.Place.{Place}
 use Rattle.ts_ql.specs.declared.place.Place.TheVariants as places
 use Rattle.ts_ql.specs.declared.token.Kind.{Kind}

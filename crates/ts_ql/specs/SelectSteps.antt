@@ -2,16 +2,16 @@
 -- (InfluxData 1.8, InfluxQL: the basic SELECT statement, AS; FROM.)
 use Rattle.std.specs.Prelude.{List, [], ◌∷◌, ◌++◌, ◌||◌, Option, Some, None, option_map, Result, Ok, Err, if◌then◌else◌, codes, bytes_eq, string_bytes}
 use Rattle.ts_core.specs.Facts.{Text}
+use Rattle.ts_core.specs.declared.value.Function.{Function}
+use Rattle.ts_core.specs.declared.value.Function.TheVariants as functions
 use Rattle.ts_ql.specs.declared.place.Place.{Place}
 use Rattle.ts_ql.specs.declared.place.Place.TheVariants as places
-use Rattle.ts_ql.specs.declared.query.Function.{Function}
-use Rattle.ts_ql.specs.declared.query.Function.TheVariants as functions
 use Rattle.ts_ql.specs.declared.selection.Selection.{Selection}
 use Rattle.ts_ql.specs.declared.token.Kind.{Kind}
 use Rattle.ts_ql.specs.declared.token.Kind.TheVariants as kinds
 use Rattle.ts_ql.specs.Faults.{Fault, left_out, unexpected}
 use Rattle.ts_ql.specs.Literals.{is_word, unescaped}
-use Rattle.ts_ql.specs.Selects.{Column, function_of, function_name}
+use Rattle.ts_ql.specs.Selects.{Column, function_name}
 use Rattle.ts_ql.specs.Tokens.{Lexeme}
 use Rattle.ts_ql.specs.Words.{function_called}
 
@@ -47,7 +47,7 @@ with_field t s (Some field) = if bytes_eq field (name_of t) then Ok (places.Fiel
 
 -- the column that ends here, under that name
 abbrev pub with_column : Text → Selected → Selected
-with_column name s = record s { columns = s.columns ++ record { function = function_of s.function; name = name } ∷ [] }
+with_column name s = record s { columns = s.columns ++ record { function = s.function; name = name } ∷ [] }
 
 abbrev pub with_default : Selected → Selected
 with_default s = with_column (function_name s.function) s

@@ -16,7 +16,7 @@ use Rattle.ts_ql.specs.declared.statement.Draft.{Draft}
 use Rattle.ts_ql.specs.Faults.{Fault, told, OutOfProfile, NoLowerBound, RepeatedColumn, TooManyBuckets, BucketBeforeLeastTime}
 use Rattle.ts_ql.specs.GroupSteps.{Grouped, grouped, empty_groups, no_fill}
 use Rattle.ts_ql.specs.SelectSteps.{Selected, selected, empty_selection}
-use Rattle.ts_ql.specs.Selects.{Column, Select, Buckets, fill_of}
+use Rattle.ts_ql.specs.Selects.{Column, Select, Buckets}
 use Rattle.ts_ql.specs.WhereSteps.{Filtered, filtered, empty_filter}
 use Rattle.ts_ql.specs.MomentSteps.{no_moment, unbounded}
 
@@ -77,7 +77,7 @@ buckets_between from to b = bucket_of (to -ℤ pos 1) b.interval b.offset -ℤ b
 abbrev pub query_of : Drafted → Buckets → Span → Select
 query_of d b span = record {
   columns = d.selection.columns;
-  fill = fill_of d.filling.fill;
+  fill = d.filling.fill;
   query = record {
     measurement = d.selection.measurement;
     field = unwrap_or d.selection.field [];

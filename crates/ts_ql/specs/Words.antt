@@ -2,8 +2,8 @@
 -- (InfluxData 1.8, InfluxQL reference: keywords, functions. Own rule: which of them the profile leaves out.)
 use Rattle.std.specs.Prelude.{Bool, true, false, ◌||◌, if◌then◌else◌, Option, Some, None, codes, bytes_eq}
 use Rattle.ts_core.specs.Facts.{Text}
-use Rattle.ts_ql.specs.declared.query.Function.{Function}
-use Rattle.ts_ql.specs.declared.query.Function.TheVariants as functions
+use Rattle.ts_core.specs.declared.value.Function.{Function}
+use Rattle.ts_core.specs.declared.value.Function.TheVariants as functions
 use Rattle.ts_ql.specs.declared.token.Kind.{Kind}
 use Rattle.ts_ql.specs.declared.token.Kind.TheVariants as kinds
 use Rattle.ts_ql.specs.Literals.{is_word}

@@ -8,8 +8,8 @@ ghost use Rattle.ts_ql.specs.Tokens.{lexeme};
 use crate::fault::{ParseError, QlFault};
 use crate::literal::{is_word, literal};
 use crate::place::Place;
-use crate::query::Fill;
 use crate::token::{Kind, Token};
+use ts_core::Fill;
 
 /// What has been read of FILL.
 #[derive(Clone, Copy, Debug)]

@@ -24,7 +24,7 @@ mod token;
 mod words;
 
 pub use fault::{ParseError, QlFault};
-pub use query::{Column, Condition, Fill, Function, Query};
+pub use query::{Column, Condition, Query};
 pub use reader::parse;
 
 #[cfg(test)]

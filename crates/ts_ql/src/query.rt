@@ -1,50 +1,12 @@
 //! Queries.
 ghost use Rattle.std.specs.Prelude.{◌≡◌, string_bytes};
-ghost use Rattle.ts_ql.specs.Selects.{function_of, function_name};
 
 use crate::filter::Filter;
 use crate::groups::{Buckets, Groups};
 use crate::selection::Selection;
 use std::alloc::Allocator;
 use std::marker::Model;
-
-/// A function of a field's values in a bucket. (InfluxData 1.8, InfluxQL functions.)
-#[derive(Clone, Copy, Debug, PartialEq, Eq)]
-pub enum Function {
-    Count,
-    Sum,
-    Min,
-    Max,
-    First,
-    Last,
-    Mean,
-}
-
-impl Function {
-    /// Its name in lower case.
-    pub fn name(self) -> &'static str
-        ensures { result.now ≡ function_name self }
-    {
-        match self {
-            Function::Count => "count",
-            Function::Sum => "sum",
-            Function::Min => "min",
-            Function::Max => "max",
-            Function::First => "first",
-            Function::Last => "last",
-            Function::Mean => "mean",
-        }
-    }
-}
-
-/// What stands for a bucket without data. (InfluxData 1.8, InfluxQL: fill().)
-#[derive(Clone, Copy, Debug, PartialEq, Eq)]
-pub enum Fill {
-    Null,
-    None,
-    Previous,
-    Number(i64),
-}
+use ts_core::{Fill, Function};
 
 /// A column of the answer: a function under a name.
 #[derive(Drop)]
@@ -55,23 +17,23 @@ pub struct Column<A: Allocator> {
 
 impl<A: Allocator> Model for Column<A> {
     ghost use Rattle.std.specs.Prelude.{string_bytes};
-    ghost use Rattle.ts_ql.specs.Selects.{Column as ColumnValue, function_of};
+    ghost use Rattle.ts_ql.specs.Selects.{Column as ColumnValue};
 
     ghost Value = { ColumnValue };
 
-    ghost view = { λ c. record { function = function_of c.function; name = string_bytes c.name } };
+    ghost view = { λ c. record { function = c.function; name = string_bytes c.name } };
 }
 
 impl<A: Allocator> Column<A> {
     pub(crate) fn new(function: Function, name: String<A>) -> Column<A>
-        ensures { result ≡ record { function = function_of function; name = string_bytes name } }
+        ensures { result ≡ record { function = function; name = string_bytes name } }
     {
         Column { function, name }
     }
 
     /// The function.
     pub fn function(&self) -> Function
-        ensures { function_of result ≡ self.now.function }
+        ensures { result ≡ self.now.function }
     {
         self.function
     }
@@ -151,13 +113,13 @@ pub struct Query<A: Allocator> {
 
 impl<A: Allocator> Model for Query<A> {
     ghost use Rattle.std.specs.Prelude.{string_bytes, ◌≤ℤ◌, pos};
-    ghost use Rattle.ts_ql.specs.Selects.{Select, fill_of, texts};
+    ghost use Rattle.ts_ql.specs.Selects.{Select, texts};
 
     ghost Value = { Select };
 
     ghost view = { λ q. record {
       columns = q.columns.items;
-      fill = fill_of q.fill;
+      fill = q.fill;
       query = record {
         measurement = string_bytes q.measurement;
         field = string_bytes q.field;
@@ -182,7 +144,7 @@ pub(crate) struct Span {
 
 impl<A: Allocator> Query<A> {
     ghost use Rattle.std.specs.Prelude.{◌≡◌, ◌≤ℤ◌, pos, string_bytes};
-    ghost use Rattle.ts_ql.specs.Selects.{fill_of, texts};
+    ghost use Rattle.ts_ql.specs.Selects.{texts};
 
     /// A query of these parts, over a span.
     pub(crate) fn new(
@@ -197,7 +159,7 @@ impl<A: Allocator> Query<A> {
         requires { span.from ≤ℤ span.to }
         ensures { result ≡ record {
           columns = selection.columns.items;
-          fill = fill_of fill;
+          fill = fill;
           query = record {
             measurement = string_bytes selection.measurement;
             field = string_bytes field;
@@ -233,7 +195,7 @@ impl<A: Allocator> Query<A> {
 
     /// What stands for a bucket without data.
     pub fn fill(&self) -> Fill
-        ensures { fill_of result ≡ self.now.fill }
+        ensures { result ≡ self.now.fill }
     {
         self.fill
     }

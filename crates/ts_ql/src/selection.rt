@@ -8,10 +8,11 @@ ghost use Rattle.ts_ql.specs.Tokens.{lexeme};
 use crate::fault::ParseError;
 use crate::literal::{is_word, unescaped};
 use crate::place::Place;
-use crate::query::{Column, Function};
+use crate::query::Column;
 use crate::token::{Kind, Token};
-use crate::words::function_called;
+use crate::words::{function_called, function_name};
 use std::alloc::{AllocError, Allocator};
+use ts_core::Function;
 
 /// What has been read from SELECT to the measurement.
 #[derive(Drop)]
@@ -49,7 +50,7 @@ impl<A: Allocator + Copy> Selection<A> {
     fn push_default(&mut self, alloc: A) -> Result<(), AllocError>
         ensures { IfOk result (λ _. selected self.new ≡ with_default (selected self.old)) }
     {
-        self.push(String::from_str(alloc, self.function.name())?)
+        self.push(String::from_str(alloc, function_name(self.function))?)
     }
 
     /// Takes the field of a function.

@@ -1,8 +1,8 @@
 //! Texts and what they say, at the moment 0.
-use crate::{Column, Fill, Function, ParseError, QlFault, Query, parse};
+use crate::{Column, ParseError, QlFault, Query, parse};
 use std::alloc::Global;
 use std::test::Fail;
-use ts_core::Time;
+use ts_core::{Fill, Function, Time};
 
 // the number of a fault, its offset and its token
 fn fault<'a>(error: ParseError<'a>) -> (u8, usize, &'a str) {

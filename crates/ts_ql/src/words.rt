@@ -1,9 +1,10 @@
 //! Words with a meaning of their own, in any case.
 ghost use Rattle.std.specs.Prelude.{◌≡◌};
+ghost use Rattle.ts_ql.specs.Selects.{function_name};
 ghost use Rattle.ts_ql.specs.Words.{is_clause_word, is_foreign_keyword, is_keyword, is_foreign_word, function_called};
 
 use crate::literal::is_word;
-use crate::query::Function;
+use ts_core::Function;
 
 #[tactic(auto, unfolding(crate::specs::Words::is_clause_word))]
 fn is_clause_word(text: &str) -> bool
@@ -79,5 +80,20 @@ pub(crate) fn function_called(text: &str) -> Option<Function>
         Some(Function::Mean)
     } else {
         None
+    }
+}
+
+/// The name of the function, in lower case.
+pub(crate) fn function_name(function: Function) -> &'static str
+    ensures { result.now ≡ function_name function }
+{
+    match function {
+        Function::Count => "count",
+        Function::Sum => "sum",
+        Function::Min => "min",
+        Function::Max => "max",
+        Function::First => "first",
+        Function::Last => "last",
+        Function::Mean => "mean",
     }
 }
