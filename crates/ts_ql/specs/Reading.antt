@@ -18,7 +18,7 @@ use Rattle.ts_ql.specs.Literals.{is_word}
 use Rattle.ts_ql.specs.MomentSteps.{moment_step, settled}
 use Rattle.ts_ql.specs.SelectSteps.{Selected, select_step}
 use Rattle.ts_ql.specs.Selects.{Select}
-use Rattle.ts_ql.specs.Statements.{Drafted, drafted, empty_draft, statement_said}
+use Rattle.ts_ql.specs.Statements.{Drafted, drafted, empty_draft, parts, statement_said}
 use Rattle.ts_ql.specs.Tokens.{Lexeme}
 use Rattle.ts_ql.specs.WhereSteps.{Filtered, after_term, where_step}
 
@@ -207,7 +207,7 @@ ended_with kind s (Ok q) = Ok (record s { place = after_end kind; draft = empty_
 ended_with kind s (Err fault) = Err fault
 
 abbrev pub ended : ℤ → Kind → State → Step
-ended now kind s = ended_with kind s (statement_said s.start now s.draft)
+ended now kind s = ended_with kind s (statement_said s.start now (parts s.draft))
 
 abbrev pub with_draft : State → Drafting → Step
 with_draft s (Ok p) = Ok (record s { place = p.0; draft = p.1 })

@@ -5,7 +5,9 @@ use Rattle.std.specs.Int.{int_max}
 use Rattle.std.specs.Option.{unwrap_or}
 use Rattle.std.specs.List.{list_any}
 use Rattle.ts_core.specs.Buckets.{bucket_of}
+use Rattle.ts_core.specs.declared.fill.Fill.{Fill}
 use Rattle.ts_core.specs.Facts.{Text}
+use Rattle.ts_core.specs.Queries.{Condition}
 use Rattle.ts_core.specs.Times.{least_time}
 use Rattle.ts_ql.specs.declared.filling.Filling.{Filling}
 use Rattle.ts_ql.specs.declared.moment.Moment.{Moment}
@@ -58,6 +60,29 @@ empty_draft = record {
   filling = no_fill;
 }
 
+-- what a statement has said so far
+pub record Parts : Type 0 where
+  pub columns : List Column
+  pub field : Option Text
+  pub measurement : Text
+  pub conditions : List Condition
+  pub range : Range
+  pub buckets : Option Buckets
+  pub tags : List Text
+  pub fill : Fill
+
+abbrev pub parts : Drafted → Parts
+parts d = record {
+  columns = d.selection.columns;
+  field = d.selection.field;
+  measurement = d.selection.measurement;
+  conditions = d.filter.conditions;
+  range = d.range;
+  buckets = d.groups.buckets;
+  tags = d.groups.tags;
+  fill = d.filling.fill;
+}
+
 abbrev pub option_told : Option QlFault → Option Fault
 option_told None = None
 option_told (Some fault) = Some (told fault)
@@ -74,19 +99,19 @@ first_start from b = (bucket_of from b.interval b.offset *ℤ b.interval) +ℤ b
 abbrev pub buckets_between : ℤ → ℤ → Buckets → ℤ
 buckets_between from to b = bucket_of (to -ℤ pos 1) b.interval b.offset -ℤ bucket_of from b.interval b.offset
 
-abbrev pub query_of : Drafted → Buckets → Span → Select
-query_of d b span = record {
-  columns = d.selection.columns;
-  fill = d.filling.fill;
+abbrev pub query_of : Parts → Buckets → Span → Select
+query_of p b span = record {
+  columns = p.columns;
+  fill = p.fill;
   query = record {
-    measurement = d.selection.measurement;
-    field = unwrap_or d.selection.field [];
-    conditions = d.filter.conditions;
+    measurement = p.measurement;
+    field = unwrap_or p.field [];
+    conditions = p.conditions;
     from = span.from;
     to = span.to;
     interval = b.interval;
     offset = b.offset;
-    group_tags = d.groups.tags;
+    group_tags = p.tags;
   };
 }
 
@@ -106,15 +131,14 @@ abbrev pub said_unless : Select → Option Fault → Result Select Fault
 said_unless q None = Ok q
 said_unless q (Some fault) = Err fault
 
-abbrev pub with_span : ℕ → Drafted → Buckets → Option Span → Result Select Fault
-with_span start d b None = Err (NoLowerBound start)
-with_span start d b (Some span) = said_unless (query_of d b span) (span_fault start b span)
+abbrev pub with_span : ℕ → Parts → Buckets → Option Span → Result Select Fault
+with_span start p b None = Err (NoLowerBound start)
+with_span start p b (Some span) = said_unless (query_of p b span) (span_fault start b span)
 
-abbrev pub with_time : ℕ → ℤ → Drafted → Option Buckets → Result Select Fault
-with_time start now d None = Err (OutOfProfile start (codes "GROUP BY time"))
-with_time start now d (Some b) = with_span start d b (span_from now d.range d.range.lower)
+abbrev pub with_time : ℕ → ℤ → Parts → Option Buckets → Result Select Fault
+with_time start now p None = Err (OutOfProfile start (codes "GROUP BY time"))
+with_time start now p (Some b) = with_span start p b (span_from now p.range p.range.lower)
 
 -- what a statement says that begins at `start`
-unfoldable pub statement_said : ℕ → ℤ → Drafted → Result Select Fault
-statement_said start now d =
-    if repeats d.selection.columns then Err (RepeatedColumn start) else with_time start now d d.groups.buckets
+unfoldable pub statement_said : ℕ → ℤ → Parts → Result Select Fault
+statement_said start now p = if repeats p.columns then Err (RepeatedColumn start) else with_time start now p p.buckets

@@ -5,7 +5,7 @@ ghost use Rattle.ts_core.specs.Times.{least_time};
 ghost use Rattle.ts_ql.specs.Faults.{Gives, GivesWith};
 ghost use Rattle.ts_ql.specs.Reading.{settle_step, draft_step};
 ghost use Rattle.ts_ql.specs.Tokens.{lexeme};
-ghost use Rattle.ts_ql.specs.Statements.{has_column, repeats, first_start, buckets_between, drafted, empty_draft, span_from, option_told, span_fault, query_of, statement_said};
+ghost use Rattle.ts_ql.specs.Statements.{has_column, repeats, first_start, buckets_between, drafted, empty_draft, parts, span_from, option_told, span_fault, query_of, statement_said};
 
 use crate::fault::{ParseError, QlFault};
 use crate::filling::Filling;
@@ -141,7 +141,7 @@ impl<A: Allocator + Copy> Draft<A> {
         start: usize,
         now: Time,
     ) -> Result<Query<A>, ParseError<'a>>
-        ensures { Gives (λ q. q) result (statement_said start now (drafted self)) }
+        ensures { Gives (λ q. q) result (statement_said start now (parts (drafted self))) }
     {
         if repeats(self.selection.columns.as_slice()) {
             return Err(ParseError::Fault(QlFault::RepeatedColumn(start)));
@@ -161,7 +161,7 @@ impl<A: Allocator + Copy> Draft<A> {
     /// The query over a span.
     fn over(self, alloc: A, buckets: Buckets, span: Span) -> Query<A>
         requires { span.from ≤ℤ span.to }
-        ensures { result ≡ query_of (drafted self) buckets span }
+        ensures { result ≡ query_of (parts (drafted self)) buckets span }
     {
         let mut selection = self.selection;
         let field = match selection.field.take() {
