@@ -6,6 +6,8 @@ use Rattle.ts_ql.specs.declared.filling.Filling.{Filling}
 use Rattle.ts_ql.specs.declared.fault.ParseError.{ParseError}
 use Rattle.ts_ql.specs.declared.moment.Moment.{Moment}
 use Rattle.ts_ql.specs.declared.moment.Range.{Range}
+use Rattle.ts_ql.specs.declared.place.Clause.{Clause}
+use Rattle.ts_ql.specs.declared.place.Clause.TheVariants as clauses
 use Rattle.ts_ql.specs.declared.place.Place.{Place}
 use Rattle.ts_ql.specs.declared.place.Place.TheVariants as places
 use Rattle.ts_ql.specs.declared.reader.Reader.{Reader}
@@ -61,65 +63,60 @@ abbrev pub in_filling : Drafted → Result (Place × Filling) Fault → Drafting
 in_filling d (Ok p) = Ok (p.0, record d { filling = p.1 })
 in_filling d (Err fault) = Err fault
 
--- the clause of a place
-pub data Clause : Type 0 where
-  SelectClause : Clause
-  WhereClause : Clause
-  MomentClause : Clause
-  GroupClause : Clause
-  FillClause : Clause
-  NoClause : Clause
+-- the clause of a place that isn't within SELECT, nor a condition on a tag
+abbrev pub late_clause_of : Place → Clause
+late_clause_of places.TimeSign = clauses.Moment
+late_clause_of places.Moment = clauses.Moment
+late_clause_of places.MomentMinus = clauses.Moment
+late_clause_of places.NowOpen = clauses.Moment
+late_clause_of places.NowClose = clauses.Moment
+late_clause_of places.AfterMoment = clauses.Moment
+late_clause_of places.MomentPlus = clauses.Moment
+late_clause_of places.MomentLess = clauses.Moment
+late_clause_of places.GroupBy = clauses.Group
+late_clause_of places.Item = clauses.Group
+late_clause_of places.TimeOpen = clauses.Group
+late_clause_of places.Interval = clauses.Group
+late_clause_of places.IntervalEnd = clauses.Group
+late_clause_of places.Offset = clauses.Group
+late_clause_of places.OffsetMinus = clauses.Group
+late_clause_of places.OffsetEnd = clauses.Group
+late_clause_of places.AfterTag = clauses.Group
+late_clause_of places.GroupTagType = clauses.Group
+late_clause_of places.AfterItem = clauses.Group
+late_clause_of places.FillOpen = clauses.Fill
+late_clause_of places.FillOption = clauses.Fill
+late_clause_of places.FillMinus = clauses.Fill
+late_clause_of places.FillClose = clauses.Fill
+late_clause_of place = clauses.None
 
 abbrev pub clause_of : Place → Clause
-clause_of places.Function = SelectClause
-clause_of places.FunctionOpen = SelectClause
-clause_of places.Field = SelectClause
-clause_of places.FieldEnd = SelectClause
-clause_of places.FieldType = SelectClause
-clause_of places.FieldClose = SelectClause
-clause_of places.AfterColumn = SelectClause
-clause_of places.Alias = SelectClause
-clause_of places.AfterAlias = SelectClause
-clause_of places.Measurement = SelectClause
-clause_of places.Term = WhereClause
-clause_of places.TagEnd = WhereClause
-clause_of places.TagType = WhereClause
-clause_of places.TagSign = WhereClause
-clause_of places.TagValue = WhereClause
-clause_of places.AfterTerm = WhereClause
-clause_of places.NestedTerm = WhereClause
-clause_of places.TimeSign = MomentClause
-clause_of places.Moment = MomentClause
-clause_of places.MomentMinus = MomentClause
-clause_of places.NowOpen = MomentClause
-clause_of places.NowClose = MomentClause
-clause_of places.AfterMoment = MomentClause
-clause_of places.MomentPlus = MomentClause
-clause_of places.MomentLess = MomentClause
-clause_of places.GroupBy = GroupClause
-clause_of places.Item = GroupClause
-clause_of places.TimeOpen = GroupClause
-clause_of places.Interval = GroupClause
-clause_of places.IntervalEnd = GroupClause
-clause_of places.Offset = GroupClause
-clause_of places.OffsetMinus = GroupClause
-clause_of places.OffsetEnd = GroupClause
-clause_of places.AfterTag = GroupClause
-clause_of places.GroupTagType = GroupClause
-clause_of places.AfterItem = GroupClause
-clause_of places.FillOpen = FillClause
-clause_of places.FillOption = FillClause
-clause_of places.FillMinus = FillClause
-clause_of places.FillClose = FillClause
-clause_of place = NoClause
+clause_of places.Function = clauses.Select
+clause_of places.FunctionOpen = clauses.Select
+clause_of places.Field = clauses.Select
+clause_of places.FieldEnd = clauses.Select
+clause_of places.FieldType = clauses.Select
+clause_of places.FieldClose = clauses.Select
+clause_of places.AfterColumn = clauses.Select
+clause_of places.Alias = clauses.Select
+clause_of places.AfterAlias = clauses.Select
+clause_of places.Measurement = clauses.Select
+clause_of places.Term = clauses.Where
+clause_of places.TagEnd = clauses.Where
+clause_of places.TagType = clauses.Where
+clause_of places.TagSign = clauses.Where
+clause_of places.TagValue = clauses.Where
+clause_of places.AfterTerm = clauses.Where
+clause_of places.NestedTerm = clauses.Where
+clause_of place = late_clause_of place
 
 abbrev pub draft_at : Clause → ℤ → Place → Lexeme → Drafted → Drafting
-draft_at SelectClause now place t d = in_selection d (select_step place t d.selection)
-draft_at WhereClause now place t d = in_filter d (where_step place t d.filter)
-draft_at MomentClause now place t d = in_moment d (moment_step now place t d.moment)
-draft_at GroupClause now place t d = in_groups d (group_step place t d.groups)
-draft_at FillClause now place t d = in_filling d (fill_step place t d.filling)
-draft_at NoClause now place t d = Err (unexpected t)
+draft_at clauses.Select now place t d = in_selection d (select_step place t d.selection)
+draft_at clauses.Where now place t d = in_filter d (where_step place t d.filter)
+draft_at clauses.Moment now place t d = in_moment d (moment_step now place t d.moment)
+draft_at clauses.Group now place t d = in_groups d (group_step place t d.groups)
+draft_at clauses.Fill now place t d = in_filling d (fill_step place t d.filling)
+draft_at clauses.None now place t d = Err (unexpected t)
 
 unfoldable pub draft_step : ℤ → Place → Lexeme → Drafted → Drafting
 draft_step now place t d = draft_at (clause_of place) now place t d

@@ -68,6 +68,62 @@ impl<A: Allocator + Copy> Selection<A> {
         }
     }
 
+    /// Takes the name of a function.
+    #[tactic(auto, unfolding(crate::specs::SelectSteps::select_step))]
+    fn take_function<'a>(&mut self, token: &Token<'a>) -> Result<Place, ParseError<'a>>
+        ensures { GivesWith result (selected self.new) (select_step Place.Function (lexeme token.now) (selected self.old)) }
+    {
+        match token.kind {
+            Kind::Word => match function_called(token.text) {
+                Some(function) => {
+                    self.function = function;
+                    Ok(Place::FunctionOpen)
+                }
+                None => Err(ParseError::Fault(token.left_out())),
+            },
+            Kind::QuotedName => Err(ParseError::Fault(token.left_out())),
+            _ => Err(ParseError::Fault(token.unexpected())),
+        }
+    }
+
+    /// Takes what follows a function of a field: another column, FROM or AS.
+    #[tactic(auto, unfolding(crate::specs::SelectSteps::select_step))]
+    fn take_after_column<'a>(
+        &mut self,
+        alloc: A,
+        token: &Token<'a>,
+    ) -> Result<Place, ParseError<'a>>
+        ensures { GivesWith result (selected self.new) (select_step Place.AfterColumn (lexeme token.now) (selected self.old)) }
+    {
+        match token.kind {
+            Kind::Comma => {
+                self.push_default(alloc)?;
+                Ok(Place::Function)
+            }
+            Kind::Keyword if is_word(token.text, "from") => {
+                self.push_default(alloc)?;
+                Ok(Place::Measurement)
+            }
+            Kind::Keyword if is_word(token.text, "as") => Ok(Place::Alias),
+            _ => Err(ParseError::Fault(token.unexpected())),
+        }
+    }
+
+    /// Takes the measurement.
+    #[tactic(auto, unfolding(crate::specs::SelectSteps::select_step))]
+    fn take_measurement<'a>(&mut self, alloc: A, token: &Token<'a>) -> Result<Place, ParseError<'a>>
+        ensures { GivesWith result (selected self.new) (select_step Place.Measurement (lexeme token.now) (selected self.old)) }
+    {
+        match token.kind {
+            Kind::Word | Kind::QuotedName => {
+                self.measurement = unescaped(alloc, token.text)?;
+                Ok(Place::AfterMeasurement)
+            }
+            Kind::Open => Err(ParseError::Fault(token.left_out())),
+            _ => Err(ParseError::Fault(token.unexpected())),
+        }
+    }
+
     /// Takes the next token.
     #[tactic(auto, unfolding(crate::specs::SelectSteps::select_step))]
     pub(crate) fn take<'a>(
@@ -79,16 +135,7 @@ impl<A: Allocator + Copy> Selection<A> {
         ensures { GivesWith result (selected self.new) (select_step place (lexeme token.now) (selected self.old)) }
     {
         match (place, token.kind) {
-            (Place::Function, Kind::Word) => match function_called(token.text) {
-                Some(function) => {
-                    self.function = function;
-                    Ok(Place::FunctionOpen)
-                }
-                None => Err(ParseError::Fault(token.left_out())),
-            },
-            (Place::Function, Kind::QuotedName) | (Place::Measurement, Kind::Open) => {
-                Err(ParseError::Fault(token.left_out()))
-            }
+            (Place::Function, _) => self.take_function(token),
             (Place::FunctionOpen, Kind::Open) => Ok(Place::Field),
             (Place::Field, Kind::Word | Kind::QuotedName) => self.take_field(alloc, token),
             (Place::FieldEnd | Place::FieldClose, Kind::Close) => Ok(Place::AfterColumn),
@@ -97,15 +144,7 @@ impl<A: Allocator + Copy> Selection<A> {
                 if is_word(token.text, "field") || is_word(token.text, "integer") => {
                 Ok(Place::FieldClose)
             }
-            (Place::AfterColumn, Kind::Comma) => {
-                self.push_default(alloc)?;
-                Ok(Place::Function)
-            }
-            (Place::AfterColumn, Kind::Keyword) if is_word(token.text, "from") => {
-                self.push_default(alloc)?;
-                Ok(Place::Measurement)
-            }
-            (Place::AfterColumn, Kind::Keyword) if is_word(token.text, "as") => Ok(Place::Alias),
+            (Place::AfterColumn, _) => self.take_after_column(alloc, token),
             (Place::Alias, Kind::Word | Kind::QuotedName) => {
                 self.push(unescaped(alloc, token.text)?)?;
                 Ok(Place::AfterAlias)
@@ -114,10 +153,7 @@ impl<A: Allocator + Copy> Selection<A> {
             (Place::AfterAlias, Kind::Keyword) if is_word(token.text, "from") => Ok(
                 Place::Measurement,
             ),
-            (Place::Measurement, Kind::Word | Kind::QuotedName) => {
-                self.measurement = unescaped(alloc, token.text)?;
-                Ok(Place::AfterMeasurement)
-            }
+            (Place::Measurement, _) => self.take_measurement(alloc, token),
             _ => Err(ParseError::Fault(token.unexpected())),
         }
     }

@@ -12,7 +12,7 @@ use crate::filling::Filling;
 use crate::filter::{Filter, after_term};
 use crate::groups::{Buckets, Groups};
 use crate::moment::{Moment, Range};
-use crate::place::Place;
+use crate::place::{Clause, Place};
 use crate::query::{Column, Query, Span};
 use crate::selection::Selection;
 use crate::token::{Kind, Token};
@@ -205,49 +205,13 @@ impl<A: Allocator + Copy> Draft<A> {
     ) -> Result<Place, ParseError<'a>>
         ensures { GivesWith result (drafted self.new) (draft_step now place (lexeme token.now) (drafted self.old)) }
     {
-        match place {
-            Place::Function
-            | Place::FunctionOpen
-            | Place::Field
-            | Place::FieldEnd
-            | Place::FieldType
-            | Place::FieldClose
-            | Place::AfterColumn
-            | Place::Alias
-            | Place::AfterAlias
-            | Place::Measurement => self.selection.take(alloc, place, token),
-            Place::Term
-            | Place::TagEnd
-            | Place::TagType
-            | Place::TagSign
-            | Place::TagValue
-            | Place::AfterTerm
-            | Place::NestedTerm => self.filter.take(alloc, place, token),
-            Place::TimeSign
-            | Place::Moment
-            | Place::MomentMinus
-            | Place::NowOpen
-            | Place::NowClose
-            | Place::AfterMoment
-            | Place::MomentPlus
-            | Place::MomentLess => self.moment.take(now, place, token),
-            Place::GroupBy
-            | Place::Item
-            | Place::TimeOpen
-            | Place::Interval
-            | Place::IntervalEnd
-            | Place::Offset
-            | Place::OffsetMinus
-            | Place::OffsetEnd
-            | Place::AfterTag
-            | Place::GroupTagType
-            | Place::AfterItem => self.groups.take(alloc, place, token),
-            Place::FillOpen | Place::FillOption | Place::FillMinus | Place::FillClose => {
-                self.filling.take(place, token)
-            }
-            Place::Statement | Place::AfterMeasurement | Place::AfterFill | Place::Done => {
-                Err(ParseError::Fault(token.unexpected()))
-            }
+        match place.clause() {
+            Clause::Select => self.selection.take(alloc, place, token),
+            Clause::Where => self.filter.take(alloc, place, token),
+            Clause::Moment => self.moment.take(now, place, token),
+            Clause::Group => self.groups.take(alloc, place, token),
+            Clause::Fill => self.filling.take(place, token),
+            Clause::None => Err(ParseError::Fault(token.unexpected())),
         }
     }
 }
