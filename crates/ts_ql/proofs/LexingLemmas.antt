@@ -60,7 +60,7 @@ parts_at last counting at text i =
     (cond counting (cond (eqb (unit_at text i) 0) last (parts_end (at + unit_at text i) false (at + 1) (drop (i + 1) text)))
     (cond (ltb at last) (parts_end last false (at + 1) (drop (i + 1) text)) last))
 
-next_byte : (text : Text) (i : ℕ) → get_or (drop (i + 1) text) 0 0 ≡ get_or text (i + 1) 0
+pub next_byte : (text : Text) (i : ℕ) → get_or (drop (i + 1) text) 0 0 ≡ get_or text (i + 1) 0
 next_byte text i = get_or-drop (i + 1) text 0 0 ∙ ap (λ n. get_or text n 0) (omega arith)
 
 pub parts_end_step : (last : ℕ) (counting : Bool) (at : ℕ) (text : Text) (i : ℕ) → i < length text

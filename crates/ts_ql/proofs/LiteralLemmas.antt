@@ -1,6 +1,6 @@
 -- One step of what literals mean.
-use Rattle.std.proofs.Common.{◌≡◌, ℕ, ◌+◌, ◌*◌, ◌-◌, ◌<◌, ◌≤◌, Bool, true, false, cond, [], ◌∷◌, ◌++◌, length, get_or, drop, arith, refl, sym, ◌∙◌, ap, None, append-nil, append_assoc}
-use Rattle.std.proofs.lemmas.List.{at_drop_more, at_drop_all, get_or-drop}
+use Rattle.std.proofs.Common.{◌≡◌, ℕ, ◌+◌, ◌*◌, ◌-◌, ◌<◌, ◌≤◌, Bool, true, false, cond, [], ◌∷◌, ◌++◌, length, get_or, drop, arith, refl, sym, ◌∙◌, None, append-nil, append_assoc}
+use Rattle.std.proofs.lemmas.List.{at_drop_more, at_drop_all}
 use Rattle.std.proofs.lemmas.Str.{chars_past_char}
 use Rattle.std.specs.Char.{is_ascii_digit}
 use Rattle.std.specs.Char.{encode_utf8}
@@ -9,12 +9,10 @@ use Rattle.std.proofs.lemmas.Bool.{le-ltb, eq-eqb, ne_eqb}
 use Rattle.std.proofs.Math.Nat.{mul-le-mul_left}
 use Rattle.std.proofs.lemmas.Bool.Decides.{nat_tests}
 use Rattle.ts_core.specs.Facts.{Text}
+use Rattle.ts_ql.proofs.LexingLemmas.{next_byte}
 use Rattle.ts_ql.specs.Literals.{unit_of, added_up, within, escape, spelled}
 
 -- ---- numbers
-
-next_byte : (text : Text) (i : ℕ) → get_or (drop (i + 1) text) 0 0 ≡ get_or text (i + 1) 0
-next_byte text i = get_or-drop (i + 1) text 0 0 ∙ ap (λ n. get_or text n 0) (omega arith)
 
 pub added_up_step : (total number : ℕ) (text : Text) (i : ℕ) → i < length text
     → added_up total number (drop i text) ≡ cond (is_ascii_digit (get_or text i 0))
