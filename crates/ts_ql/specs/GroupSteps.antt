@@ -1,7 +1,6 @@
 -- What each token means in GROUP BY and FILL.
 -- (InfluxData 1.8, InfluxQL: the GROUP BY clause, GROUP BY time intervals, the offset interval, fill().)
 use Rattle.std.specs.Prelude.{ℕ, ℤ, pos, int_le, List, [], ◌∷◌, true, false, Option, Some, None, Result, Ok, Err, if◌then◌else◌, codes}
-use Rattle.std.specs.List.{insert}
 use Rattle.std.specs.declared.cmp.Ordering.{Ordering}
 use Rattle.std.specs.declared.cmp.Ordering.TheVariants as orders
 use Rattle.ts_core.specs.Facts.{Text, text_cmp}
@@ -26,7 +25,7 @@ pub record Grouped : Type 0 where
   pub tags : List Text
 
 abbrev pub grouped : {A : Type 0} → Groups A → Grouped
-grouped g = record { buckets = g.buckets; first = g.first; tags = texts g.tags.items }
+grouped g = record { buckets = g.buckets; first = g.first; tags = texts g.tags.keys }
 
 abbrev pub empty_groups : Grouped
 empty_groups = record { buckets = None; first = 0; tags = [] }
@@ -43,11 +42,6 @@ insert_by orders.Greater new text rest inserted = text ∷ inserted
 abbrev pub with_text : Text → List Text → List Text
 with_text new [] = new ∷ []
 with_text new (text ∷ rest) = insert_by (text_cmp new text) new text rest (with_text new rest)
-
--- the texts with that one before this place, or as they are
-abbrev pub inserted_at : Option ℕ → Text → List Text → List Text
-inserted_at None new all = all
-inserted_at (Some at) new all = insert all at new
 
 -- the column that an item begins with: a second time(..) can't follow
 abbrev pub time_item : Lexeme → Grouped → Option Buckets → Grouping

@@ -1,9 +1,8 @@
 //! GROUP BY.
-ghost use Rattle.std.specs.Prelude.{◌≡◌, ◌≤◌, IfOk, IfSome, length, string_bytes, false};
+ghost use Rattle.std.specs.Prelude.{◌≡◌, IfOk, false};
 ghost use Rattle.ts_ql.specs.Faults.{GivesWith};
-ghost use Rattle.ts_ql.specs.GroupSteps.{grouped, empty_groups, with_text, inserted_at, item_at, with_interval, with_offset, group_step};
+ghost use Rattle.ts_ql.specs.GroupSteps.{grouped, empty_groups, item_at, with_interval, with_offset, group_step};
 ghost use Rattle.ts_ql.specs.Literals.{literal};
-ghost use Rattle.ts_ql.specs.Selects.{texts};
 ghost use Rattle.ts_ql.specs.Tokens.{lexeme};
 
 use crate::fault::{ParseError, QlFault};
@@ -11,7 +10,7 @@ use crate::literal::{is_word, literal, unescaped};
 use crate::place::Place;
 use crate::token::{Kind, Token};
 use std::alloc::{AllocError, Allocator};
-use std::cmp::Ordering;
+use std::collections::BTreeSet;
 use std::marker::Model;
 
 /// Buckets of time, in nanoseconds.
@@ -85,22 +84,7 @@ pub(crate) struct Groups<A: Allocator> {
     /// The place of the offset's first token.
     pub first: usize,
     /// The tags in byte order, each once.
-    pub tags: Vec<String<A>, A>,
-}
-
-/// Where a text has to be inserted among others in byte order, if it isn't there.
-fn place_of<A: Allocator>(tags: &[String<A>], name: &str) -> Option<usize>
-    ensures within { IfSome result (λ at. at ≤ length tags.now) }
-    ensures value { with_text name.now (texts tags.now) ≡ inserted_at result name.now (texts tags.now) }
-{
-    for (at, tag) in tags.iter().enumerate() {
-        match name.cmp(&tag.as_str()) {
-            Ordering::Less => return Some(at),
-            Ordering::Equal => return None,
-            Ordering::Greater => {}
-        }
-    }
-    Some(tags.len())
+    pub tags: BTreeSet<String<A>, A>,
 }
 
 impl<A: Allocator + Copy> Groups<A> {
@@ -111,7 +95,7 @@ impl<A: Allocator + Copy> Groups<A> {
         Groups {
             buckets: None,
             first: 0,
-            tags: Vec::new(alloc),
+            tags: BTreeSet::new(alloc),
         }
     }
 
@@ -126,7 +110,7 @@ impl<A: Allocator + Copy> Groups<A> {
             };
         }
         let name = unescaped(alloc, token.text)?;
-        insert(&mut self.tags, name)?;
+        self.tags.insert(name)?;
         Ok(Place::AfterTag)
     }
 
@@ -193,17 +177,11 @@ impl<A: Allocator + Copy> Groups<A> {
             _ => Err(ParseError::Fault(token.unexpected())),
         }
     }
-}
 
-/// Puts a text among others in byte order, if it isn't there.
-fn insert<A: Allocator + Copy>(
-    tags: &mut Vec<String<A>, A>,
-    name: String<A>,
-) -> Result<(), AllocError>
-    ensures { IfOk result (λ _. texts tags.new.items ≡ with_text (string_bytes name) (texts tags.old.items)) }
-{
-    if let Some(at) = place_of(tags.as_slice(), name.as_str()) {
-        tags.insert(at, name)?;
+    /// The tags in byte order, each once.
+    pub(crate) fn into_tags(self, alloc: A) -> Result<Vec<String<A>, A>, AllocError>
+        ensures { IfOk result (λ tags. tags.items ≡ self.tags.keys) }
+    {
+        self.tags.into_iter().collect(alloc)
     }
-    Ok(())
 }

@@ -2,7 +2,7 @@
 ghost use Rattle.std.specs.Prelude.{◌≡◌, string_bytes};
 
 use crate::filter::Filter;
-use crate::groups::{Buckets, Groups};
+use crate::groups::Buckets;
 use crate::selection::Selection;
 use std::alloc::Allocator;
 use std::marker::Model;
@@ -151,7 +151,7 @@ impl<A: Allocator> Query<A> {
         selection: Selection<A>,
         field: String<A>,
         filter: Filter<A>,
-        groups: Groups<A>,
+        group_tags: Vec<String<A>, A>,
         buckets: Buckets,
         fill: Fill,
         span: Span,
@@ -168,7 +168,7 @@ impl<A: Allocator> Query<A> {
             to = span.to;
             interval = buckets.interval;
             offset = buckets.offset;
-            group_tags = texts groups.tags.items;
+            group_tags = texts group_tags.items;
           };
         } }
     {
@@ -182,7 +182,7 @@ impl<A: Allocator> Query<A> {
             to: span.to,
             interval: buckets.interval(),
             offset: buckets.offset(),
-            group_tags: groups.tags,
+            group_tags,
         }
     }
 

@@ -1,11 +1,11 @@
 //! What a statement says once it has been read whole.
-ghost use Rattle.std.specs.Prelude.{◌≡◌, ◌≤ℤ◌, ◌≤◌, ◌^◌, IfSome, int_le, int_lt, pos, unsigned_abs};
+ghost use Rattle.std.specs.Prelude.{◌≡◌, ◌≤ℤ◌, ◌≤◌, ◌^◌, IfOk, IfSome, int_le, int_lt, pos, unsigned_abs};
 ghost use Rattle.ts_core.specs.Buckets.{bucket_of};
 ghost use Rattle.ts_core.specs.Times.{least_time};
 ghost use Rattle.ts_ql.specs.Faults.{Gives, GivesWith};
 ghost use Rattle.ts_ql.specs.Reading.{settle_step, draft_step};
 ghost use Rattle.ts_ql.specs.Tokens.{lexeme};
-ghost use Rattle.ts_ql.specs.Statements.{has_column, repeats, first_start, buckets_between, drafted, empty_draft, parts, span_from, option_told, span_fault, query_of, statement_said};
+ghost use Rattle.ts_ql.specs.Statements.{repeats, first_start, buckets_between, drafted, empty_draft, parts, span_from, option_told, span_fault, query_of, statement_said};
 
 use crate::fault::{ParseError, QlFault};
 use crate::filling::Filling;
@@ -16,7 +16,8 @@ use crate::place::{Clause, Place};
 use crate::query::{Column, Query, Span};
 use crate::selection::Selection;
 use crate::token::{Kind, Token};
-use std::alloc::Allocator;
+use std::alloc::{AllocError, Allocator};
+use std::collections::BTreeSet;
 use ts_core::{Time, bucket_index};
 
 /// What has been read of a statement.
@@ -30,23 +31,18 @@ pub(crate) struct Draft<A: Allocator> {
     pub filling: Filling,
 }
 
-fn has_column<A: Allocator>(name: &str, columns: &[Column<A>]) -> bool
-    ensures { result ≡ has_column name.now columns.now }
-{
-    columns.iter().any(|column| column.name() == name)
-}
-
 /// Whether two columns have one name, or one is called as the column of time.
-#[tactic(auto, using(crate::proofs::StatementLemmas::repeats_step, crate::proofs::StatementLemmas::repeats_past))]
-fn repeats<A: Allocator>(columns: &[Column<A>]) -> bool
-    ensures { result ≡ repeats columns.now }
+fn repeats<A: Allocator + Copy>(alloc: A, columns: &[Column<A>]) -> Result<bool, AllocError>
+    ensures { IfOk result (λ found. found ≡ repeats columns.now) }
 {
-    for (i, column) in columns.iter().enumerate() {
-        if column.name() == "time" || has_column(column.name(), &columns[i + 1..]) {
-            return true;
+    let mut names = BTreeSet::new(alloc);
+    for column in columns {
+        let name = column.name();
+        if name == "time" || !names.insert(name)? {
+            return Ok(true);
         }
     }
-    false
+    Ok(false)
 }
 
 /// The span from the lower bound on; without an upper bound it ends after `now`.
@@ -143,7 +139,7 @@ impl<A: Allocator + Copy> Draft<A> {
     ) -> Result<Query<A>, ParseError<'a>>
         ensures { Gives (λ q. q) result (statement_said start now (parts (drafted self))) }
     {
-        if repeats(self.selection.columns.as_slice()) {
+        if repeats(alloc, self.selection.columns.as_slice())? {
             return Err(ParseError::Fault(QlFault::RepeatedColumn(start)));
         }
         let Some(buckets) = self.groups.buckets else {
@@ -154,29 +150,30 @@ impl<A: Allocator + Copy> Draft<A> {
         };
         match span_fault(start, buckets, &span) {
             Some(fault) => Err(ParseError::Fault(fault)),
-            None => Ok(self.over(alloc, buckets, span)),
+            None => Ok(self.over(alloc, buckets, span)?),
         }
     }
 
     /// The query over a span.
-    fn over(self, alloc: A, buckets: Buckets, span: Span) -> Query<A>
+    fn over(self, alloc: A, buckets: Buckets, span: Span) -> Result<Query<A>, AllocError>
         requires { span.from ≤ℤ span.to }
-        ensures { result ≡ query_of (parts (drafted self)) buckets span }
+        ensures { IfOk result (λ query. query ≡ query_of (parts (drafted self)) buckets span) }
     {
         let mut selection = self.selection;
         let field = match selection.field.take() {
             Some(field) => field,
             None => String::new(alloc),
         };
-        Query::new(
+        let tags = self.groups.into_tags(alloc)?;
+        Ok(Query::new(
             selection,
             field,
             self.filter,
-            self.groups,
+            tags,
             buckets,
             self.filling.fill,
             span,
-        )
+        ))
     }
 
     /// Ends a moment, where the token doesn't go on with it.

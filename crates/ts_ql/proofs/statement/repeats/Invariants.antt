@@ -1,6 +1,5 @@
-use Rattle.std.proofs.Common.{◌≡◌, drop}
-use Rattle.ts_ql.specs.Statements.{repeats}
+use Rattle.ts_ql.proofs.StatementLemmas.{IsToldFrom}
 use Rattle.ts_ql.proofs.statement.repeats.Given as goal
 
-abbrev pub invariant-loop-i : goal.invariant-loop-i
-invariant-loop-i g l = repeats (drop l.i l.columns) ≡ repeats l.columns
+abbrev pub invariant-loop-column : goal.invariant-loop-column
+invariant-loop-column g l = IsToldFrom l.names.keys l.columns l.column-index
