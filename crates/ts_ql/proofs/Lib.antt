@@ -4,3 +4,5 @@ pub mod DateLemmas
 pub mod GroupLemmas
 pub mod StatementLemmas
 pub mod ReadingLemmas
+pub mod TokenEnds
+pub mod StepLemmas

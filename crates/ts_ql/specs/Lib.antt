@@ -10,5 +10,6 @@ pub mod MomentSteps
 pub mod WhereSteps
 pub mod GroupSteps
 pub mod Statements
+pub mod Tokenizing
 pub mod Reading
 pub mod FaultText
