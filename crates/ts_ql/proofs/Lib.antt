@@ -6,3 +6,4 @@ pub mod StatementLemmas
 pub mod ReadingLemmas
 pub mod TokenEnds
 pub mod StepLemmas
+pub mod RunLemmas
