@@ -115,11 +115,11 @@ agrees_on : (n : ℕ) (now : ℤ) (text : Text) (s : State) (at : ℕ) → at �
 agrees_on zero now text s at le lt = absurd (omega arith)
 agrees_on (suc n) now text s at le lt =
     agrees_after (read_on n now text) (tokens_from n text) now (token_at text at) (is_end_of_text (token_at text at).kind) (step now (token_at text at) s)
-      (λ m e. step_done now (token_at text at) s m e)
-      (λ other m.
-        let within : (token_at text at).end ≤ length text = token_within text at le in
-        let later : at < (token_at text at).end = token_after text at le other in
-        agrees_on n now text m (token_at text at).end within (omega arith))
+    (λ m e. step_done now (token_at text at) s m e)
+    (λ other m.
+    let within : (token_at text at).end ≤ length text = token_within text at le in
+    let later : at < (token_at text at).end = token_after text at le other in
+    agrees_on n now text m (token_at text at).end within (omega arith))
 
 agrees : (now : ℤ) (text : Text) → Agrees (read_on (length text + 1) now text start_state 0) (run now start_state (tokens_of text))
 unfolding tokens_of

@@ -4,9 +4,7 @@ use Rattle.std.proofs.lemmas.Bool.{cond_both, and_parts}
 use Rattle.std.specs.Prelude.{if◌then◌else◌, nat_lt, nat_le, int_le, bytes_eq}
 use Rattle.ts_core.specs.Facts.{Text}
 use Rattle.ts_ql.specs.declared.filling.Filling.{Filling}
-use Rattle.ts_ql.specs.declared.moment.Comparison.{Comparison}
 use Rattle.ts_ql.specs.declared.moment.Moment.{Moment}
-use Rattle.ts_ql.specs.declared.moment.Range.{Range}
 use Rattle.ts_ql.specs.declared.place.Place.{Place}
 use Rattle.ts_ql.specs.declared.place.Place.TheVariants as places
 use Rattle.ts_ql.specs.declared.query.Fill.TheVariants as fills
@@ -17,8 +15,8 @@ use Rattle.ts_ql.specs.Dates.{moment_told}
 use Rattle.ts_ql.specs.Faults.{Fault, unexpected, left_out, TooManyStatements, OutOfRange}
 use Rattle.ts_ql.specs.GroupSteps.{Grouped, group_at, group_step, item_at, time_item, with_text, of_interval, with_interval, with_offset, fill_at, fill_step, with_number, chosen}
 use Rattle.ts_ql.specs.Literals.{is_word, literal, unescaped}
-use Rattle.ts_ql.specs.MomentSteps.{moment_at, moment_step, based, is_sum, summed, later_by, earlier_by, settled}
-use Rattle.ts_ql.specs.Reading.{Drafting, settled_in, settle_at, settle_step, in_selection, in_filter, in_moment, in_groups, in_filling, Clause, SelectClause, WhereClause, MomentClause, GroupClause, FillClause, NoClause, clause_of, draft_at, draft_step, group_alone, fill_alone, clause_at, next_clause, is_end, may_end, State, Step, begun_at, begun, after_end, ended_with, ended, with_draft, clause_or, continued, placed_at, after_settling, step, is_done}
+use Rattle.ts_ql.specs.MomentSteps.{moment_at, moment_step, based, is_sum, summed, later_by, earlier_by}
+use Rattle.ts_ql.specs.Reading.{Drafting, settle_step, in_selection, in_filter, in_moment, in_groups, in_filling, Clause, SelectClause, WhereClause, MomentClause, GroupClause, FillClause, NoClause, clause_of, draft_at, draft_step, group_alone, fill_alone, clause_at, next_clause, is_end, may_end, State, Step, begun_at, begun, after_end, ended_with, ended, with_draft, clause_or, continued, placed_at, after_settling, step, is_done}
 use Rattle.ts_ql.specs.Selects.{Buckets, Select}
 use Rattle.ts_ql.specs.SelectSteps.{Selected, select_at, select_step, with_function, with_field, name_of, with_default}
 use Rattle.ts_ql.specs.Statements.{Drafted, statement_said}
@@ -57,9 +55,9 @@ select_moves places.FieldEnd kinds.Cast t s = refl
 select_moves places.FieldType kinds.Word t s = moves_if kinds.Word (is_word (codes "field") t.text || is_word (codes "integer") t.text) (Ok (places.FieldClose, s)) (Err (unexpected t)) refl tt
 select_moves places.FieldClose kinds.Close t s = refl
 select_moves places.AfterColumn kinds.Comma t s = refl
-select_moves places.AfterColumn kinds.Keyword t s = 
+select_moves places.AfterColumn kinds.Keyword t s =
     moves_if kinds.Keyword (is_word (codes "from") t.text) (Ok (places.Measurement, with_default s)) (if is_word (codes "as") t.text then Ok (places.Alias, s) else Err (unexpected t)) refl
-      (moves_if kinds.Keyword (is_word (codes "as") t.text) (Ok (places.Alias, s)) (Err (unexpected t)) refl tt)
+    (moves_if kinds.Keyword (is_word (codes "as") t.text) (Ok (places.Alias, s)) (Err (unexpected t)) refl tt)
 select_moves places.Alias kinds.Word t s = refl
 select_moves places.Alias kinds.QuotedName t s = refl
 select_moves places.AfterAlias kinds.Comma t s = refl
@@ -88,7 +86,7 @@ where_moves places.TagSign kinds.Differs t f = refl
 where_moves places.TagValue kinds.Literal t f = after_term_goes_on f.depth
 where_moves places.AfterTerm kinds.Keyword t f = moves_if kinds.Keyword (is_word (codes "and") t.text) (Ok (places.Term, f)) (Err (unexpected t)) refl tt
 where_moves places.NestedTerm kinds.Keyword t f = moves_if kinds.Keyword (is_word (codes "and") t.text) (Ok (places.Term, f)) (Err (unexpected t)) refl tt
-where_moves places.NestedTerm kinds.Close t f = 
+where_moves places.NestedTerm kinds.Close t f =
     moves_if kinds.Close (nat_lt 0 f.depth) (Ok (after_term (f.depth - 1), record f { depth = f.depth - 1 })) (Err (unexpected t)) (after_term_goes_on (f.depth - 1)) tt
 where_moves p k t f = tt
 
@@ -167,11 +165,11 @@ number_moves first f (Some n) = refl
 
 fill_moves : (p : Place) (k : Kind) (t : Lexeme) (f : Filling) → Moves k (fill_at p k t f)
 fill_moves places.FillOpen kinds.Open t f = refl
-fill_moves places.FillOption kinds.Word t f = 
+fill_moves places.FillOption kinds.Word t f =
     moves_if kinds.Word (is_word (codes "null") t.text) (chosen fills.Null f)
-      (if is_word (codes "none") t.text then chosen fills.None f else if is_word (codes "previous") t.text then chosen fills.Previous f else Err (unexpected t)) refl
-      (moves_if kinds.Word (is_word (codes "none") t.text) (chosen fills.None f) (if is_word (codes "previous") t.text then chosen fills.Previous f else Err (unexpected t)) refl
-        (moves_if kinds.Word (is_word (codes "previous") t.text) (chosen fills.Previous f) (Err (unexpected t)) refl tt))
+    (if is_word (codes "none") t.text then chosen fills.None f else if is_word (codes "previous") t.text then chosen fills.Previous f else Err (unexpected t)) refl
+    (moves_if kinds.Word (is_word (codes "none") t.text) (chosen fills.None f) (if is_word (codes "previous") t.text then chosen fills.Previous f else Err (unexpected t)) refl
+    (moves_if kinds.Word (is_word (codes "previous") t.text) (chosen fills.Previous f) (Err (unexpected t)) refl tt))
 fill_moves places.FillOption kinds.Minus t f = refl
 fill_moves places.FillOption kinds.Integer t f = number_moves t.start f (literal false t.text)
 fill_moves places.FillMinus kinds.Integer t f = number_moves f.first f (literal true t.text)
@@ -251,9 +249,9 @@ moves_to_if k true one other a b = a refl
 moves_to_if k false one other a b = b
 
 begun_at_moves : (k : Kind) (t : Lexeme) (s : State) → MovesTo k (begun_at k t s)
-begun_at_moves kinds.Keyword t s = 
+begun_at_moves kinds.Keyword t s =
     moves_to_if kinds.Keyword (is_word (codes "select") t.text) (if nat_le 16 s.count then Err (TooManyStatements t.start) else Ok (record s { place = places.Function; count = s.count + 1; start = t.start })) (Err (unexpected t))
-      (λ _. moves_to_if kinds.Keyword (nat_le 16 s.count) (Err (TooManyStatements t.start)) (Ok (record s { place = places.Function; count = s.count + 1; start = t.start })) (λ _. tt) refl) tt
+    (λ _. moves_to_if kinds.Keyword (nat_le 16 s.count) (Err (TooManyStatements t.start)) (Ok (record s { place = places.Function; count = s.count + 1; start = t.start })) (λ _. tt) refl) tt
 begun_at_moves kinds.End t s = moves_to_if kinds.End (eqb s.count 0) (Err (unexpected t)) (Ok (record s { place = places.Done })) (λ _. tt) refl
 begun_at_moves k t s = tt
 
@@ -281,8 +279,8 @@ clause_moves now t s (Some next) opens = opens
 continued_moves : (now : ℤ) (t : Lexeme) (s : State) → MovesTo t.kind (continued now t s)
 continued_moves now t s =
     moves_to_if t.kind (may_end s.place && is_end t.kind) (ended now t.kind s) (clause_or now t s (next_clause s.place t))
-      (λ e. ended_moves t.kind s (statement_said s.start now s.draft) (and_parts (may_end s.place) (is_end t.kind) e).1)
-      (clause_moves now t s (next_clause s.place t) (next_opens s.place t))
+    (λ e. ended_moves t.kind s (statement_said s.start now s.draft) (and_parts (may_end s.place) (is_end t.kind) e).1)
+    (clause_moves now t s (next_clause s.place t) (next_opens s.place t))
 
 placed_moves : (p : Place) (now : ℤ) (t : Lexeme) (s : State) → MovesTo t.kind (placed_at p now t s)
 placed_moves places.Statement now t s = begun_moves t s

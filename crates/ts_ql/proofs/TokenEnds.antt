@@ -56,10 +56,10 @@ closing_within quote true at past [] e = tt
 closing_within quote false at past [] e = tt
 closing_within quote true at past (b ∷ bs) e =
     cond_both (is_escapable b) (closing quote false (at + 1) bs) None (Closes at past)
-      (λ t. closes_later at past (closing quote false (at + 1) bs) (closing_within quote false (at + 1) past bs (omega arith))) (λ t. tt)
+    (λ t. closes_later at past (closing quote false (at + 1) bs) (closing_within quote false (at + 1) past bs (omega arith))) (λ t. tt)
 closing_within quote false at past (b ∷ bs) e =
     cond_both (eqb b quote) (Some at) (closing quote (eqb b 92) (at + 1) bs) (Closes at past) (λ t. (omega arith, omega arith))
-      (λ t. closes_later at past (closing quote (eqb b 92) (at + 1) bs) (closing_within quote (eqb b 92) (at + 1) past bs (omega arith)))
+    (λ t. closes_later at past (closing quote (eqb b 92) (at + 1) bs) (closing_within quote (eqb b 92) (at + 1) past bs (omega arith)))
 
 quote_within : (quote : ℕ) (text : Text) (from : ℕ) → from ≤ length text → Closes from (length text) (closing_quote quote text from)
 unfolding closing_quote
@@ -86,13 +86,13 @@ parts_within last false at past [] l e = l
 parts_within last true at past (b ∷ bs) l e =
     let unit : unit_len b (get_or bs 0 0) ≤ 1 + length bs = unit_in b bs in
     cond_both (is_ascii_digit b) (parts_end last true (at + 1) bs) (cond (eqb (unit_len b (get_or bs 0 0)) 0) last (parts_end (at + unit_len b (get_or bs 0 0)) false (at + 1) bs)) (λ x. x ≤ past)
-      (λ t. parts_within last true (at + 1) past bs l (omega arith))
-      (λ t. cond_both (eqb (unit_len b (get_or bs 0 0)) 0) last (parts_end (at + unit_len b (get_or bs 0 0)) false (at + 1) bs) (λ x. x ≤ past)
-        (λ u. l) (λ u. parts_within (at + unit_len b (get_or bs 0 0)) false (at + 1) past bs (omega arith) (omega arith)))
+    (λ t. parts_within last true (at + 1) past bs l (omega arith))
+    (λ t. cond_both (eqb (unit_len b (get_or bs 0 0)) 0) last (parts_end (at + unit_len b (get_or bs 0 0)) false (at + 1) bs) (λ x. x ≤ past)
+    (λ u. l) (λ u. parts_within (at + unit_len b (get_or bs 0 0)) false (at + 1) past bs (omega arith) (omega arith)))
 parts_within last false at past (b ∷ bs) l e =
     cond_both (is_ascii_digit b) (parts_end last true (at + 1) bs) (cond (ltb at last) (parts_end last false (at + 1) bs) last) (λ x. x ≤ past)
-      (λ t. parts_within last true (at + 1) past bs l (omega arith))
-      (λ t. cond_both (ltb at last) (parts_end last false (at + 1) bs) last (λ x. x ≤ past) (λ u. parts_within last false (at + 1) past bs l (omega arith)) (λ u. l))
+    (λ t. parts_within last true (at + 1) past bs l (omega arith))
+    (λ t. cond_both (ltb at last) (parts_end last false (at + 1) bs) last (λ x. x ≤ past) (λ u. parts_within last false (at + 1) past bs l (omega arith)) (λ u. l))
 
 duration_within : (text : Text) (from : ℕ) → from ≤ length text → duration_end text from ≤ length text
 unfolding duration_end
@@ -158,14 +158,14 @@ number_ends text start lt digit =
     let digits : (start ≤ end_of Digit text start) × (end_of Digit text start ≤ length text) = end_within Digit text start le in
     let some : start < end_of Digit text start = end_some Digit text start lt digit in
     if_ends text start _ _ _ (λ e. record { within = duration; after = λ u. ltb-true start (duration_end text start) e })
-      (λ e. if_ends text start (is_ascii_alphabetic (get_or text (end_of Digit text start) 0) || eqb (get_or text (end_of Digit text start) 0) 46) (kinds.Bad, length text) (kinds.Integer, end_of Digit text start) (λ bad. past_end text start lt) (λ good. record { within = digits.1; after = λ u. some }))
+    (λ e. if_ends text start (is_ascii_alphabetic (get_or text (end_of Digit text start) 0) || eqb (get_or text (end_of Digit text start) 0) 46) (kinds.Bad, length text) (kinds.Integer, end_of Digit text start) (λ bad. past_end text start lt) (λ good. record { within = digits.1; after = λ u. some }))
 
 closed_ends : (text : Text) (quote start : ℕ) (o : Option ℕ) → start < length text → Closes (start + 1) (length text) o → Ends text start (closed_at text quote start o)
 closed_ends text quote start None lt closes = past_end text start lt
 closed_ends text quote start (Some close) lt closes =
     let closed : (kind : Kind) → Ends text start (kind, close + 1) = λ (kind : Kind). record { within = omega arith; after = λ u. omega arith } in
     if_ends text start (eqb quote 39) (kinds.Literal, close + 1) (if eqb close (start + 1) then (kinds.Bad, length text) else (kinds.QuotedName, close + 1)) (λ e. closed kinds.Literal)
-      (λ e. if_ends text start (eqb close (start + 1)) (kinds.Bad, length text) (kinds.QuotedName, close + 1) (λ empty. past_end text start lt) (λ some. closed kinds.QuotedName))
+    (λ e. if_ends text start (eqb close (start + 1)) (kinds.Bad, length text) (kinds.QuotedName, close + 1) (λ empty. past_end text start lt) (λ some. closed kinds.QuotedName))
 
 quoted_ends : (text : Text) (start : ℕ) → start < length text → Ends text start (quoted_at text start)
 unfolding quoted_at
@@ -177,9 +177,9 @@ some_ends text start lt =
     let le : start ≤ length text = omega arith in
     let name : (start ≤ end_of Name text start) × (end_of Name text start ≤ length text) = end_within Name text start le in
     if_ends text start _ _ _ (λ e. absurd (let last : length text ≡ start = eqb-true (length text) start e in omega arith))
-      (λ _. if_ends text start _ _ _ (λ digit. number_ends text start lt digit)
-        (λ _. if_ends text start _ _ _ (λ word. record { within = name.1; after = λ u. end_some Name text start lt word })
-          (λ _. if_ends text start _ _ _ (λ quote. quoted_ends text start lt) (λ _. operator_ends text start lt))))
+    (λ _. if_ends text start _ _ _ (λ digit. number_ends text start lt digit)
+    (λ _. if_ends text start _ _ _ (λ word. record { within = name.1; after = λ u. end_some Name text start lt word })
+    (λ _. if_ends text start _ _ _ (λ quote. quoted_ends text start lt) (λ _. operator_ends text start lt))))
 
 last_ends : (text : Text) (start : ℕ) → start ≡ length text → Ends text start (shape_at text start)
 unfolding shape_at
