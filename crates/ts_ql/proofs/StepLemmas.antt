@@ -7,8 +7,8 @@ use Rattle.ts_ql.specs.declared.filling.Filling.{Filling}
 use Rattle.ts_ql.specs.declared.moment.Moment.{Moment}
 use Rattle.ts_ql.specs.declared.place.Place.{Place}
 use Rattle.ts_ql.specs.declared.place.Place.TheVariants as places
-use Rattle.ts_ql.specs.declared.query.Fill.TheVariants as fills
-use Rattle.ts_ql.specs.declared.query.Function.{Function}
+use Rattle.ts_core.specs.declared.fill.Fill.TheVariants as fills
+use Rattle.ts_core.specs.declared.value.Function.{Function}
 use Rattle.ts_ql.specs.declared.token.Kind.{Kind}
 use Rattle.ts_ql.specs.declared.token.Kind.TheVariants as kinds
 use Rattle.ts_ql.specs.Dates.{moment_told}
@@ -16,10 +16,12 @@ use Rattle.ts_ql.specs.Faults.{Fault, unexpected, left_out, TooManyStatements, O
 use Rattle.ts_ql.specs.GroupSteps.{Grouped, group_at, group_step, item_at, time_item, with_text, of_interval, with_interval, with_offset, fill_at, fill_step, with_number, chosen}
 use Rattle.ts_ql.specs.Literals.{is_word, literal, unescaped}
 use Rattle.ts_ql.specs.MomentSteps.{moment_at, moment_step, based, is_sum, summed, later_by, earlier_by}
-use Rattle.ts_ql.specs.Reading.{Drafting, settle_step, in_selection, in_filter, in_moment, in_groups, in_filling, Clause, SelectClause, WhereClause, MomentClause, GroupClause, FillClause, NoClause, clause_of, draft_at, draft_step, group_alone, fill_alone, clause_at, next_clause, is_end, may_end, State, Step, begun_at, begun, after_end, ended_with, ended, with_draft, clause_or, continued, placed_at, after_settling, step, is_done}
+use Rattle.ts_ql.specs.declared.place.Clause.{Clause}
+use Rattle.ts_ql.specs.declared.place.Clause.TheVariants as clauses
+use Rattle.ts_ql.specs.Reading.{Drafting, settle_step, in_selection, in_filter, in_moment, in_groups, in_filling, clause_of, draft_at, draft_step, group_alone, fill_alone, clause_at, next_clause, is_end, may_end, State, Step, begun_at, begun, after_end, ended_with, ended, with_draft, clause_or, continued, placed_at, after_settling, step, is_done}
 use Rattle.ts_ql.specs.Selects.{Buckets, Select}
 use Rattle.ts_ql.specs.SelectSteps.{Selected, select_at, select_step, with_function, with_field, name_of, with_default}
-use Rattle.ts_ql.specs.Statements.{Drafted, statement_said}
+use Rattle.ts_ql.specs.Statements.{Drafted, parts, statement_said}
 use Rattle.ts_ql.specs.Tokenizing.{is_end_of_text}
 use Rattle.ts_ql.specs.Tokens.{Lexeme}
 use Rattle.ts_ql.specs.WhereSteps.{Filtered, where_at, where_step, term_at, after_term}
@@ -198,12 +200,12 @@ filling_moves k d (Err fault) m = tt
 
 draft_at_moves : (c : Clause) (now : ℤ) (p : Place) (t : Lexeme) (d : Drafted) → Moves t.kind (draft_at c now p t d)
 unfolding select_step where_step moment_step group_step fill_step
-draft_at_moves SelectClause now p t d = selection_moves t.kind d (select_at p t.kind t d.selection) (select_moves p t.kind t d.selection)
-draft_at_moves WhereClause now p t d = filter_moves t.kind d (where_at p t.kind t d.filter) (where_moves p t.kind t d.filter)
-draft_at_moves MomentClause now p t d = in_moment_moves t.kind d (moment_at now p t.kind t d.moment) (moment_moves now p t.kind t d.moment)
-draft_at_moves GroupClause now p t d = in_groups_moves t.kind d (group_at p t.kind t d.groups) (group_moves p t.kind t d.groups)
-draft_at_moves FillClause now p t d = filling_moves t.kind d (fill_at p t.kind t d.filling) (fill_moves p t.kind t d.filling)
-draft_at_moves NoClause now p t d = tt
+draft_at_moves clauses.Select now p t d = selection_moves t.kind d (select_at p t.kind t d.selection) (select_moves p t.kind t d.selection)
+draft_at_moves clauses.Where now p t d = filter_moves t.kind d (where_at p t.kind t d.filter) (where_moves p t.kind t d.filter)
+draft_at_moves clauses.Moment now p t d = in_moment_moves t.kind d (moment_at now p t.kind t d.moment) (moment_moves now p t.kind t d.moment)
+draft_at_moves clauses.Group now p t d = in_groups_moves t.kind d (group_at p t.kind t d.groups) (group_moves p t.kind t d.groups)
+draft_at_moves clauses.Fill now p t d = filling_moves t.kind d (fill_at p t.kind t d.filling) (fill_moves p t.kind t d.filling)
+draft_at_moves clauses.None now p t d = tt
 
 draft_moves : (now : ℤ) (p : Place) (t : Lexeme) (d : Drafted) → Moves t.kind (draft_step now p t d)
 unfolding draft_step
@@ -279,7 +281,7 @@ clause_moves now t s (Some next) opens = opens
 continued_moves : (now : ℤ) (t : Lexeme) (s : State) → MovesTo t.kind (continued now t s)
 continued_moves now t s =
     moves_to_if t.kind (may_end s.place && is_end t.kind) (ended now t.kind s) (clause_or now t s (next_clause s.place t))
-    (λ e. ended_moves t.kind s (statement_said s.start now s.draft) (and_parts (may_end s.place) (is_end t.kind) e).1)
+    (λ e. ended_moves t.kind s (statement_said s.start now (parts s.draft)) (and_parts (may_end s.place) (is_end t.kind) e).1)
     (clause_moves now t s (next_clause s.place t) (next_opens s.place t))
 
 placed_moves : (p : Place) (now : ℤ) (t : Lexeme) (s : State) → MovesTo t.kind (placed_at p now t s)

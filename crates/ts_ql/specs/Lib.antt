@@ -13,3 +13,7 @@ pub mod Statements
 pub mod Tokenizing
 pub mod Reading
 pub mod FaultText
+pub mod Grammar
+pub mod Meanings
+pub mod Spelling
+pub mod Laws

@@ -1,7 +1,9 @@
 //! Texts of statements.
-ghost use Rattle.std.specs.Prelude.{◌≡◌, ◌&&◌};
-ghost use Rattle.ts_ql.specs.Faults.{Gives};
+ghost use Rattle.std.specs.Prelude.{◌≡◌, ◌&&◌, List, Ok, Err};
+ghost use Rattle.ts_ql.specs.Faults.{Fault, Gives};
+ghost use Rattle.ts_ql.specs.Laws.{TextSays, TextFault, Tells};
 ghost use Rattle.ts_ql.specs.Reading.{next_clause, may_end, is_end, state, start_state, Leaves, begun, ended, step, queries_of};
+ghost use Rattle.ts_ql.specs.Selects.{Select};
 ghost use Rattle.ts_ql.specs.Tokens.{lexeme};
 
 use crate::fault::{ParseError, QlFault};
@@ -140,10 +142,8 @@ impl<A: Allocator + Copy> Reader<A> {
     }
 }
 
-/// Reads a text of InfluxQL: its statements as queries, or its first fault.
-/// Times are in nanoseconds of the Unix epoch; `now` is the moment that `now()` tells.
-#[tactic(auto)]
-pub fn parse<A: Allocator + Copy>(
+/// Reads a text token by token.
+fn read<A: Allocator + Copy>(
     alloc: A,
     text: &str,
     now: Time,
@@ -164,4 +164,18 @@ pub fn parse<A: Allocator + Copy>(
         at = token.end;
     }
     Err(ParseError::Fault(QlFault::Syntax(text.len())))
+}
+
+/// Reads a text of InfluxQL: its statements as queries, or its first fault.
+/// Times are in nanoseconds of the Unix epoch; `now` is the moment that `now()` tells.
+pub fn parse<A: Allocator + Copy>(
+    alloc: A,
+    text: &str,
+    now: Time,
+) -> Result<Vec<Query<A>, A>, ParseError<'_>>
+    ensures tells { Tells (λ v. v.items) now text.now result }
+    ensures queries { (queries : List Select) → TextSays now text.now queries → Gives (λ v. v.items) result (Ok queries) }
+    ensures fault { (fault : Fault) → TextFault now text.now fault → Gives (λ v. v.items) result (Err fault) }
+{
+    read(alloc, text, now)
 }

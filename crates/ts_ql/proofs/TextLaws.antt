@@ -1,0 +1,63 @@
+-- What the machine reads of a text is what the text says by the grammar, or its first fault.
+use Rattle.std.proofs.Common.{◌≡◌, ℕ, ℤ, ◌≤◌, List, length, nat_lt, Bool, true, false, Result, Ok, Err, refl, sym, ap, ◌∙◌, subst}
+use Rattle.std.proofs.lemmas.Bool.{ltb-false}
+use Rattle.ts_core.specs.Facts.{Text}
+use Rattle.ts_ql.specs.declared.fault.ParseError.{ParseError}
+use Rattle.ts_ql.specs.declared.fault.ParseError.TheVariants as errors
+use Rattle.ts_ql.specs.Faults.{Fault, Syntax, told, Gives}
+use Rattle.ts_ql.specs.Laws.{Says, SaysUnless, IsFaultIf, TextSays, TextFault, Tells}
+use Rattle.ts_ql.specs.Reading.{queries_of}
+use Rattle.ts_ql.specs.Selects.{Select}
+use Rattle.ts_ql.specs.Tokenizing.{tokens_of}
+use Rattle.ts_ql.proofs.GrammarLaws.{says, says_only, first_fault, fault_only}
+use Rattle.ts_ql.proofs.RunLemmas.{reads_ok, reads_err, runs_ok, runs_err}
+
+short : (n : ℕ) → nat_lt 65536 n ≡ false → n ≤ 65536
+short n e = ltb-false 65536 n e
+
+-- a text that is too long
+long_fault : (now : ℤ) (text : Text) → nat_lt 65536 (length text) ≡ true → queries_of now text ≡ Err (Syntax 65536)
+unfolding queries_of
+long_fault now text e = rw e refl
+
+text_says_by : (now : ℤ) (text : Text) (queries : List Select) → queries_of now text ≡ Ok queries → (b : Bool) → nat_lt 65536 (length text) ≡ b → SaysUnless b now text queries
+text_says_by now text queries e true long = let fault : queries_of now text ≡ Err (Syntax 65536) = long_fault now text long in absurd cc
+text_says_by now text queries e false is =
+    let w = reads_ok now text queries (short (length text) is) e in
+    subst (λ (qs : List Select). Says now (tokens_of text) qs) (w.2) (says now w.0 (tokens_of text) w.1 w.3)
+
+text_says : (now : ℤ) (text : Text) (queries : List Select) → queries_of now text ≡ Ok queries → TextSays now text queries
+text_says now text queries e = text_says_by now text queries e (nat_lt 65536 (length text)) refl
+
+text_fault_by : (now : ℤ) (text : Text) (f : Fault) → queries_of now text ≡ Err f → (b : Bool) → nat_lt 65536 (length text) ≡ b → IsFaultIf b now text f
+text_fault_by now text f e true long = let fault : queries_of now text ≡ Err (Syntax 65536) = long_fault now text long in cc
+text_fault_by now text f e false is = first_fault now (tokens_of text) f (reads_err now text f (short (length text) is) e)
+
+text_fault : (now : ℤ) (text : Text) (f : Fault) → queries_of now text ≡ Err f → TextFault now text f
+text_fault now text f e = text_fault_by now text f e (nat_lt 65536 (length text)) refl
+
+says_text_by : (now : ℤ) (text : Text) (queries : List Select) (b : Bool) → nat_lt 65536 (length text) ≡ b → SaysUnless b now text queries → queries_of now text ≡ Ok queries
+says_text_by now text queries true long w = absurd w
+says_text_by now text queries false is w =
+    let m = says_only now (tokens_of text) queries w in runs_ok now text m.0 (short (length text) is) m.1 ∙ ap Ok m.2
+
+fault_text_by : (now : ℤ) (text : Text) (f : Fault) (b : Bool) → nat_lt 65536 (length text) ≡ b → IsFaultIf b now text f → queries_of now text ≡ Err f
+fault_text_by now text f true long w = long_fault now text long ∙ ap Err (sym w)
+fault_text_by now text f false is w = runs_err now text f (short (length text) is) (fault_only now (tokens_of text) f w)
+
+-- ---- the same of what was returned
+
+pub tells : {X : Type 0} (view : X → List Select) (now : ℤ) (text : Text) (r : Result X ParseError) → Gives view r (queries_of now text) → Tells view now text r
+tells {X} view now text (Ok x) e = text_says now text (view x) e
+tells {X} view now text (Err errors.Memory) e = tt
+tells {X} view now text (Err (errors.Fault f)) e = text_fault now text (told f) e
+
+pub says_text : {X : Type 0} (view : X → List Select) (now : ℤ) (text : Text) (r : Result X ParseError) (queries : List Select)
+    → Gives view r (queries_of now text) → TextSays now text queries → Gives view r (Ok queries)
+says_text {X} view now text r queries e w =
+    subst (λ (said : Result (List Select) Fault). Gives view r said) (says_text_by now text queries (nat_lt 65536 (length text)) refl w) e
+
+pub fault_text : {X : Type 0} (view : X → List Select) (now : ℤ) (text : Text) (r : Result X ParseError) (f : Fault)
+    → Gives view r (queries_of now text) → TextFault now text f → Gives view r (Err f)
+fault_text {X} view now text r f e w =
+    subst (λ (said : Result (List Select) Fault). Gives view r said) (fault_text_by now text f (nat_lt 65536 (length text)) refl w) e

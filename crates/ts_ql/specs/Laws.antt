@@ -1,0 +1,93 @@
+-- What the tokens of a text say: its queries, or its first fault.
+-- (InfluxData 1.8, InfluxQL reference: queries. Own rule: the first fault, with the tokens before it the beginning of a text.)
+use Rattle.std.specs.Prelude.{◌≡◌, ◌⊎◌, ℤ, List, [], ◌∷◌, ◌++◌, length, map, nat_lt, Bool, true, false, Some, None, Result, Ok, Err, ⊤}
+use Rattle.ts_core.specs.Facts.{Text}
+use Rattle.ts_ql.specs.declared.fault.ParseError.{ParseError}
+use Rattle.ts_ql.specs.declared.fault.ParseError.TheVariants as errors
+use Rattle.ts_ql.specs.Faults.{Fault, Syntax, told, unexpected}
+use Rattle.ts_ql.specs.Grammar.{Item, Any, This, Examine, Is, Script}
+use Rattle.ts_ql.specs.Meanings.{sayings}
+use Rattle.ts_ql.specs.Selects.{Select}
+use Rattle.ts_ql.specs.Spelling.{spell}
+use Rattle.ts_ql.specs.Tokenizing.{tokens_of}
+use Rattle.ts_ql.specs.Tokens.{Lexeme}
+
+-- tokens can be found for the spelling
+abbrev pub CanBeWritten : List Item → Type 0
+CanBeWritten [] = ⊤
+CanBeWritten (Any sort ∷ rest) = ((t : Lexeme) × Is sort t) × CanBeWritten rest
+CanBeWritten (This sort l ∷ rest) = Is sort l × CanBeWritten rest
+CanBeWritten (Examine fault ∷ rest) = CanBeWritten rest
+
+-- how far tokens go in a spelling
+pub data Reach : Type 0 where
+  -- more must follow, and can
+  Within : Reach
+  -- to its end
+  Whole : Reach
+  -- to a fault of what they say
+  At : Fault → Reach
+
+-- the tokens are those of the spelling, one by one, and nothing that they say is at fault
+abbrev pub Reads : List Item → List Lexeme → Reach → Type 0
+Reads [] [] reach = reach ≡ Whole
+Reads [] (t ∷ ts) reach = ⊥
+Reads (Any sort ∷ rest) [] reach = (reach ≡ Within) × CanBeWritten (Any sort ∷ rest)
+Reads (Any sort ∷ rest) (t ∷ ts) reach = Is sort t × Reads rest ts reach
+Reads (This sort l ∷ rest) [] reach = (reach ≡ Within) × CanBeWritten (This sort l ∷ rest)
+Reads (This sort l ∷ rest) (t ∷ ts) reach = (t ≡ l) × Is sort t × Reads rest ts reach
+Reads (Examine None ∷ rest) ts reach = Reads rest ts reach
+Reads (Examine (Some fault) ∷ rest) [] reach = reach ≡ At fault
+Reads (Examine (Some fault) ∷ rest) (t ∷ ts) reach = ⊥
+
+-- some tree spells the tokens, and its statements say these queries
+abbrev pub Says : ℤ → List Lexeme → List Select → Type 0
+Says now ts queries = (script : Script) × Reads (spell now script) ts Whole × (sayings now script ≡ map Ok queries)
+
+-- some text begins with the tokens, and nothing that they say is at fault
+abbrev pub MayBecome : ℤ → List Lexeme → Type 0
+MayBecome now ts = (script : Script) × (Reads (spell now script) ts Within ⊎ Reads (spell now script) ts Whole)
+
+-- some tree begins with the tokens before that one, or with these and that one, and then what has been read is at fault
+abbrev pub HasFault : ℤ → List Lexeme → Lexeme → Fault → Type 0
+HasFault now before token fault =
+    (script : Script) × (Reads (spell now script) before (At fault) ⊎ Reads (spell now script) (before ++ token ∷ []) (At fault))
+
+-- the first fault: the tokens before some token may go on to be a text, and with that token they may not; the fault is what was examined
+-- there, if that is at fault, or else that no text goes on so
+pub record IsFirstFault (now : ℤ) (ts : List Lexeme) (fault : Fault) : Type 0 where
+  pub before : List Lexeme
+  pub token : Lexeme
+  pub behind : List Lexeme
+  pub parts : ts ≡ before ++ token ∷ behind
+  pub begins : MayBecome now before
+  pub ends : MayBecome now (before ++ token ∷ []) → ⊥
+  pub examined : (other : Fault) → HasFault now before token other → fault ≡ other
+  pub known : HasFault now before token fault ⊎ (fault ≡ unexpected token)
+
+-- ---- texts: of 65,536 bytes at most
+
+abbrev pub SaysUnless : Bool → ℤ → Text → List Select → Type 0
+SaysUnless true now text queries = ⊥
+SaysUnless false now text queries = Says now (tokens_of text) queries
+
+abbrev pub IsFaultIf : Bool → ℤ → Text → Fault → Type 0
+IsFaultIf true now text fault = fault ≡ Syntax 65536
+IsFaultIf false now text fault = IsFirstFault now (tokens_of text) fault
+
+-- the text says these queries, at this moment
+abbrev pub TextSays : ℤ → Text → List Select → Type 0
+TextSays now text queries = SaysUnless (nat_lt 65536 (length text)) now text queries
+
+-- the first fault of the text
+abbrev pub TextFault : ℤ → Text → Fault → Type 0
+TextFault now text fault = IsFaultIf (nat_lt 65536 (length text)) now text fault
+
+abbrev pub Explained : ℤ → Text → ParseError → Type 0
+Explained now text errors.Memory = ⊤
+Explained now text (errors.Fault fault) = TextFault now text (told fault)
+
+-- what was returned, seen by `view`, is what the text says or its first fault, unless memory ran out
+abbrev pub Tells : {X : Type 0} → (X → List Select) → ℤ → Text → Result X ParseError → Type 0
+Tells view now text (Ok x) = TextSays now text (view x)
+Tells view now text (Err e) = Explained now text e

@@ -1,0 +1,175 @@
+-- What trees mean.
+-- (InfluxData 1.8, InfluxQL: SELECT, AS, FROM, WHERE, time syntax, GROUP BY time intervals and tags, fill(). Own rule: sums are exact.)
+use Rattle.std.specs.Prelude.{ℕ, ℤ, pos, ◌+ℤ◌, ◌-ℤ◌, List, [], ◌∷◌, ◌++◌, Bool, true, false, Option, Some, None, Result}
+use Rattle.std.specs.Option.{unwrap_or}
+use Rattle.ts_core.specs.Facts.{Text}
+use Rattle.ts_core.specs.Queries.{Condition}
+use Rattle.ts_core.specs.declared.fill.Fill.{Fill}
+use Rattle.ts_core.specs.declared.fill.Fill.TheVariants as fills
+use Rattle.ts_core.specs.declared.value.Function.{Function}
+use Rattle.ts_core.specs.declared.value.Function.TheVariants as functions
+use Rattle.ts_ql.specs.declared.moment.Range.{Range}
+use Rattle.ts_ql.specs.Dates.{moment_told}
+use Rattle.ts_ql.specs.Faults.{Fault}
+use Rattle.ts_ql.specs.Grammar.{Aggregate, Source, Measurement, Subquery, Base, Number, Negative, Quoted, Now, Change, Instant, Cond, Compare, Match, Group, And, Signed, Dimension, Every, ByTag, GroupBy, FillOption, NullOption, NoneOption, PreviousOption, NumberOption, Statement, Ending, Stop, Close, Next, Script}
+use Rattle.ts_ql.specs.GroupSteps.{with_text, of_interval, moved}
+use Rattle.ts_ql.specs.Literals.{literal, unescaped}
+use Rattle.ts_ql.specs.MomentSteps.{bounded, unbounded}
+use Rattle.ts_ql.specs.Selects.{Column, Select, Buckets, function_name}
+use Rattle.ts_ql.specs.Statements.{Parts, statement_said}
+use Rattle.ts_ql.specs.Tokens.{Lexeme}
+use Rattle.ts_ql.specs.Words.{function_called}
+
+abbrev pub named : Lexeme → Text
+named l = unescaped l.text
+
+-- nothing has been said
+abbrev pub no_parts : Parts
+no_parts = record { columns = []; field = None; measurement = []; conditions = []; range = unbounded; buckets = None; tags = []; fill = fills.Null }
+
+-- ---- SELECT and FROM
+
+abbrev pub function_of : Lexeme → Function
+function_of l = unwrap_or (function_called l.text) functions.Count
+
+-- a column has the name of AS, or its function's
+abbrev pub column_of : Function → Option Lexeme → Column
+column_of f None = record { function = f; name = function_name f }
+column_of f (Some alias) = record { function = f; name = named alias }
+
+-- the field of all functions is that of the first
+abbrev pub field_after : Option Text → Lexeme → Option Text
+field_after None l = Some (named l)
+field_after (Some field) l = Some field
+
+abbrev pub after_aggregate : Parts → Aggregate → Parts
+after_aggregate p a = record p { field = field_after p.field a.field; columns = p.columns ++ column_of (function_of a.function) a.alias ∷ [] }
+
+abbrev pub after_aggregates : Parts → List Aggregate → Parts
+after_aggregates p [] = p
+after_aggregates p (a ∷ more) = after_aggregates (after_aggregate p a) more
+
+abbrev pub measured : Source → Text
+measured (Measurement l) = named l
+measured (Subquery l) = []
+
+abbrev pub after_source : Parts → Source → Parts
+after_source p source = record p { measurement = measured source }
+
+-- ---- moments
+
+-- where a moment begins
+abbrev pub base_start : Base → ℕ
+base_start (Number m l) = l.start
+base_start (Negative minus m l) = minus.start
+base_start (Quoted l) = l.start
+base_start (Now l) = l.start
+
+abbrev pub base_value : ℤ → Base → Option ℤ
+base_value now (Number m l) = literal false l.text
+base_value now (Negative minus m l) = literal true l.text
+base_value now (Quoted l) = moment_told l.text
+base_value now (Now l) = Some now
+
+abbrev pub changed_by : Bool → ℤ → ℤ → ℤ
+changed_by true total value = total -ℤ value
+changed_by false total value = total +ℤ value
+
+abbrev pub changed : ℤ → Change → ℤ
+changed total c = changed_by c.less total (unwrap_or (literal false c.by.text) (pos 0))
+
+abbrev pub changed_all : ℤ → List Change → ℤ
+changed_all total [] = total
+changed_all total (c ∷ cs) = changed_all (changed total c) cs
+
+-- nanoseconds of the Unix epoch
+abbrev pub told_by : ℤ → Instant → ℤ
+told_by now i = changed_all (unwrap_or (base_value now i.base) (pos 0)) i.changes
+
+-- ---- WHERE: conditions hold all together, so parentheses mean nothing
+
+abbrev pub conditions_after : List Condition → Cond → List Condition
+conditions_after before (Compare l c i) = before
+conditions_after before (Match tag cast differs value) = before ++ record { tag = named tag; value = named value; differs = differs } ∷ []
+conditions_after before (Group opener c) = conditions_after before c
+conditions_after before (And a b) = conditions_after (conditions_after before a) b
+
+-- the greatest lower bound and the least upper one
+abbrev pub range_after : ℤ → Range → Cond → Range
+range_after now r (Compare l c i) = bounded c (told_by now i) r
+range_after now r (Match tag cast differs value) = r
+range_after now r (Group opener c) = range_after now r c
+range_after now r (And a b) = range_after now (range_after now r a) b
+
+abbrev pub after_cond : ℤ → Parts → Cond → Parts
+after_cond now p c = record p { conditions = conditions_after p.conditions c; range = range_after now p.range c }
+
+abbrev pub after_filter : ℤ → Parts → Option Cond → Parts
+after_filter now p None = p
+after_filter now p (Some c) = after_cond now p c
+
+-- ---- GROUP BY and FILL
+
+abbrev pub start_or : Option Lexeme → Lexeme → ℕ
+start_or None l = l.start
+start_or (Some minus) l = minus.start
+
+abbrev pub value_behind : Option Lexeme → Lexeme → Option ℤ
+value_behind None l = literal false l.text
+value_behind (Some minus) l = literal true l.text
+
+abbrev pub signed_start : Signed → ℕ
+signed_start s = start_or s.minus s.number
+
+abbrev pub signed_value : Signed → Option ℤ
+signed_value s = value_behind s.minus s.number
+
+abbrev pub buckets_of : Option ℤ → Option Buckets
+buckets_of None = None
+buckets_of (Some interval) = of_interval interval
+
+abbrev pub offset_by : Option Buckets → Option Signed → Option Buckets
+offset_by b None = b
+offset_by b (Some s) = moved (unwrap_or (signed_value s) (pos 0)) b
+
+-- tags stand in byte order, each once
+abbrev pub after_dimension : Parts → Dimension → Parts
+after_dimension p (Every time interval offset) = record p { buckets = offset_by (buckets_of (literal false interval.text)) offset }
+after_dimension p (ByTag tag cast) = record p { tags = with_text (named tag) p.tags }
+
+abbrev pub after_dimensions : Parts → List Dimension → Parts
+after_dimensions p [] = p
+after_dimensions p (d ∷ ds) = after_dimensions (after_dimension p d) ds
+
+abbrev pub after_group : Parts → Option GroupBy → Parts
+after_group p None = p
+after_group p (Some g) = after_dimensions (after_dimension p g.first) g.more
+
+abbrev pub fill_of : FillOption → Fill
+fill_of NullOption = fills.Null
+fill_of NoneOption = fills.None
+fill_of PreviousOption = fills.Previous
+fill_of (NumberOption s) = fills.Number (unwrap_or (signed_value s) (pos 0))
+
+abbrev pub after_fill : Parts → Option FillOption → Parts
+after_fill p None = p
+after_fill p (Some option) = record p { fill = fill_of option }
+
+-- ---- statements
+
+abbrev pub parts_of : ℤ → Statement → Parts
+parts_of now s =
+    after_fill (after_group (after_filter now (after_source (after_aggregates (after_aggregate no_parts s.first) s.more) s.source) s.filter) s.group) s.fill
+
+-- the query of a statement, or what is wrong with the whole of it
+abbrev pub said : ℤ → Statement → Result Select Fault
+said now s = statement_said s.select.start now (parts_of now s)
+
+-- what a statement of these parts says, and those behind it
+abbrev pub said_all : ℤ → ℕ → Parts → Ending → List (Result Select Fault)
+said_all now start p Stop = statement_said start now p ∷ []
+said_all now start p Close = statement_said start now p ∷ []
+said_all now start p (Next s rest) = statement_said start now p ∷ said_all now s.select.start (parts_of now s) rest
+
+abbrev pub sayings : ℤ → Script → List (Result Select Fault)
+sayings now script = said_all now script.first.select.start (parts_of now script.first) script.rest
