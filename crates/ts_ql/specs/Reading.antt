@@ -1,4 +1,4 @@
--- What a text says: its statements, token by token.
+-- The machine that reads a text token by token: what each token does at each place. What a text says by the grammar is in Laws.
 -- (InfluxData 1.8, InfluxQL: the basic SELECT statement, several statements. Own rule: at most 65,536 bytes and 16 statements.)
 use Rattle.std.specs.Prelude.{◌≡◌, ◌&&◌, ℕ, zero, suc, ℤ, ◌+◌, List, [], ◌∷◌, ◌++◌, length, Bool, true, false, ◌==◌, nat_lt, nat_le, Option, Some, None, Result, Ok, Err, if◌then◌else◌, codes}
 use Rattle.ts_core.specs.Facts.{Text}

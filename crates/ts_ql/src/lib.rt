@@ -1,8 +1,7 @@
 //! The query reader: a text of InfluxQL is its queries, or its first fault.
-//! It stands on ts_core alone, and on jiff for the calendar. `parse` is proved to give exactly what
-//! `queries_of` (specs/Reading) says of the text's bytes: tokens by their places, what each token means
-//! at each place of the grammar, and the checks of a statement read whole. That this is the grammar of
-//! the profile, in both directions, and that a fault is the first, is not stated apart from it yet.
+//! It stands on ts_core alone, and on jiff for the calendar. `parse` is proved to answer what the text says
+//! by the grammar of trees (specs/Grammar, Spelling, Meanings), or its first fault (specs/Laws), both ways.
+//! Within it is a machine over tokens (specs/Reading): a place in the grammar and a draft of the statement.
 #![tactic(auto)]
 
 mod bytes;
