@@ -13,13 +13,14 @@ use Rattle.ts_ql.specs.Faults.{Fault}
 use Rattle.ts_ql.specs.Grammar.{Keyword, Word, Name, Of, Item, Any, This, Examine, FieldType, Aggregate, Source, Measure, Duration, Change, Instant, Cond, Signed, Dimension, GroupBy, FillOption, Statement, Ending}
 use Rattle.ts_ql.specs.GroupSteps.{moved}
 use Rattle.ts_ql.specs.Literals.{literal}
-use Rattle.ts_ql.specs.Meanings.{named, field_after, column_of, after_aggregate, after_aggregates, after_source, changed, changed_all, told_by, after_cond, after_filter, buckets_of, offset_by, after_dimension, after_dimensions, after_group, fill_of, after_fill, parts_of, said_all}
+use Rattle.ts_ql.specs.Meanings.{field_after, column_of, after_aggregate, after_aggregates, after_source, changed, changed_all, told_by, after_cond, after_filter, buckets_of, offset_by, after_dimension, after_dimensions, after_group, fill_of, after_fill, parts_of, said_all}
 use Rattle.ts_ql.specs.MomentSteps.{bounded}
 use Rattle.ts_ql.specs.Reading.{State}
 use Rattle.ts_ql.specs.Selects.{Select, Buckets}
 use Rattle.ts_ql.specs.Spelling.{field_fault, literal_fault, interval_fault, change_fault, type_word, spell_type, spell_alias, spell_aggregate, spell_aggregates, spell_source, kind_of_measure, spell_changes, spell_instant, kind_of_comparison, spell_tag_type, equality, spell_cond, spell_filter, spell_signed, spell_offset, spell_dimension, spell_dimensions, spell_group, spell_option, spell_fill, spell_statement, spell_ending}
 use Rattle.ts_ql.specs.Statements.{Parts, parts, empty_draft}
 use Rattle.ts_ql.specs.Tokens.{Lexeme}
+use Rattle.ts_ql.specs.Words.{named}
 
 -- ---- the rests of a statement: after its groups, its conditions, its source, and an aggregate
 

@@ -13,14 +13,14 @@ use Rattle.ts_ql.specs.Faults.{unexpected, left_out}
 use Rattle.ts_ql.specs.Grammar.{Examine, Aggregate, FieldType, Field, Integer, Source, Measurement, Subquery, Stop, is_name}
 use Rattle.ts_ql.specs.Laws.{Reach, Reads}
 use Rattle.ts_ql.specs.Literals.{is_word}
-use Rattle.ts_ql.specs.Meanings.{named, function_of, field_after, after_source}
+use Rattle.ts_ql.specs.Meanings.{function_of, field_after, after_source}
 use Rattle.ts_ql.specs.Reading.{State, Step, with_draft, in_selection}
 use Rattle.ts_ql.specs.SelectSteps.{Selecting, select_at, with_function, with_default}
 use Rattle.ts_ql.specs.SelectSteps as steps
 use Rattle.ts_ql.specs.Spelling.{function_fault, function_fault_at, known_function, field_fault}
 use Rattle.ts_ql.specs.Statements.{parts}
 use Rattle.ts_ql.specs.Tokens.{Lexeme}
-use Rattle.ts_ql.specs.Words.{function_called}
+use Rattle.ts_ql.specs.Words.{function_called, named}
 use Rattle.ts_ql.proofs.Rests.{Rest, SelectTail, ClosedTail, FilterTail, left_at, left_filter, said_at}
 use Rattle.ts_ql.proofs.Steps.{at, Answer, Leads, passes, fails, passed, failed, carried}
 use Rattle.ts_ql.proofs.WordLemmas.{another_word}

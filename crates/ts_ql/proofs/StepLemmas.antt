@@ -20,12 +20,12 @@ use Rattle.ts_ql.specs.declared.place.Clause.{Clause}
 use Rattle.ts_ql.specs.declared.place.Clause.TheVariants as clauses
 use Rattle.ts_ql.specs.Reading.{Drafting, settle_step, in_selection, in_filter, in_moment, in_groups, in_filling, clause_of, draft_at, draft_step, group_alone, fill_alone, clause_at, next_clause, is_end, may_end, State, Step, begun_at, begun, after_end, ended_with, ended, with_draft, clause_or, continued, placed_at, after_settling, step, is_done}
 use Rattle.ts_ql.specs.Selects.{Buckets, Select}
-use Rattle.ts_ql.specs.SelectSteps.{Selected, select_at, select_step, with_function, with_field, name_of, with_default}
+use Rattle.ts_ql.specs.SelectSteps.{Selected, select_at, select_step, with_function, with_field, with_default}
 use Rattle.ts_ql.specs.Statements.{Drafted, parts, statement_said}
 use Rattle.ts_ql.specs.Tokenizing.{is_end_of_text}
 use Rattle.ts_ql.specs.Tokens.{Lexeme}
 use Rattle.ts_ql.specs.WhereSteps.{Filtered, where_at, where_step, term_at, after_term}
-use Rattle.ts_ql.specs.Words.{function_called, is_time}
+use Rattle.ts_ql.specs.Words.{function_called, is_time, named}
 
 -- ---- within a statement
 
@@ -44,7 +44,7 @@ function_moves t s (Some f) = refl
 
 field_moves : (k : Kind) (t : Lexeme) (s : Selected) (o : Option Text) → is_end_of_text k ≡ false → Moves k (with_field t s o)
 field_moves k t s None other = sym other
-field_moves k t s (Some field) other = moves_if k (bytes_eq field (name_of t)) (Ok (places.FieldEnd, s)) (Err (left_out t)) (sym other) tt
+field_moves k t s (Some field) other = moves_if k (bytes_eq field (named t)) (Ok (places.FieldEnd, s)) (Err (left_out t)) (sym other) tt
 
 select_moves : (p : Place) (k : Kind) (t : Lexeme) (s : Selected) → Moves k (select_at p k t s)
 select_moves places.Function kinds.Word t s = function_moves t s (function_called t.text)

@@ -12,14 +12,14 @@ use Rattle.ts_ql.specs.Faults.{Fault, unexpected, left_out}
 use Rattle.ts_ql.specs.Grammar.{Of, Item, Any, This, Examine, Instant, Cond, Compare, Match, Group, And, Stop, is_name}
 use Rattle.ts_ql.specs.Laws.{Reach, Reads}
 use Rattle.ts_ql.specs.Literals.{is_word, unescaped}
-use Rattle.ts_ql.specs.Meanings.{named, after_cond}
+use Rattle.ts_ql.specs.Meanings.{after_cond}
 use Rattle.ts_ql.specs.Reading.{State, Step, with_draft, in_filter}
 use Rattle.ts_ql.specs.Selects.{Select}
 use Rattle.ts_ql.specs.Spelling.{spell_cond, spell_tag_type, depth_fault, equality}
 use Rattle.ts_ql.specs.Statements.{Drafted, Parts, parts}
 use Rattle.ts_ql.specs.Tokens.{Lexeme}
 use Rattle.ts_ql.specs.WhereSteps.{Filtered, Filtering, with_condition, term_at, where_at, after_term}
-use Rattle.ts_ql.specs.Words.{is_time}
+use Rattle.ts_ql.specs.Words.{is_time, named}
 use Rattle.ts_ql.proofs.Rests.{Closing, Outside, Inside, GroupTail, levels, after_conds, spell_conds, Rest, left, left_at, left_closing, with_match, said_closing, all_said, SoundAt, Suits, SuitsAt}
 use Rattle.ts_ql.proofs.Steps.{at, Answer, Leads, passes, fails, passed, failed}
 

@@ -13,15 +13,12 @@ use Rattle.ts_ql.specs.Dates.{moment_told}
 use Rattle.ts_ql.specs.Faults.{Fault}
 use Rattle.ts_ql.specs.Grammar.{Aggregate, Source, Measurement, Subquery, Base, Number, Negative, Quoted, Now, Change, Instant, Cond, Compare, Match, Group, And, Signed, Dimension, Every, ByTag, GroupBy, FillOption, NullOption, NoneOption, PreviousOption, NumberOption, Statement, Ending, Stop, Close, Next, Script}
 use Rattle.ts_ql.specs.GroupSteps.{with_text, of_interval, moved}
-use Rattle.ts_ql.specs.Literals.{literal, unescaped}
+use Rattle.ts_ql.specs.Literals.{literal}
 use Rattle.ts_ql.specs.MomentSteps.{bounded, unbounded}
 use Rattle.ts_ql.specs.Selects.{Column, Select, Buckets, function_name}
 use Rattle.ts_ql.specs.Statements.{Parts, statement_said}
 use Rattle.ts_ql.specs.Tokens.{Lexeme}
-use Rattle.ts_ql.specs.Words.{function_called}
-
-abbrev pub named : Lexeme → Text
-named l = unescaped l.text
+use Rattle.ts_ql.specs.Words.{function_called, named}
 
 -- nothing has been said
 abbrev pub no_parts : Parts

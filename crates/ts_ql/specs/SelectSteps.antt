@@ -10,10 +10,10 @@ use Rattle.ts_ql.specs.declared.selection.Selection.{Selection}
 use Rattle.ts_ql.specs.declared.token.Kind.{Kind}
 use Rattle.ts_ql.specs.declared.token.Kind.TheVariants as kinds
 use Rattle.ts_ql.specs.Faults.{Fault, left_out, unexpected}
-use Rattle.ts_ql.specs.Literals.{is_word, unescaped}
+use Rattle.ts_ql.specs.Literals.{is_word}
 use Rattle.ts_ql.specs.Selects.{Column, function_name}
 use Rattle.ts_ql.specs.Tokens.{Lexeme}
-use Rattle.ts_ql.specs.Words.{function_called}
+use Rattle.ts_ql.specs.Words.{function_called, named}
 
 -- what has been read: the columns, the function of the column being read, the one field, and the measurement
 pub record Selected : Type 0 where
@@ -33,17 +33,14 @@ selected s = record {
 abbrev pub Selecting : Type 0
 Selecting = Result (Place × Selected) Fault
 
-abbrev pub name_of : Lexeme → Text
-name_of t = unescaped t.text
-
 abbrev pub with_function : Lexeme → Selected → Option Function → Selecting
 with_function t s None = Err (left_out t)
 with_function t s (Some f) = Ok (places.FunctionOpen, record s { function = f })
 
 -- all functions are of one field
 abbrev pub with_field : Lexeme → Selected → Option Text → Selecting
-with_field t s None = Ok (places.FieldEnd, record s { field = Some (name_of t) })
-with_field t s (Some field) = if bytes_eq field (name_of t) then Ok (places.FieldEnd, s) else Err (left_out t)
+with_field t s None = Ok (places.FieldEnd, record s { field = Some (named t) })
+with_field t s (Some field) = if bytes_eq field (named t) then Ok (places.FieldEnd, s) else Err (left_out t)
 
 -- the column that ends here, under that name
 abbrev pub with_column : Text → Selected → Selected
@@ -67,12 +64,12 @@ select_at places.AfterColumn kinds.Comma t s = Ok (places.Function, with_default
 select_at places.AfterColumn kinds.Keyword t s =
     if is_word (codes "from") t.text then Ok (places.Measurement, with_default s)
     else if is_word (codes "as") t.text then Ok (places.Alias, s) else Err (unexpected t)
-select_at places.Alias kinds.Word t s = Ok (places.AfterAlias, with_column (name_of t) s)
-select_at places.Alias kinds.QuotedName t s = Ok (places.AfterAlias, with_column (name_of t) s)
+select_at places.Alias kinds.Word t s = Ok (places.AfterAlias, with_column (named t) s)
+select_at places.Alias kinds.QuotedName t s = Ok (places.AfterAlias, with_column (named t) s)
 select_at places.AfterAlias kinds.Comma t s = Ok (places.Function, s)
 select_at places.AfterAlias kinds.Keyword t s = if is_word (codes "from") t.text then Ok (places.Measurement, s) else Err (unexpected t)
-select_at places.Measurement kinds.Word t s = Ok (places.AfterMeasurement, record s { measurement = name_of t })
-select_at places.Measurement kinds.QuotedName t s = Ok (places.AfterMeasurement, record s { measurement = name_of t })
+select_at places.Measurement kinds.Word t s = Ok (places.AfterMeasurement, record s { measurement = named t })
+select_at places.Measurement kinds.QuotedName t s = Ok (places.AfterMeasurement, record s { measurement = named t })
 select_at places.Measurement kinds.Open t s = Err (left_out t)
 select_at place kind t s = Err (unexpected t)
 

@@ -12,12 +12,12 @@ use Rattle.ts_ql.specs.declared.token.Kind.TheVariants as kinds
 use Rattle.ts_ql.specs.Faults.{Fault, OutOfRange, TooManyStatements, left_out, unexpected}
 use Rattle.ts_ql.specs.Grammar.{Keyword, Word, Name, Tag, Time, Of, Item, Any, This, Examine, FieldType, Field, Integer, Aggregate, Source, Measurement, Subquery, Measure, Count, Duration, Base, Number, Negative, Quoted, Now, Change, Instant, Cond, Compare, Match, Group, And, Signed, Dimension, Every, ByTag, GroupBy, FillOption, NullOption, NoneOption, PreviousOption, NumberOption, Statement, Ending, Stop, Close, Next, Script}
 use Rattle.ts_ql.specs.Literals.{literal}
-use Rattle.ts_ql.specs.Meanings.{named, no_parts, base_start, base_value, changed, after_aggregate, after_aggregates, after_source, after_filter, after_dimension, parts_of, signed_start, signed_value}
+use Rattle.ts_ql.specs.Meanings.{no_parts, base_start, base_value, changed, after_aggregate, after_aggregates, after_source, after_filter, after_dimension, parts_of, signed_start, signed_value}
 use Rattle.ts_ql.specs.MomentSteps.{is_sum}
 use Rattle.ts_ql.specs.Selects.{Select, Buckets}
 use Rattle.ts_ql.specs.Statements.{Parts, statement_said}
 use Rattle.ts_ql.specs.Tokens.{Lexeme}
-use Rattle.ts_ql.specs.Words.{function_called}
+use Rattle.ts_ql.specs.Words.{function_called, named}
 
 -- ---- what is examined
 
