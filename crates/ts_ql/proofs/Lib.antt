@@ -1,6 +1,7 @@
 pub mod LexingLemmas
 pub mod LiteralLemmas
 pub mod DateLemmas
+pub mod MagnitudeLaws
 pub mod GroupLemmas
 pub mod StatementLemmas
 pub mod ReadingLemmas

@@ -1,6 +1,6 @@
 -- What literals mean: numbers, durations, and texts in quotes.
 -- (InfluxData 1.8, InfluxQL reference, literals: integers, durations, strings. Own rule: the four escapes, and the ranges.)
-use Rattle.std.specs.Prelude.{ℕ, ℤ, pos, neg_ℤ, ◌+◌, ◌-◌, ◌*◌, [], ◌∷◌, List, Bool, true, false, nat_lt, nat_le, ◌||◌, ◌==◌, if◌then◌else◌, Option, Some, None, slice_index, encode_utf8_all}
+use Rattle.std.specs.Prelude.{◌≡◌, ◌<◌, ◌++◌, length, codes, ⊤, ℕ, ℤ, pos, neg_ℤ, ◌+◌, ◌-◌, ◌*◌, [], ◌∷◌, List, Bool, true, false, nat_lt, nat_le, ◌||◌, ◌==◌, if◌then◌else◌, Option, Some, None, slice_index, encode_utf8_all}
 use Rattle.std.specs.Char.{is_ascii_digit}
 use Rattle.std.specs.Str.{chars, str_eq_ignore_ascii_case}
 use Rattle.ts_core.specs.Facts.{Text}
@@ -28,6 +28,71 @@ added_up total number (b ∷ bs) =
 -- what an integer counts, or how many nanoseconds a duration has
 unfoldable pub magnitude : Text → ℕ
 magnitude text = added_up 0 0 text
+
+-- ---- the same as it is written: numbers with their units
+
+pub data Unit : Type 0 where
+  Nanosecond : Unit
+  -- written `u`, and `µ`
+  Microsecond : Unit
+  Micro : Unit
+  Millisecond : Unit
+  Second : Unit
+  Minute : Unit
+  Hour : Unit
+  Day : Unit
+  Week : Unit
+
+abbrev pub unit_text : Unit → Text
+unit_text Nanosecond = codes "ns"
+unit_text Microsecond = codes "u"
+unit_text Micro = 194 ∷ 181 ∷ []
+unit_text Millisecond = codes "ms"
+unit_text Second = codes "s"
+unit_text Minute = codes "m"
+unit_text Hour = codes "h"
+unit_text Day = codes "d"
+unit_text Week = codes "w"
+
+-- in nanoseconds
+abbrev pub unit_nanos : Unit → ℕ
+unit_nanos Nanosecond = 1
+unit_nanos Microsecond = 1000
+unit_nanos Micro = 1000
+unit_nanos Millisecond = 1000000
+unit_nanos Second = 1000000000
+unit_nanos Minute = 60000000000
+unit_nanos Hour = 3600000000000
+unit_nanos Day = 86400000000000
+unit_nanos Week = 604800000000000
+
+-- the number that digits write behind those of `n`
+abbrev pub number_of : ℕ → Text → ℕ
+number_of n [] = n
+number_of n (b ∷ bs) = number_of (n * 10 + (b - 48)) bs
+
+abbrev pub AreDigits : Text → Type 0
+AreDigits [] = ⊤
+AreDigits (b ∷ bs) = (is_ascii_digit b ≡ true) × AreDigits bs
+
+-- a digit or more, and a unit
+pub record Part : Type 0 where
+  pub digits : Text
+  pub unit : Unit
+
+abbrev pub AreParts : List Part → Type 0
+AreParts [] = ⊤
+AreParts (p ∷ ps) = AreDigits p.digits × (0 < length p.digits) × AreParts ps
+
+abbrev pub written : List Part → Text
+written [] = []
+written (p ∷ ps) = p.digits ++ (unit_text p.unit ++ written ps)
+
+abbrev pub counted : List Part → ℕ
+counted [] = 0
+counted (p ∷ ps) = number_of 0 p.digits * unit_nanos p.unit + counted ps
+
+-- ---- ranges
 
 abbrev pub within : ℕ → ℕ → Option ℕ
 within limit n = if nat_lt n limit then Some n else None

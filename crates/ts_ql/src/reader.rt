@@ -1,6 +1,8 @@
 //! Texts of statements.
 ghost use Rattle.std.specs.Prelude.{◌≡◌, ◌&&◌, List, Ok, Err};
 ghost use Rattle.ts_ql.specs.Faults.{Fault, Gives};
+ghost use Rattle.ts_core.specs.Facts.{Text};
+ghost use Rattle.ts_ql.specs.Literals.{magnitude, number_of, AreDigits, Part, AreParts, written, counted};
 ghost use Rattle.ts_ql.specs.Laws.{TextSays, TextFault, Tells};
 ghost use Rattle.ts_ql.specs.Reading.{next_clause, may_end, is_end, state, start_state, Leaves, begun, ended, step, queries_of};
 ghost use Rattle.ts_ql.specs.Selects.{Select};
@@ -176,6 +178,8 @@ pub fn parse<A: Allocator + Copy>(
     ensures tells { Tells (λ v. v.items) now text.now result }
     ensures queries { (queries : List Select) → TextSays now text.now queries → Gives (λ v. v.items) result (Ok queries) }
     ensures fault { (fault : Fault) → TextFault now text.now fault → Gives (λ v. v.items) result (Err fault) }
+    ensures durations { (ps : List Part) → AreParts ps → magnitude (written ps) ≡ counted ps }
+    ensures integers { (digits : Text) → AreDigits digits → magnitude digits ≡ number_of 0 digits }
 {
     read(alloc, text, now)
 }
