@@ -2,6 +2,7 @@
 use super::*;
 use linked_list_allocator::LocalHeap;
 use std::alloc::{AllocError, Allocator, Global};
+use std::process::Abort;
 use std::test::Fail;
 use ts_core::{Settings, Time};
 use ts_line::{Line, Precision, read_line};
@@ -18,12 +19,28 @@ const LINES: [(&str, u64, [u64; 4]); 4] = [
     ("n,b=2,a=1 f=1i,g=2i,h=3i 9", 4, [1, 0, 1, 1]),
 ];
 
+/// Points of one column: it has room for four, and then for eight.
+const POINTS: [&str; 8] = [
+    "m f=3i 5",
+    "m f=3i 6",
+    "m f=3i 7",
+    "m f=3i 8",
+    "m f=3i 9",
+    "m f=3i 10",
+    "m f=3i 11",
+    "m f=3i 12",
+];
+
+/// A point of that column which comes after all of them.
+const NEXT: &str = "m f=4i 99";
+
 /// What a write said, and what the store told then.
 #[derive(Drop)]
 struct Written {
     result: Result<(), WriteFault>,
     accepted: u64,
     live: u64,
+    held: u64,
     counts: Option<[u64; 4]>,
 }
 
@@ -44,6 +61,7 @@ fn write_told<A: Allocator + Copy>(store: &mut Store<A>, line: &Line<'_, A>) -> 
         result,
         accepted: store.accepted(),
         live: store.raw_points(),
+        held: store.held_points(),
         counts: counts(store),
     }
 }
@@ -79,18 +97,34 @@ fn read<'a>(heap: &'a LocalHeap, text: &'a str) -> Result<Line<'a, &'a LocalHeap
     Ok(read_line(heap, text, Precision::Nanoseconds, Time::least())?.ok_or("no line")?)
 }
 
-fn with_a_point(heap: &LocalHeap) -> Result<Store<&LocalHeap>, Fail> {
-    let mut store = Store::new(heap, Settings::open(heap));
+fn write_first<'a>(
+    heap: &'a LocalHeap,
+    store: &mut Store<&'a LocalHeap>,
+    text: &'a str,
+) -> Result<(), Fail> {
     store
-        .write(&read(heap, "m f=3i 5")?)
+        .write(&read(heap, text)?)
         .map_err(|_| "no memory at first")?;
+    Ok(())
+}
+
+fn with_points(heap: &LocalHeap, count: usize) -> Result<Store<&LocalHeap>, Fail> {
+    let mut store = Store::new(heap, Settings::open(heap));
+    for text in POINTS.into_iter().take(count) {
+        write_first(heap, &mut store, text)?;
+    }
     Ok(store)
 }
 
-/// The same on a new store that has a point.
-fn written_within(alloc: Global, text: &str, left: usize) -> Result<(Written, Written), Fail> {
+/// The same on a new store that has so many points.
+fn written_within(
+    alloc: Global,
+    count: usize,
+    text: &str,
+    left: usize,
+) -> Result<(Written, Written), Fail> {
     let heap = LocalHeap::new(alloc, HEAP)?;
-    let mut store = with_a_point(&heap)?;
+    let mut store = with_points(&heap, count)?;
     let line = read(&heap, text)?;
     Ok(write_twice(alloc, &heap, &mut store, &line, left)?)
 }
@@ -100,7 +134,7 @@ fn each_growth_is_refused_in_turn(rt: HostRuntime) -> Result<(), Fail> {
     for (text, accepted, then) in LINES {
         // one more block each time, until the write finds its memory
         for left in 0..HEAP / 16 {
-            let (short, again) = written_within(rt.alloc(), text, left)?;
+            let (short, again) = written_within(rt.alloc(), 1, text, left)?;
             if short.result.is_ok() {
                 assert!(rt; left > 0, "{text} had {left} blocks");
                 break;
@@ -114,6 +148,44 @@ fn each_growth_is_refused_in_turn(rt: HostRuntime) -> Result<(), Fail> {
             assert_eq!(rt; again.live, accepted, "{text} again");
             assert_eq!(rt; again.counts, Some(then), "{text} again");
         }
+    }
+    Ok(())
+}
+
+/// Looks whether a store of one column has so many points, and accepted no other.
+fn assert_points(rt: &impl Abort, told: &Written, count: u64) {
+    assert_eq!(rt; told.accepted, count);
+    assert_eq!(rt; told.live, count);
+    assert_eq!(rt; told.held, count);
+    assert_eq!(rt; told.counts, Some([count, 0, 0, 0]));
+}
+
+/// Writes the next point with one more block each time, and tells how many it takes.
+fn blocks_for_next(rt: &impl Abort, alloc: Global, count: usize) -> Result<usize, Fail> {
+    let before = count as u64;
+    for left in 0..HEAP / 16 {
+        let (short, again) = written_within(alloc, count, NEXT, left)?;
+        if short.result.is_ok() {
+            return Ok(left);
+        }
+        assert_eq!(rt; short.result, Err(WriteFault::OutOfMemory));
+        assert_points(rt, &short, before);
+        assert_eq!(rt; again.result, Ok(()));
+        assert_points(rt, &again, before.saturating_add(1));
+    }
+    Err("never enough")?
+}
+
+#[test]
+fn the_growth_of_a_full_column_is_refused(rt: HostRuntime) -> Result<(), Fail> {
+    // The last refusals are of the column's growth: where it has room the write takes fewer blocks.
+    for full in [4, 8] {
+        let with_room = blocks_for_next(&rt, rt.alloc(), full - 1)?;
+        let needed = blocks_for_next(&rt, rt.alloc(), full)?;
+        assert!(rt;
+            with_room < needed,
+            "{full} points: {with_room} blocks, {needed} blocks"
+        );
     }
     Ok(())
 }
