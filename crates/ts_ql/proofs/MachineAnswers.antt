@@ -19,12 +19,13 @@ use Rattle.ts_ql.specs.WhereSteps.{where_step}
 use Rattle.ts_ql.proofs.Rests.{Closing, left_closing, left_at, Sound, SoundAt}
 use Rattle.ts_ql.proofs.Steps.{at, Answer, passes, fails}
 use Rattle.ts_ql.proofs.ClauseRuns.{measurement_answers, term_answers, tag_answers, item_answers, filled_answers}
+use Rattle.ts_ql.proofs.Completions.{closing_of, closing_levels}
 use Rattle.ts_ql.proofs.EndRuns.{begun_answers}
 use Rattle.ts_ql.proofs.FillRuns.{fill_answers}
 use Rattle.ts_ql.proofs.GroupRuns.{group_answers}
 use Rattle.ts_ql.proofs.MomentRuns.{moment_answers, settles_back, unsettled_back}
 use Rattle.ts_ql.proofs.SelectRuns.{select_answers}
-use Rattle.ts_ql.proofs.WhereRuns.{nested, levels_nested, where_answers}
+use Rattle.ts_ql.proofs.WhereRuns.{where_answers}
 
 -- ---- a token after a moment's end
 
@@ -124,7 +125,7 @@ settle_answers : (now : ℤ) (s : State) (t : Lexeme) (o : Option Fault) → mom
     → Answer now (at places.AfterMoment s) t (after_settling now t (at places.AfterMoment s) (settled_in s.draft (settled s.draft.moment s.draft.range)))
 settle_answers now s t None valid = rw (settles_back s valid) (behind_answers now s t valid (s.draft.filter.depth == 0) refl)
 settle_answers now s t (Some f) invalid = rw ((unsettled_back s f invalid).0)
-    (inl (([], nested s.draft.filter.depth), sym (levels_nested s.draft.filter.depth), inl (fails (moment_fault s) _ f invalid)))
+    (inl (([], closing_of s.draft.filter.depth), closing_levels s.draft.filter.depth, inl (fails (moment_fault s) _ f invalid)))
 
 moment_end_answers : (now : ℤ) (s : State) (k : Kind) (t : Lexeme) → t.kind ≡ k
     → Answer now (at places.AfterMoment s) t (after_settling now t (at places.AfterMoment s) (settle_at places.AfterMoment k s.draft))

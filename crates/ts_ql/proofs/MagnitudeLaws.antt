@@ -18,9 +18,9 @@ first_not_s [] rest w some = absurd (omega (arith, some))
 first_not_s (b ∷ bs) rest w some = digit_not_s b w.0
 
 -- no parts begin with an s
-next_byte : (ps : List Part) → AreParts ps → (slice_index (written ps) 0 == 115) ≡ false
-next_byte [] w = refl
-next_byte (p ∷ ps) w = first_not_s p.digits (unit_text p.unit ++ written ps) w.0 w.1
+no_s_first : (ps : List Part) → AreParts ps → (slice_index (written ps) 0 == 115) ≡ false
+no_s_first [] w = refl
+no_s_first (p ∷ ps) w = first_not_s p.digits (unit_text p.unit ++ written ps) w.0 w.1
 
 plus_zero : (x : ℕ) → x + 0 ≡ x
 plus_zero x = omega arith
@@ -40,7 +40,7 @@ unit_added total n Week rest e = refl
 parts_added : (total : ℕ) (ps : List Part) → AreParts ps → added_up total 0 (written ps) ≡ total + counted ps
 parts_added total [] w = refl
 parts_added total (p ∷ ps) w =
-    digits_added total 0 p.digits (unit_text p.unit ++ written ps) w.0 ∙ unit_added total (number_of 0 p.digits) p.unit (written ps) (next_byte ps w.2)
+    digits_added total 0 p.digits (unit_text p.unit ++ written ps) w.0 ∙ unit_added total (number_of 0 p.digits) p.unit (written ps) (no_s_first ps w.2)
     ∙ parts_added (total + number_of 0 p.digits * unit_nanos p.unit) ps w.2 ∙ omega arith
 
 pub duration_counts : (ps : List Part) → AreParts ps → magnitude (written ps) ≡ counted ps

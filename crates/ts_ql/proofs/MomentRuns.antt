@@ -21,6 +21,7 @@ use Rattle.ts_ql.specs.MomentSteps.{Timing, moment_at, based, is_sum, later_by, 
 use Rattle.ts_ql.specs.Reading.{State, Step, with_draft, in_moment}
 use Rattle.ts_ql.specs.Spelling.{literal_fault, change_fault_of, change_fault, time_fault, kind_of_measure, kind_of_comparison}
 use Rattle.ts_ql.specs.Tokens.{Lexeme}
+use Rattle.ts_ql.proofs.Completions.{closing_of, closing_levels}
 use Rattle.ts_ql.proofs.Rests.{Rest, Closing, Outside, Inside, levels, left_at, left_changes, left_change, left_instant, said_changes, said_change, SuitsAt}
 use Rattle.ts_ql.proofs.Steps.{at, Answer, Leads, passes, fails, passed, failed, carried}
 
@@ -35,8 +36,7 @@ moment_steps now s p t k = timing s p (moment_at now p k t s.draft.moment)
 
 -- so many parentheses are closed, and the text ends
 pub closings : (n : ℕ) → (closing : Closing) × (n ≡ levels closing)
-closings zero = (Outside [] (None, (None, Stop)), refl)
-closings (suc n) = let inner = closings n in (Inside [] inner.0, let same : n ≡ levels inner.0 = inner.1 in omega (arith, same))
+closings n = (closing_of n, closing_levels n)
 
 -- ---- values and sums
 

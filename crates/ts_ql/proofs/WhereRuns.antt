@@ -20,6 +20,7 @@ use Rattle.ts_ql.specs.Statements.{Drafted, Parts, parts}
 use Rattle.ts_ql.specs.Tokens.{Lexeme}
 use Rattle.ts_ql.specs.WhereSteps.{Filtered, Filtering, with_condition, term_at, where_at, after_term}
 use Rattle.ts_ql.specs.Words.{is_time, named}
+use Rattle.ts_ql.proofs.Completions.{closing_of, closing_levels}
 use Rattle.ts_ql.proofs.Rests.{Closing, Outside, Inside, GroupTail, levels, after_conds, spell_conds, Rest, left, left_at, left_closing, with_match, said_closing, all_said, SoundAt, Suits, SuitsAt}
 use Rattle.ts_ql.proofs.Steps.{at, Answer, Leads, passes, fails, passed, failed}
 
@@ -40,15 +41,6 @@ spell_joined now depth c (d ∷ ds) rest = spell_joined now depth (And c d) ds r
 pub after_joined : (now : ℤ) (p : Parts) (c : Cond) (cs : List Cond) → after_cond now p (joined c cs) ≡ after_conds now (after_cond now p c) cs
 after_joined now p c [] = refl
 after_joined now p c (d ∷ ds) = after_joined now p (And c d) ds
-
--- so many parentheses, closed with nothing between them
-abbrev pub nested : ℕ → Closing
-nested zero = Outside [] (None, (None, Stop))
-nested (suc n) = Inside [] (nested n)
-
-pub levels_nested : (n : ℕ) → levels (nested n) ≡ n
-levels_nested zero = refl
-levels_nested (suc n) = omega (arith, levels_nested n)
 
 -- ---- to trees
 
@@ -103,8 +95,8 @@ opened : (now : ℤ) (s : State) (t : Lexeme) → t.kind ≡ kinds.Open → (b :
     (if b then Ok (places.Term, record s.draft.filter { depth = s.draft.filter.depth + 1 }) else Err (left_out t)))
 opened now s t e true lt = (tt, λ r suits. group_back now s t e lt r.0 r.1 suits)
 opened now s t e false lt =
-    let outer : Closing = nested s.draft.filter.depth in
-    let same : s.draft.filter.depth ≡ levels outer = sym (levels_nested s.draft.filter.depth) in
+    let outer : Closing = closing_of s.draft.filter.depth in
+    let same : s.draft.filter.depth ≡ levels outer = closing_levels s.draft.filter.depth in
     inl (
       (Group t (Match t false false t), outer),
       same,

@@ -23,7 +23,7 @@ abbrev pub based : ℕ → Moment → Option ℤ → Timing
 based first m None = Err (OutOfRange first)
 based first m (Some value) = Ok (places.AfterMoment, record m { first = first; total = value })
 
--- a sum; it stays within 128 bits in every text of 65,536 bytes
+-- a sum stays within 128 bits (no text of 65,536 bytes can have another; that isn't proved)
 abbrev pub is_sum : ℤ → Bool
 is_sum z = int_le (negsuc 170141183460469231731687303715884105727) z && int_le z (pos 170141183460469231731687303715884105727)
 

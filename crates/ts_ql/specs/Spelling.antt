@@ -43,7 +43,7 @@ abbrev pub literal_fault : ℕ → Option ℤ → Option Fault
 literal_fault first None = Some (OutOfRange first)
 literal_fault first (Some value) = None
 
--- a sum stays within 128 bits: it does in every text of 65,536 bytes
+-- a sum stays within 128 bits (no text of 65,536 bytes can have another; that isn't proved)
 abbrev pub sum_fault : ℕ → ℤ → Option Fault
 sum_fault first total = if is_sum total then None else Some (OutOfRange first)
 
