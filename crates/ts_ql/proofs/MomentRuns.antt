@@ -1,5 +1,5 @@
 -- Comparisons with time: what each token leads to, and what each rest spells; and the end of a moment.
-use Rattle.std.proofs.Common.{◌≡◌, inl, inr, ℕ, zero, suc, ℤ, pos, List, [], ◌∷◌, ◌++◌, Bool, true, false, Option, Some, None, Result, Ok, Err, map, refl, sym, ap, ◌∙◌, subst, arith}
+use Rattle.std.proofs.Common.{◌≡◌, inl, inr, ℕ, ℤ, pos, List, [], ◌∷◌, ◌++◌, Bool, true, false, Option, Some, None, Result, Ok, Err, map, refl, sym, ap, ◌∙◌, subst}
 use Rattle.std.specs.Prelude.{codes, ◌+ℤ◌, ◌-ℤ◌, int_le, ◌&&◌, if◌then◌else◌}
 use Rattle.std.specs.Option.{unwrap_or}
 use Rattle.ts_core.specs.Times.{least_time, greatest_time}
@@ -13,7 +13,7 @@ use Rattle.ts_ql.specs.declared.token.Kind.{Kind}
 use Rattle.ts_ql.specs.declared.token.Kind.TheVariants as kinds
 use Rattle.ts_ql.specs.Dates.{moment_told}
 use Rattle.ts_ql.specs.Faults.{Fault, unexpected, OutOfRange}
-use Rattle.ts_ql.specs.Grammar.{Item, Examine, Measure, Count, Duration, Base, Number, Negative, Quoted, Now, Change, Instant, Stop}
+use Rattle.ts_ql.specs.Grammar.{Item, Examine, Measure, Count, Duration, Base, Number, Negative, Quoted, Now, Change, Instant}
 use Rattle.ts_ql.specs.Laws.{Reach, At, Reads}
 use Rattle.ts_ql.specs.Literals.{is_word, literal}
 use Rattle.ts_ql.specs.Meanings.{changed_by, changed}
@@ -22,7 +22,7 @@ use Rattle.ts_ql.specs.Reading.{State, Step, with_draft, in_moment}
 use Rattle.ts_ql.specs.Spelling.{literal_fault, change_fault_of, change_fault, time_fault, kind_of_measure, kind_of_comparison}
 use Rattle.ts_ql.specs.Tokens.{Lexeme}
 use Rattle.ts_ql.proofs.Completions.{closing_of, closing_levels}
-use Rattle.ts_ql.proofs.Rests.{Rest, Closing, Outside, Inside, levels, left_at, left_changes, left_change, left_instant, said_changes, said_change, SuitsAt}
+use Rattle.ts_ql.proofs.Rests.{Rest, Closing, levels, left_at, left_changes, left_change, left_instant, said_changes, said_change, SuitsAt}
 use Rattle.ts_ql.proofs.Steps.{at, Answer, Leads, passes, fails, passed, failed, carried}
 
 abbrev pub timing : State → Place → Timing → Step

@@ -1,5 +1,5 @@
 -- The conditions on tags and the parentheses of WHERE: what each token leads to, and what each rest spells.
-use Rattle.std.proofs.Common.{◌≡◌, inl, inr, ℕ, zero, suc, ℤ, ◌+◌, ◌-◌, ◌<◌, List, [], ◌∷◌, ◌++◌, Bool, true, false, Some, None, Result, Ok, Err, map, arith, refl, sym, ap, ◌∙◌, subst}
+use Rattle.std.proofs.Common.{◌≡◌, inl, inr, ℕ, ℤ, ◌+◌, ◌-◌, ◌<◌, List, [], ◌∷◌, ◌++◌, Bool, true, false, Some, None, Result, Ok, Err, map, arith, refl, sym, ap, ◌∙◌, subst}
 use Rattle.std.proofs.lemmas.Bool.{lt-ltb, eqb-true, eqb-false}
 use Rattle.std.specs.Prelude.{codes, nat_lt, ◌==◌, if◌then◌else◌}
 use Rattle.ts_core.specs.Facts.{Text}
@@ -9,7 +9,7 @@ use Rattle.ts_ql.specs.declared.token.Kind.{Kind}
 use Rattle.ts_ql.specs.declared.token.Kind.TheVariants as kinds
 use Rattle.ts_ql.specs.declared.moment.Comparison.{Comparison}
 use Rattle.ts_ql.specs.Faults.{Fault, unexpected, left_out}
-use Rattle.ts_ql.specs.Grammar.{Of, Item, Any, This, Examine, Instant, Cond, Compare, Match, Group, And, Stop, is_name}
+use Rattle.ts_ql.specs.Grammar.{Of, Item, Any, This, Examine, Instant, Cond, Compare, Match, Group, And, is_name}
 use Rattle.ts_ql.specs.Laws.{Reach, Reads}
 use Rattle.ts_ql.specs.Literals.{is_word, unescaped}
 use Rattle.ts_ql.specs.Meanings.{after_cond}
