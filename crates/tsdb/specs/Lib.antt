@@ -9,3 +9,4 @@ pub mod Serving
 pub mod CommandParts
 pub mod LineReading
 pub mod HeldLine
+pub mod CommandLines

@@ -1,9 +1,12 @@
-//! The command line: what it asks for, and what is told where it asks for nothing that can be done.
+//! The command line: which one asks for a replay, and what every other one is told.
+ghost use Rattle.std.specs.Prelude.{◌≡◌, IfOk, map, drop};
+ghost use Rattle.clap.specs.Words.{FailsBy, app_of, kind_of};
+ghost use Rattle.tsdb.specs.CommandLines.{program_app, told, told_of_kind};
+
 use clap::error::ErrorKind;
-use clap::{ArgMatches, Command, Error};
+use clap::{Command, Error};
 use std::alloc::{AllocError, Global};
-use std::rt::Env;
-use std::{env, io};
+use std::convert::AsStr;
 
 const VERSION: &str = "0.1.0";
 
@@ -31,20 +34,22 @@ Example:
 
 prints ok, ok and 1.";
 
-/// Which exit status a command line has that asks for no replay.
+/// What became of a command line that asks for no replay; its exit status tells it.
 #[derive(Clone, Copy, Debug, Drop)]
 pub enum Told {
     /// Help or the version was printed.
     Done,
     /// The standard output or error failed.
     Device,
-    /// The command line is wrong, which was told on standard error.
+    /// The command line is wrong or empty, which was told on standard error.
     Wrong,
     /// No memory was found.
     OutOfMemory,
 }
 
-fn program<'a>(alloc: Global) -> Result<Command<'a>, AllocError> {
+fn program<'a>(alloc: Global) -> Result<Command<'a>, AllocError>
+    ensures { IfOk result (λ c. app_of c ≡ program_app) }
+{
     let replay = Command::new(alloc, "replay")
         .about("Runs a script from standard input, and prints its answers")
         .after_help(SCRIPTS);
@@ -57,37 +62,22 @@ fn program<'a>(alloc: Global) -> Result<Command<'a>, AllocError> {
         .subcommand(replay)
 }
 
-fn parse<'a>(alloc: Global, words: &'a [String]) -> Result<ArgMatches<'a>, Error> {
-    program(alloc)?.try_get_matches_from(words)
+/// Reads the words of a command line, the first of which is the program's name. `Ok` exactly where they ask for a replay
+/// (`replay`, or `replay --`), unless there is no memory; else clap's error, which has what to print.
+pub fn parse<S: AsStr>(alloc: Global, words: &[S]) -> Result<(), Error>
+    ensures { FailsBy (told (drop 1 (map S.text words.now))) result }
+{
+    program(alloc)?.try_get_matches_from(words)?;
+    Ok(())
 }
 
-/// Whether the command line asks for a replay. Where it doesn't, it is answered here.
-pub fn asks_for_replay(rt: &(impl Env + AllocGlobal + Print + Eprint)) -> Result<(), Told> {
-    let args = match env::args(rt) {
-        Ok(args) => args,
-        Err(error) if error.kind() == io::ErrorKind::OutOfMemory => return Err(Told::OutOfMemory),
-        Err(_) => {
-            let _ = eprintln!(rt; "tsdb: the command line can't be read as text");
-            return Err(Told::Wrong);
-        }
-    };
-    let words: Vec<String> = match args.collect(rt.alloc()) {
-        Ok(words) => words,
-        Err(_) => return Err(Told::OutOfMemory),
-    };
-    match parse(rt.alloc(), words.as_slice()) {
-        Ok(_) => Ok(()),
-        Err(error) => Err(tell(rt, &error)),
-    }
-}
-
-fn tell(rt: &(impl Print + Eprint), error: &Error) -> Told {
-    if error.kind() == ErrorKind::OutOfMemory {
-        return Told::OutOfMemory;
-    }
-    match error.print(rt) {
-        Err(_) => Told::Device,
-        Ok(()) if error.use_stderr() => Told::Wrong,
-        Ok(()) => Told::Done,
+/// What became of a command line that has this error, once the error's text is printed.
+pub fn told_by(error: &Error) -> Told
+    ensures { result ≡ told_of_kind (kind_of error.now) }
+{
+    match error.kind() {
+        ErrorKind::OutOfMemory => Told::OutOfMemory,
+        ErrorKind::DisplayHelp | ErrorKind::DisplayVersion => Told::Done,
+        _ => Told::Wrong,
     }
 }

@@ -6,6 +6,8 @@
 mod chunk;
 mod command;
 mod command_line;
+#[cfg(test)]
+mod command_line_tests;
 mod engine;
 mod line_reader;
 mod machine;
@@ -17,19 +19,52 @@ mod run_fault;
 #[cfg(test)]
 mod tests;
 
+use clap::Error;
 use command_line::Told;
 use run_fault::RunFault;
-use std::io;
 use std::process::ExitCode;
+use std::rt::Env;
+use std::{env, io};
 use ts_core::{Sink, Source};
 
 fn main(rt: HostRuntime) -> ExitCode {
-    match command_line::asks_for_replay(&rt) {
+    match read_command_line(&rt) {
         Ok(()) => replay(&rt),
         Err(Told::Done) => ExitCode::SUCCESS,
         Err(Told::Device) => ExitCode::FAILURE,
         Err(Told::Wrong) => ExitCode::from(2),
         Err(Told::OutOfMemory) => ExitCode::from(3),
+    }
+}
+
+/// `Ok` where the command line asks for a replay. Where it doesn't, it is answered here.
+fn read_command_line(rt: &(impl Env + AllocGlobal + Print + Eprint)) -> Result<(), Told> {
+    let args = match env::args(rt) {
+        Ok(args) => args,
+        Err(error) if error.kind() == io::ErrorKind::OutOfMemory => return Err(Told::OutOfMemory),
+        Err(_) => {
+            let _ = eprintln!(rt; "tsdb: the command line can't be read as text");
+            return Err(Told::Wrong);
+        }
+    };
+    let words: Vec<String> = match args.collect(rt.alloc()) {
+        Ok(words) => words,
+        Err(_) => return Err(Told::OutOfMemory),
+    };
+    match command_line::parse(rt.alloc(), words.as_slice()) {
+        Ok(()) => Ok(()),
+        Err(error) => Err(answer(rt, &error)),
+    }
+}
+
+/// Prints what clap has to say of the command line.
+fn answer(rt: &(impl Print + Eprint), error: &Error) -> Told {
+    match command_line::told_by(error) {
+        Told::OutOfMemory => Told::OutOfMemory,
+        told => match error.print(rt) {
+            Ok(()) => told,
+            Err(_) => Told::Device,
+        },
     }
 }
 
