@@ -8,7 +8,7 @@ use Rattle.clap.specs.Words.{Kinds, Text}
 use Rattle.clap.specs.declared.error.kind.ErrorKind.{ErrorKind}
 use Rattle.clap.specs.declared.error.kind.ErrorKind.TheVariants as kind
 use Rattle.tsdb.specs.CommandLines.{after_dashes, behind_told, flag_told, letter_told, letters_told, long_told, told, usage_told, word_told}
-use Rattle.tsdb.proofs.CommandLineLemmas.{same_text}
+use Rattle.std.proofs.lemmas.Slice.Eq.{bytes_eq-Decides}
 
 abbrev is_none : Kinds → Bool
 is_none [] = true
@@ -43,7 +43,7 @@ some_told kinds some none = true≢false (sym (ap is_none none) ∙ some)
 
 behind_by : (word : Text) (rest : List Text) (is_dashes : Bool) → bytes_eq word (codes "--") ≡ is_dashes
     → cond is_dashes (after_dashes [] false rest) (word_told false word) ≡ [] → word ∷ rest ≡ codes "--" ∷ []
-behind_by word [] true is none = ap (λ w. w ∷ []) (same_text word (codes "--") is)
+behind_by word [] true is none = ap (λ w. w ∷ []) ((bytes_eq-Decides word (codes "--")).0 is)
 behind_by word (x ∷ xs) true is none = absurd (some_told _ refl none)
 behind_by word rest false is none = absurd (some_told _ (word_some false (long_of word) (short_of word)) none)
 
@@ -55,7 +55,7 @@ front_by : (word : Text) (rest : List Text) (is_replay is_help is_dashes : Bool)
     → cond is_replay (behind_told rest) (cond is_help (kind.DisplayHelp ∷ kind.InvalidSubcommand ∷ []) (cond is_dashes (after_dashes usage_told true rest) (word_told true word))) ≡ []
     → (word ∷ rest ≡ codes "replay" ∷ []) ⊎ (word ∷ rest ≡ codes "replay" ∷ codes "--" ∷ [])
 front_by word rest true is_help is_dashes is none =
-    let replay = sym (same_text (codes "replay") word is) in
+    let replay = sym ((bytes_eq-Decides (codes "replay") word).0 is) in
     ⊎_elim (λ e. inl (ap₂ (λ w ws. w ∷ ws) replay e)) (λ e. inr (ap₂ (λ w ws. w ∷ ws) replay e)) (behind_replay rest none)
 front_by word rest false true is_dashes is none = absurd (some_told _ refl none)
 front_by word [] false false true is none = absurd (some_told _ refl none)

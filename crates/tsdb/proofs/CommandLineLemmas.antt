@@ -122,9 +122,6 @@ module _ (word : Text) (later last : Kinds) where
 otherwise : (test : Bool) (a b : Kinds) → test ≡ false → b ≡ cond test a b
 otherwise test a b isnt = sym (ap (λ t. cond t a b) isnt)
 
-pub same_text : (a b : Text) → bytes_eq a b ≡ true → a ≡ b
-same_text a b same = (bytes_eq-Decides a b).0 same
-
 -- ---- the words behind `replay`
 
 abbrev level_behind : List Text → Kinds
@@ -137,7 +134,7 @@ dashes_behind (word ∷ rest) = refl
 
 word_behind : (word : Text) (rest : List Text) (is_dashes : Bool) → bytes_eq word (codes "--") ≡ is_dashes → level_behind (word ∷ rest) ≡ behind_told (word ∷ rest)
 unfolding walk_fault
-word_behind word rest true is = subst (λ w. level_behind (w ∷ rest) ≡ behind_told (w ∷ rest)) (sym (same_text word (codes "--") is)) (dashes_behind rest)
+word_behind word rest true is = subst (λ w. level_behind (w ∷ rest) ≡ behind_told (w ∷ rest)) (sym ((bytes_eq-Decides word (codes "--")).0 is)) (dashes_behind rest)
 word_behind word rest false is = turn_is word _ _ false refl is
     ∙ otherwise (bytes_eq word (codes "--")) (after_dashes [] false rest) (word_told false word) is
 
@@ -203,11 +200,11 @@ word_is name word rest no_replay no_help no_dashes =
 words_by : (name word : Text) (rest : List Text) (is_replay is_help is_dashes : Bool) → bytes_eq (codes "replay") word ≡ is_replay → bytes_eq (codes "help") word ≡ is_help
     → bytes_eq word (codes "--") ≡ is_dashes → fault_of program_app (name ∷ word ∷ rest) ≡ told (word ∷ rest)
 words_by name word rest true is_help is_dashes replay h d =
-    subst (λ w. fault_of program_app (name ∷ w ∷ rest) ≡ told (w ∷ rest)) (same_text (codes "replay") word replay) (replay_is name rest)
+    subst (λ w. fault_of program_app (name ∷ w ∷ rest) ≡ told (w ∷ rest)) ((bytes_eq-Decides (codes "replay") word).0 replay) (replay_is name rest)
 words_by name word rest false true is_dashes replay h d =
-    subst (λ w. fault_of program_app (name ∷ w ∷ rest) ≡ told (w ∷ rest)) (same_text (codes "help") word h) (help_is name rest)
+    subst (λ w. fault_of program_app (name ∷ w ∷ rest) ≡ told (w ∷ rest)) ((bytes_eq-Decides (codes "help") word).0 h) (help_is name rest)
 words_by name word rest false false true replay h d =
-    subst (λ w. fault_of program_app (name ∷ w ∷ rest) ≡ told (w ∷ rest)) (sym (same_text word (codes "--") d)) (dashes_are name rest)
+    subst (λ w. fault_of program_app (name ∷ w ∷ rest) ≡ told (w ∷ rest)) (sym ((bytes_eq-Decides word (codes "--")).0 d)) (dashes_are name rest)
 words_by name word rest false false false replay h d = word_is name word rest replay h d
 
 pub told_is : (words : List Text) → fault_of program_app words ≡ told (drop 1 words)

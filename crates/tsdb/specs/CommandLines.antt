@@ -20,7 +20,8 @@ program_app = with_subcommand (record (new_app (codes "tsdb")) {
 abbrev pub usage_told : Kinds
 usage_told = kind.DisplayHelpOnMissingArgumentOrSubcommand ∷ []
 
--- the word is nothing that stands there: in front of `replay` it may have been meant for a subcommand
+-- The word is nothing that may stand there. `in_front` says, here and below, that it stands in front of `replay`, where it may
+-- have been meant for a subcommand; else it stands behind.
 abbrev pub stray_told : Bool → Kinds
 stray_told true = kind.UnknownArgument ∷ kind.InvalidSubcommand ∷ []
 stray_told false = kind.UnknownArgument ∷ []
@@ -36,7 +37,7 @@ long_told in_front name value =
     else if in_front && bytes_eq (codes "version") name then flag_told kind.DisplayVersion value
     else kind.UnknownArgument ∷ []
 
--- `-h` (104), and in front of `replay` also `-V` (86); of several letters the first one is told
+-- `-h` (104), and in front of `replay` also `-V` (86); of several letters the first one is told, and bytes that spell none are stray
 abbrev pub letter_told : Bool → Option ℕ → Kinds
 letter_told in_front None = stray_told in_front
 letter_told in_front (Some letter) =
@@ -65,7 +66,7 @@ behind_told (word ∷ rest) =
     if bytes_eq word (codes "--") then after_dashes [] false rest
     else word_told false word
 
--- the words behind the program's name
+-- The words behind the program's name. Behind `help` stands nothing or a command's name; another word may be told as no command.
 abbrev pub told : List Text → Kinds
 told [] = usage_told
 told (word ∷ rest) =
