@@ -83,14 +83,15 @@ pub record IsAggregateOfPoints (ps : List (ℤ × ℤ)) (a : Aggregate) : Type 0
 abbrev pub IsAggregateOf : List Fact → Aggregate → Type 0
 IsAggregateOf fs a = IsAggregateOfPoints (points_of fs) a
 
--- ---- what an aggregate may be
+-- ---- what holds of every aggregate of points
 
--- at least one value, and a sum that no value below the least or above the greatest makes up
+-- at least one value, and count times min ≤ sum ≤ count times max
 pub record IsSpread (count : ℕ) (sum : ℤ) (e : Extremes) : Type 0 where
   pub some : 0 < count
   pub at_least : (pos count *ℤ e.min) ≤ℤ sum
   pub at_most : sum ≤ℤ (pos count *ℤ e.max)
 
--- it may be the aggregate of some points: of none it is the empty one
+-- Every aggregate of points is sound, but not only those are, as count 1, sum 3, min 1, max 5.
+-- Without extremes it is the empty one.
 abbrev pub IsSound : Aggregate → Type 0
 IsSound a = MatchOption a.extremes (a ≡ empty_aggregate) (IsSpread a.count a.sum)

@@ -1,5 +1,6 @@
 -- The cells of a rollup rule, and what each holds of a list of facts, in two parts.
--- (InfluxData 1.8, downsampling and data retention: an aggregate of each bucket and each group of tags. Own rule: the two parts.)
+-- (InfluxData 1.8, downsampling and data retention: an aggregate of each bucket and each group of tags. Own rules: late facts count
+-- too, where a continuous query runs once for a bucket; and the two parts.)
 use Rattle.std.specs.Prelude.{ℤ, Bool, not, ◌&&◌, List, filter}
 use Rattle.std.specs.declared.cmp.Ordering.{Ordering}
 use Rattle.std.specs.Ordering.{ordering_then, eq_by_cmp, int_cmp}

@@ -1,4 +1,4 @@
--- What an event in memory stands for.
+-- What an event in memory stands for. (Own rules.)
 use Rattle.ts_core.specs.declared.plain.event.Kind.{Kind}
 use Rattle.ts_core.specs.declared.plain.event.Kind.TheVariants as kind
 use Rattle.ts_core.specs.History.{Event, Line, Begin, Step}

@@ -1,5 +1,6 @@
 -- Facts: what a point says of one field.
--- (InfluxData 1.8, key concepts: measurement, tag set, series, field key, timestamp, field value.)
+-- (InfluxData 1.8, key concepts: measurement, tag set, field key, timestamp, field value. Own rule: a series is a measurement with
+-- a tag set; there the field key is part of a series too, and here it makes the column.)
 use Rattle.std.specs.Prelude.{ℕ, ℤ, Bool, ◌&&◌, List, int_le, int_lt}
 use Rattle.std.specs.declared.cmp.Ordering.{Ordering}
 use Rattle.std.specs.Ordering.{ordering_then, eq_by_cmp, nat_cmp, int_cmp}
@@ -21,7 +22,7 @@ pub record Series : Type 0 where
   pub measurement : Text
   pub tags : List (Text × Text)
 
--- one series with one field
+-- one series with one field: what key concepts calls a series
 pub record Column : Type 0 where
   pub series : Series
   pub field : Text

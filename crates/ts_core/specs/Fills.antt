@@ -1,5 +1,6 @@
 -- What is shown of an answer: a value for each function, and what stands for a bucket without data.
--- (InfluxData 1.8, InfluxQL: GROUP BY time intervals and fill(). Own rules: COUNT under fill, and means as fractions.)
+-- (InfluxData 1.8, InfluxQL: GROUP BY time intervals and fill(); InfluxQL functions: COUNT() and fill(). Own rules: COUNT stays 0 under
+-- fill(null), and is null before the first data under fill(previous); means are fractions; there is no fill(linear).)
 use Rattle.std.specs.Prelude.{◌==◌, ℤ, pos, Bool, not, List, [], ◌∷◌, map, filter, Option, Some, None, if◌then◌else◌}
 use Rattle.ts_core.specs.declared.aggregate.Extremes.{Extremes}
 use Rattle.ts_core.specs.declared.value.Function.{Function}

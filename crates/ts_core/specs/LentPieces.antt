@@ -1,4 +1,4 @@
--- What the source of a piece in memory stands for.
+-- What the source of a piece in memory stands for. (Own rules.)
 use Rattle.ts_core.specs.declared.plain.piece.PieceSource.{PieceSource}
 use Rattle.ts_core.specs.declared.plain.piece.PieceSource.TheVariants as lent
 use Rattle.ts_core.specs.Pieces.{Source, Raw, Rollup}

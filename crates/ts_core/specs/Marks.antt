@@ -17,7 +17,7 @@ abbrev pub index_of : Rule → ℤ → ℤ
 index_of r t = bucket_of t r.interval r.offset
 
 -- the low index of a rule: the greatest that the begins leave, never below the index of the least time.
--- It depends on the opening settings only where a rule is added after raw points were dropped.
+-- The opening settings are not looked at: no event adds a rule.
 abbrev pub low_of : Settings → History → Rule → ℤ
 low_of opening [] r = index_of r least_time
 low_of opening (Line facts ∷ h) r = low_of opening h r

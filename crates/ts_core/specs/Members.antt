@@ -1,4 +1,4 @@
--- Lists by what is in them.
+-- Lists by what is in them. (Own rules.)
 use Rattle.std.specs.Prelude.{◌≡◌, ◌⊎◌, List, [], ◌∷◌}
 
 -- x is one of the list

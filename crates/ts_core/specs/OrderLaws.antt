@@ -1,4 +1,4 @@
--- The lesser of two is a meet: it is one of them, not after either, and in any order the same.
+-- The lesser of two is a meet: it is one of them, not after either, and in any order the same. (Own rules.)
 use Rattle.std.proofs.Common.{◌≡◌, ◌⊎◌, ℤ, ◌≤ℤ◌, ◌<ℤ◌, true, false, cond, refl, sym, ◌∙◌, ap, inl, inr, Ordering, Less, Equal, Greater, is_gt, true≢false, int_cmp, arith}
 use Rattle.std.specs.Ordering.{ordering_reverse, ordering_then, MatchOrdering}
 use Rattle.std.specs.Cmp.{IsTotalOrder, int_cmp_total, int_ranks}
@@ -72,7 +72,7 @@ module _ {K : Type 0} {R : K → K → Ordering} (o : IsTotalOrder R) (exact : C
   pub lesser-before : (a b : K) → R b a ≡ Less → lesser R a b ≡ b
   lesser-before a b h = ap (λ r. cond (is_gt r) b a) (o.antisymm a b ∙ ap ordering_reverse h)
 
-  -- and no other than the second gives it
+  -- nothing comes before itself
   pub not_itself : (a : K) → R a a ≡ Less → ⊥
   not_itself a h = let n : Less ≡ Equal = sym h ∙ tied_itself o a in cc
 

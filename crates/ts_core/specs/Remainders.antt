@@ -5,13 +5,13 @@ use Rattle.ts_core.specs.declared.aggregate.Extremes.{Extremes}
 use Rattle.ts_core.specs.Orders.{early_cmp, late_cmp}
 use Rattle.ts_core.specs.Aggregates.{Aggregate, IsSound}
 
--- merged with the part it gives the whole, and of all that may be the aggregate of some points it alone does
+-- merged with the part it gives the whole, and of all that are possible it alone does
 pub record IsOnlyRest {M : Type 0} (IsPossible : M → Type 0) (merge : M → M → M) (whole part rest : M) : Type 0 where
   pub possible : IsPossible rest
   pub gives : merge part rest ≡ whole
   pub only : (other : M) → IsPossible other → merge part other ≡ whole → other ≡ rest
 
--- what may be the aggregate of some points: of none, of one, of those of two together
+-- every aggregate of points is possible: that of none, that of one, and two possible ones merged; others may be so too
 pub record PossibleLaws {M : Type 0} (IsPossible : M → Type 0) (empty : M) (single : ℤ → ℤ → M) (merge : M → M → M) : Type 0 where
   pub of_none : IsPossible empty
   pub of_one : (t v : ℤ) → IsPossible (single t v)
@@ -34,7 +34,7 @@ BothAreBeyond None part = ⊥
 abbrev pub inner_rest : Aggregate → Aggregate → Aggregate
 inner_rest whole part = record { count = whole.count - part.count; sum = whole.sum -ℤ part.sum; extremes = whole.extremes }
 
--- the part holds no extreme of the whole, and what is left may be the aggregate of some points
+-- the part holds no extreme of the whole, and what is left is sound
 pub record LiesInside (part whole : Aggregate) : Type 0 where
   pub beyond : BothAreBeyond whole.extremes part.extremes
   pub possible : IsSound (inner_rest whole part)

@@ -1,5 +1,7 @@
 -- Retention and rollup rules, as the operator sets them.
--- (InfluxData 1.8, downsampling and data retention; a rule stands for a retention policy with its continuous query.)
+-- (InfluxData 1.8, downsampling and data retention: a rule stands for a retention policy with its continuous query. Own rules: its
+-- cells hold all latest facts, late ones too, where a continuous query runs once for a bucket; retention cuts raw points exactly
+-- at a time, where a retention policy drops whole shard groups.)
 use Rattle.std.specs.Prelude.{◌≢◌, ℕ, ℤ, pos, ◌≤ℤ◌, List, []}
 use Rattle.std.specs.List.{AllByRecursion}
 use Rattle.ts_core.specs.Facts.{Text}

@@ -45,7 +45,7 @@ outlasts long short = long == 0 || (nat_lt 0 short && nat_le short long)
 
 -- ---- faults
 
--- the number that a rule's fault is answered by; too many rules are answered by 5
+-- the number that a rule's fault is answered by
 abbrev pub fault_number : RuleFault → ℕ
 fault_number Interval = 1
 fault_number Duration = 2

@@ -1,4 +1,4 @@
--- What may be the aggregate of some points, merged, may be so again.
+-- The empty aggregate and that of one point are sound, and two sound ones merged are so again. (Own rules.)
 use Rattle.std.proofs.Common.{◌≡◌, ℕ, zero, suc, ◌+◌, ◌*◌, ◌≤◌, ℤ, pos, negsuc, neg_ℤ, unsigned_abs, ◌+ℤ◌, ◌*ℤ◌, ◌≤ℤ◌, refl, sym, ◌∙◌, ap, subst, arith, zero-add, Option, Some, None, MatchOption, int_cmp}
 use Rattle.std.specs.Cmp.{int_cmp_total}
 use Rattle.std.specs.Int.Signed.{≤ℤ_refl}
@@ -106,7 +106,7 @@ empty_by_count a s e =
       | Some x ↦ λ h. absurd (let n = h.some in omega arith)
     ] s
 
--- the sum of so many 64-bit values
+-- The sum of n values from -2^63 to 2^63 lies between -n * 2^63 and n * 2^63. Values of 64 bits end at 2^63 - 1.
 pub spread_bound : (n : ℕ) (s : ℤ) (e : Extremes) → IsSpread n s e → negsuc 9223372036854775807 ≤ℤ e.min → e.max ≤ℤ pos 9223372036854775808 → unsigned_abs s ≤ n * 9223372036854775808
 spread_bound n s e h low high =
     let a = times_le n (negsuc 9223372036854775807) e.min low in

@@ -1,4 +1,4 @@
--- Texts in memory, as their bytes.
+-- Texts in memory, as their bytes. (InfluxData 1.8, key concepts: tag set. Own rule: its tags stand in byte order of their keys.)
 use Rattle.std.specs.Prelude.{List, [], ◌∷◌, String, string_bytes}
 use Rattle.std.specs.Borrow.{Bor}
 use Rattle.std.specs.FinMap.{is_sorted}

@@ -164,7 +164,7 @@ impl<A: Allocator> Settings<A> {
         }
     }
 
-    /// Settings of these parts, or their first fault. The raw duration is in nanoseconds; 0 is for ever.
+    /// Settings of these parts, or their first fault. The raw duration is in nanoseconds and not negative; 0 is for ever.
     pub fn new(raw_duration: i64, rules: Vec<Rule<A>, A>) -> Result<Settings<A>, SettingsFault>
         requires { pos 0 ≤ℤ raw_duration }
         ensures parts { IfOk result (λ s. s ≡ record { raw_duration = unsigned_abs raw_duration; rules = rules.items }) }
