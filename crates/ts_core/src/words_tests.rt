@@ -27,9 +27,15 @@ fn times_are_valid_between_the_least_and_the_greatest(rt: HostRuntime) -> Result
 }
 
 #[test]
-fn keys_stand_in_byte_order(rt: HostRuntime) -> Result<(), Fail> {
+fn keys_hold_their_tags_and_are_compared_by_bytes(rt: HostRuntime) -> Result<(), Fail> {
     let key = Key::new(rt.alloc(), "cpu", &[("dc", "x"), ("host", "b")])?;
     assert_eq!(rt; key.measurement(), "cpu");
+    assert_eq!(rt; key.tags().len(), 2);
+    for (number, name, value) in [(0, "dc", "x"), (1, "host", "b")] {
+        let tag = key.tags().get(number).ok_or("a tag")?;
+        assert_eq!(rt; tag.0.as_str(), name);
+        assert_eq!(rt; tag.1.as_str(), value);
+    }
     assert_eq!(rt;
         key.compare("cpu", &[("dc", "x"), ("host", "b")]),
         Ordering::Equal
@@ -60,6 +66,13 @@ fn facts_hold_their_parts(rt: HostRuntime) -> Result<(), Fail> {
     assert_eq!(rt; fact.value(), -5);
     fact.set_value(i64::MIN);
     assert_eq!(rt; fact.value(), i64::MIN);
-    let _settings = Settings::open(rt.alloc());
+    Ok(())
+}
+
+#[test]
+fn open_settings_keep_raw_points_for_ever(rt: HostRuntime) -> Result<(), Fail> {
+    let settings = Settings::open(rt.alloc());
+    assert_eq!(rt; settings.raw_duration(), 0);
+    assert!(rt; settings.rules().is_empty());
     Ok(())
 }
