@@ -1,7 +1,5 @@
 //! A part taken out of what was added up.
-ghost use Rattle.std.specs.Prelude.{◌≡◌, ◌↔◌, ◌≤◌, ◌^◌, ◌-◌, IsTrue, IsSome, IfSome};
-ghost use Rattle.std.specs.declared.cmp.Ordering.{Ordering};
-ghost use Rattle.ts_core.specs.Orders.{early_cmp, late_cmp};
+ghost use Rattle.std.specs.Prelude.{◌↔◌, IsSome, IfSome};
 ghost use Rattle.ts_core.specs.Remainders.{IsOnlyRest, PossibleLaws};
 
 use crate::partial::Partial;

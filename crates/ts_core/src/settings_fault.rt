@@ -1,5 +1,5 @@
 //! What is wrong with settings.
-ghost use Rattle.std.specs.Prelude.{◌≡◌, ◌<◌, ◌^◌, ◌≤◌, map, [], length, take, drop, string_bytes};
+ghost use Rattle.std.specs.Prelude.{◌≡◌, map, [], string_bytes};
 ghost use Rattle.std.specs.List.{list_all};
 ghost use Rattle.ts_core.specs.SettingsFaults.{is_between, is_name_byte, is_rule_name, is_named, is_interval, are_distinct, are_kept_tags, outlasts, rule_fault, rules_fault, settings_fault, fault_number};
 

@@ -1,5 +1,5 @@
 //! Answers to queries.
-ghost use Rattle.std.specs.Prelude.{◌≡◌, ◌≤◌, ◌^◌, length, IfOk};
+ghost use Rattle.std.specs.Prelude.{◌≡◌, IfOk};
 ghost use Rattle.ts_core.specs.Answers.{answer_of};
 ghost use Rattle.ts_core.specs.Lent.{lent};
 ghost use Rattle.ts_core.specs.Queries.{IsQuery};

@@ -1,6 +1,6 @@
 //! Answers after filling.
-ghost use Rattle.std.specs.Prelude.{◌≡◌, map, Bool, IfOk};
-ghost use Rattle.ts_core.specs.Fills.{value_of, number_value, has_data, shown, numbered, repeated, filled_rows, filled_group, filled};
+ghost use Rattle.std.specs.Prelude.{◌≡◌, map, IfOk};
+ghost use Rattle.ts_core.specs.Fills.{value_of, number_value, has_data, shown, numbered, repeated, filled_rows, filled};
 ghost use Rattle.ts_core.specs.declared.fill.Fill.{Fill};
 
 use crate::aggregate::Agg;

@@ -1,7 +1,7 @@
 //! What is latest.
 ghost use Rattle.std.specs.Prelude.{◌≡◌, length, filter, IfOk};
 ghost use Rattle.std.specs.List.{list_any};
-ghost use Rattle.ts_core.specs.Facts.{id_of, id_cmp, same_id, series_cmp, is_of, is_within, is_asked};
+ghost use Rattle.ts_core.specs.Facts.{id_of, id_cmp, same_id, series_cmp, is_asked};
 ghost use Rattle.ts_core.specs.Latest.{latest};
 ghost use Rattle.ts_core.specs.Lent.{lent};
 

@@ -1,8 +1,8 @@
 //! The rows of an answer.
 ghost use Rattle.std.specs.Prelude.{◌≡◌, pos, ◌+ℤ◌, ◌-ℤ◌, int_lt, ◌≤◌, ◌^◌, unsigned_abs, length, filter, IfOk};
-ghost use Rattle.std.specs.Prelude.{◌*ℤ◌, ◌<◌};
+ghost use Rattle.std.specs.Prelude.{◌*ℤ◌};
 ghost use Rattle.ts_core.specs.Aggregates.{aggregate_of};
-ghost use Rattle.ts_core.specs.Answers.{bucket_in, buckets_in, is_in_row, row_of, rows_of};
+ghost use Rattle.ts_core.specs.Answers.{bucket_in, buckets_in, is_in_row, rows_of};
 ghost use Rattle.ts_core.specs.Lent.{lent};
 ghost use Rattle.ts_core.specs.Members.{Among};
 ghost use Rattle.ts_core.specs.Queries.{IsQuery};
