@@ -18,7 +18,8 @@ number_of (TimestampRange at) = 19
 number_of (OverLimit at) = 20
 number_of (ReservedKey at) = 21
 
--- the place of the byte at fault, counted from the line's first
+-- The place of a byte, counted from 0 in the line: the first of the tag, the field or the timestamp that is at fault;
+-- what else it is, `LineFault` says of each.
 abbrev pub offset_of : LineFault → ℕ
 offset_of (NoMeasurement at) = at
 offset_of (BadTag at) = at

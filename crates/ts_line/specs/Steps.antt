@@ -1,4 +1,4 @@
--- What a step of the reader gives: a value, or the first fault.
+-- What a step of the reader gives: a value, or the first fault. (Own rules.)
 use Rattle.std.specs.Prelude.{◌≡◌, Result, Ok, Err, ⊤}
 use Rattle.ts_line.specs.declared.fault.LineFault.{LineFault}
 use Rattle.ts_line.specs.declared.fault.ReadLineError.{ReadLineError}

@@ -6,30 +6,32 @@ ghost use Rattle.ts_line.specs.declared.fault.ReadLineError.TheVariants as error
 use itoa::Buffer;
 use std::alloc::{AllocError, AllocFailed, Allocator};
 
-/// Why a line is refused, each with the place of the byte at fault, counted from the line's first byte.
+/// Why a line is refused, each with a place in the text that `read_line` was given: of a byte, counted from 0, or
+/// of the end where no byte is left.
 #[derive(Clone, Copy, Debug, PartialEq, Eq)]
 pub enum LineFault {
-    /// The measurement is empty (number 11).
+    /// The measurement is empty (number 11). The place is where it would begin.
     NoMeasurement(usize),
-    /// A tag has no equals sign, more than one, or an empty side (number 12).
+    /// A tag has no equals sign, more than one, or an empty side (number 12). The place is the tag's first byte.
     BadTag(usize),
-    /// A tag key stands a second time (number 13).
+    /// A tag key stands a second time (number 13). The place is the first byte of the later tag.
     RepeatedTagKey(usize),
-    /// No field is there (number 14).
+    /// No field is there (number 14). The place is right behind the measurement and its tags.
     NoField(usize),
-    /// A field isn't of the form (number 15).
+    /// A field isn't of the form (number 15). The place is the field's first byte.
     BadField(usize),
-    /// A field is a float, a string, a boolean or unsigned (number 16).
+    /// A field is a float, a string, a boolean or unsigned (number 16). The place is the field's first byte.
     FieldType(usize),
-    /// An integer has no 64 bits (number 17).
+    /// An integer doesn't fit 64 bits (number 17). The place is the first byte of its field.
     IntegerRange(usize),
-    /// The timestamp is no number (number 18).
+    /// The timestamp is no number (number 18). The place is the timestamp's first byte.
     BadTimestamp(usize),
-    /// The timestamp isn't a valid time (number 19).
+    /// The timestamp isn't a valid time (number 19). The place is the timestamp's first byte.
     TimestampRange(usize),
-    /// The line, its key part, its tags or its fields are too many (number 20).
+    /// The line or its key part is too long, or its tags or its fields are too many (number 20). The place is the first
+    /// byte past the limit, or the first byte of the first tag or field past it.
     OverLimit(usize),
-    /// A tag key or a field key is `time` (number 21).
+    /// A tag key or a field key is `time` (number 21). The place is the first byte of that tag or field.
     ReservedKey(usize),
 }
 
@@ -53,7 +55,7 @@ impl LineFault {
         }
     }
 
-    /// The place of the byte at fault, counted from the line's first byte.
+    /// Its place, as said at each fault.
     pub fn offset(self) -> usize
         ensures { result ≡ offset_of self }
     {

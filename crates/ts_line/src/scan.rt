@@ -20,7 +20,9 @@ pub enum Stops {
 /// The end of a part, and whether an escape stands in the part.
 #[derive(Clone, Copy, Debug)]
 pub struct End {
+    /// The place of the byte that ends the part, or the end of the line.
     pub at: usize,
+    /// Whether a byte that ends such a part stands in it, escaped.
     pub has_escape: bool,
 }
 

@@ -4,10 +4,17 @@ use std::alloc::Global;
 use std::test::Fail;
 use ts_core::Time;
 
-// the number and the place of a line's fault, and (0, 0) where it has none
+// what a line without a fault gives; no fault has the number 0
+const LINE: (u8, usize) = (0, 0);
+
+// what a comment or a blank line gives
+const NO_LINE: (u8, usize) = (0, 1);
+
+// the number and the place of a line's fault, or that there is none
 fn fault(alloc: Global, text: &str, precision: Precision) -> Option<(u8, usize)> {
     match read_line(alloc, text, precision, Time::new(77)?) {
-        Ok(_) => Some((0, 0)),
+        Ok(Some(_)) => Some(LINE),
+        Ok(None) => Some(NO_LINE),
         Err(ReadLineError::Fault(fault)) => Some((fault.number(), fault.offset())),
         Err(ReadLineError::OutOfMemory) => None,
     }
@@ -56,11 +63,11 @@ fn faults_stand_where_they_are(rt: HostRuntime) -> Result<(), Fail> {
     for (text, expected) in [
         ("m f=9223372036854775808i 1", (17u8, 2usize)),
         ("m f=1.5 1", (16, 2)),
-        ("m f=1i 1", (0, 0)),
+        ("m f=1i 1", LINE),
         ("m,a=1,a=2 f=1i", (13, 6)),
         ("m f=1i 1x", (18, 7)),
         ("m", (14, 1)),
-        ("# x", (0, 0)),
+        ("# x", NO_LINE),
         ("m,=1 f=1i", (12, 2)),
         ("m,a=1, f=1i", (12, 6)),
         ("m,time=1 f=1i", (21, 2)),
@@ -141,8 +148,8 @@ fn faults_stand_where_they_are(rt: HostRuntime) -> Result<(), Fail> {
         ("m f=1i g=2i", (18, 7)),
         ("m f=1i 9223372036854775807", (19, 7)),
         ("m f=1i 99999999999999999999", (19, 7)),
-        ("m f=1i -9223372036854775806", (0, 0)),
-        ("m f=1i 9223372036854775806", (0, 0)),
+        ("m f=1i -9223372036854775806", LINE),
+        ("m f=1i 9223372036854775806", LINE),
     ] {
         assert!(rt;
             fault(alloc, text, Precision::Nanoseconds) == Some(expected),
@@ -211,17 +218,17 @@ fn lines_are_read(rt: HostRuntime) -> Result<(), Fail> {
 fn units_are_counted(rt: HostRuntime) -> Result<(), Fail> {
     let alloc = rt.alloc();
     for (name, text, expected) in [
-        ("ns", "m f=1i 1", (0u8, 0usize)),
-        ("n", "m f=1i 1", (0, 0)),
-        ("u", "m f=1i 9223372036854775", (0, 0)),
+        ("ns", "m f=1i 1", LINE),
+        ("n", "m f=1i 1", LINE),
+        ("u", "m f=1i 9223372036854775", LINE),
         ("u", "m f=1i 9223372036854776", (19, 7)),
-        ("ms", "m f=1i -9223372036854", (0, 0)),
+        ("ms", "m f=1i -9223372036854", LINE),
         ("ms", "m f=1i -9223372036855", (19, 7)),
-        ("s", "m f=1i 9223372036", (0, 0)),
+        ("s", "m f=1i 9223372036", LINE),
         ("s", "m f=1i 9223372037", (19, 7)),
-        ("m", "m f=1i 153722867", (0, 0)),
+        ("m", "m f=1i 153722867", LINE),
         ("m", "m f=1i 153722868", (19, 7)),
-        ("h", "m f=1i 2562047", (0, 0)),
+        ("h", "m f=1i 2562047", LINE),
         ("h", "m f=1i 2562048", (19, 7)),
     ] {
         let precision = Precision::named(name).ok_or("a precision")?;
@@ -249,19 +256,19 @@ fn repeated(alloc: Global, first: &str, more: &str, times: usize) -> Result<Stri
 fn limits_stand_where_they_are(rt: HostRuntime) -> Result<(), Fail> {
     let alloc = rt.alloc();
     let long = repeated(alloc, "m f=1i", " ", 65_530)?;
-    assert!(rt; fault(alloc, &long, Precision::Nanoseconds) == Some((0, 0)));
+    assert!(rt; fault(alloc, &long, Precision::Nanoseconds) == Some(LINE));
     let longer = repeated(alloc, "m f=1i", " ", 65_531)?;
     assert!(rt; fault(alloc, &longer, Precision::Nanoseconds) == Some((20, 65_536)));
     let comment = repeated(alloc, "#", "x", 65_536)?;
     assert!(rt; fault(alloc, &comment, Precision::Nanoseconds) == Some((20, 65_536)));
     let mut key = repeated(alloc, " ", "m", 4_096)?;
     key.push_str(" f=1i")?;
-    assert!(rt; fault(alloc, &key, Precision::Nanoseconds) == Some((0, 0)));
+    assert!(rt; fault(alloc, &key, Precision::Nanoseconds) == Some(LINE));
     let mut key = repeated(alloc, " ", "m", 4_097)?;
     key.push_str(" f=1i")?;
     assert!(rt; fault(alloc, &key, Precision::Nanoseconds) == Some((20, 4_097)));
     let fields = repeated(alloc, "m f=1i", ",f=2i", 255)?;
-    assert!(rt; fault(alloc, &fields, Precision::Nanoseconds) == Some((0, 0)));
+    assert!(rt; fault(alloc, &fields, Precision::Nanoseconds) == Some(LINE));
     let fields = repeated(alloc, "m f=1i", ",f=2i", 256)?;
     assert!(rt; fault(alloc, &fields, Precision::Nanoseconds) == Some((20, 1_282)));
     Ok(())
@@ -276,7 +283,7 @@ fn tags_are_few(rt: HostRuntime) -> Result<(), Fail> {
     }
     let mut more = line.clone()?;
     line.push_str(" f=1i")?;
-    assert!(rt; fault(alloc, &line, Precision::Nanoseconds) == Some((0, 0)));
+    assert!(rt; fault(alloc, &line, Precision::Nanoseconds) == Some(LINE));
     more.push_str(",t99=1 f=1i")?;
     assert!(rt; fault(alloc, &more, Precision::Nanoseconds) == Some((20, 386)));
     Ok(())

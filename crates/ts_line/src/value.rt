@@ -1,5 +1,5 @@
 //! The values of fields, told by their shape.
-ghost use Rattle.std.specs.Prelude.{◌≡◌, ◌≤◌, ◌<◌, length, IfOk, drop, slice_index, option_map, if◌then◌else◌, false};
+ghost use Rattle.std.specs.Prelude.{◌≡◌, ◌≤◌, IfOk, option_map, if◌then◌else◌, false};
 ghost use Rattle.std.specs.Str.{IsCharBoundary};
 ghost use Rattle.ts_line.specs.Values.{is_unsigned, is_boolean, is_float, are_digits, behind_digits, behind_fraction, is_exponent, without_sign, behind_quotes, is_value_end, then_is, value_of, value_at};
 
@@ -26,8 +26,8 @@ fn is_boolean(text: &str) -> bool
     )
 }
 
-#[tactic(auto, using(crate::proofs::ValueLemmas::digits_step, crate::proofs::ValueLemmas::digits_end))]
 /// What stands behind the digits that a text begins with, of which there is one or more.
+#[tactic(auto, using(crate::proofs::ValueLemmas::digits_step, crate::proofs::ValueLemmas::digits_end))]
 fn behind_digits(text: &[u8]) -> Option<&[u8]>
     ensures { option_map (λ rest. rest.now) result ≡ behind_digits false text.now }
 {
@@ -83,8 +83,8 @@ fn is_float(text: &[u8]) -> bool
     }
 }
 
-#[tactic(auto, using(crate::proofs::ValueLemmas::quotes_step, crate::proofs::ValueLemmas::quotes_end))]
 /// What stands behind a text in double quotes, from behind its first quote on.
+#[tactic(auto, using(crate::proofs::ValueLemmas::quotes_step, crate::proofs::ValueLemmas::quotes_end))]
 fn behind_quotes(text: &[u8]) -> Option<&[u8]>
     ensures { option_map (λ rest. rest.now) result ≡ behind_quotes false text.now }
 {
