@@ -14,7 +14,7 @@ fn time_of(nanos: i64) -> Result<Time, Fail> {
     Ok(Time::new(nanos).ok_or("a valid time")?)
 }
 
-// Sets a point aside. Where memory is refused nothing has changed, and the same call then succeeds.
+// Sets a point aside. After a refusal there are as many points as before, and the call is made once more.
 fn prepare<C: Column>(rt: &impl Abort, column: &mut C, nanos: i64, value: i64) -> Result<(), Fail>
     ensures { OnOk result (IsSome (C.aside column.new)) }
 {

@@ -84,7 +84,7 @@ impl<A: Allocator + Copy> Index<A> {
         self.columns.len()
     }
 
-    /// The series of that key, where it is registered.
+    /// The series of that key, where it is registered. It is found only by tags in byte order of their keys.
     pub fn lookup(&self, measurement: &str, tags: &[(&str, &str)]) -> Option<SeriesId>
         ensures found { IfSome result (λ id. IsAt self.now.series id (lent_series measurement.now tags.now)) }
         ensures absent { IfNone result (Among (lent_series measurement.now tags.now) self.now.series → ⊥) }
@@ -185,7 +185,8 @@ impl<A: Allocator + Copy> Index<A> {
         }
     }
 
-    /// The column of a series and a field, made where there is none yet.
+    /// The column of a series and a field, made where there is none yet. Fields and columns have numbers of 32 bits,
+    /// and one too many is told as want of memory.
     pub fn add_column(&mut self, series: SeriesId, field: &str) -> Result<ColumnId, AllocError>
         requires { series < length self.old.series }
         ensures number { IfOk result (λ id. IsAt self.new.columns id (column_in self.old series field.now)) }

@@ -120,6 +120,7 @@ fn columns_have_their_names(rt: HostRuntime) -> Result<(), Fail> {
     let mut index = Index::new(rt.alloc());
     make(&mut index, "cpu", "a", "idle")?;
     make(&mut index, "mem", "b", "free")?;
+    assert_eq!(rt; index.columns_of("mem", "free").len(), 1);
     for column in index.columns_of("mem", "free") {
         assert!(rt; column.number() < index.column_count());
         assert_eq!(rt; index.field_of(*column).as_str(), "free");
