@@ -1,19 +1,21 @@
 -- What the facts of columns become when points that were set aside are put in.
-use Rattle.std.proofs.Common.{◌≡◌, ◌≢◌, ℕ, zero, suc, ℤ, ◌+◌, ◌<◌, List, [], ◌∷◌, ◌++◌, length, map, set, get_or, refl, sym, ◌∙◌, ap, subst, take, true≢false, inl, inr, ◌⊎◌, ⊎_elim, arith, Option, Some, None, IsSome, IfSome}
+use Rattle.std.proofs.Common.{◌≡◌, ℕ, zero, suc, ℤ, ◌+◌, ◌<◌, List, [], ◌∷◌, ◌++◌, length, map, set, get_or, refl, sym, ◌∙◌, ap, subst, take, true≢false, inl, inr, ⊎_elim, arith, Option, Some, None, IsSome, IfSome}
 use Rattle.std.specs.List.{slice_get}
 use Rattle.std.specs.FinMap as finmap
-use Rattle.std.proofs.lemmas.List.{get_or_default, get_or-set_same, map-append, length-append, take_more, map-set, set-get_or, get_or-set_other, length-set, length-map, get_or_append_left}
+use Rattle.std.proofs.lemmas.List.{get_or_default, get_or-set_same, append-nil, append_assoc, map-append, length-append, take_more, map-set, get_or-set_other, length-set, length-map, get_or_append_left}
 use Rattle.std.proofs.lemmas.Option.{slice_get_within, get_or_from_slice_get}
 use Rattle.std.proofs.Math.Seq.{map-set_same}
 use Rattle.ts_core.specs.Members.{Among, AllDistinct}
 use Rattle.ts_core.specs.Facts.{Text, Column, Fact}
-use Rattle.ts_line.specs.Parts.{Piece, Parts, field_text, series_of, fact_of}
+use Rattle.ts_line.specs.Parts.{Piece, Parts, field_text, series_of, fact_of, facts_of}
 use Rattle.ts_raw.specs.Columns.{PointMap, ColumnState}
 use Rattle.ts_raw.specs.Indexed.{Indexed, no_series, column_in}
 use Rattle.ts_store.specs.Puts.{Puts, PutsAll}
-use Rattle.ts_store.specs.ColumnsKept.{fact_at, facts_of_columns, points_of, no_column, with_aside, with_point_aside, committed, all_committed, AreReady, AreAside, MayGrow}
+use Rattle.ts_store.specs.ColumnsKept.{facts_of_columns, points_of, no_column, with_aside, with_point_aside, committed, all_committed, AreReady, AreAside, MayGrow}
+use Rattle.ts_store.specs.Registered.{MakesColumns}
 use Rattle.ts_store.proofs.ColumnsLemmas.{columns_puts, facts-grown, at_among}
-use Rattle.ts_core.proofs.MembersLemmas.{Among-left}
+use Rattle.ts_core.proofs.MembersLemmas.{Among-left, Among-append}
+use Rattle.ts_raw.proofs.NumberedLemmas.{Among-map}
 
 none_some : {X : Type 0} (x : X) → None ≡ Some x → ⊥
 none_some x e = cc
@@ -164,54 +166,71 @@ ready_of cs ss (n ∷ ns) (f ∷ fs) l a d = (
 
 -- ---- one field after another
 
-text_at : (fields : List (Piece × ℤ)) (i : ℕ) (d : Piece × ℤ) → i < length fields → Among (field_text (get_or fields i d)) (map field_text fields)
-text_at [] i d l = absurd (omega arith)
-text_at (f ∷ fields) zero d l = inl refl
-text_at (f ∷ fields) (suc i) d l = inr (text_at fields i d (omega (arith, l)))
+field_at : (fields : List (Piece × ℤ)) (i : ℕ) (x : Piece × ℤ) → i < length fields → x ≡ get_or fields i x → Among x fields
+field_at [] i x l e = absurd (omega arith)
+field_at (f ∷ fields) zero x l e = inl e
+field_at (f ∷ fields) (suc i) x l e = inr (field_at fields i x (omega (arith, l)) e)
 
 -- the name of a field doesn't stand before it
 fresh : (fields : List (Piece × ℤ)) (i : ℕ) (x : Piece × ℤ) → AllDistinct (map field_text fields) → i < length fields → x ≡ get_or fields i x → Among (field_text x) (map field_text (take i fields)) → ⊥
 fresh [] i x d l e a = absurd (omega arith)
 fresh (f ∷ fields) zero x d l e a = absurd a
 fresh (f ∷ fields) (suc i) x d l e a =
-    ⊎_elim {C = ⊥} (λ q. d.0 (subst (λ t. Among t (map field_text fields)) q (subst (λ (y : Piece × ℤ). Among (field_text y) (map field_text fields)) (sym e) (text_at fields i x (omega (arith, l))))))
+    ⊎_elim {C = ⊥} (λ q. d.0 (subst (λ t. Among t (map field_text fields)) q (Among-map field_text x fields (field_at fields i x (omega (arith, l)) e))))
     (λ k. fresh fields i x d.1 (omega (arith, l)) e k) a
 
-pub grown_aside : (cs cs' : List Column) (ss ss' : List ColumnState) (ns : List ℕ) (fs : List Fact) → length ss ≡ length cs → MayGrow cs ss cs' ss' → AreAside cs ss ns fs
+pub grown_aside : (c : Column) (cs cs' : List Column) (ss ss' : List ColumnState) (ns : List ℕ) (fs : List Fact) → length ss ≡ length cs → MayGrow c cs ss cs' ss' → AreAside cs ss ns fs
     → AreAside cs' ss' ns fs × (length ss' ≡ length cs') × (facts_of_columns cs' (points_of ss') ≡ facts_of_columns cs (points_of ss))
-grown_aside cs cs' ss ss' ns fs l grown a =
+grown_aside c cs cs' ss ss' ns fs l grown a =
     ⊎_elim {C = AreAside cs' ss' ns fs × (length ss' ≡ length cs') × (facts_of_columns cs' (points_of ss') ≡ facts_of_columns cs (points_of ss))}
     (λ same. (
       subst (λ (xs : List Column). AreAside xs ss' ns fs) (sym same.0) (subst (λ (xs : List ColumnState). AreAside cs xs ns fs) (sym same.1) a),
       ap length same.1 ∙ l ∙ sym (ap length same.0),
       λ i. facts_of_columns (same.0 i) (points_of (same.1 i)),
     ))
-    (λ made.
-    let c : Column = made.0 in (
-      subst (λ (xs : List Column). AreAside xs ss' ns fs) (sym made.1) (subst (λ (xs : List ColumnState). AreAside (cs ++ c ∷ []) xs ns fs) (sym made.2) (aside_grown cs ss ns fs c no_column l a)),
-      ap length made.2 ∙ length-append ss (no_column ∷ []) ∙ ap (λ k. k + 1) l ∙ sym (length-append cs (c ∷ [])) ∙ sym (ap length made.1),
-      (λ i. facts_of_columns (made.1 i) (points_of (made.2 i))) ∙ ap (facts_of_columns (cs ++ c ∷ [])) (map-append (λ (s : ColumnState). s.points) ss (no_column ∷ []))
+    (λ made. (
+      subst (λ (xs : List Column). AreAside xs ss' ns fs) (sym made.0) (subst (λ (xs : List ColumnState). AreAside (cs ++ c ∷ []) xs ns fs) (sym made.1) (aside_grown cs ss ns fs c no_column l a)),
+      ap length made.1 ∙ length-append ss (no_column ∷ []) ∙ ap (λ k. k + 1) l ∙ sym (length-append cs (c ∷ [])) ∙ sym (ap length made.0),
+      (λ i. facts_of_columns (made.0 i) (points_of (made.1 i))) ∙ ap (facts_of_columns (cs ++ c ∷ [])) (map-append (λ (s : ColumnState). s.points) ss (no_column ∷ []))
           ∙ facts-grown cs (points_of ss) c (length-map ss (λ (s : ColumnState). s.points) ∙ l),
     ))
     grown
 
+-- ---- columns that are made
+
+pub none_made : (cs : List Column) (fs : List Fact) → MakesColumns cs cs fs
+none_made cs fs = ([], sym (append-nil cs), λ c a. absurd a)
+
 -- the columns that there were stay
-pub grown_keeps : (cs cs' : List Column) (ss ss' : List ColumnState) → MayGrow cs ss cs' ss' → (c : Column) → Among c cs → Among c cs'
-grown_keeps cs cs' ss ss' grown c a =
-    ⊎_elim {C = Among c cs'} (λ same. subst (Among c) (sym same.0) a) (λ made. subst (Among c) (sym made.1) (Among-left c cs (made.0 ∷ []) a)) grown
+pub made_stay : (cs cs' : List Column) (fs : List Fact) → MakesColumns cs cs' fs → (c : Column) → Among c cs → Among c cs'
+made_stay cs cs' fs made c a = subst (Among c) (sym made.1) (Among-left c cs made.0 a)
+
+-- one more of these facts' columns may be made
+made_one : (c : Column) (before cs cs' : List Column) (ss ss' : List ColumnState) (fs : List Fact) → MayGrow c cs ss cs' ss' → Among c (map (λ (f : Fact). f.column) fs) → MakesColumns before cs fs
+    → MakesColumns before cs' fs
+made_one c before cs cs' ss ss' fs grown of made =
+    ⊎_elim {C = MakesColumns before cs' fs} (λ same. (made.0, same.0 ∙ made.1, made.2))
+    (λ more. (
+      made.0 ++ c ∷ [],
+      more.0 ∙ ap (λ (xs : List Column). xs ++ c ∷ []) made.1 ∙ append_assoc before made.0 (c ∷ []),
+      λ d a. ⊎_elim {C = Among d (map (λ (f : Fact). f.column) fs)} (made.2 d)
+          (λ k. ⊎_elim {C = Among d (map (λ (f : Fact). f.column) fs)} (λ e. subst (λ (x : Column). Among x (map (λ (f : Fact). f.column) fs)) (sym e) of) (λ n. absurd n) k)
+          (Among-append d made.0 (c ∷ []) a),
+    ))
+    grown
 
 pub facts_next : (p : Parts) (i : ℕ) (x : Piece × ℤ) → i < length p.fields → x ≡ get_or p.fields i x → map (fact_of p) (take i p.fields) ++ fact_of p x ∷ [] ≡ map (fact_of p) (take (i + 1) p.fields)
 facts_next p i x within is =
     sym (map-append (fact_of p) (take i p.fields) (x ∷ [])) ∙ ap (λ (xs : List (Piece × ℤ)). map (fact_of p) xs) (ap (λ (y : Piece × ℤ). take i p.fields ++ y ∷ []) is ∙ sym (take_more p.fields i x within))
 
 pub next_aside : (p : Parts) (cs cs' : List Column) (ss ss' ss'' : List ColumnState) (ns : List ℕ) (n i : ℕ) (x : Piece × ℤ) → length ss ≡ length cs
-    → AreAside cs ss ns (map (fact_of p) (take i p.fields)) → MayGrow cs ss cs' ss' → slice_get cs' n ≡ Some (fact_of p x).column → i < length p.fields → x ≡ get_or p.fields i x
+    → AreAside cs ss ns (map (fact_of p) (take i p.fields)) → MayGrow (fact_of p x).column cs ss cs' ss' → slice_get cs' n ≡ Some (fact_of p x).column → i < length p.fields → x ≡ get_or p.fields i x
     → AllDistinct (map field_text p.fields) → ss'' ≡ set ss' n (with_point_aside (get_or ss' n no_column) p.time x.1)
     → AreAside cs' ss'' (ns ++ n ∷ []) (map (fact_of p) (take (i + 1) p.fields)) × (length ss'' ≡ length cs') × (facts_of_columns cs' (points_of ss'') ≡ facts_of_columns cs (points_of ss))
 next_aside p cs cs' ss ss' ss'' ns n i x l a grown at within is once set_is =
     let fs : List Fact = map (fact_of p) (take i p.fields) in
     let s : ColumnState = with_point_aside (get_or ss' n no_column) p.time x.1 in
-    let g = grown_aside cs cs' ss ss' ns fs l grown a in
+    let g = grown_aside (fact_of p x).column cs cs' ss ss' ns fs l grown a in
     let away : Among n ns → ⊥ = λ k. fresh p.fields i x once within is (text_among p x (take i p.fields) (column_of_number cs' ss' ns fs n (fact_of p x).column g.0 at k)) in
     let there : n < length ss' = let w = slice_get_within cs' n (fact_of p x).column at in omega (arith, w, g.1) in
     let more : fs ++ fact_of p x ∷ [] ≡ map (fact_of p) (take (i + 1) p.fields) = facts_next p i x within is in
@@ -223,10 +242,18 @@ next_aside p cs cs' ss ss' ss'' ns n i x l a grown at within is once set_is =
     )
 
 -- the column that an index gives for a field of the line
-pub column_at : (p : Parts) (index : Indexed) (series n : ℕ) (field : Text) (x : Piece × ℤ) (cs : List Column) → slice_get index.series series ≡ Some (series_of p) → field ≡ x.0.text
-    → slice_get cs n ≡ Some (column_in index series field) → slice_get cs n ≡ Some (fact_of p x).column
-column_at p index series n field x cs there name at =
-    at ∙ ap Some (λ i. record { series = get_or_from_slice_get index.series series (series_of p) no_series there i; field = name i })
+pub column_is : (p : Parts) (index : Indexed) (series : ℕ) (field : Text) (x : Piece × ℤ) → slice_get index.series series ≡ Some (series_of p) → field ≡ x.0.text → column_in index series field ≡ (fact_of p x).column
+column_is p index series field x there name = λ i. record { series = get_or_from_slice_get index.series series (series_of p) no_series there i; field = name i }
+
+-- the column that an index gives for a field of the line may be made
+pub made_next : (p : Parts) (index : Indexed) (series : ℕ) (field : Text) (before cs' : List Column) (ss ss' : List ColumnState) (fields : List (Piece × ℤ)) (i : ℕ) (x : Piece × ℤ)
+    → MayGrow (column_in index series field) index.columns ss cs' ss' → slice_get index.series series ≡ Some (series_of p) → field ≡ x.0.text → fields ≡ p.fields → i < length fields → x ≡ get_or fields i x
+    → MakesColumns before index.columns (facts_of p) → MakesColumns before cs' (facts_of p)
+made_next p index series field before cs' ss ss' fields i x grown there name e within is made =
+    let here : Among x p.fields = subst (Among x) e (field_at fields i x within is) in
+    let of : Among (fact_of p x).column (map (λ (f : Fact). f.column) (facts_of p)) = Among-map (λ (f : Fact). f.column) (fact_of p x) (facts_of p) (Among-map (fact_of p) x p.fields here) in
+    made_one (column_in index series field) before index.columns cs' ss ss' (facts_of p) grown
+    (subst (λ (d : Column). Among d (map (λ (f : Fact). f.column) (facts_of p))) (sym (column_is p index series field x there name)) of) made
 
 -- each fact that is aside has its column
 pub columns_there : (cs : List Column) (ss : List ColumnState) (ns : List ℕ) (fs : List Fact) → AreAside cs ss ns fs → (f : Fact) → Among f fs → Among f.column cs

@@ -1,8 +1,7 @@
 -- What is kept goes on standing for its history.
-use Rattle.std.proofs.Common.{◌≡◌, ◌↔◌, ℕ, ℤ, ◌+◌, ◌≤◌, ◌≤ℤ◌, ◌^◌, Bool, int_le, true, not, List, [], ◌∷◌, length, filter, refl, sym, ◌∙◌, ap, subst, inl, inr, ◌⊎◌, ⊎_elim, arith, map, get_or, ◌++◌, ◌<◌, take, false, true≢false, Option, Some, None, IfSome, IfNone, Result, Ok, Err, OnErr}
+use Rattle.std.proofs.Common.{◌≡◌, ◌↔◌, ℕ, ℤ, ◌+◌, ◌≤◌, ◌≤ℤ◌, ◌^◌, Bool, int_le, true, not, List, [], ◌∷◌, length, filter, refl, sym, ap, subst, inl, inr, ◌⊎◌, ⊎_elim, arith, ◌++◌, false, true≢false, Option, Some, None, IfSome, IfNone, Result, Ok, Err, OnErr}
 use Rattle.std.specs.Option.{is_some}
 use Rattle.std.specs.List.{slice_get}
-use Rattle.std.proofs.lemmas.List.{map_more}
 use Rattle.std.proofs.lemmas.Int.{ints}
 use Rattle.std.specs.List.{AllByRecursion}
 use Rattle.ts_core.specs.Members.{Among, AllDistinct}
@@ -16,7 +15,7 @@ use Rattle.ts_core.proofs.Tests.{le_true, le_from}
 use Rattle.ts_core.proofs.MembersLemmas.{Among-filter_passes, Among-filter_was, Among-filter_stays, AllDistinct-filter}
 use Rattle.ts_core.proofs.Folds.{length-same}
 use Rattle.ts_core.proofs.Latests.{latest-distinct, not_false}
-use Rattle.ts_line.specs.Parts.{Piece, Parts, series_of, fact_of}
+use Rattle.ts_line.specs.Parts.{Parts, series_of}
 use Rattle.ts_store.specs.ColumnsKept.{Held}
 use Rattle.ts_store.specs.Puts.{Puts, PutsAll}
 use Rattle.ts_store.specs.Registered.{IsTooMany}

@@ -24,10 +24,10 @@ points_of states = map (λ (s : ColumnState). s.points) states
 abbrev pub no_column : ColumnState
 no_column = record { points = finmap.empty; aside = None }
 
--- a column without points is made behind the others, or none
-abbrev pub MayGrow : List Column → List ColumnState → List Column → List ColumnState → Type 0
-MayGrow columns states columns' states' =
-    ((columns' ≡ columns) × (states' ≡ states)) ⊎ ((made : Column) × (columns' ≡ columns ++ made ∷ []) × (states' ≡ states ++ no_column ∷ []))
+-- this column is made behind the others, without points, or none is
+abbrev pub MayGrow : Column → List Column → List ColumnState → List Column → List ColumnState → Type 0
+MayGrow c columns states columns' states' =
+    ((columns' ≡ columns) × (states' ≡ states)) ⊎ ((columns' ≡ columns ++ c ∷ []) × (states' ≡ states ++ no_column ∷ []))
 
 -- ---- points aside
 

@@ -8,7 +8,8 @@ ghost use Rattle.ts_core.specs.Members.{Among, AllDistinct};
 ghost use Rattle.ts_core.specs.Texts.{lent_pairs, lent_series, IsTagSet};
 ghost use Rattle.ts_line.specs.Parts.{series_of, facts_of};
 ghost use Rattle.ts_raw.specs.Numbered.{IsAt, Gains, numbers_where};
-ghost use Rattle.ts_store.specs.Registered.{IsTooMany, MayGain};
+ghost use Rattle.ts_raw.specs.PlainColumns.{IsRising};
+ghost use Rattle.ts_store.specs.Registered.{IsTooMany, MayGain, MakesColumns};
 ghost use Rattle.ts_store.specs.PointsRead.{column_points};
 ghost use Rattle.ts_store.specs.Puts.{PutsAll};
 
@@ -82,7 +83,7 @@ impl<A: Allocator + Copy> ColumnFacts<A> {
         ensures err { OnErr result (self.new.raw ≡ self.old.raw) }
         ensures series { OnOk result (Gains self.old.series self.new.series (series_of line.now)) }
         ensures may_gain { MayGain self.old.series self.new.series (series_of line.now) }
-        ensures grown { (c : Column) → Among c self.old.columns → Among c self.new.columns }
+        ensures made { MakesColumns self.old.columns self.new.columns (facts_of line.now) }
         ensures columns_once { AllDistinct self.new.columns }
         ensures registered { (c : Column) → Among c self.new.columns → Among c.series self.new.series }
     {
@@ -139,7 +140,8 @@ impl<A: Allocator + Copy> ColumnFacts<A> {
     /// The points of a column, from a time on and before another.
     pub(crate) fn raw_range(&self, column: ColumnId, from: i64, to: i64) -> Points<'_>
         requires { column < length self.now.columns }
-        ensures { (c : Column) → IsAt self.now.columns column c → result ≡ column_points c from to self.now.raw }
+        ensures points { (c : Column) → IsAt self.now.columns column c → result ≡ column_points c from to self.now.raw }
+        ensures rising { IsRising result }
     {
         raw_range(self.columns.as_slice(), column.number(), from, to)
     }

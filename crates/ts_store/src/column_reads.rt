@@ -4,6 +4,7 @@ ghost use Rattle.std.specs.Prelude.{◌≡◌, ◌+◌, ◌*◌, ◌≤◌, ◌<
 ghost use Rattle.std.specs.FinMap as map;
 ghost use Rattle.ts_core.specs.Facts.{is_asked};
 ghost use Rattle.ts_raw.specs.Columns.{points_within};
+ghost use Rattle.ts_raw.specs.PlainColumns.{IsRising};
 ghost use Rattle.ts_store.specs.ColumnsKept.{facts_of_columns, points_of};
 ghost use Rattle.ts_store.specs.PointsRead.{number_of_points};
 
@@ -72,7 +73,8 @@ pub(crate) fn raw_range<'a, A: Allocator + Copy>(
     to: i64,
 ) -> Points<'a>
     requires { at < length columns.now }
-    ensures { result ≡ points_within (get_or (points_of columns.now) at map.empty) from to }
+    ensures points { result ≡ points_within (get_or (points_of columns.now) at map.empty) from to }
+    ensures rising { IsRising result }
 {
     columns[at].range(from, to)
 }

@@ -1,17 +1,13 @@
-//! Facts in columns that are found through an index: a line looks its series up once and each of its columns
-//! once, and a count walks the columns of its measurement and its field.
-ghost use Rattle.std.specs.Prelude.{◌≡◌, ◌<◌, ◌≤◌, [], length, filter, OnOk, OnErr, IfOk, Err, set, get_or};
+//! What a line writes to columns that are found through an index: each of its columns is looked up once.
+ghost use Rattle.std.specs.Prelude.{◌≡◌, ◌<◌, [], length, OnOk, IfOk, set, get_or};
 ghost use Rattle.std.specs.List.{AllByRecursion};
 ghost use Rattle.ts_core.specs.Times.{least_time};
-ghost use Rattle.ts_core.specs.Facts.{Column as ColumnName, is_of, is_asked};
 ghost use Rattle.ts_core.specs.History.{MayBeTaken};
-ghost use Rattle.ts_core.specs.Members.{Among};
-ghost use Rattle.ts_core.specs.Texts.{lent_pairs, lent_series, IsTagSet};
 ghost use Rattle.ts_line.specs.Parts.{series_of, facts_of};
 ghost use Rattle.ts_raw.specs.Indexed.{IsSound, column_in};
-ghost use Rattle.ts_raw.specs.Numbered.{IsAt, Gains};
+ghost use Rattle.ts_raw.specs.Numbered.{IsAt};
 ghost use Rattle.ts_store.specs.ColumnsKept.{no_column, points_of, facts_of_columns, with_point_aside, all_committed, AreReady, AreAside, MayGrow};
-ghost use Rattle.ts_store.specs.Puts.{PutsAll};
+ghost use Rattle.ts_store.specs.Registered.{MakesColumns};
 
 use std::alloc::{AllocError, Allocator};
 use std::marker::Model;
@@ -29,7 +25,7 @@ fn column_for<A: Allocator + Copy>(
     requires len { length columns.old.items ≡ length index.old.columns }
     requires series { series < length index.old.series }
     ensures number { IfOk result (λ id. IsAt index.new.columns id (column_in index.old series field.now)) }
-    ensures grown { MayGrow index.old.columns columns.old.items index.new.columns columns.new.items }
+    ensures grown { MayGrow (column_in index.old series field.now) index.old.columns columns.old.items index.new.columns columns.new.items }
     ensures series { index.new.series ≡ index.old.series }
     ensures sound { IsSound index.old → IsSound index.new }
 {
@@ -85,7 +81,7 @@ pub(crate) fn prepare_line<A: Allocator + Copy>(
     requires none { touched.old.items ≡ [] }
     ensures aside { OnOk result (AreAside index.new.columns columns.new.items touched.new.items (facts_of line.now)) }
     ensures taken { OnOk result (AllByRecursion (MayBeTaken least_time) (facts_of line.now)) }
-    ensures grown { (c : ColumnName) → Among c index.old.columns → Among c index.new.columns }
+    ensures made { MakesColumns index.old.columns index.new.columns (facts_of line.now) }
     ensures len { length columns.new.items ≡ length index.new.columns }
     ensures sound { IsSound index.new }
     ensures series { index.new.series ≡ index.old.series }

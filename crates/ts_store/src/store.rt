@@ -7,8 +7,9 @@ ghost use Rattle.ts_core.specs.Settings.{Settings as SettingsValue};
 ghost use Rattle.ts_core.specs.Kept.{StandsFor, OfEachHistory, GoesOn, StaysFor, raw_facts};
 ghost use Rattle.ts_line.specs.Parts.{series_of, facts_of};
 ghost use Rattle.ts_raw.specs.Numbered.{IsAt, Gains, numbers_where};
+ghost use Rattle.ts_raw.specs.PlainColumns.{IsRising};
 ghost use Rattle.ts_store.specs.PointsRead.{column_points};
-ghost use Rattle.ts_store.specs.Registered.{IsTooMany, MayGain};
+ghost use Rattle.ts_store.specs.Registered.{IsTooMany, MayGain, MakesColumns};
 
 use crate::column_facts::ColumnFacts;
 use crate::fault::WriteFault;
@@ -56,12 +57,13 @@ impl<A: Allocator + Copy> Store<A> {
 
     /// Writes a line: its facts are accepted, each in place of an older one of its id. After a fault it
     /// stands for what it stood for; where no memory was found, the line's series may be registered and
-    /// have columns without points.
+    /// have columns of the line's fields without points. Columns keep their numbers.
     pub fn write(&mut self, line: &Line<'_, A>) -> Result<(), WriteFault>
         ensures ok { OnOk result (GoesOn self.old (LineEvent (facts_of line.now)) self.new) }
         ensures err { OnErr result (StaysFor self.old self.new) }
         ensures registers { OnOk result (Gains self.old.series self.new.series (series_of line.now)) }
         ensures may_register { MayGain self.old.series self.new.series (series_of line.now) }
+        ensures columns { MakesColumns self.old.columns self.new.columns (facts_of line.now) }
 
         // Where there is memory, each refusal comes exactly so; what was refused changes nothing.
         ensures series { result ≢ Err WriteFault.OutOfMemory → ((result ≡ Err WriteFault.TooManySeries) ↔ IsTooMany self.old.series (series_of line.now)) }
@@ -120,10 +122,11 @@ impl<A: Allocator + Copy> Store<A> {
         self.facts.columns_of(measurement, field)
     }
 
-    /// The raw points of a column, from a time on and before another (nanoseconds).
+    /// The raw points of a column, from a time on and before another (nanoseconds), in the order of time.
     pub fn raw_range(&self, column: ColumnId, from: i64, to: i64) -> Points<'_>
         requires { column < length self.now.columns }
-        ensures { (c : Column) → IsAt self.now.columns column c → result ≡ column_points c from to self.now.raw }
+        ensures points { (c : Column) → IsAt self.now.columns column c → result ≡ column_points c from to self.now.raw }
+        ensures rising { IsRising result }
     {
         self.facts.raw_range(column, from, to)
     }

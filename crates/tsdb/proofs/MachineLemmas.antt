@@ -57,7 +57,8 @@ kept_out text parts s m k i said stays gain =
     ⊎_elim {C = Did (Write text) s (line (codes "fault memory")) (keeping k m)} (λ same. (s, finds_no_memory text, stayed s m k s.series i stays (same ∙ i.series)))
     (λ gains. (
       with_series k.series s,
-      registers_alone text parts k.series said (subst (λ (xs : List Series). Gains xs k.series (series_of parts)) i.series gains),
+      registers_alone text parts k.series said (subst (λ (xs : List Series). IsTooMany xs (series_of parts) → ⊥) i.series gains.0)
+          (subst (λ (xs : List Series). Gains xs k.series (series_of parts)) i.series gains.1),
       stayed s m k k.series i stays refl,
     ))
     gain

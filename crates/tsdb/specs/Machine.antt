@@ -62,9 +62,10 @@ pub data Does (old : State) : Command → Text → State → Type 0 where
   -- a comment or a blank line
   passes_over : (text : Text) → line_in old text ≡ Ok None → Does old (Write text) (line (codes "none")) old
   refuses : (text : Text) (fault : LineFault) → line_in old text ≡ Err fault → Does old (Write text) (line (fault_text fault)) old
-  -- only a write may want memory that isn't there; the line's series may be registered then
+  -- any write may want memory that isn't there, and no other command
   finds_no_memory : (text : Text) → Does old (Write text) (line (codes "fault memory")) old
-  registers_alone : (text : Text) (parts : Parts) (series : List Series) → line_in old text ≡ Ok (Some parts) → Gains old.series series (series_of parts)
+  -- the line's series may be registered then, where it isn't refused
+  registers_alone : (text : Text) (parts : Parts) (series : List Series) → line_in old text ≡ Ok (Some parts) → (IsTooMany old.series (series_of parts) → ⊥) → Gains old.series series (series_of parts)
       → Does old (Write text) (line (codes "fault memory")) (with_series series old)
   -- how many of the latest facts have their raw points
   tells_live : Does old Live (line (decimal (length (raw_facts open_settings old.history)))) old

@@ -38,6 +38,8 @@ pub fn run<R: Read, W: Write, A: Allocator + Copy>(
     // All lines are answered, or a beginning of the answers went out.
     ensures answered { OnOk result (AnswersAll source.old.remaining sink.old.contents sink.new.contents) }
     ensures begun { OnErr result (AnswersSome source.old.remaining sink.old.contents sink.new.contents) }
+    // Memory is wanted before anything is read or written, and not later.
+    ensures memory { result ≡ Err RunFault.OutOfMemory → (source.new ≡ source.old) × (sink.new ≡ sink.old) }
     // A device's fault is told, and only then.
     ensures reader { source.new.failures ≡ source.old.failures + one_if_reader result }
     ensures writer { sink.new.failures ≡ sink.old.failures + one_if_writer result }

@@ -46,7 +46,8 @@ impl<A: Allocator + Copy> Machine<A> {
         }
     }
 
-    /// Answers a line of a script. Where no memory is found, nothing has happened.
+    /// Answers a line of a script. Where no memory is found, no fact is accepted; the line's series may be
+    /// registered.
     pub fn serve(&mut self, line: &[u8]) -> Reply
         requires { length line.now ≤ 2 ^ 17 }
         ensures { (s : State) → IsIn s self.old → Stepped line.now s (text_of result) self.new }

@@ -33,7 +33,7 @@ pub enum Reply {
     TooManySeries,
     /// The facts that were accepted would pass 2^62 (number 52).
     TooManyFacts,
-    /// No memory was found. Nothing has changed.
+    /// No memory was found. No fact was accepted; the line's series may be registered.
     OutOfMemory,
 }
 

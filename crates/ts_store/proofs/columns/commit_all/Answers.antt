@@ -1,4 +1,4 @@
-use Rattle.std.proofs.Common.{◌≡◌, ◌∙◌, ◌∷◌, List, ℕ, ap, drop, get_or, subst, ◌+◌}
+use Rattle.std.proofs.Common.{◌≡◌, ◌∙◌, List, ℕ, ap, drop, get_or, subst, ◌+◌}
 use Rattle.std.proofs.lemmas.List.{drop_more, get_or_default}
 use Rattle.ts_store.specs.ColumnsKept.{all_committed, AreReady}
 use Rattle.ts_store.proofs.ColumnsAside.{next_committed}

@@ -65,6 +65,7 @@ returns-in_err-send g c =
           i.progress
           (answers_next (to_come c.loop-text.lines c.loop-text.source) (to_come c.next.new.self c.next.new.source) c.in_ok-next.next c.next.new.self.line c.line.result.now c.loop-text.machine c.answer-reply.new.machine (text_of c.answer-reply.result) c.line.ensures.line c.in_default.not-End n.next a)
           s.err;
+      memory = λ e. cc;
       reader = omega (arith, i.reader, n.failures);
       writer = omega (arith, i.writer, s.failures);
       end = tt;

@@ -1,4 +1,4 @@
-use Rattle.std.proofs.Common.{◌≡◌, ◌∙◌, ap, length}
+use Rattle.std.proofs.Common.{◌∙◌, ap, length}
 use Rattle.ts_core.specs.Kept.{Kept}
 use Rattle.ts_store.proofs.Stands.{raw_stands}
 use Rattle.ts_store.proofs.store.Store.raw_points.Goals as goal
