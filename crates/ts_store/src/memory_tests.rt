@@ -44,6 +44,17 @@ struct Written {
     counts: Option<[u64; 4]>,
 }
 
+impl Written {
+    /// Whether the write ended so, and so many points were accepted, were there and were stored.
+    fn is(&self, ended: Result<(), WriteFault>, points: u64, counts: [u64; 4]) -> bool {
+        self.result == ended
+            && self.accepted == points
+            && self.live == points
+            && self.held == points
+            && self.counts == Some(counts)
+    }
+}
+
 fn counts<A: Allocator + Copy>(store: &Store<A>) -> Option<[u64; 4]> {
     let end = Time::new(1_000)?;
     let count = |measurement, field| store.count(measurement, field, Time::least(), end);
@@ -129,51 +140,42 @@ fn written_within(
     Ok(write_twice(alloc, &heap, &mut store, &line, left)?)
 }
 
+/// Writes a line on a store of so many points, with one more block each time until it finds its memory, and
+/// tells how many blocks that takes. Then so many points are there.
+fn blocks_needed(
+    rt: &impl Abort,
+    alloc: Global,
+    count: usize,
+    text: &str,
+    then: u64,
+    counts: [u64; 4],
+) -> Result<usize, Fail> {
+    let before = count as u64;
+    for left in 0..HEAP / 16 {
+        let (short, again) = written_within(alloc, count, text, left)?;
+        if short.result.is_ok() {
+            return Ok(left);
+        }
+        let refused = Err(WriteFault::OutOfMemory);
+        assert!(rt; short.is(refused, before, [before, 0, 0, 0]), "{text}");
+        assert!(rt; again.is(Ok(()), then, counts), "{text} again");
+    }
+    Err("never enough")?
+}
+
 #[test]
 fn each_growth_is_refused_in_turn(rt: HostRuntime) -> Result<(), Fail> {
-    for (text, accepted, then) in LINES {
-        // one more block each time, until the write finds its memory
-        for left in 0..HEAP / 16 {
-            let (short, again) = written_within(rt.alloc(), 1, text, left)?;
-            if short.result.is_ok() {
-                assert!(rt; left > 0, "{text} had {left} blocks");
-                break;
-            }
-            assert_eq!(rt; short.result, Err(WriteFault::OutOfMemory), "{text}");
-            assert_eq!(rt; short.accepted, 1, "{text}");
-            assert_eq!(rt; short.live, 1, "{text}");
-            assert_eq!(rt; short.counts, Some([1, 0, 0, 0]), "{text}");
-            assert_eq!(rt; again.result, Ok(()), "{text} again");
-            assert_eq!(rt; again.accepted, accepted, "{text} again");
-            assert_eq!(rt; again.live, accepted, "{text} again");
-            assert_eq!(rt; again.counts, Some(then), "{text} again");
-        }
+    for (text, then, counts) in LINES {
+        let needed = blocks_needed(&rt, rt.alloc(), 1, text, then, counts)?;
+        assert!(rt; needed > 0, "{text}");
     }
     Ok(())
 }
 
-/// Looks whether a store of one column has so many points, and accepted no other.
-fn assert_points(rt: &impl Abort, told: &Written, count: u64) {
-    assert_eq!(rt; told.accepted, count);
-    assert_eq!(rt; told.live, count);
-    assert_eq!(rt; told.held, count);
-    assert_eq!(rt; told.counts, Some([count, 0, 0, 0]));
-}
-
-/// Writes the next point with one more block each time, and tells how many it takes.
+/// How many blocks the next point of a column takes that has so many.
 fn blocks_for_next(rt: &impl Abort, alloc: Global, count: usize) -> Result<usize, Fail> {
-    let before = count as u64;
-    for left in 0..HEAP / 16 {
-        let (short, again) = written_within(alloc, count, NEXT, left)?;
-        if short.result.is_ok() {
-            return Ok(left);
-        }
-        assert_eq!(rt; short.result, Err(WriteFault::OutOfMemory));
-        assert_points(rt, &short, before);
-        assert_eq!(rt; again.result, Ok(()));
-        assert_points(rt, &again, before.saturating_add(1));
-    }
-    Err("never enough")?
+    let then = (count as u64).saturating_add(1);
+    blocks_needed(rt, alloc, count, NEXT, then, [then, 0, 0, 0])
 }
 
 #[test]

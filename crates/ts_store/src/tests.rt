@@ -101,7 +101,17 @@ fn points_and_columns_are_told(rt: HostRuntime) -> Result<(), Fail> {
     }
     assert_eq!(rt; store.raw_points(), 3);
     assert_eq!(rt; store.held_points(), 3);
-    assert_eq!(rt; store.columns_of("m", "f").len(), 2);
+    for (field, want) in [
+        ("f", [0, 2].as_slice()),
+        ("g", [1].as_slice()),
+        ("h", [].as_slice()),
+    ] {
+        let columns = store.columns_of("m", field);
+        assert_eq!(rt; columns.len(), want.len(), "{field}");
+        for (column, number) in columns.iter().zip(want) {
+            assert_eq!(rt; column.number(), *number, "{field}");
+        }
+    }
     Ok(())
 }
 

@@ -66,7 +66,7 @@ behind_told (word ∷ rest) =
     if bytes_eq word (codes "--") then after_dashes [] false rest
     else word_told false word
 
--- The words behind the program's name. Behind `help` stands nothing or a command's name; another word may be told as no command.
+-- The words behind the program's name. Of `help` it is left open whether a command's name stands behind it: where none does, it may be told as no command.
 abbrev pub told : List Text → Kinds
 told [] = usage_told
 told (word ∷ rest) =

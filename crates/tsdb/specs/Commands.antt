@@ -52,7 +52,7 @@ count_between m f (Some a) (Some b) = if int_le (b -ℤ a) (pos 9223372036854775
 count_between m f (Some a) None = CountFault
 count_between m f None b = CountFault
 
--- count M F A B, parted by one space each: M and F aren't empty, A and B are numbers of nanoseconds
+-- count M F A B, parted by one space each: M and F aren't empty and stand as they are, without escapes; A and B are numbers of nanoseconds
 unfoldable pub count_of_parts : Text → Text → Text → Text → Command
 count_of_parts m f a b =
     if not (length m == 0) && not (length f == 0) && is_number a && is_number b

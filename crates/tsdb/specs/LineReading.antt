@@ -36,9 +36,10 @@ NextOf bytes Line line left = (rest : List ℕ) × (left ≡ Some rest) × (line
 NextOf bytes TooLong line left = (rest : List ℕ) × (left ≡ Some rest) × (long : List ℕ) × (lines_of bytes ≡ long ∷ lines_of rest) × (2 ^ 17 < length long)
 NextOf bytes End line left = (bytes ≡ []) × (left ≡ Some [])
 
--- what there is where an LF was read, and where the end was
+-- what there is where an LF was read
 abbrev pub next_of : Bool → Next
 next_of long = if long then TooLong else Line
 
+-- what there is where the end was read
 abbrev pub last_of : List ℕ → Bool → Next
 last_of line long = if long then TooLong else if length line == 0 then End else Line

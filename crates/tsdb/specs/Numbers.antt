@@ -1,5 +1,5 @@
 -- Numbers and moments as commands write them.
--- (InfluxData 1.8, InfluxQL reference, durations: ns, u or µ, ms, s, m, h, d, w.)
+-- (InfluxData 1.8, InfluxQL reference, durations: ns, u or µ, ms, s, m, h, d, w; own rule: one unit, a minus sign, nanoseconds without a unit.)
 use Rattle.std.specs.Prelude.{ℕ, ℤ, pos, ◌*ℤ◌, int_le, [], ◌∷◌, length, take, drop, Bool, not, ◌&&◌, ◌||◌, ◌==◌, if◌then◌else◌, Option, Some, None, option_and_then, codes, bytes_eq}
 use Rattle.std.specs.Char.{is_ascii_digit}
 use Rattle.std.specs.List.{position_or_len}
@@ -28,7 +28,7 @@ nanoseconds_of Hour = pos 3600000000000
 nanoseconds_of Day = pos 86400000000000
 nanoseconds_of Week = pos 604800000000000
 
--- the unit of this name; where there is none it is the nanosecond
+-- the unit of this name; without a name it is the nanosecond, and no other name is a unit's
 unfoldable pub unit_called : Text → Option Unit
 unit_called text =
     if length text == 0 || bytes_eq text (codes "ns") then Some Nanosecond

@@ -1,4 +1,4 @@
-//! The program `tsdb`. It runs scripts from standard input (`tsdb replay`), and stands on all other crates.
+//! The program `tsdb`. It runs scripts from standard input (`tsdb replay`), and stands on ts_store and ts_line.
 //! It promises, on `engine::run`: what it prints is what the definitions of specs/ say of the script, from
 //! the bytes read to the bytes written; and where a device fails, a beginning of it.
 #![tactic(auto)]

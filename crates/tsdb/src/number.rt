@@ -62,7 +62,7 @@ impl Unit {
         }
     }
 
-    /// The unit of this name; where there is none it is the nanosecond.
+    /// The unit of this name; without a name it is the nanosecond.
     #[tactic(auto, unfolding(crate::specs::Numbers::unit_called))]
     fn called(name: &str) -> Option<Unit>
         ensures { result ≡ unit_called name.now }

@@ -63,8 +63,11 @@ returns-in_err-prepare_line-clause-may_gain g c =
     let same = series_from c.args.line.now c.text.result.now (lent_pairs c.args.tags.now) (c.text.ensures ∙ ap (λ (q : Piece). q.text) c.measurement.ensures) c.requires.tags in
     let gains : Gains c.self.inside.index.series c.register.new.self.series (series_of c.args.line.now) =
     subst (λ (s : Series). Gains c.self.inside.index.series c.register.new.self.series s) same c.in-Ok.ensures.ok in
-    inr (c.requires.few, subst (λ (xs : List Series). Gains c.args.self.now.series xs (series_of c.args.line.now)) (sym c.prepare_line.ensures.series)
-    (subst (λ (xs : List Series). Gains xs c.register.new.self.series (series_of c.args.line.now)) (ap (λ (h : Held). h.series) c.self.view_is) gains))
+    inr (
+      c.requires.few,
+      subst (λ (xs : List Series). Gains c.args.self.now.series xs (series_of c.args.line.now)) (sym c.prepare_line.ensures.series)
+          (subst (λ (xs : List Series). Gains xs c.register.new.self.series (series_of c.args.line.now)) (ap (λ (h : Held). h.series) c.self.view_is) gains),
+    )
 
 pub returns-clause-series : goal.returns-clause-series
 returns-clause-series g c =
@@ -79,8 +82,11 @@ returns-clause-may_gain g c =
     let same = series_from c.args.line.now c.text.result.now (lent_pairs c.args.tags.now) (c.text.ensures ∙ ap (λ (q : Piece). q.text) c.measurement.ensures) c.requires.tags in
     let gains : Gains c.self.inside.index.series c.register.new.self.series (series_of c.args.line.now) =
     subst (λ (s : Series). Gains c.self.inside.index.series c.register.new.self.series s) same c.in-Ok.ensures.ok in
-    inr (c.requires.few, subst (λ (xs : List Series). Gains c.args.self.now.series xs (series_of c.args.line.now)) (sym c.prepare_line.ensures.series)
-    (subst (λ (xs : List Series). Gains xs c.register.new.self.series (series_of c.args.line.now)) (ap (λ (h : Held). h.series) c.self.view_is) gains))
+    inr (
+      c.requires.few,
+      subst (λ (xs : List Series). Gains c.args.self.now.series xs (series_of c.args.line.now)) (sym c.prepare_line.ensures.series)
+          (subst (λ (xs : List Series). Gains xs c.register.new.self.series (series_of c.args.line.now)) (ap (λ (h : Held). h.series) c.self.view_is) gains),
+    )
 
 pub returns-in_err-prepare_line-clause-err : goal.returns-in_err-prepare_line-clause-err
 returns-in_err-prepare_line-clause-err g c =
