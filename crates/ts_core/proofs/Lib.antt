@@ -1,4 +1,5 @@
 pub mod MembersLemmas
+pub mod Results
 pub mod PairTexts
 pub mod ListSteps
 pub mod LentLemmas

@@ -1,5 +1,5 @@
 -- The numbers and texts of a line's faults. (Own numbers.)
-use Rattle.std.specs.Prelude.{ℕ, ◌++◌, codes}
+use Rattle.std.specs.Prelude.{◌≡◌, ℕ, ◌++◌, codes}
 use Rattle.std.specs.Fmt.{decimal}
 use Rattle.ts_core.specs.Facts.{Text}
 use Rattle.ts_line.specs.declared.fault.LineFault.{LineFault}
@@ -35,3 +35,7 @@ offset_of (ReservedKey at) = at
 
 unfoldable pub fault_text : LineFault → Text
 fault_text fault = codes "fault " ++ decimal (number_of fault) ++ codes " at " ++ decimal (offset_of fault)
+
+-- behind what there was stands a beginning of the fault's text
+abbrev pub BeginsFault : LineFault → Text → Text → Type 0
+BeginsFault fault old new = (more : Text) × (rest : Text) × (new ≡ old ++ more) × (fault_text fault ≡ more ++ rest)

@@ -1,6 +1,6 @@
 //! Why a line is refused.
-ghost use Rattle.std.specs.Prelude.{◌≡◌, ◌+◌, ◌≤◌, ◌++◌, length, IsOk, OnOk, string_bytes, string_len, string_capacity};
-ghost use Rattle.ts_line.specs.FaultText.{number_of, offset_of, fault_text};
+ghost use Rattle.std.specs.Prelude.{◌≡◌, ◌+◌, ◌≤◌, ◌++◌, length, IsOk, OnOk, OnErr, string_bytes, string_len, string_capacity};
+ghost use Rattle.ts_line.specs.FaultText.{number_of, offset_of, fault_text, BeginsFault};
 ghost use Rattle.ts_line.specs.declared.fault.ReadLineError.TheVariants as errors;
 
 use itoa::Buffer;
@@ -74,10 +74,11 @@ impl LineFault {
         }
     }
 
-    /// Appends its text. Where the room is there, it takes no memory.
+    /// Appends its text, or a beginning of it where memory is wanted. Where the room is there, none is.
     #[tactic(auto, using(crate::proofs::FaultLemmas::fault_text_short), unfolding(crate::specs::FaultText::fault_text))]
     pub fn text_to<A: Allocator>(&self, text: &mut String<A>) -> Result<(), AllocError>
         ensures ok { OnOk result (string_bytes text.new ≡ string_bytes text.old ++ fault_text self.now) }
+        ensures err { OnErr result (BeginsFault self.now (string_bytes text.old) (string_bytes text.new)) }
         ensures room { string_len text.old + length (fault_text self.now) ≤ string_capacity text.old → IsOk result }
         ensures short { length (fault_text self.now) ≤ 32 }
         ensures capacity { string_capacity text.old ≤ string_capacity text.new }

@@ -160,10 +160,6 @@ taken_more mark (g ∷ facts) f all one = (all.0, taken_more mark facts f all.1 
 
 -- ---- answers
 
-pub on_err : {T E : Type 0} (r : Result T E) (X : Type 0) → X → OnErr r X
-on_err (Ok v) X x = tt
-on_err (Err e) X x = x
-
 -- where enough are registered, just the series that isn't found is refused
 pub refused : (series : List Series) (s : Series) (r : Option ℕ) (none : Bool) → is_some r ≡ not none → IfSome r (λ id. slice_get series id ≡ Some s) → IfNone r (Among s series → ⊥) → 1000000 ≤ length series
     → (none ≡ true → IsTooMany series s) × (IsTooMany series s → none ≡ true)

@@ -1,5 +1,5 @@
 //! Why a line was not written.
-ghost use Rattle.std.specs.Prelude.{◌≡◌, ◌+◌, ◌≤◌, ◌++◌, length, IsOk, OnOk, string_bytes, string_len, string_capacity};
+ghost use Rattle.std.specs.Prelude.{◌≡◌, ◌+◌, ◌≤◌, ◌++◌, length, IsOk, OnOk, OnErr, string_bytes, string_len, string_capacity};
 ghost use Rattle.ts_store.specs.Faults.{write_fault_text};
 
 use std::alloc::{AllocError, Allocator};
@@ -20,9 +20,11 @@ pub enum WriteFault {
 }
 
 impl WriteFault {
-    /// Appends the text of the fault. It takes no memory where there is room for the text.
+    /// Appends the text of the fault, or leaves the text as it was. It takes no memory where there is room for
+    /// the text.
     pub fn text_to<A: Allocator>(&self, text: &mut String<A>) -> Result<(), AllocError>
         ensures ok { OnOk result (string_bytes text.new ≡ string_bytes text.old ++ write_fault_text self.now) }
+        ensures err { OnErr result (string_bytes text.new ≡ string_bytes text.old) }
         ensures room { string_len text.old + length (write_fault_text self.now) ≤ string_capacity text.old → IsOk result }
     {
         match self {

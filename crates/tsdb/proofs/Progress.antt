@@ -127,10 +127,6 @@ pub answers_next : (left left' : Option Text) (next : Next) (line text : Text) (
 answers_next None left' next line text m m' answer e some n a = tt
 answers_next (Some bytes) left' next line text m m' answer e some n a = λ s i. a bytes left' s some (subst (λ (l : Text). NextOf bytes next l left') (sym e) n) i
 
-pub on_any_err : {T E P : Type 0} (r : Result T E) → P → OnErr r P
-on_any_err (Ok x) p = tt
-on_any_err (Err e) p = p
-
 -- ---- the ends of a run
 
 pub nothing_left : (left left' : Option Text) (next : Next) (line : Text) → next ≡ End → IfSome left (λ bytes. NextOf bytes next line left') → IfSome left (λ bytes. bytes ≡ [])

@@ -1,5 +1,5 @@
 //! Why a script was not answered to its end.
-ghost use Rattle.std.specs.Prelude.{◌≡◌, ◌+◌, ◌≤◌, ◌++◌, length, IsOk, OnOk, string_bytes, string_len, string_capacity};
+ghost use Rattle.std.specs.Prelude.{◌≡◌, ◌+◌, ◌≤◌, ◌++◌, length, IsOk, OnOk, OnErr, string_bytes, string_len, string_capacity};
 ghost use Rattle.tsdb.specs.RunFaults.{run_fault_text};
 
 use std::alloc::{AllocError, Allocator};
@@ -19,9 +19,10 @@ pub enum RunFault {
 }
 
 impl RunFault {
-    /// Appends its text. Where the room is there, it takes no memory.
+    /// Appends its text, or leaves the text as it was. Where the room is there, it takes no memory.
     pub fn text_to<A: Allocator>(&self, text: &mut String<A>) -> Result<(), AllocError>
         ensures ok { OnOk result (string_bytes text.new ≡ string_bytes text.old ++ run_fault_text self.now) }
+        ensures err { OnErr result (string_bytes text.new ≡ string_bytes text.old) }
         ensures room { string_len text.old + length (run_fault_text self.now) ≤ string_capacity text.old → IsOk result }
     {
         match self {

@@ -1,5 +1,5 @@
 //! Why a series was not registered.
-ghost use Rattle.std.specs.Prelude.{◌≡◌, ◌+◌, ◌≤◌, ◌++◌, length, IsOk, OnOk, string_bytes, string_len, string_capacity};
+ghost use Rattle.std.specs.Prelude.{◌≡◌, ◌+◌, ◌≤◌, ◌++◌, length, IsOk, OnOk, OnErr, string_bytes, string_len, string_capacity};
 ghost use Rattle.ts_raw.specs.declared.index.fault.IndexFault.TheVariants.{OutOfMemory};
 ghost use Rattle.ts_raw.specs.Faults.{index_fault_text};
 
@@ -26,9 +26,11 @@ impl From<AllocError> for IndexFault {
 }
 
 impl IndexFault {
-    /// Appends the text of the fault. It takes no memory where there is room for the text.
+    /// Appends the text of the fault, or leaves the text as it was. It takes no memory where there is room for
+    /// the text.
     pub fn text_to<A: Allocator>(&self, text: &mut String<A>) -> Result<(), AllocError>
         ensures ok { OnOk result (string_bytes text.new ≡ string_bytes text.old ++ index_fault_text self.now) }
+        ensures err { OnErr result (string_bytes text.new ≡ string_bytes text.old) }
         ensures room { string_len text.old + length (index_fault_text self.now) ≤ string_capacity text.old → IsOk result }
     {
         match self {

@@ -1,9 +1,10 @@
 use Rattle.std.proofs.Common.{[], refl, ap, ◌∙◌, Err, arith}
 use Rattle.std.proofs.lemmas.Result.{err_from_is_err_and}
 use Rattle.ts_core.specs.ReadingAhead.{bit}
+use Rattle.ts_core.proofs.Results.{on_any_err}
 use Rattle.tsdb.specs.LineReading.{to_come}
 use Rattle.tsdb.specs.Replies.{text_of}
-use Rattle.tsdb.proofs.Progress.{begins, goes_on, some_answered, cut_short, answers_next, on_any_err, all_answered, nothing_left, reader_told, turns_told, writer_silent}
+use Rattle.tsdb.proofs.Progress.{begins, goes_on, some_answered, cut_short, answers_next, all_answered, nothing_left, reader_told, turns_told, writer_silent}
 use Rattle.tsdb.proofs.engine.run.Goals as goal
 
 pub returns-in_err-lines-clause-begun : goal.returns-in_err-lines-clause-begun

@@ -4,7 +4,8 @@ use Rattle.ts_core.specs.Facts.{Series, Column, Fact}
 use Rattle.ts_line.specs.Parts.{Piece, Parts, series_of, facts_of}
 use Rattle.ts_core.specs.Texts.{lent_pairs}
 use Rattle.ts_raw.specs.Numbered.{Gains}
-use Rattle.ts_store.proofs.Stands.{series_from, on_err}
+use Rattle.ts_core.proofs.Results.{on_any_err}
+use Rattle.ts_store.proofs.Stands.{series_from}
 use Rattle.ts_raw.specs.Columns.{ColumnState}
 use Rattle.ts_store.specs.Puts.{PutsAll}
 use Rattle.ts_store.specs.Registered.{MakesColumns}
@@ -90,5 +91,5 @@ returns-clause-may_gain g c =
 
 pub returns-in_err-prepare_line-clause-err : goal.returns-in_err-prepare_line-clause-err
 returns-in_err-prepare_line-clause-err g c =
-    on_err c.from_residual-in_err-prepare_line.result _
+    on_any_err c.from_residual-in_err-prepare_line.result
     (c.prepare_line.ensures.unchanged ∙ ap (λ (xs : List Column). facts_of_columns xs (points_of c.self.inside.columns.items)) c.register.ensures.columns ∙ ap (λ (h : Held). h.raw) c.self.view_is)

@@ -6,7 +6,8 @@ use Rattle.ts_core.specs.Kept.{Kept, StandsFor, StaysFor}
 use Rattle.ts_line.specs.Parts.{Piece, Parts, fact_of, series_of, facts_of}
 use Rattle.ts_raw.specs.Numbered.{Gains}
 use Rattle.ts_store.specs.Registered.{MayGain}
-use Rattle.ts_store.proofs.Stands.{Grows, write_stands, stays_stands, all_kept, on_err}
+use Rattle.ts_core.proofs.Results.{on_any_err}
+use Rattle.ts_store.proofs.Stands.{Grows, write_stands, stays_stands, all_kept}
 use Rattle.ts_store.proofs.PutsLengths.{PutsAll-length}
 use Rattle.ts_store.proofs.ColumnsAside.{made_stay}
 use Rattle.ts_store.proofs.store.Store.write.Goals as goal
@@ -15,7 +16,7 @@ pub returns-in_err-put_line-clause-err : goal.returns-in_err-put_line-clause-err
 returns-in_err-put_line-clause-err g c =
     let before = c.self.inside in
     let grows : Grows before.facts c.put_line.new.self = record { once = c.put_line.ensures.columns_once; registered = c.put_line.ensures.registered; stay = made_stay before.facts.columns c.put_line.new.self.columns (facts_of c.args.line.now) c.put_line.ensures.made } in
-    on_err c.from_residual-in_err-put_line.result (StaysFor c.args.self.now (all_kept before.settings before.accepted c.put_line.new.self))
+    on_any_err {P = StaysFor c.args.self.now (all_kept before.settings before.accepted c.put_line.new.self)} c.from_residual-in_err-put_line.result
     (λ opening h s. stays_stands opening h before.settings before.accepted before.facts c.put_line.new.self c.in_err-put_line.ensures.err grows (subst (StandsFor opening h) (sym c.self.view_is) s))
 
 pub returns-in_err-put_line-clause-may_register : goal.returns-in_err-put_line-clause-may_register

@@ -1,0 +1,7 @@
+-- What holds of an error.
+use Rattle.std.proofs.Common.{Result, Ok, Err, OnErr}
+
+-- what holds anyway holds of an error
+pub on_any_err : {T E P : Type 0} (r : Result T E) → P → OnErr r P
+on_any_err (Ok x) p = tt
+on_any_err (Err e) p = p
