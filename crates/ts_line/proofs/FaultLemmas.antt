@@ -1,5 +1,5 @@
 -- The text of a line's fault: it is short, and what it begins with.
-use Rattle.std.proofs.Common.{◌≡◌, ◌∙◌, ap, ℕ, ◌<◌, ◌≤◌, ◌^◌, ◌++◌, length, codes, arith, length-append}
+use Rattle.std.proofs.Common.{◌≡◌, ◌∙◌, ap, ◌<◌, ◌≤◌, ◌^◌, ◌++◌, length, codes, arith, length-append}
 use Rattle.std.proofs.lemmas.List.{append_assoc}
 use Rattle.ts_core.specs.Facts.{Text}
 use Rattle.std.specs.Fmt.{decimal}

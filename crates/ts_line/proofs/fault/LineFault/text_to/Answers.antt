@@ -1,4 +1,4 @@
-use Rattle.std.proofs.Common.{◌≡◌, ◌∙◌, ◌++◌, ap, string_bytes}
+use Rattle.std.proofs.Common.{◌∙◌, ◌++◌, ap, string_bytes}
 use Rattle.std.specs.Fmt.{decimal}
 use Rattle.ts_core.specs.Facts.{Text}
 use Rattle.ts_core.proofs.Results.{on_any_err}
