@@ -1,5 +1,5 @@
 //! Count, sum and extremes of points.
-ghost use Rattle.std.specs.Prelude.{◌≡◌, ◌↔◌, ℕ, ◌+◌, ◌*◌, ◌^◌, ◌≤◌, ℤ, pos, ◌*ℤ◌, unsigned_abs, IsTrue, IsNone, IsSome, IfSome, option_map};
+ghost use Rattle.std.specs.Prelude.{◌≡◌, ◌↔◌, ◌+◌, ◌*◌, ◌^◌, ◌≤◌, ℤ, pos, ◌*ℤ◌, unsigned_abs, IsTrue, IsNone, IsSome, IfSome, option_map};
 ghost use Rattle.std.specs.declared.cmp.Ordering.{Ordering};
 ghost use Rattle.std.specs.Ordering.{int_cmp};
 ghost use Rattle.ts_core.specs.Orders.{lesser, down_cmp, early_cmp, late_cmp};

@@ -1,5 +1,5 @@
 //! Reading ahead.
-ghost use Rattle.std.specs.Prelude.{◌≡◌, ℕ, ◌+◌, ◌≤◌, ◌<◌, ◌^◌, [], length, take, drop, IfOk, OnOk, OnErr, false, not, nat_lt};
+ghost use Rattle.std.specs.Prelude.{◌≡◌, ◌+◌, ◌≤◌, ◌<◌, ◌^◌, [], length, take, drop, IfOk, OnOk, OnErr, false, not, nat_lt};
 ghost use Rattle.std.specs.Io.KnownBytes.{Consumes, Keeps};
 ghost use Rattle.ts_core.specs.Devices.{Input};
 ghost use Rattle.ts_core.specs.ReadingAhead.{pending, EndIsEnd, bit, one_if_device, weight};

@@ -1,5 +1,5 @@
 //! The tags of a line.
-ghost use Rattle.std.specs.Prelude.{◌≡◌, ◌≤◌, ◌<◌, length, [], IfOk};
+ghost use Rattle.std.specs.Prelude.{◌≡◌, ◌<◌, length, [], IfOk};
 ghost use Rattle.std.specs.Str.{IsCharBoundary};
 ghost use Rattle.ts_line.specs.Steps.{GivesIfRoom};
 ghost use Rattle.ts_line.specs.Tags.{has_key, next_tag, tags_at};

@@ -1,5 +1,5 @@
 //! Faults of pieces, over tables.
-ghost use Rattle.std.specs.Prelude.{◌≡◌, pos, ◌≤ℤ◌, IfOk};
+ghost use Rattle.std.specs.Prelude.{pos, ◌≤ℤ◌, IfOk};
 ghost use Rattle.std.specs.List.{AllByRecursion};
 
 use super::event::Event;
