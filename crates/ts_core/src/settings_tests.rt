@@ -25,6 +25,94 @@ const PLAIN: Parts = Parts {
     duration: 2 * MINUTE,
 };
 
+const OTHER: Parts = Parts { name: "y", ..PLAIN };
+
+/// For how many seconds raw points are kept, what the rules have, and the first fault of one with its place.
+const ROWS: [(u32, &[Parts], Option<(u8, usize)>); 15] = [
+    (60, &[PLAIN], None),
+    (60, &[PLAIN, OTHER], None),
+    (
+        60,
+        &[Parts {
+            duration: 0,
+            ..PLAIN
+        }],
+        None,
+    ),
+    (
+        60,
+        &[Parts {
+            interval: 500_000_000,
+            ..PLAIN
+        }],
+        Some((1, 0)),
+    ),
+    (
+        60,
+        &[Parts {
+            interval: 366 * DAY,
+            ..PLAIN
+        }],
+        None,
+    ),
+    (
+        60,
+        &[Parts {
+            interval: 366 * DAY + 1,
+            ..PLAIN
+        }],
+        Some((1, 0)),
+    ),
+    (
+        60,
+        &[Parts {
+            duration: 30 * SECOND,
+            ..PLAIN
+        }],
+        Some((2, 0)),
+    ),
+    (0, &[PLAIN], Some((2, 0))),
+    (60, &[Parts { name: "X", ..PLAIN }], Some((4, 0))),
+    (60, &[Parts { name: "", ..PLAIN }], Some((4, 0))),
+    (
+        60,
+        &[Parts {
+            name: "a23456789_123456789_123456789_12",
+            ..PLAIN
+        }],
+        None,
+    ),
+    (
+        60,
+        &[Parts {
+            name: "a23456789_123456789_123456789_123",
+            ..PLAIN
+        }],
+        Some((4, 0)),
+    ),
+    (
+        60,
+        &[Parts {
+            kept_tags: &["a", "a"],
+            ..PLAIN
+        }],
+        Some((6, 0)),
+    ),
+    (60, &[PLAIN, PLAIN], Some((3, 1))),
+    (
+        60,
+        &[
+            PLAIN,
+            OTHER,
+            Parts {
+                interval: 1,
+                ..PLAIN
+            },
+        ],
+        Some((3, 2)),
+    ),
+];
+
 fn settings(
     alloc: Global,
     raw: u32,
@@ -46,99 +134,19 @@ fn settings(
     Ok(Settings::new(i64::from(raw) * SECOND, made))
 }
 
+/// What the first of these rules that has a fault has, and its place.
+fn first_fault(alloc: Global, raw: u32, rules: &[Parts]) -> Result<Option<(u8, usize)>, Fail> {
+    match settings(alloc, raw, rules)? {
+        Ok(_) => Ok(None),
+        Err(SettingsFault::OfRule(fault, place)) => Ok(Some((fault.number(), place))),
+        Err(SettingsFault::TooManyRules) => Err("too many rules")?,
+    }
+}
+
 #[test]
 fn the_first_fault_of_a_rule_is_told(rt: HostRuntime) -> Result<(), Fail> {
-    let other = Parts { name: "y", ..PLAIN };
-    let rows: [(u32, &[Parts], Option<(u8, usize)>); 15] = [
-        (60, &[PLAIN], None),
-        (60, &[PLAIN, other], None),
-        (
-            60,
-            &[Parts {
-                duration: 0,
-                ..PLAIN
-            }],
-            None,
-        ),
-        (
-            60,
-            &[Parts {
-                interval: 500_000_000,
-                ..PLAIN
-            }],
-            Some((1, 0)),
-        ),
-        (
-            60,
-            &[Parts {
-                interval: 366 * DAY,
-                ..PLAIN
-            }],
-            None,
-        ),
-        (
-            60,
-            &[Parts {
-                interval: 366 * DAY + 1,
-                ..PLAIN
-            }],
-            Some((1, 0)),
-        ),
-        (
-            60,
-            &[Parts {
-                duration: 30 * SECOND,
-                ..PLAIN
-            }],
-            Some((2, 0)),
-        ),
-        (0, &[PLAIN], Some((2, 0))),
-        (60, &[Parts { name: "X", ..PLAIN }], Some((4, 0))),
-        (60, &[Parts { name: "", ..PLAIN }], Some((4, 0))),
-        (
-            60,
-            &[Parts {
-                name: "a23456789_123456789_123456789_12",
-                ..PLAIN
-            }],
-            None,
-        ),
-        (
-            60,
-            &[Parts {
-                name: "a23456789_123456789_123456789_123",
-                ..PLAIN
-            }],
-            Some((4, 0)),
-        ),
-        (
-            60,
-            &[Parts {
-                kept_tags: &["a", "a"],
-                ..PLAIN
-            }],
-            Some((6, 0)),
-        ),
-        (60, &[PLAIN, PLAIN], Some((3, 1))),
-        (
-            60,
-            &[
-                PLAIN,
-                other,
-                Parts {
-                    interval: 1,
-                    ..PLAIN
-                },
-            ],
-            Some((3, 2)),
-        ),
-    ];
-    for (raw, rules, fault) in rows {
-        let found = match settings(rt.alloc(), raw, rules)? {
-            Ok(_) => None,
-            Err(SettingsFault::OfRule(fault, place)) => Some((fault.number(), place)),
-            Err(SettingsFault::TooManyRules) => Err("too many rules")?,
-        };
+    for (raw, rules, fault) in ROWS {
+        let found = first_fault(rt.alloc(), raw, rules)?;
         assert_eq!(rt; found, fault);
     }
     Ok(())

@@ -27,7 +27,7 @@ fn times_are_valid_between_the_least_and_the_greatest(rt: HostRuntime) -> Result
 }
 
 #[test]
-fn keys_hold_their_tags_and_are_compared_by_bytes(rt: HostRuntime) -> Result<(), Fail> {
+fn keys_hold_their_tags(rt: HostRuntime) -> Result<(), Fail> {
     let key = Key::new(rt.alloc(), "cpu", &[("dc", "x"), ("host", "b")])?;
     assert_eq!(rt; key.measurement(), "cpu");
     assert_eq!(rt; key.tags().len(), 2);
@@ -36,21 +36,25 @@ fn keys_hold_their_tags_and_are_compared_by_bytes(rt: HostRuntime) -> Result<(),
         assert_eq!(rt; tag.0.as_str(), name);
         assert_eq!(rt; tag.1.as_str(), value);
     }
-    assert_eq!(rt;
-        key.compare("cpu", &[("dc", "x"), ("host", "b")]),
-        Ordering::Equal
-    );
-    assert_eq!(rt;
-        key.compare("cpu", &[("dc", "x"), ("host", "a")]),
-        Ordering::Greater
-    );
-    assert_eq!(rt;
-        key.compare("cpu", &[("dc", "x"), ("hosts", "a")]),
-        Ordering::Less
-    );
-    assert_eq!(rt; key.compare("cpu", &[("dc", "x")]), Ordering::Greater);
-    assert_eq!(rt; key.compare("cp", &[]), Ordering::Greater);
-    assert_eq!(rt; key.compare("d", &[]), Ordering::Less);
+    Ok(())
+}
+
+/// A measurement and tags, and how the key `cpu,dc=x,host=b` stands to theirs.
+const COMPARED: [(&str, &[(&str, &str)], Ordering); 6] = [
+    ("cpu", &[("dc", "x"), ("host", "b")], Ordering::Equal),
+    ("cpu", &[("dc", "x"), ("host", "a")], Ordering::Greater),
+    ("cpu", &[("dc", "x"), ("hosts", "a")], Ordering::Less),
+    ("cpu", &[("dc", "x")], Ordering::Greater),
+    ("cp", &[], Ordering::Greater),
+    ("d", &[], Ordering::Less),
+];
+
+#[test]
+fn keys_are_compared_by_bytes(rt: HostRuntime) -> Result<(), Fail> {
+    let key = Key::new(rt.alloc(), "cpu", &[("dc", "x"), ("host", "b")])?;
+    for (measurement, tags, order) in COMPARED {
+        assert_eq!(rt; key.compare(measurement, tags), order);
+    }
     Ok(())
 }
 

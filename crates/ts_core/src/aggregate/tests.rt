@@ -10,21 +10,38 @@ fn at(nanos: i64, value: i64) -> Result<(Time, i64), Fail> {
     Ok((time, value))
 }
 
+/// Three points, two of them at one time.
+fn table() -> Result<[(Time, i64); 3], Fail> {
+    Ok([at(70, 7)?, at(70, 1)?, at(100, 2)?])
+}
+
 #[test]
 fn extremes_over_a_table(rt: HostRuntime) -> Result<(), Fail> {
-    let points = [at(70, 7)?, at(70, 1)?, at(100, 2)?];
-    let all = aggregate_points(&points);
-    assert_eq!(rt; all.count(), 3);
-    assert_eq!(rt; all.sum(), 10);
+    let all = aggregate_points(&table()?);
     assert_eq!(rt; all.min(), Some(1));
     assert_eq!(rt; all.max(), Some(7));
     assert_eq!(rt; all.first(), Some(at(70, 7)?));
     assert_eq!(rt; all.last(), Some(at(100, 2)?));
+    Ok(())
+}
+
+#[test]
+fn count_sum_and_mean_over_a_table(rt: HostRuntime) -> Result<(), Fail> {
+    let all = aggregate_points(&table()?);
+    assert_eq!(rt; all.count(), 3);
+    assert_eq!(rt; all.sum(), 10);
     let want = Frac {
         numerator: 10,
         denominator: 3,
     };
     assert_eq!(rt; mean(&all), Some(want));
+    Ok(())
+}
+
+#[test]
+fn points_are_folded_in_any_order(rt: HostRuntime) -> Result<(), Fail> {
+    let points = table()?;
+    let all = aggregate_points(&points);
     assert_eq!(rt; fold_points::<Agg>(&[points[2], points[0], points[1]]), all);
     Ok(())
 }

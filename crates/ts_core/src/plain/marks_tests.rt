@@ -39,20 +39,23 @@ fn runs(alloc: Global, begins: &[i64]) -> Result<Vec<Event<Global>>, Fail> {
     Ok(history)
 }
 
+/// How many seconds raw points are kept, the offset and the duration of a rule, when runs began, the mark of raw
+/// points and the low index after them.
+const RUNS: [(u32, i64, i64, &[i64], i64, i128); 9] = [
+    (120, 0, 0, &[], LEAST, -153_722_868),
+    (120, 0, 0, &[200 * S], 80 * S, -153_722_868),
+    (120, 0, 0, &[220 * S], 100 * S, -153_722_868),
+    (60, 0, 2 * MINUTE, &[600 * S], 540 * S, 8),
+    (60, 0, 2 * MINUTE, &[24_000 * S], 23_940 * S, 398),
+    (60, 0, 2 * MINUTE, &[300 * S, 600 * S], 540 * S, 8),
+    (60, 30 * S, 2 * MINUTE, &[600 * S, 300 * S], 540 * S, 7),
+    (0, 0, 0, &[600 * S], LEAST, -153_722_868),
+    (60, 0, 2 * MINUTE, &[LEAST], LEAST, -153_722_868),
+];
+
 #[test]
 fn marks_follow_the_greatest_begin(rt: HostRuntime) -> Result<(), Fail> {
-    let rows: [(u32, i64, i64, &[i64], i64, i128); 9] = [
-        (120, 0, 0, &[], LEAST, -153_722_868),
-        (120, 0, 0, &[200 * S], 80 * S, -153_722_868),
-        (120, 0, 0, &[220 * S], 100 * S, -153_722_868),
-        (60, 0, 2 * MINUTE, &[600 * S], 540 * S, 8),
-        (60, 0, 2 * MINUTE, &[24_000 * S], 23_940 * S, 398),
-        (60, 0, 2 * MINUTE, &[300 * S, 600 * S], 540 * S, 8),
-        (60, 30 * S, 2 * MINUTE, &[600 * S, 300 * S], 540 * S, 7),
-        (0, 0, 0, &[600 * S], LEAST, -153_722_868),
-        (60, 0, 2 * MINUTE, &[LEAST], LEAST, -153_722_868),
-    ];
-    for (raw, offset, duration, begins, mark, low) in rows {
+    for (raw, offset, duration, begins, mark, low) in RUNS {
         let settings = settings(rt.alloc(), raw, offset, duration)?;
         let history = runs(rt.alloc(), begins)?;
         let marks = marks_of(rt.alloc(), &settings, history.as_slice())?;

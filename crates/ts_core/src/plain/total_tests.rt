@@ -37,47 +37,52 @@ fn fact(
     Ok(Fact::new(key, field, Time::new(time).ok_or("a valid time")?, value))
 }
 
+/// Of each fact the measurement, the host, the field, the time and the value.
+const FACTS: [(&str, &str, &str, i64, i64); 8] = [
+    ("cpu", "a", "v", 10 * SECOND, 5),
+    ("cpu", "a", "v", 90 * SECOND, 3),
+    ("cpu", "b", "v", 90 * SECOND, 4),
+    ("cpu", "a", "v", 100 * SECOND, 5),
+    ("cpu", "b", "v", 100 * SECOND, 6),
+    ("cpu", "a", "w", 100 * SECOND, 70),
+    ("mem", "a", "v", 100 * SECOND, 80),
+    ("cpu", "a", "v", -1, 9),
+];
+
+fn facts(alloc: Global) -> Result<Vec<Fact<Global>>, Fail> {
+    let mut facts = Vec::new(alloc);
+    for (measurement, host, field, time, value) in FACTS {
+        facts.push(fact(alloc, measurement, host, field, time, value)?)?;
+    }
+    Ok(facts)
+}
+
+/// Of a cell the index, the field and the group, how many facts it holds, and their sum.
+const CELLS: [(i128, &str, &[&str], u64, i128); 8] = [
+    (0, "v", &["a"], 1, 5),
+    (1, "v", &["a"], 2, 8),
+    (1, "v", &["b"], 2, 10),
+    (1, "w", &["a"], 1, 70),
+    (1, "w", &["b"], 0, 0),
+    (-1, "v", &["a"], 1, 9),
+    (2, "v", &["a"], 0, 0),
+    (1, "v", &[], 0, 0),
+];
+
 #[test]
 fn cells_hold_the_facts_of_their_bucket_field_and_group(rt: HostRuntime) -> Result<(), Fail> {
     let rule = minute_rule(rt.alloc())?;
-    let mut facts = Vec::new(rt.alloc());
-    for (measurement, host, field, time, value) in [
-        ("cpu", "a", "v", 10 * SECOND, 5),
-        ("cpu", "a", "v", 90 * SECOND, 3),
-        ("cpu", "b", "v", 90 * SECOND, 4),
-        ("cpu", "a", "v", 100 * SECOND, 5),
-        ("cpu", "b", "v", 100 * SECOND, 6),
-        ("cpu", "a", "w", 100 * SECOND, 70),
-        ("mem", "a", "v", 100 * SECOND, 80),
-        ("cpu", "a", "v", -1, 9),
-    ] {
-        facts.push(fact(rt.alloc(), measurement, host, field, time, value)?)?;
-    }
-    for (index, field, host, count, sum) in [
-        (0, "v", "a", 1, 5),
-        (1, "v", "a", 2, 8),
-        (1, "v", "b", 2, 10),
-        (1, "w", "a", 1, 70),
-        (1, "w", "b", 0, 0),
-        (-1, "v", "a", 1, 9),
-        (2, "v", "a", 0, 0),
-    ] {
-        let group = [host];
+    let facts = facts(rt.alloc())?;
+    for (index, field, group, count, sum) in CELLS {
         let cell = Cell {
             index,
             field,
-            group: &group,
+            group,
         };
         let total = total_of(&rule, &cell, facts.as_slice());
         assert_eq!(rt; total.count(), count);
         assert_eq!(rt; total.sum(), sum);
     }
-    let cell = Cell {
-        index: 1,
-        field: "v",
-        group: &[],
-    };
-    assert_eq!(rt; total_of(&rule, &cell, facts.as_slice()).count(), 0);
     Ok(())
 }
 
