@@ -71,6 +71,18 @@ fn turn<R: Read>(
     ahead.fill(source)
 }
 
+// One more turn that gives bytes, which are used, and how many they are.
+fn use_turn<R: Read>(
+    rt: &impl Abort,
+    ahead: &mut ReadAhead<Global>,
+    source: &mut Source<R>,
+) -> usize {
+    assert!(rt; turn(rt, ahead, source).is_ok_and(|more| more));
+    let count = ahead.buffered().len();
+    ahead.consume(count);
+    count
+}
+
 #[test]
 fn source_tells_a_failed_read_and_goes_on(rt: HostRuntime) -> Result<(), Fail> {
     let mut source = source_of(b"abc", Some(1));
@@ -85,26 +97,34 @@ fn source_tells_a_failed_read_and_goes_on(rt: HostRuntime) -> Result<(), Fail> {
     Ok(())
 }
 
+// How many bytes a device takes a call, which call fails, whether all of `hello` goes out, and what does.
+const WRITES: [(usize, Option<usize>, bool, &[u8]); 5] = [
+    (8, None, true, b"hello"),
+    (1, None, true, b"hello"),
+    (2, Some(1), false, b"he"),
+    (2, Some(0), false, b""),
+    (0, None, false, b""),
+];
+
+// Whether all of `hello` goes out, and what does.
+fn put_hello(alloc: Global, most: usize, fails_in: Option<usize>) -> (bool, Vec<u8>) {
+    let taken = Vec::new(alloc);
+    let mut sink = Sink::new(Narrow {
+        taken,
+        most,
+        fails_in,
+    });
+    let all = sink.put(b"hello").is_ok();
+    (all, sink.into_inner().taken)
+}
+
 #[test]
-fn sink_writes_all_or_tells(rt: HostRuntime) -> Result<(), Fail> {
-    // how many bytes it takes a call, which call fails, whether all went out, and what did
-    for (most, fails_in, all, went_out) in [
-        (8, None, true, b"hello".as_slice()),
-        (1, None, true, b"hello".as_slice()),
-        (2, Some(1), false, b"he".as_slice()),
-        (2, Some(0), false, b"".as_slice()),
-        (0, None, false, b"".as_slice()),
-    ] {
-        let taken = Vec::new(rt.alloc());
-        let mut sink = Sink::new(Narrow {
-            taken,
-            most,
-            fails_in,
-        });
-        assert_eq!(rt; sink.put(b"hello").is_ok(), all, "at {most}");
-        assert_eq!(rt; sink.into_inner().taken.as_slice(), went_out, "at {most}");
+fn sink_writes_all_or_tells(rt: HostRuntime) {
+    for (most, fails_in, all, went_out) in WRITES {
+        let (did_all, taken) = put_hello(rt.alloc(), most, fails_in);
+        assert_eq!(rt; did_all, all, "at {most}");
+        assert_eq!(rt; taken.as_slice(), went_out, "at {most}");
     }
-    Ok(())
 }
 
 #[test]
@@ -141,9 +161,7 @@ fn reads_ahead_as_much_as_there_is_room_for(rt: HostRuntime) -> Result<(), Fail>
     let mut source = Source::new(bytes.as_slice());
     let mut ahead = ReadAhead::new(rt.alloc(), 9)?;
     for size in [65_536, 4_464] {
-        assert!(rt; turn(&rt, &mut ahead, &mut source).is_ok_and(|more| more));
-        assert_eq!(rt; ahead.buffered().len(), size);
-        ahead.consume(ahead.buffered().len());
+        assert_eq!(rt; use_turn(&rt, &mut ahead, &mut source), size);
     }
     Ok(())
 }
@@ -160,8 +178,7 @@ fn reading_ahead_tells_why_it_stops(rt: HostRuntime) -> Result<(), Fail> {
         let mut source = source_of(b"abcd", fails_in);
         let mut ahead = ReadAhead::new(rt.alloc(), limit)?;
         for _ in 0..turns {
-            assert!(rt; turn(&rt, &mut ahead, &mut source).is_ok_and(|more| more));
-            ahead.consume(ahead.buffered().len());
+            assert_eq!(rt; use_turn(&rt, &mut ahead, &mut source), 1);
         }
         let fault = turn(&rt, &mut ahead, &mut source).err();
         assert_eq!(rt; matches!(fault, Some(ReadFault::Turns)), at_limit);

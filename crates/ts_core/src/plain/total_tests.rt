@@ -1,5 +1,5 @@
 //! What cells hold of worked facts.
-ghost use Rattle.std.specs.Prelude.{pos, ◌≤ℤ◌, IfOk};
+ghost use Rattle.std.specs.Prelude.{pos, ◌≤ℤ◌, IfOk, length, ◌≤◌, ◌^◌};
 
 use super::cut::{Column, Cut};
 use super::event::Event;
@@ -93,39 +93,55 @@ fn settings(alloc: Global) -> Result<Settings<Global>, Fail> {
     Ok(Settings::new(2 * MINUTE, rules)?)
 }
 
+/// Two facts of each host in the bucket 1.
+fn facts_of_both(alloc: Global) -> Result<Vec<Fact<Global>>, Fail> {
+    let mut facts = Vec::new(alloc);
+    for (host, time, value) in [("b", 100, 6), ("a", 100, 5), ("b", 90, 4), ("a", 90, 3)] {
+        facts.push(fact(alloc, "cpu", host, "v", time * SECOND, value)?)?;
+    }
+    Ok(facts)
+}
+
+/// The sums of the frozen and of the live part of a host's cell in the bucket 1.
+fn sums_of(
+    cut: &Cut<'_, Global>,
+    rule: &Rule<Global>,
+    host: &str,
+    facts: &[Fact<Global>],
+) -> (i128, i128)
+    requires interval { pos 1 ≤ℤ rule.now.interval }
+    requires room { length facts.now ≤ 2 ^ 62 }
+{
+    let group = [host];
+    let cell = Cell {
+        index: 1,
+        field: "v",
+        group: &group,
+    };
+    let frozen = frozen_of(cut, rule, &cell, facts);
+    let live = live_of(cut, rule, &cell, facts);
+    (frozen.sum(), live.sum())
+}
+
 #[test]
 fn a_column_that_waits_keeps_its_live_part(rt: HostRuntime) -> Result<(), Fail> {
     let settings = settings(rt.alloc())?;
     let rule = minute_rule(rt.alloc())?;
-    let mut facts = Vec::new(rt.alloc());
-    for (host, time, value) in [("b", 100, 6), ("a", 100, 5), ("b", 90, 4), ("a", 90, 3)] {
-        facts.push(fact(rt.alloc(), "cpu", host, "v", time * SECOND, value)?)?;
-    }
+    let facts = facts_of_both(rt.alloc())?;
     let mut history = Vec::new(rt.alloc());
     history.push(Event::begin(Time::new(220 * SECOND).ok_or("a valid time")?))?;
     let key_of_a = Key::new(rt.alloc(), "cpu", &[("host", "a")])?;
     let key_of_b = Key::new(rt.alloc(), "cpu", &[("host", "b")])?;
     let field = FieldName::new(rt.alloc(), "v")?;
     let mut waiting = Vec::new(rt.alloc());
-    for (moved, frozen_of_a, live_of_a, frozen_of_b, live_of_b) in [
-        (2, 3, 5, 4, 6),
-        (1, 3, 5, 0, 10),
-        (0, 0, 8, 0, 10),
+    for (moved, of_a, of_b) in [
+        (2, (3, 5), (4, 6)),
+        (1, (3, 5), (0, 10)),
+        (0, (0, 8), (0, 10)),
     ] {
         let cut = Cut::new(&settings, history.as_slice(), waiting.as_slice());
-        for (host, frozen, live) in [("a", frozen_of_a, live_of_a), ("b", frozen_of_b, live_of_b)] {
-            let group = [host];
-            let cell = Cell {
-                index: 1,
-                field: "v",
-                group: &group,
-            };
-            assert_eq!(rt;
-                frozen_of(&cut, &rule, &cell, facts.as_slice()).sum(),
-                frozen
-            );
-            assert_eq!(rt; live_of(&cut, &rule, &cell, facts.as_slice()).sum(), live);
-        }
+        assert_eq!(rt; sums_of(&cut, &rule, "a", facts.as_slice()), of_a);
+        assert_eq!(rt; sums_of(&cut, &rule, "b", facts.as_slice()), of_b);
         waiting.push(Column {
             key: if moved == 2 { &key_of_b } else { &key_of_a },
             field: &field,
