@@ -90,66 +90,65 @@ fn answers(alloc: Global, script: &[u8]) -> Result<Vec<u8>, AllocError> {
     }
 }
 
+/// A script, and what it prints.
+const SCRIPTS: [(&[u8], &[u8]); 16] = [
+    (SCRIPT, ANSWERS),
+    (b"", b""),
+    (b"\n   \n# a comment\n#\n", b""),
+    (b"\t\n\r\n # x\n", b"fault 95\nfault 95\nfault 95\n"),
+    (
+        b"write\nat\ncount\nprecision\nat \ncount ",
+        b"fault 95\nfault 95\nfault 95\nfault 95\nfault 95\nfault 95\n",
+    ),
+    (
+        b"at 1h30m\nat 5\xce\xbc\nat 1.5s\nat +5\nat 5 s\nat s\n",
+        b"fault 95\nfault 95\nfault 95\nfault 95\nfault 95\nfault 95\n",
+    ),
+    (
+        b"at 5\xc2\xb5\nwrite m f=1i\ncount m f 5000 5001",
+        b"ok\n1\n",
+    ),
+    (
+        b"at -0002ms\nwrite m f=1i\ncount m f -2000000 -0001999999",
+        b"ok\n1\n",
+    ),
+    (
+        b"at 9223372036854775806\nat 9223372036854775807\nat 15251w\n",
+        b"fault 95\nfault 95\n",
+    ),
+    (
+        b"at 2w\nwrite m f=1i\ncount m f 1209600000000000 1209600000000001",
+        b"ok\n1\n",
+    ),
+    (
+        b"count m f 0 00000000000000000000005\ncount m f -0 0\ncount m f 9 5\n",
+        b"0\n0\n0\n",
+    ),
+    (
+        b"count m f 99999999999999999999999 0\ncount m f 5 -9223372036854775807\n",
+        b"fault 74 at 0\nfault 74 at 0\n",
+    ),
+    (
+        b"count m f -1 9223372036854775806\ncount m f 0 9223372036854775806\ncount m f -2 9223372036854775806\n",
+        b"0\n0\nfault 74 at 0\n",
+    ),
+    (
+        b"count m f 9223372036854775806 -9223372036854775806\n",
+        b"0\n",
+    ),
+    (
+        b"count  m f 0 5\ncount m  0 5\ncount m f 0 5 \ncount m f 0\ncount m f 0 x\ncount m f 0 +5\n",
+        b"fault 95\nfault 95\nfault 95\nfault 95\nfault 95\nfault 95\n",
+    ),
+    (
+        b"write m f=1i 1\nwrite m f=\xff\nwrite m f=2i 2\ncount m f 0 9",
+        b"ok\nfault 95\nok\n2\n",
+    ),
+];
+
 #[test]
 fn scripts_are_answered(rt: HostRuntime) -> Result<(), Fail> {
-    // a script, and what it prints
-    for (script, printed) in [
-        (SCRIPT, ANSWERS),
-        (b"".as_slice(), b"".as_slice()),
-        (b"\n   \n# a comment\n#\n".as_slice(), b"".as_slice()),
-        (
-            b"\t\n\r\n # x\n".as_slice(),
-            b"fault 95\nfault 95\nfault 95\n".as_slice(),
-        ),
-        (
-            b"write\nat\ncount\nprecision\nat \ncount ".as_slice(),
-            b"fault 95\nfault 95\nfault 95\nfault 95\nfault 95\nfault 95\n".as_slice(),
-        ),
-        (
-            b"at 1h30m\nat 5\xce\xbc\nat 1.5s\nat +5\nat 5 s\nat s\n".as_slice(),
-            b"fault 95\nfault 95\nfault 95\nfault 95\nfault 95\nfault 95\n".as_slice(),
-        ),
-        (
-            b"at 5\xc2\xb5\nwrite m f=1i\ncount m f 5000 5001".as_slice(),
-            b"ok\n1\n".as_slice(),
-        ),
-        (
-            b"at -0002ms\nwrite m f=1i\ncount m f -2000000 -0001999999".as_slice(),
-            b"ok\n1\n".as_slice(),
-        ),
-        (
-            b"at 9223372036854775806\nat 9223372036854775807\nat 15251w\n".as_slice(),
-            b"fault 95\nfault 95\n".as_slice(),
-        ),
-        (
-            b"at 2w\nwrite m f=1i\ncount m f 1209600000000000 1209600000000001".as_slice(),
-            b"ok\n1\n".as_slice(),
-        ),
-        (
-            b"count m f 0 00000000000000000000005\ncount m f -0 0\ncount m f 9 5\n".as_slice(),
-            b"0\n0\n0\n".as_slice(),
-        ),
-        (
-            b"count m f 99999999999999999999999 0\ncount m f 5 -9223372036854775807\n".as_slice(),
-            b"fault 74 at 0\nfault 74 at 0\n".as_slice(),
-        ),
-        (
-            b"count m f -1 9223372036854775806\ncount m f 0 9223372036854775806\ncount m f -2 9223372036854775806\n".as_slice(),
-            b"0\n0\nfault 74 at 0\n".as_slice(),
-        ),
-        (
-            b"count m f 9223372036854775806 -9223372036854775806\n".as_slice(),
-            b"0\n".as_slice(),
-        ),
-        (
-            b"count  m f 0 5\ncount m  0 5\ncount m f 0 5 \ncount m f 0\ncount m f 0 x\ncount m f 0 +5\n".as_slice(),
-            b"fault 95\nfault 95\nfault 95\nfault 95\nfault 95\nfault 95\n".as_slice(),
-        ),
-        (
-            b"write m f=1i 1\nwrite m f=\xff\nwrite m f=2i 2\ncount m f 0 9".as_slice(),
-            b"ok\nfault 95\nok\n2\n".as_slice(),
-        ),
-    ] {
+    for (script, printed) in SCRIPTS {
         let output = answers(rt.alloc(), script)?;
         assert_eq!(rt; output.as_slice(), printed);
     }
@@ -162,44 +161,46 @@ fn prints(alloc: Global, script: &str, printed: &str) -> Result<bool, AllocError
     Ok(output.as_slice() == printed.as_bytes())
 }
 
+/// A script of lines, and what it prints.
+const LINES: [(&str, &str); 21] = [
+    ("write m,=1 f=1i", "fault 12 at 2\n"),
+    ("write m,a=1, f=1i", "fault 12 at 6\n"),
+    ("write m,time=1 f=1i", "fault 21 at 2\n"),
+    ("write m f=\"a,b c\"", "fault 16 at 2\n"),
+    ("write m f=\"a\\\\\"", "fault 16 at 2\n"),
+    ("write m f=1i -9223372036854775807", "fault 19 at 7\n"),
+    ("write m\\\\ x a\\=b=1i 1", "ok\n"),
+    ("write  m  f=1i,f=2i  3 \ncount m f 3 4", "ok\n1\n"),
+    (
+        "precision h\nwrite m f=1i 2562047\nwrite m f=1i 2562048\ncount m f 9223369200000000000 9223369200000000001",
+        "ok\nfault 19 at 7\n1\n",
+    ),
+    (
+        "write a\\,b,t\\ x=1 f=-9223372036854775808i -9223372036854775806\ncount a,b f -9223372036854775806 0",
+        "ok\n1\n",
+    ),
+    (
+        "write m,b=1,a=2 f=1i 5\nwrite m,a=2,b=1 f=3i,g=4i 5\ncount m f 0 10\nlive",
+        "ok\nok\n1\n2\n",
+    ),
+    ("live \nlive\nlive 5", "fault 95\n0\nfault 95\n"),
+    ("write m f=9223372036854775808i 1", "fault 17 at 2\n"),
+    ("write m f=1.5 1", "fault 16 at 2\n"),
+    ("write m,a=1,a=2 f=1i", "fault 13 at 6\n"),
+    ("write m f=1i 1x", "fault 18 at 7\n"),
+    ("write m", "fault 14 at 1\n"),
+    ("write ,a=1 f=1i", "fault 11 at 0\n"),
+    ("write m f", "fault 15 at 2\n"),
+    ("write # x\nwrite \nwrite    \n", "none\nnone\nnone\n"),
+    (
+        "write m,b=1,a=2 f=1i 5\nwrite m,a=2,b=1 f=3i,g=4i 5\ncount m f 0 10\ncount m g 0 10",
+        "ok\nok\n1\n1\n",
+    ),
+];
+
 #[test]
 fn lines_are_written_or_at_fault(rt: HostRuntime) -> Result<(), Fail> {
-    // a script, and what it prints
-    for (script, printed) in [
-        ("write m,=1 f=1i", "fault 12 at 2\n"),
-        ("write m,a=1, f=1i", "fault 12 at 6\n"),
-        ("write m,time=1 f=1i", "fault 21 at 2\n"),
-        ("write m f=\"a,b c\"", "fault 16 at 2\n"),
-        ("write m f=\"a\\\\\"", "fault 16 at 2\n"),
-        ("write m f=1i -9223372036854775807", "fault 19 at 7\n"),
-        ("write m\\\\ x a\\=b=1i 1", "ok\n"),
-        ("write  m  f=1i,f=2i  3 \ncount m f 3 4", "ok\n1\n"),
-        (
-            "precision h\nwrite m f=1i 2562047\nwrite m f=1i 2562048\ncount m f 9223369200000000000 9223369200000000001",
-            "ok\nfault 19 at 7\n1\n",
-        ),
-        (
-            "write a\\,b,t\\ x=1 f=-9223372036854775808i -9223372036854775806\ncount a,b f -9223372036854775806 0",
-            "ok\n1\n",
-        ),
-        (
-            "write m,b=1,a=2 f=1i 5\nwrite m,a=2,b=1 f=3i,g=4i 5\ncount m f 0 10\nlive",
-            "ok\nok\n1\n2\n",
-        ),
-        ("live \nlive\nlive 5", "fault 95\n0\nfault 95\n"),
-        ("write m f=9223372036854775808i 1", "fault 17 at 2\n"),
-        ("write m f=1.5 1", "fault 16 at 2\n"),
-        ("write m,a=1,a=2 f=1i", "fault 13 at 6\n"),
-        ("write m f=1i 1x", "fault 18 at 7\n"),
-        ("write m", "fault 14 at 1\n"),
-        ("write ,a=1 f=1i", "fault 11 at 0\n"),
-        ("write m f", "fault 15 at 2\n"),
-        ("write # x\nwrite \nwrite    \n", "none\nnone\nnone\n"),
-        (
-            "write m,b=1,a=2 f=1i 5\nwrite m,a=2,b=1 f=3i,g=4i 5\ncount m f 0 10\ncount m g 0 10",
-            "ok\nok\n1\n1\n",
-        ),
-    ] {
+    for (script, printed) in LINES {
         assert!(rt; prints(rt.alloc(), script, printed)?, "{script}");
     }
     Ok(())
