@@ -1,6 +1,7 @@
 -- The answer goes by what is in the list and not by its order, and an aggregate of a range is that of its two halves.
 use Rattle.std.proofs.Common.{◌≡◌, ℤ, ◌+ℤ◌, ◌*ℤ◌, ◌≤ℤ◌, int_lt, Bool, true, false, cond, ◌&&◌, not, List, [], ◌∷◌, map, filter, refl, sym, ◌∙◌, ap, ap₂, arith, true≢false}
 use Rattle.std.proofs.lemmas.Int.{ints, by_lt_z}
+use Rattle.std.proofs.lemmas.Bool.{and_parts, and_from}
 use Rattle.ts_core.specs.Members.{Among, AllDistinct}
 use Rattle.ts_core.specs.Facts.{Text, Fact, is_within}
 use Rattle.ts_core.specs.Aggregates.{aggregate_of, aggregate_of_one, merged}
@@ -9,7 +10,7 @@ use Rattle.ts_core.specs.Queries.{Query, is_selected, matches, group_of}
 use Rattle.ts_core.specs.Answers.{buckets_in, is_in_row, groups_of, answer_of}
 use Rattle.ts_core.proofs.MembersLemmas.{Among-filter_passes, Among-filter_was, Among-filter_stays, AllDistinct-filter}
 use Rattle.ts_core.proofs.Folds.{fold-same, fold-split}
-use Rattle.ts_core.proofs.Tests.{and_parts, and_both, same_bool, lt_from, lt_true}
+use Rattle.ts_core.proofs.Tests.{same_bool, lt_from, lt_true}
 use Rattle.ts_core.proofs.GroupsInOrder.{from_map, to_map, all_groups-same}
 use Rattle.ts_core.proofs.Covered.{within_true, within_below, within_above}
 
@@ -64,7 +65,7 @@ first_half false a c b t u = refl
 first_half true a c b t u = by_lt_z t a
     (λ l. ap (λ z. z && int_lt t c) (within_below a b t l) ∙ sym (within_below a c t l))
     (λ l. by_lt_z t c
-    (λ m. and_both _ _ (within_true a b t l (omega (arith, ints))) (lt_true t c m) ∙ sym (within_true a c t l m))
+    (λ m. and_from _ _ (within_true a b t l (omega (arith, ints))) (lt_true t c m) ∙ sym (within_true a c t l m))
     (λ m. same_bool (is_within a b t && int_lt t c) (is_within a c t) (λ e. absurd (let k = lt_from t c (and_parts (is_within a b t) _ e).1 in omega (arith, ints))) (λ e. absurd (true≢false (sym e ∙ within_above a c t m)))))
 
 pub second_half : (x : Bool) (a c b t : ℤ) → a ≤ℤ c → ((x && is_within a b t) && not (int_lt t c)) ≡ (x && is_within c b t)

@@ -1,7 +1,8 @@
 -- The whole answer: what valid pieces give of a view that shows a history is the answer over all points ever accepted.
-use Rattle.std.proofs.Common.{◌≡◌, ℕ, ◌<◌, ◌==◌, ℤ, Bool, true, false, not, ◌&&◌, List, [], ◌∷◌, filter, map, length, refl, sym, ap, ap₂, ◌∙◌, subst, inl, inr, ⊎_elim, ◌≤ℤ◌, ◌<ℤ◌, true≢false, arith, Option}
+use Rattle.std.proofs.Common.{◌≡◌, ◌<◌, ◌==◌, ℤ, Bool, true, false, not, ◌&&◌, List, [], ◌∷◌, filter, map, length, refl, sym, ap, ap₂, ◌∙◌, subst, inl, ⊎_elim, ◌≤ℤ◌, ◌<ℤ◌, true≢false, arith, Option}
 use Rattle.std.proofs.lemmas.Int.{ints, by_lt_z}
 use Rattle.std.specs.List.{AllByRecursion}
+use Rattle.std.proofs.lemmas.Bool.{and_parts, not-true}
 use Rattle.ts_core.specs.Members.{Among}
 use Rattle.ts_core.specs.Facts.{Text, Fact, is_within}
 use Rattle.ts_core.specs.Aggregates.{Aggregate, aggregate_of}
@@ -16,10 +17,10 @@ use Rattle.ts_core.specs.Cells.{Cell, same_cell, cell_of, is_rolled, is_in_cell,
 use Rattle.ts_core.specs.StoreStates.{StoreState, StandsFor, facts_of}
 use Rattle.ts_core.specs.Views.{RuleTotals, Seen, Shows, seen_of}
 use Rattle.ts_core.specs.Assembly.{stand_in, rule_shown, cell_groups, groups_given, assembled_groups, assembled_row, assembled_answer}
-use Rattle.ts_core.proofs.MembersLemmas.{Among-left, Among-right, Among-append, Among-filter_passes, Among-filter_was, Among-filter_stays}
+use Rattle.ts_core.proofs.MembersLemmas.{Among-left, Among-right, Among-append, Among-filter_passes, Among-filter_was, Among-filter_stays, Among-map, map_back}
 use Rattle.ts_core.proofs.Folds.{fold-count}
 use Rattle.ts_core.proofs.GroupsInOrder.{HasMatch, from_map, to_map, all_groups-same}
-use Rattle.ts_core.proofs.Tests.{and_parts, le_true, lt_true}
+use Rattle.ts_core.proofs.Tests.{le_true, lt_true}
 use Rattle.ts_core.proofs.Cuts.{one_fact}
 use Rattle.ts_core.proofs.StateLemmas.{le_trans}
 use Rattle.ts_core.proofs.Shown.{stands_shows}
@@ -27,38 +28,24 @@ use Rattle.ts_core.proofs.Boundaries.{within_parts}
 use Rattle.ts_core.proofs.RowTests.{in_part, same_match, same_group_of}
 use Rattle.ts_core.proofs.PieceCells.{same_cell-eq, same_cell-refl, Serving, serving, index_of-high, start_of-high, is_rolled-matches}
 use Rattle.ts_core.proofs.AssembledRows.{assembled-row}
+use Rattle.ts_core.proofs.LowIndices.{not_zero}
 
 -- ---- data in a cell
 
-map_from : {X Y : Type 0} (to : X → Y) (y : Y) (xs : List X) → Among y (map to xs) → (x : X) × Among x xs × (to x ≡ y)
-map_from to y [] a = absurd a
-map_from {X} to y (x ∷ xs) a = ⊎_elim {C = (z : X) × Among z (x ∷ xs) × (to z ≡ y)} (λ e. (x, inl refl, sym e)) (λ k. let r = map_from to y xs k in (r.0, inr r.1, r.2)) a
-
-map_to : {X Y : Type 0} (to : X → Y) (x : X) (xs : List X) → Among x xs → Among (to x) (map to xs)
-map_to to x [] a = absurd a
-map_to to x (y ∷ ys) a = ⊎_elim {C = Among (to x) (map to (y ∷ ys))} (λ e. inl (ap to e)) (λ k. inr (map_to to x ys k)) a
-
 abbrev is_nothing : Aggregate → Bool
 is_nothing a = a.count == 0
-
-not_none : (b : Bool) → not b ≡ true → b ≡ false
-not_none true h = sym h
-not_none false h = refl
 
 -- data is of some fact
 some_fact : (fs : List Fact) → is_nothing (aggregate_of fs) ≡ false → (f : Fact) × Among f fs
 some_fact [] e = absurd (true≢false e)
 some_fact (f ∷ fs) e = (f, inl refl)
 
-counted : (n : ℕ) → 0 < n → (n == 0) ≡ false
-counted n h = grind arith
-
 -- and a fact is data
 has_data : (f : Fact) (fs : List Fact) → Among f fs → is_nothing (aggregate_of fs) ≡ false
 has_data f [] a = absurd a
 has_data f (g ∷ gs) a =
     let n : (aggregate_of (g ∷ gs)).count ≡ length (g ∷ gs) = fold-count aggregate_laws one_fact (λ x. refl) (g ∷ gs) in
-    counted (aggregate_of (g ∷ gs)).count (let m : 0 < length (g ∷ gs) = omega arith in omega arith)
+    not_zero (aggregate_of (g ∷ gs)).count (let m : 0 < length (g ∷ gs) = omega arith in omega arith)
 
 -- ---- the groups of one piece
 
@@ -80,11 +67,11 @@ module _ (opening : Settings) (h : History) (seen : Seen) (q : Query) (shows : S
   cells_match a b o s l m n =
       let rule : Rule = s.shown.rule in
       let full : Cell → Bool = λ c. test a b (stand_in rule c) && not (is_nothing (s.shown.total c)) in
-      let found = map_from (λ c. group_of q (stand_in rule c)) g (filter full s.shown.cells) (subst (λ x. Among g (cell_groups q x (test a b))) s.is n) in
+      let found = map_back (λ c. group_of q (stand_in rule c)) (filter full s.shown.cells) g (subst (λ x. Among g (cell_groups q x (test a b))) s.is n) in
       let c : Cell = found.0 in
       let p = and_parts (test a b (stand_in rule c)) (not (is_nothing (s.shown.total c))) (Among-filter_passes full c s.shown.cells found.1) in
       let total : s.shown.total c ≡ total_of rule c (latest_of h) = s.totals.totals c (start_of-high s c.index (parts a b (stand_in rule c) p.0).1) in
-      let some = some_fact (filter (is_in_cell rule c) (latest_of h)) (ap is_nothing (sym total) ∙ not_none (is_nothing (s.shown.total c)) p.1) in
+      let some = some_fact (filter (is_in_cell rule c) (latest_of h)) (ap is_nothing (sym total) ∙ not-true (is_nothing (s.shown.total c)) p.1) in
       let f : Fact = some.0 in
       let inside = and_parts (is_rolled rule f) (same_cell (cell_of rule f) c) (Among-filter_passes (is_in_cell rule c) f (latest_of h) some.1) in
       let at : cell_of rule f ≡ c = same_cell-eq (cell_of rule f) c inside.1 in
@@ -109,12 +96,12 @@ module _ (opening : Settings) (h : History) (seen : Seen) (q : Query) (shows : S
       let some : is_nothing (s.shown.total c) ≡ false = ap is_nothing total ∙ has_data f (filter (is_in_cell rule c) (latest_of h)) (Among-filter_stays (is_in_cell rule c) f (latest_of h) n.among inside) in
       let there : Among c (filter full s.shown.cells) = Among-filter_stays full c s.shown.cells (s.totals.there f n.among rolled (index_of-high s f.time p.1)) (ap₂ (λ x y. x && not y) passes some) in
       let group : group_of q (stand_in rule c) ≡ g = sym (same_group_of q (record { rule = rule; low = s.shown.low }) a b wide.query s.wide s.serves l m f rolled) ∙ n.group in
-      subst (λ x. Among g (cell_groups q x (test a b))) (sym s.is) (subst (λ x. Among x (map (λ y. group_of q (stand_in rule y)) (filter full s.shown.cells))) group (map_to (λ y. group_of q (stand_in rule y)) c (filter full s.shown.cells) there))
+      subst (λ x. Among g (cell_groups q x (test a b))) (sym s.is) (subst (λ x. Among x (map (λ y. group_of q (stand_in rule y)) (filter full s.shown.cells))) group (Among-map (λ y. group_of q (stand_in rule y)) c (filter full s.shown.cells) there))
 
   piece_match : (source : Source) (a b : ℤ) → SourceServes (asked seen.settings seen.marks q) source a b → q.from ≤ℤ a → b ≤ℤ q.to → Among g (groups_given seen q source (test a b)) → MatchIn a b
   piece_match Raw a b s l m n =
       let shown : List Fact = facts_of seen.columns in
-      let found = map_from (group_of q) g (filter (test a b) shown) n in
+      let found = map_back (group_of q) (filter (test a b) shown) g n in
       let p : test a b found.0 ≡ true = Among-filter_passes (test a b) found.0 shown found.1 in
       let above : seen.marks.raw ≤ℤ found.0.time = le_trans seen.marks.raw a found.0.time s (within_parts a b found.0.time (parts a b found.0 p).1).0 in
       record { fact = found.0; among = (shows.raw found.0 above).0 (Among-filter_was (test a b) found.0 shown found.1); passes = p; group = found.2 }
@@ -126,7 +113,7 @@ module _ (opening : Settings) (h : History) (seen : Seen) (q : Query) (shows : S
       let f : Fact = n.fact in
       let above : seen.marks.raw ≤ℤ f.time = le_trans seen.marks.raw a f.time s (within_parts a b f.time (parts a b f n.passes).1).0 in
       subst (λ x. Among x (map (group_of q) (filter (test a b) shown))) n.group
-      (map_to (group_of q) f (filter (test a b) shown) (Among-filter_stays (test a b) f shown ((shows.raw f above).1 n.among) n.passes))
+      (Among-map (group_of q) f (filter (test a b) shown) (Among-filter_stays (test a b) f shown ((shows.raw f above).1 n.among) n.passes))
   match_piece (Rollup name) a b s l m n = match_cells a b (rule_shown name seen.rules) (serving opening h seen q shows wide name a b s) l m n
 
   -- ---- the groups of all pieces

@@ -1,8 +1,9 @@
 -- What valid pieces give of a row is the aggregate over all latest facts, as if none had ever been dropped.
-use Rattle.std.proofs.Common.{◌≡◌, ℤ, pos, Bool, true, false, cond, ◌&&◌, List, [], ◌∷◌, filter, refl, sym, ap, ap₂, ◌∙◌, subst, inl, inr, ◌≤ℤ◌, ◌<ℤ◌, int_le, int_lt, arith, Option}
+use Rattle.std.proofs.Common.{◌≡◌, ℤ, pos, Bool, true, false, ◌&&◌, List, [], ◌∷◌, filter, refl, sym, ap, ap₂, ◌∙◌, subst, inl, inr, ◌≤ℤ◌, ◌<ℤ◌, int_le, int_lt, arith, Option}
 use Rattle.std.proofs.lemmas.Int.{ints, by_lt_z}
 use Rattle.std.specs.List.{AllByRecursion}
 use Rattle.std.specs.Ordering.{int_eq}
+use Rattle.std.proofs.lemmas.Bool.{and_parts}
 use Rattle.ts_core.specs.Members.{Among}
 use Rattle.ts_core.specs.Facts.{Text, Fact, is_within}
 use Rattle.ts_core.specs.Partials.{fold_by}
@@ -22,12 +23,13 @@ use Rattle.ts_core.proofs.MembersLemmas.{AllDistinct-filter, Among-filter_passes
 use Rattle.ts_core.proofs.Folds.{fold-same}
 use Rattle.ts_core.proofs.Groups.{fold-groups}
 use Rattle.ts_core.proofs.Latests.{latest-distinct}
-use Rattle.ts_core.proofs.Tests.{and_parts, same_bool}
+use Rattle.ts_core.proofs.Tests.{same_bool}
 use Rattle.ts_core.proofs.Cuts.{one_fact, aggregate_where, filter-agree, aggregate_where-agree, Part, aggregate_where-part}
 use Rattle.ts_core.proofs.StateLemmas.{le_trans}
 use Rattle.ts_core.proofs.Boundaries.{within_parts}
 use Rattle.ts_core.proofs.RowTests.{and_none, in_part, same_row, in_row-matches}
 use Rattle.ts_core.proofs.PieceCells.{same_cell-eq, same_cell-refl, Serving, serving, index_of-high, start_of-high, is_rolled-matches}
+use Rattle.ts_core.proofs.AnswersLaws.{filter_both}
 
 -- ---- a piece of raw points
 
@@ -41,14 +43,6 @@ raw_piece opening h seen s p above =
     (λ f k. let t = Among-filter_passes p f all k in Among-filter_stays p f shown ((s.raw f (above f t)).1 (Among-filter_was p f all k)) t)
 
 -- ---- a piece of cells
-
-filter-and : {X : Type 0} (p q : X → Bool) (xs : List X) → filter p (filter q xs) ≡ filter (λ x. q x && p x) xs
-filter-and p q [] = refl
-filter-and p q (x ∷ xs) =
-    elim (q x) as (λ b. filter p (cond b (x ∷ filter q xs) (filter q xs)) ≡ cond (b && p x) (x ∷ filter (λ y. q y && p y) xs) (filter (λ y. q y && p y) xs)) [
-      | true ↦ ap (λ zs. cond (p x) (x ∷ zs) zs) (filter-and p q xs)
-      | false ↦ filter-and p q xs
-    ]
 
 -- a fold of what agrees on the members
 fold-agree : {X : Type 0} (one two : X → Aggregate) (xs : List X) → ((x : X) → Among x xs → one x ≡ two x) → fold_by empty_aggregate merged one xs ≡ fold_by empty_aggregate merged two xs
@@ -79,7 +73,7 @@ cells_piece q g k a b fs o v s h l =
       | false ↦ λ e. and_none (is_rolled rule f) ∙ sym (and_none (test f))
     ] refl in
     s.totals.totals c (start_of-high s c.index (parts (stand_in rule c) p).1)
-    ∙ ap aggregate_of (filter-agree (is_in_cell rule c) (λ f. test f && same_cell (cell_of rule f) c) fs (λ f m. agree f) ∙ sym (filter-and (λ f. same_cell (cell_of rule f) c) test fs)) in
+    ∙ ap aggregate_of (filter-agree (is_in_cell rule c) (λ f. test f && same_cell (cell_of rule f) c) fs (λ f m. agree f) ∙ sym (filter_both (λ f. same_cell (cell_of rule f) c) test fs)) in
     ap (λ x. totals_given x test) s.is
     ∙ fold-agree y.total (λ c. aggregate_of (filter (λ f. same_cell (cell_of rule f) c) xs)) ks each
     ∙ sym (fold-groups aggregate_laws one_fact (cell_of rule) same_cell same_cell-eq same_cell-refl ks (AllDistinct-filter passes y.cells s.totals.once) xs inside)

@@ -16,7 +16,7 @@ one_up : (q : ℕ) → (negsuc q +ℤ pos 1) ≡ neg_ℤ (pos q)
 one_up zero = refl
 one_up (suc q) = omega (arith, ints)
 
-times_neg : (q b : ℕ) → neg_ℤ (pos q) *ℤ pos b ≡ neg_ℤ (pos (q * b))
+pub times_neg : (q b : ℕ) → neg_ℤ (pos q) *ℤ pos b ≡ neg_ℤ (pos (q * b))
 times_neg zero b = pos-*ℤ-pos 0 b ∙ rw zero-mul refl
 times_neg (suc q) b = negsuc-*ℤ-pos q b
 
@@ -37,7 +37,7 @@ IsBucketOf-from_index t (negsuc i) o k h e = absurd (omega (arith, ints))
 
 -- ---- and there is one alone
 
-not_less : (x : ℤ) (n i : ℕ) → (x *ℤ pos i) ≤ℤ ((x +ℤ pos n) *ℤ pos i)
+pub not_less : (x : ℤ) (n i : ℕ) → (x *ℤ pos i) ≤ℤ ((x +ℤ pos n) *ℤ pos i)
 not_less x zero i = rw +ℤ_idr (≤ℤ_refl (x *ℤ pos i))
 not_less x (suc n) i =
     let ih = not_less x n i in

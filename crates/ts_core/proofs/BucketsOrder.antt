@@ -1,17 +1,10 @@
 -- Buckets in order: of any interval of 1 or more, later times have no earlier bucket.
-use Rattle.std.proofs.Common.{◌≡◌, ℕ, ℤ, pos, negsuc, ◌+ℤ◌, ◌-ℤ◌, ◌*ℤ◌, ◌≤ℤ◌, arith, refl, ap, ◌∙◌, suc, subst, zero, unsigned_abs}
-use Rattle.std.specs.Int.Signed.{≤ℤ_refl, yes_non_neg, pos-nat_abs}
-use Rattle.std.proofs.Math.IntN.{+ℤ-suc_ℤ, suc_ℤ-*ℤ, +ℤ_idr, +ℤ_one}
+use Rattle.std.proofs.Common.{◌≡◌, ℤ, pos, negsuc, ◌+ℤ◌, ◌-ℤ◌, ◌*ℤ◌, ◌≤ℤ◌, arith, refl, ap, ◌∙◌, subst, unsigned_abs}
+use Rattle.std.specs.Int.Signed.{yes_non_neg, pos-nat_abs}
+use Rattle.std.proofs.Math.IntN.{suc_ℤ-*ℤ, +ℤ_one}
 use Rattle.std.proofs.lemmas.Int.{ints, by_lt_z}
 use Rattle.ts_core.specs.Buckets.{IsBucketOf, bucket_of}
-use Rattle.ts_core.proofs.BucketsLemmas.{IsBucketOf-from_index, bucket_unique}
-
-not_less : (x : ℤ) (n i : ℕ) → (x *ℤ pos i) ≤ℤ ((x +ℤ pos n) *ℤ pos i)
-not_less x zero i = rw +ℤ_idr (≤ℤ_refl (x *ℤ pos i))
-not_less x (suc n) i =
-    let ih = not_less x n i in
-    let e : (x +ℤ pos (suc n)) *ℤ pos i ≡ (x +ℤ pos n) *ℤ pos i +ℤ pos i = ap (λ z. z *ℤ pos i) (+ℤ-suc_ℤ x (pos n)) ∙ suc_ℤ-*ℤ (x +ℤ pos n) (pos i) in
-    rw e (omega (arith, ints))
+use Rattle.ts_core.proofs.BucketsLemmas.{IsBucketOf-from_index, bucket_unique, not_less}
 
 pub bucket_same : (t i o j k : ℤ) → pos 1 ≤ℤ i → IsBucketOf t i o j → IsBucketOf t i o k → j ≡ k
 bucket_same t (pos i) o j k h a b = bucket_unique t o j k i a b

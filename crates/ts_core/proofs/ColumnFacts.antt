@@ -1,17 +1,17 @@
 -- What stands for a history has in each column just that column's raw facts.
-use Rattle.std.proofs.Common.{◌≡◌, ℕ, ◌+◌, ℤ, Bool, ◌&&◌, List, [], ◌∷◌, ◌++◌, map, length, length-append, refl, sym, ◌∙◌, ap, ap₂, subst, inl, inr, ⊎_elim}
+use Rattle.std.proofs.Common.{◌≡◌, ℕ, ◌+◌, ℤ, List, [], ◌∷◌, ◌++◌, map, length, length-append, refl, sym, ◌∙◌, ap, ap₂, subst, inl, inr, ⊎_elim}
+use Rattle.std.proofs.lemmas.Bool.{and_parts}
 use Rattle.ts_core.specs.Members.{Among, AllDistinct}
 use Rattle.ts_core.specs.Facts.{Column, Fact}
 use Rattle.ts_core.specs.Settings.{Settings}
 use Rattle.ts_core.specs.History.{History, accepted}
 use Rattle.ts_core.specs.Latest.{latest_of}
-use Rattle.ts_core.specs.RawFacts.{same_column, kept_from, is_kept, raw_of}
+use Rattle.ts_core.specs.RawFacts.{same_column, raw_of}
 use Rattle.ts_core.specs.StoreStates.{ColumnPoints, StoreState, StandsFor, column_of, facts_at, facts_of}
 use Rattle.ts_core.proofs.MembersLemmas.{Among-left, Among-right, Among-append, Among-filter_passes, AllDistinct-filter}
 use Rattle.ts_core.proofs.Folds.{length-same}
 use Rattle.ts_core.proofs.Latests.{latest-distinct}
-use Rattle.ts_core.proofs.Tests.{and_parts}
-use Rattle.ts_core.proofs.StateLemmas.{same_column-eq}
+use Rattle.ts_core.proofs.StateLemmas.{same_column-eq, is_raw_of}
 
 -- a column's facts are of that column
 facts_at-column : (c : Column) (ps : List (ℤ × ℤ)) (f : Fact) → Among f (facts_at c ps) → f.column ≡ c
@@ -57,9 +57,6 @@ facts_at-distinct [] c d m = absurd m
 facts_at-distinct (b ∷ bs) c d m =
     let parts = distinct_parts (facts_at b.column b.points) (facts_of bs) d in
     ⊎_elim {C = AllDistinct (facts_at c.column c.points)} (λ e. subst (λ (x : ColumnPoints). AllDistinct (facts_at x.column x.points)) (sym e) parts.0) (λ k. facts_at-distinct bs c parts.1 k) m
-
-abbrev is_raw_of : Settings → History → List Column → Column → Fact → Bool
-is_raw_of opening h waiting c f = same_column f.column c && is_kept (kept_from opening h waiting) f
 
 raw_of-column : (opening : Settings) (h : History) (waiting : List Column) (c : Column) (f : Fact) → Among f (raw_of opening h waiting c) → f.column ≡ c
 raw_of-column opening h waiting c f a = same_column-eq f.column c (and_parts (same_column f.column c) _ (Among-filter_passes (is_raw_of opening h waiting c) f (latest_of h) a)).0

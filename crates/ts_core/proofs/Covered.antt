@@ -1,15 +1,16 @@
 -- Valid pieces cover the range exactly once: each moment of it lies in one piece, and no other moment in any.
 use Rattle.std.proofs.Common.{◌≡◌, ℕ, ℤ, ◌≤ℤ◌, ◌<ℤ◌, int_le, int_lt, arith, refl, sym, ap, ◌∙◌, suc, List, [], ◌∷◌, length, filter, Bool, true, false, cond}
 use Rattle.std.proofs.lemmas.Int.{ints, by_lt_z}
+use Rattle.std.proofs.lemmas.Bool.{and_parts, and_from}
 use Rattle.ts_core.specs.Facts.{is_within}
 use Rattle.ts_core.specs.Settings.{Settings}
 use Rattle.ts_core.specs.Marks.{Marks}
 use Rattle.ts_core.specs.Queries.{Query}
 use Rattle.ts_core.specs.Pieces.{Piece, Covers, IsValid}
-use Rattle.ts_core.proofs.Tests.{le_true, lt_true, and_both, and_parts, le_from, lt_from}
+use Rattle.ts_core.proofs.Tests.{le_true, lt_true, le_from, lt_from}
 
 pub within_true : (a b t : ℤ) → a ≤ℤ t → t <ℤ b → is_within a b t ≡ true
-within_true a b t l u = and_both _ _ (le_true a t l) (lt_true t b u)
+within_true a b t l u = and_from _ _ (le_true a t l) (lt_true t b u)
 
 pub within_below : (a b t : ℤ) → t <ℤ a → is_within a b t ≡ false
 within_below a b t l = elim (is_within a b t) as (λ x. is_within a b t ≡ x → x ≡ false) [ true ↦ λ e. absurd (let k = le_from a t (and_parts (int_le a t) (int_lt t b) e).0 in omega (arith, ints)) | false ↦ λ e. refl ] refl

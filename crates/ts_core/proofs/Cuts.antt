@@ -1,5 +1,6 @@
 -- Aggregates of facts in two parts, when the cut between the parts moves.
 use Rattle.std.proofs.Common.{◌≡◌, ℤ, Bool, true, false, cond, not, ◌&&◌, List, [], ◌∷◌, filter, refl, sym, ◌∙◌, ap, ap₂, inl, inr, true≢false}
+use Rattle.std.proofs.lemmas.Bool.{and_parts}
 use Rattle.ts_core.specs.Members.{Among, AllDistinct}
 use Rattle.ts_core.specs.Facts.{Column, Fact}
 use Rattle.ts_core.specs.Settings.{Rule}
@@ -7,7 +8,6 @@ use Rattle.ts_core.specs.Aggregates.{Aggregate, empty_aggregate, aggregate_of_on
 use Rattle.ts_core.specs.RawFacts.{is_kept}
 use Rattle.ts_core.specs.Cells.{Cell, is_in_cell, total_of, frozen_of, live_of}
 use Rattle.ts_core.specs.MergeLaws.{aggregate_laws}
-use Rattle.ts_core.proofs.Tests.{and_parts}
 use Rattle.ts_core.proofs.Folds.{fold-same, merge-left_comm}
 use Rattle.ts_core.proofs.MembersLemmas.{AllDistinct-filter, Among-filter_passes, Among-filter_was, Among-filter_stays}
 

@@ -1,27 +1,21 @@
 -- Aggregates are equal exactly where they are the same.
-use Rattle.std.proofs.Common.{◌≡◌, ℤ, Bool, true, false, ◌&&◌, nat_eq, int_eq, refl, sym, ap, subst, true≢false, Option, Some, None, Ordering, Equal, int_cmp, is_eq}
+use Rattle.std.proofs.Common.{◌≡◌, ℤ, Bool, true, ◌&&◌, nat_eq, int_eq, refl, sym, ap, subst, true≢false, Option, Some, None, int_cmp}
 use Rattle.std.specs.Option.{option_eq}
 use Rattle.std.specs.Cmp.Derive.{both_true}
-use Rattle.std.proofs.lemmas.Bool.{eqb-true, eq-eqb}
+use Rattle.std.proofs.lemmas.Bool.{eqb-true, eq-eqb, and_parts}
 use Rattle.std.proofs.lemmas.Cmp.{int_eq_equiv}
 use Rattle.std.proofs.lemmas.Map.Lookups.{exact_signed}
 use Rattle.ts_core.specs.declared.aggregate.Extremes.{Extremes}
 use Rattle.ts_core.specs.contracts.aggregate.ExtremesPartialEq.TheImpl.{eq-value}
 use Rattle.ts_core.specs.Aggregates.{Aggregate}
-
-split_and : (a b : Bool) → (a && b) ≡ true → (a ≡ true) × (b ≡ true)
-split_and true b h = (refl, h)
-split_and false b h = absurd (true≢false (sym h))
-
-equal_of : (o : Ordering) → is_eq o ≡ true → o ≡ Equal
-equal_of o h = elim o as (λ r. is_eq r ≡ true → r ≡ Equal) [ Equal ↦ λ _. refl | _ ↦ λ e. absurd (true≢false (sym e)) ] h
+use Rattle.ts_core.proofs.Ids.{equal_of}
 
 same_value : (x y : ℤ) → int_eq x y ≡ true → x ≡ y
 same_value x y h = exact_signed x y (equal_of (int_cmp x y) h)
 
 same_point : (p q : ℤ × ℤ) → (int_eq p.0 q.0 && int_eq p.1 q.1) ≡ true → p ≡ q
 same_point p q h =
-    let s = split_and (int_eq p.0 q.0) (int_eq p.1 q.1) h in
+    let s = and_parts (int_eq p.0 q.0) (int_eq p.1 q.1) h in
     let t = same_value p.0 q.0 s.0 in
     let v = same_value p.1 q.1 s.1 in
     λ i. (t i, v i)
@@ -32,9 +26,9 @@ are_equal x y =
 
 same_extremes : (x y : Extremes) → are_equal x y ≡ true → x ≡ y
 same_extremes x y h =
-    let a = split_and (int_eq x.min y.min) _ h in
-    let b = split_and (int_eq x.max y.max) _ a.1 in
-    let c = split_and (int_eq x.first.0 y.first.0 && int_eq x.first.1 y.first.1) (int_eq x.last.0 y.last.0 && int_eq x.last.1 y.last.1) b.1 in
+    let a = and_parts (int_eq x.min y.min) _ h in
+    let b = and_parts (int_eq x.max y.max) _ a.1 in
+    let c = and_parts (int_eq x.first.0 y.first.0 && int_eq x.first.1 y.first.1) (int_eq x.last.0 y.last.0 && int_eq x.last.1 y.last.1) b.1 in
     let min = same_value x.min y.min a.0 in
     let max = same_value x.max y.max b.0 in
     let first = same_point x.first y.first c.0 in
@@ -61,8 +55,8 @@ equal_aggregates a b = nat_eq a.count b.count && (int_eq a.sum b.sum && option_e
 
 pub same_aggregates : (a b : Aggregate) → equal_aggregates a b ≡ true → a ≡ b
 same_aggregates a b h =
-    let s = split_and (nat_eq a.count b.count) _ h in
-    let t = split_and (int_eq a.sum b.sum) _ s.1 in
+    let s = and_parts (nat_eq a.count b.count) _ h in
+    let t = and_parts (int_eq a.sum b.sum) _ s.1 in
     let count = eqb-true a.count b.count s.0 in
     let sum = same_value a.sum b.sum t.0 in
     let extremes = same_options a.extremes b.extremes t.1 in

@@ -12,15 +12,10 @@ use Rattle.ts_core.specs.declared.value.Function.{Function}
 use Rattle.ts_core.specs.declared.fill.Fill.{Fill}
 use Rattle.ts_core.specs.declared.fill.Fill.TheVariants.{Null as NullFill, None as NoneFill, Previous as PreviousFill, Number as NumberFill}
 use Rattle.ts_core.specs.Fills.{value_of, number_value, has_data, shown, numbered, repeated, last_data, with_previous, filled_rows, FilledRow}
-use Rattle.ts_core.proofs.MembersLemmas.{Among-filter_passes, Among-filter_was, Among-filter_stays}
+use Rattle.ts_core.proofs.MembersLemmas.{Among-filter_passes, Among-filter_was, Among-filter_stays, Among-map, at_map_of}
 use Rattle.ts_core.proofs.Folds.{fold-count}
 
 -- ---- rows with data
-
-among_map : {X Y : Type 0} (g : X → Y) (x : X) (xs : List X) → Among x xs → Among (g x) (map g xs)
-among_map g x [] h = absurd h
-among_map g x (y ∷ xs) (inl e) = inl (ap g e)
-among_map g x (y ∷ xs) (inr h) = inr (among_map g x xs h)
 
 numbered_data : (fs : List Function) (n : ℤ) (r : Row) → has_data r ≡ true → numbered fs n r ≡ shown fs r
 numbered_data fs n r h = ap (λ b. cond b (shown fs r) (record { start = r.start; values = map (number_value n) fs })) h
@@ -38,20 +33,12 @@ previous_data fs e r (x ∷ rows) (inr h) d = inr (previous_data fs (last_data e
 
 -- a row with data is shown as it is, whatever the fill
 pub filled_rows-data : (fill : Fill) (fs : List Function) (r : Row) (rows : List Row) → Among r rows → has_data r ≡ true → Among (shown fs r) (filled_rows fill fs rows)
-filled_rows-data NullFill fs r rows h d = among_map (shown fs) r rows h
-filled_rows-data NoneFill fs r rows h d = among_map (shown fs) r (filter has_data rows) (Among-filter_stays has_data r rows h d)
+filled_rows-data NullFill fs r rows h d = Among-map (shown fs) r rows h
+filled_rows-data NoneFill fs r rows h d = Among-map (shown fs) r (filter has_data rows) (Among-filter_stays has_data r rows h d)
 filled_rows-data PreviousFill fs r rows h d = previous_data fs None r rows h d
-filled_rows-data (NumberFill n) fs r rows h d = subst (λ x. Among x (map (numbered fs n) rows)) (numbered_data fs n r d) (among_map (numbered fs n) r rows h)
+filled_rows-data (NumberFill n) fs r rows h d = subst (λ x. Among x (map (numbered fs n) rows)) (numbered_data fs n r d) (Among-map (numbered fs n) r rows h)
 
 -- ---- and at its place, but where rows are left out
-
-place_map : {X Y : Type 0} (g : X → Y) (xs : List X) (i : ℕ) (x : X) → slice_get xs i ≡ Some x → slice_get (map g xs) i ≡ Some (g x)
-place_map g [] i x e = absurd (let q : None ≡ Some x = e in cc)
-place_map g (y ∷ xs) zero x e = let q : y ≡ x = some_same y x e in ap (λ z. Some (g z)) q
-  where
-    some_same : {X : Type 0} (y x : X) → Some y ≡ Some x → y ≡ x
-    some_same y x e = cc
-place_map g (y ∷ xs) (suc i) x e = place_map g xs i x e
 
 place_previous : (fs : List Function) (e : Option Aggregate) (rows : List Row) (i : ℕ) (r : Row) → slice_get rows i ≡ Some r → has_data r ≡ true → slice_get (with_previous fs e rows) i ≡ Some (shown fs r)
 place_previous fs e [] i r h d = absurd (let q : None ≡ Some r = h in cc)
@@ -62,19 +49,19 @@ place_previous fs e (x ∷ rows) zero r h d =
 place_previous fs e (x ∷ rows) (suc i) r h d = place_previous fs (last_data e x) rows i r h d
 
 pub null_fill-place : (fs : List Function) (rows : List Row) (i : ℕ) (r : Row) → slice_get rows i ≡ Some r → slice_get (filled_rows NullFill fs rows) i ≡ Some (shown fs r)
-null_fill-place fs rows i r h = place_map (shown fs) rows i r h
+null_fill-place fs rows i r h = at_map_of (shown fs) rows i r h
 
 pub previous_fill-place : (fs : List Function) (rows : List Row) (i : ℕ) (r : Row) → slice_get rows i ≡ Some r → has_data r ≡ true → slice_get (filled_rows PreviousFill fs rows) i ≡ Some (shown fs r)
 previous_fill-place fs rows i r h d = place_previous fs None rows i r h d
 
 pub number_fill-place : (n : ℤ) (fs : List Function) (rows : List Row) (i : ℕ) (r : Row) → slice_get rows i ≡ Some r → has_data r ≡ true → slice_get (filled_rows (NumberFill n) fs rows) i ≡ Some (shown fs r)
-number_fill-place n fs rows i r h d = place_map (numbered fs n) rows i r h ∙ ap Some (numbered_data fs n r d)
+number_fill-place n fs rows i r h d = at_map_of (numbered fs n) rows i r h ∙ ap Some (numbered_data fs n r d)
 
 -- ---- rows without data
 
 -- a number fills each
 pub number_fill-none : (n : ℤ) (fs : List Function) (rows : List Row) (i : ℕ) (r : Row) → slice_get rows i ≡ Some r → has_data r ≡ false → slice_get (filled_rows (NumberFill n) fs rows) i ≡ Some (record { start = r.start; values = map (number_value n) fs })
-number_fill-none n fs rows i r h d = place_map (numbered fs n) rows i r h ∙ ap (λ b. Some (cond b (shown fs r) (record { start = r.start; values = map (number_value n) fs }))) d
+number_fill-none n fs rows i r h d = at_map_of (numbered fs n) rows i r h ∙ ap (λ b. Some (cond b (shown fs r) (record { start = r.start; values = map (number_value n) fs }))) d
 
 -- `none` shows rows with data alone
 pub none_fill-shown : (fs : List Function) (rows : List Row) (x : FilledRow) → Among x (filled_rows NoneFill fs rows) → (r : Row) × Among r rows × (has_data r ≡ true) × (x ≡ shown fs r)

@@ -10,7 +10,7 @@ use Rattle.ts_core.specs.Queries.{Query}
 use Rattle.ts_core.specs.Marks.{index_of}
 use Rattle.ts_core.specs.Pieces.{Source, Raw, Rollup, Piece, MarkedRule, Asked, HasIntervals, rule_named, start_of, IsBoundary, Divides, IsInOneBucket, RuleServes, SourceServes, IsValidPiece, Covers}
 use Rattle.ts_core.specs.Plans.{IsGood, rollup_piece, LeadsOn}
-use Rattle.ts_core.proofs.BucketsOrder.{bucket_is, one_more, times_le, bucket_le, bucket_of-start}
+use Rattle.ts_core.proofs.BucketsOrder.{one_more, times_le, bucket_le, bucket_of-start}
 use Rattle.ts_core.proofs.Ids.{same_text-eq}
 
 -- ---- rules by number and by name
@@ -96,20 +96,6 @@ covers_within a b (p ∷ ps) c = let f = c.0 in let l = c.1 in let u = c.2 in om
 pub good_within : (t : Asked) (p : ℤ) → IsGood t p → p ≤ℤ t.query.to
 good_within t p g = covers_within p t.query.to g.0 g.1.covers
 
-pub good_end : (t : Asked) → IsGood t t.query.to
-good_end t = ([], record { covers = refl; each = tt })
-
-pub good_raw : (t : Asked) (p : ℤ) → t.mark ≤ℤ p → p <ℤ t.query.to → IsGood t p
-good_raw t p h l = (record { source = Raw; from = p; to = t.query.to } ∷ [], record { covers = (refl, l, ≤ℤ_refl t.query.to, refl); each = (h, tt) })
-
-pub good_step : (t : Asked) (n : ℕ) (a b : ℤ) → HasIntervals t → LeadsOn t n a b → IsGood t a
-good_step t n a b s l =
-    let g = l.good in
-    let h = rule_wide t.rules n l.rule s.rules l.there in
-    let e = l.one in
-    let x : a <ℤ b = omega (arith, ints) in
-    (rollup_piece l.rule.rule.name a b ∷ g.0, record { covers = (refl, x, good_within t b g, g.1.covers); each = (l.valid, g.1.each) })
-
 pub record SomeLead (t : Asked) (p : ℤ) : Type 0 where
   pub n : ℕ
   pub end : ℤ
@@ -137,23 +123,3 @@ good_leads t p s m l (q ∷ ps, v) =
     let f : q.from ≡ p = c.0 in
     let g = from_piece t q.source q.from q.to ps s (omega (arith, ints)) c.1 c.2 c.3 v.each.0 v.each.1 in
     subst (SomeLead t) f g
-
--- ---- whole buckets
-
--- bucket k is whole between a and b exactly where it is after the bucket of a - 1 and before that of b
-pub whole_from : (r : Rule) (a b k : ℤ) → pos 1 ≤ℤ r.interval → index_of r (a -ℤ pos 1) <ℤ k → k <ℤ index_of r b → (a ≤ℤ start_of r k) × (start_of r (k +ℤ pos 1) ≤ℤ b)
-whole_from r a b k h l u =
-    let p = (bucket_is (a -ℤ pos 1) r.interval r.offset h).before_end in
-    let q = (bucket_is b r.interval r.offset h).from_start in
-    let x = times_le (index_of r (a -ℤ pos 1) +ℤ pos 1) k r.interval h (omega (arith, ints)) in
-    let y = times_le (k +ℤ pos 1) (index_of r b) r.interval h (omega (arith, ints)) in
-    (omega (arith, ints), omega (arith, ints))
-
-pub whole_to : (r : Rule) (a b k : ℤ) → pos 1 ≤ℤ r.interval → a ≤ℤ start_of r k → start_of r (k +ℤ pos 1) ≤ℤ b → (index_of r (a -ℤ pos 1) <ℤ k) × (k <ℤ index_of r b)
-whole_to r a b k h l u =
-    let x = bucket_le (start_of r (k +ℤ pos 1)) b r.interval r.offset h u in
-    let e = index_of-start r (k +ℤ pos 1) h in
-    let p = (bucket_is (a -ℤ pos 1) r.interval r.offset h).from_start in (
-      by_lt_z (index_of r (a -ℤ pos 1)) k (λ m. m) (λ m. let y = times_le k (index_of r (a -ℤ pos 1)) r.interval h m in absurd (omega (arith, ints))),
-      omega (arith, ints),
-    )

@@ -6,13 +6,14 @@ use Rattle.std.specs.FinMap.{slice_cmp-IsAntisymmetric}
 use Rattle.std.specs.FinMap.Entries.{by_order, put, find, is_sorted, is_sorted-put, find-put, is_some-find, same_entries}
 use Rattle.std.proofs.lemmas.Cmp.{lists_total, nat_list_cmp_total, tied_itself}
 use Rattle.std.proofs.lemmas.Map.Lookups.{exact_bytes}
+use Rattle.std.proofs.lemmas.Bool.{or_cases, or_left, or_right}
 use Rattle.ts_core.specs.Members.{Among}
 use Rattle.ts_core.specs.Facts.{Text, Fact}
 use Rattle.ts_core.specs.Queries.{Query, matches, group_of}
 use Rattle.ts_core.specs.Answers.{group_cmp, same_group, placed, with_group, all_groups, groups_of}
 use Rattle.ts_core.proofs.MembersLemmas.{Among-filter_passes, Among-filter_was, Among-filter_stays}
 use Rattle.ts_core.proofs.Ids.{equal_of}
-use Rattle.ts_core.proofs.Tests.{or_cases, or_left, or_right, same_bool}
+use Rattle.ts_core.proofs.Tests.{same_bool}
 
 pub groups_total : IsTotalOrder group_cmp
 groups_total = lists_total nat_list_cmp_total

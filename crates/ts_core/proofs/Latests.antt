@@ -1,14 +1,12 @@
 -- What is latest, in other words: of each id exactly one fact is latest, it is the one accepted last, and each accepted id has one.
-use Rattle.std.proofs.Common.{◌≡◌, ℤ, Bool, true, false, cond, not, List, [], ◌∷◌, refl, sym, ◌∙◌, ap, Some, None, inl, inr, ◌⊎◌, ⊎_elim, true≢false}
+use Rattle.std.proofs.Common.{◌≡◌, Bool, true, false, cond, not, List, [], ◌∷◌, refl, sym, ◌∙◌, ap, Some, None, inl, inr, ◌⊎◌, ⊎_elim, true≢false}
+use Rattle.std.proofs.lemmas.Option.{same_Some}
+use Rattle.std.proofs.lemmas.Bool.{not-true}
 use Rattle.ts_core.specs.Members.{Among, AllDistinct}
 use Rattle.ts_core.specs.Facts.{Fact, id_of, same_id}
 use Rattle.ts_core.specs.Latest.{others, latest, value_at}
 use Rattle.ts_core.proofs.MembersLemmas.{Among-filter_passes, Among-filter_was, Among-filter_stays, AllDistinct-filter, filter-all}
 use Rattle.ts_core.proofs.Ids.{same_id-eq, same_id-refl}
-
-pub not_false : (b : Bool) → not b ≡ true → b ≡ false
-not_false true h = sym h
-not_false false h = refl
 
 abbrev is_other : Fact → Fact → Bool
 is_other f g = not (same_id (id_of g) (id_of f))
@@ -17,7 +15,7 @@ is_other f g = not (same_id (id_of g) (id_of f))
 pub latest-distinct : (fs : List Fact) → AllDistinct (latest fs)
 latest-distinct [] = tt
 latest-distinct (f ∷ fs) = (
-  λ k. true≢false (sym (same_id-refl (id_of f)) ∙ not_false _ (Among-filter_passes (is_other f) f (latest fs) k)),
+  λ k. true≢false (sym (same_id-refl (id_of f)) ∙ not-true _ (Among-filter_passes (is_other f) f (latest fs) k)),
   AllDistinct-filter (is_other f) (latest fs) (latest-distinct fs),
 )
 
@@ -27,29 +25,26 @@ value_at-latest [] f h = absurd h
 value_at-latest (g ∷ fs) f h =
     ⊎_elim {C = cond (same_id (id_of f) (id_of g)) (Some g.value) (value_at fs (id_of f)) ≡ Some f.value}
     (λ e. ap (λ b. cond b (Some g.value) (value_at fs (id_of f))) (ap (λ x. same_id (id_of x) (id_of g)) e ∙ same_id-refl (id_of g)) ∙ ap (λ x. Some x.value) (sym e))
-    (λ k. ap (λ b. cond b (Some g.value) (value_at fs (id_of f))) (not_false _ (Among-filter_passes (is_other g) f (latest fs) k))
+    (λ k. ap (λ b. cond b (Some g.value) (value_at fs (id_of f))) (not-true _ (Among-filter_passes (is_other g) f (latest fs) k))
     ∙ value_at-latest fs f (Among-filter_was (is_other g) f (latest fs) k))
     h
 
 pub same_fact : (f g : Fact) → id_of f ≡ id_of g → f.value ≡ g.value → f ≡ g
 same_fact f g e k = λ i. record { column = (e i).column; time = (e i).time; value = k i }
 
-the_value : (x y : ℤ) → Some x ≡ Some y → x ≡ y
-the_value x y e = cc
-
 -- and what is the newest of its id is latest
 pub latest-value_at : (fs : List Fact) (f : Fact) → value_at fs (id_of f) ≡ Some f.value → Among f (latest fs)
 latest-value_at [] f h = absurd (let n : None ≡ Some f.value = h in cc)
 latest-value_at (g ∷ fs) f h =
     elim (same_id (id_of f) (id_of g)) as (λ b. same_id (id_of f) (id_of g) ≡ b → cond b (Some g.value) (value_at fs (id_of f)) ≡ Some f.value → (f ≡ g) ⊎ Among f (others g (latest fs))) [
-      | true ↦ λ e k. inl (same_fact f g (same_id-eq (id_of f) (id_of g) e) (sym (the_value g.value f.value k)))
+      | true ↦ λ e k. inl (same_fact f g (same_id-eq (id_of f) (id_of g) e) (sym (same_Some g.value f.value k)))
       | false ↦ λ e k. inr (Among-filter_stays (is_other g) f (latest fs) (latest-value_at fs f k) (ap not e))
     ] refl h
 
 -- the latest fact of an id is one alone
 pub latest-one : (fs : List Fact) (f g : Fact) → Among f (latest fs) → Among g (latest fs) → id_of f ≡ id_of g → f ≡ g
 latest-one fs f g a b e =
-    same_fact f g e (the_value f.value g.value (sym (value_at-latest fs f a) ∙ ap (value_at fs) e ∙ value_at-latest fs g b))
+    same_fact f g e (same_Some f.value g.value (sym (value_at-latest fs f a) ∙ ap (value_at fs) e ∙ value_at-latest fs g b))
 
 -- each accepted id has one
 pub latest-each : (fs : List Fact) (f : Fact) → Among f fs → (g : Fact) × Among g (latest fs) × (id_of g ≡ id_of f)

@@ -76,7 +76,7 @@ for_ever rules (Step ended ∷ h) = for_ever rules h
 least_mark : (opening : Settings) (h : History) → least_time ≤ℤ raw_mark opening h
 least_mark opening h = (raw_mark-is opening h).none_greater least_time (inl refl)
 
-not_zero : (n : ℕ) → 0 < n → (n == 0) ≡ false
+pub not_zero : (n : ℕ) → 0 < n → (n == 0) ≡ false
 not_zero n h = grind arith
 
 kept_since-is : (n : ℕ) (now : ℤ) → 0 < n → kept_since n now ≡ now -ℤ pos n

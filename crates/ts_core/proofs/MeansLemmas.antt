@@ -1,9 +1,9 @@
 -- The quotients by the greatest common divisor are the mean in lowest terms, and no other fraction is.
-use Rattle.std.proofs.Common.{inl, inr, ◌⊎◌, ⊎_elim, ◌≡◌, ℕ, ℤ, pos, negsuc, suc, zero, ◌+◌, ◌*◌, ◌/◌, ◌%◌, ◌<◌, ◌≤◌, ◌*ℤ◌, arith, refl, sym, ap, ◌∙◌, subst, neg_ℤ, unsigned_abs, pos_of_ne-zero, one-mul, zero-mul, div-add-mod', mod-lt}
+use Rattle.std.proofs.Common.{inl, inr, ◌⊎◌, ⊎_elim, ◌≡◌, ℕ, ℤ, pos, negsuc, suc, zero, ◌+◌, ◌*◌, ◌/◌, ◌%◌, ◌<◌, ◌≤◌, ◌*ℤ◌, arith, refl, sym, ap, ◌∙◌, subst, neg_ℤ, unsigned_abs, pos_of_ne-zero, one-mul, div-add-mod', mod-lt}
 use Rattle.std.proofs.Math.Nat.{dvd-mul_left, dvd-mod_iff, dvd-add_iff_left, dvd_of_mul-dvd-mul_left, dvd-mul_right, eq-one_of_dvd-one, mul-div_cancel, mul-div_cancel', div-mul_cancel, mul-dvd-mul_right, dvd_of_mul-dvd-mul_right, pos_of_dvd_of_pos, one-dvd}
 use Rattle.std.proofs.lemmas.Nat.Gcd.{dvd_antisymm, dvd_of_mod-eq-zero, dvd-zero, dvd_refl}
 use Rattle.std.proofs.lemmas.Int.{unsigned_abs-mul}
-use Rattle.ts_core.proofs.BucketsLemmas.{times_cancel}
+use Rattle.ts_core.proofs.BucketsLemmas.{times_cancel, times_neg}
 use Rattle.std.proofs.Math.IntN.{negsuc-*ℤ-pos, pos-*ℤ-pos}
 use Rattle.std.specs.Int.{IsGcd, ◌∣◌}
 use Rattle.ts_core.specs.Means.{IsMean, signed_as_of}
@@ -32,17 +32,13 @@ IsMean-from_natural s c g h k = record {
   positive = quotient_pos c g h k.1;
 }
 
-neg_times : (n c : ℕ) → neg_ℤ (pos n) *ℤ pos c ≡ neg_ℤ (pos (n * c))
-neg_times zero c = pos-*ℤ-pos 0 c ∙ rw zero-mul refl
-neg_times (suc n) c = negsuc-*ℤ-pos n c
-
 abs_neg : (n : ℕ) → unsigned_abs (neg_ℤ (pos n)) ≡ n
 abs_neg zero = refl
 abs_neg (suc n) = refl
 
 pub IsMean-from_negative : (s c g : ℕ) → 0 < c → IsGcd (suc s) c g → IsMean c (negsuc s) (neg_ℤ (pos (suc s / g))) (c / g)
 IsMean-from_negative s c g h k = record {
-  exact = neg_times (suc s / g) c ∙ ap (λ n. neg_ℤ (pos n)) (crossed (suc s) c g k.0 k.1) ∙ sym (negsuc-*ℤ-pos s (c / g));
+  exact = times_neg (suc s / g) c ∙ ap (λ n. neg_ℤ (pos n)) (crossed (suc s) c g k.0 k.1) ∙ sym (negsuc-*ℤ-pos s (c / g));
   lowest = rw abs_neg (lowest_terms (suc s) c g h k);
   positive = quotient_pos c g h k.1;
 }

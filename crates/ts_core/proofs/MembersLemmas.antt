@@ -1,5 +1,7 @@
--- What is among two lists put together, among what a filter leaves, and among distinct ones without one.
-use Rattle.std.proofs.Common.{◌≡◌, Bool, true, false, cond, List, [], ◌∷◌, ◌++◌, ◌⊎◌, filter, refl, sym, ◌∙◌, ap, inl, inr, subst, ⊎_elim, true≢false}
+-- What is among two lists put together, among what a filter leaves, among distinct ones without one, and among images.
+use Rattle.std.proofs.Common.{◌≡◌, Bool, true, false, cond, List, [], ◌∷◌, ◌++◌, ◌⊎◌, ℕ, zero, suc, Some, filter, map, refl, sym, ◌∙◌, ap, inl, inr, subst, ⊎_elim, true≢false}
+use Rattle.std.specs.List.{slice_get}
+use Rattle.std.proofs.lemmas.Option.{same_Some}
 use Rattle.ts_core.specs.Members.{Among, AllDistinct}
 
 -- a place of x in a list
@@ -121,3 +123,20 @@ filter-filter p q h (x ∷ xs) =
         | false ↦ filter-filter p q h xs
       ]
     ] refl
+
+-- ---- the members of a list of images
+
+module _ {X Y : Type 0} (f : X → Y) where
+  pub Among-map : (x : X) (xs : List X) → Among x xs → Among (f x) (map f xs)
+  Among-map x [] a = a
+  Among-map x (y ∷ ys) a = ⊎_elim {C = Among (f x) (map f (y ∷ ys))} (λ e. inl (ap f e)) (λ k. inr (Among-map x ys k)) a
+
+  pub map_back : (xs : List X) (y : Y) → Among y (map f xs) → (x : X) × Among x xs × (f x ≡ y)
+  map_back [] y a = absurd a
+  map_back (x ∷ xs) y a =
+      ⊎_elim {C = (z : X) × Among z (x ∷ xs) × (f z ≡ y)} (λ e. (x, inl refl, sym e)) (λ k. let s = map_back xs y k in (s.0, inr s.1, s.2)) a
+
+  pub at_map_of : (xs : List X) (n : ℕ) (x : X) → slice_get xs n ≡ Some x → slice_get (map f xs) n ≡ Some (f x)
+  at_map_of [] n x h = absurd (cc)
+  at_map_of (y ∷ ys) zero x h = ap (λ z. Some (f z)) (same_Some y x h)
+  at_map_of (y ∷ ys) (suc n) x h = at_map_of ys n x h

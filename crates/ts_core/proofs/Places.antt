@@ -1,10 +1,9 @@
 -- Entries in the order of their keys: what a search finds, and what an edit at that place does.
-use Rattle.std.proofs.Common.{◌≡◌, ℕ, zero, suc, ◌<◌, ◌≤◌, Bool, true, false, cond, ◌&&◌, T, List, [], ◌∷◌, length, get_or, set, insert, refl, sym, ◌∙◌, ap, Some, None, Ordering, Less, Equal, Greater, is_lt, is_eq, arith}
+use Rattle.std.proofs.Common.{◌≡◌, ℕ, zero, suc, ◌<◌, ◌≤◌, Bool, true, false, cond, ◌&&◌, T, List, [], ◌∷◌, length, get_or, set, insert, refl, sym, ◌∙◌, ap, Some, Ordering, Less, Equal, Greater, is_lt, is_eq, arith}
 use Rattle.std.specs.Ordering.{ordering_index, ordering_reverse}
 use Rattle.std.specs.Cmp.{IsTotalOrder}
 use Rattle.std.specs.FinMap.{find, put, is_sorted}
 use Rattle.std.specs.FinMap.Entries.{below_all, by_order}
-use Rattle.std.specs.List.{AllWithin}
 use Rattle.std.specs.List.Sorted.{IsNonDecreasingBy, IsPartitionPoint}
 use Rattle.std.proofs.lemmas.Cmp.{alike_right}
 
@@ -62,18 +61,6 @@ module _ {K X : Type 0} {R : K → K → Ordering} (o : IsTotalOrder R) where
       let before : R x.0 k ≡ Less = sym (alike_right o (get_or es i d).0 k x.0 e) ∙ lt in
       ap (λ r. by_order r ((k, v) ∷ x ∷ es) ((x.0, v) ∷ es) (x ∷ put R k v es)) (flipped o x.0 k Less before)
       ∙ ap (λ zs. x ∷ zs) (put_at es (both_of _ _ s).1 k v i d (omega arith) e)
-
-  none_after : (es : List (K × X)) (k : K) → AllWithin (λ (e : K × X). R e.0 k ≡ Greater) es 0 (length es) → find R k es ≡ None
-  none_after [] k a = refl
-  none_after (x ∷ es) k a = ap (λ r. cond (is_eq r) (Some x.1) (find R k es)) (flipped o x.0 k Greater (a 0 x (omega arith) (omega arith))) ∙ none_after es k (λ j d l h. a (suc j) d (omega arith) (omega arith))
-
-  -- i parts the smaller keys from the greater: the key is not there, and goes there
-  pub missing_at : (es : List (K × X)) (k : K) (i : ℕ) → i ≤ length es → IsPartitionPoint (λ (e : K × X). R e.0 k ≡ Less) (λ (e : K × X). R e.0 k ≡ Greater) es i → find R k es ≡ None
-  missing_at es k zero l p = none_after es k p.1
-  missing_at [] k (suc i) l p = refl
-  missing_at (x ∷ es) k (suc i) l p =
-      ap (λ r. cond (is_eq r) (Some x.1) (find R k es)) (flipped o x.0 k Less (p.0 0 x (omega arith) (omega arith)))
-      ∙ missing_at es k i (omega arith) (λ j d a b. p.0 (suc j) d (omega arith) (omega arith), λ j d a b. p.1 (suc j) d (omega arith) (omega arith))
 
   pub put_between : (es : List (K × X)) (k : K) (v : X) (i : ℕ) → i ≤ length es → IsPartitionPoint (λ (e : K × X). R e.0 k ≡ Less) (λ (e : K × X). R e.0 k ≡ Greater) es i → put R k v es ≡ insert es i (k, v)
   put_between [] k v zero l p = refl

@@ -5,11 +5,10 @@ use Rattle.std.proofs.lemmas.Int.{ints, by_lt_z}
 use Rattle.ts_core.specs.Settings.{Rule}
 use Rattle.ts_core.specs.Faults.{Fault, piece_fault}
 use Rattle.ts_core.specs.Pieces.{Piece, MarkedRule, marked_rules, Asked, HasIntervals, IsValidPiece}
-use Rattle.ts_core.specs.Plans.{IsGood, rollup_piece, LeadsOn, NoneBefore, IsWalk, raw_piece}
+use Rattle.ts_core.specs.Plans.{IsGood, rollup_piece, LeadsOn, NoneBefore, IsWalk}
 use Rattle.ts_core.proofs.Tests.{lt_not}
 use Rattle.ts_core.proofs.Validity.{source_from, source_none}
 use Rattle.ts_core.proofs.GoodPlaces.{good_leads}
-use Rattle.ts_core.proofs.Plannable.{leads_of}
 use Rattle.ts_core.proofs.Walks.{walk_valid}
 
 pub in_range : {X : Type 0} (xs : List X) (n : ℕ) (x : X) → slice_get xs n ≡ Some x → n < length xs
@@ -40,10 +39,6 @@ before_end p to q e f g h n = let k = lt_not e q h in by_lt_z p to (λ l. l) (λ
 pub falls_on : (to p e i : ℤ) → e ≡ p +ℤ i → pos 1 ≤ℤ i → e ≤ℤ to → 2 * unsigned_abs (to -ℤ e) + 1 < 2 * unsigned_abs (to -ℤ p)
 falls_on to p e i h k l = omega (arith, ints)
 
--- at or above the raw mark the rest is one raw piece
-pub raw_walk : (t : Asked) (p : ℤ) → t.mark ≤ℤ p → p <ℤ t.query.to → IsWalk t p (raw_piece p t.query.to ∷ [])
-raw_walk t p h l = (l, refl, (h, refl, refl))
-
 -- below it the first rule that leads on gives its bucket
 pub bucket_walk : (t : Asked) (p : ℤ) (n : ℕ) (r : MarkedRule) (bs : List Piece) → HasIntervals t → p <ℤ t.mark → p <ℤ t.query.to → slice_get t.rules n ≡ Some r
     → IsValidPiece t (rollup_piece r.rule.name p (p +ℤ r.rule.interval)) → IsWalk t (p +ℤ r.rule.interval) bs → NoneBefore t p n → IsWalk t p (rollup_piece r.rule.name p (p +ℤ r.rule.interval) ∷ bs)
@@ -51,15 +46,6 @@ bucket_walk t p n r bs s a l at v w b =
     let e : ℤ = p +ℤ r.rule.interval in
     let leads : LeadsOn t n p e = record { rule = r; there = at; one = refl; valid = v; good = (bs, walk_valid t e bs s w) } in
     (l, refl, (a, record { n = n; leads = leads; named = refl; first = b }, w))
-
--- a number without a rule doesn't lead on
-pub no_rule : (t : Asked) (p : ℤ) (n : ℕ) → slice_get t.rules n ≡ None → (d : ℤ) → LeadsOn t n p d → ⊥
-no_rule t p n e d l = let q : Some l.rule ≡ None = sym l.there ∙ e in cc
-
--- nor does a rule whose bucket isn't valid, or doesn't end at a good place
-pub no_bucket : (t : Asked) (p : ℤ) (n : ℕ) (r : MarkedRule) → slice_get t.rules n ≡ Some r
-    → (IsGood t (p +ℤ r.rule.interval) → IsValidPiece t (rollup_piece r.rule.name p (p +ℤ r.rule.interval)) → ⊥) → (d : ℤ) → LeadsOn t n p d → ⊥
-no_bucket t p n r e bad d l = let k = leads_of t n r p d e l in bad k.good k.valid
 
 -- where no rule leads on, the place isn't good
 pub no_lead : (t : Asked) (p : ℤ) (n : ℕ) → HasIntervals t → p <ℤ t.mark → p <ℤ t.query.to → length t.rules ≤ n → NoneBefore t p n → IsGood t p → ⊥

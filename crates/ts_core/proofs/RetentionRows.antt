@@ -76,9 +76,6 @@ at_second n = Begin (pos (n * 1000000000))
 abbrev three_points : History
 three_points = Step true ∷ Step false ∷ Step false ∷ at_second 200 ∷ line b 70 (pos 1) ∷ line a 70 (pos 7) ∷ line a 10 (pos 5) ∷ []
 
-marks_at_first : marks_of two_minutes [] ≡ record { raw = negsuc 9223372036854775805; lows = negsuc 153722867 ∷ [] }
-marks_at_first = refl
-
 marks_after_run : marks_of two_minutes three_points ≡ record { raw = pos 80000000000; lows = negsuc 153722867 ∷ [] }
 marks_after_run = refl
 

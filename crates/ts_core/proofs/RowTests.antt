@@ -3,6 +3,7 @@ use Rattle.std.proofs.Common.{◌≡◌, ℤ, pos, Bool, true, false, cond, not,
 use Rattle.std.proofs.lemmas.Int.{ints}
 use Rattle.std.specs.List.{AllByRecursion, list_all}
 use Rattle.std.specs.Ordering.{int_eq}
+use Rattle.std.proofs.lemmas.Bool.{and_parts}
 use Rattle.ts_core.specs.Members.{Among}
 use Rattle.ts_core.specs.Facts.{Text, same_text, Series, Column, Fact, is_of, is_within}
 use Rattle.ts_core.specs.Settings.{Rule}
@@ -13,7 +14,7 @@ use Rattle.ts_core.specs.Cells.{cell_of, is_rolled}
 use Rattle.ts_core.specs.Answers.{same_group, is_in_row, bucket_in}
 use Rattle.ts_core.specs.Assembly.{stand_in}
 use Rattle.ts_core.proofs.Ids.{same_text-eq}
-use Rattle.ts_core.proofs.Tests.{and_parts, le_true, lt_true, same_text-refl}
+use Rattle.ts_core.proofs.Tests.{le_true, lt_true, same_text-refl}
 use Rattle.ts_core.proofs.Boundaries.{cell_start, within_cell, within_parts, one_bucket}
 
 -- ---- tags

@@ -3,13 +3,14 @@ use Rattle.std.proofs.Common.{◌≡◌, ℕ, ◌<◌, ◌≤◌, ℤ, pos, int_
 use Rattle.std.proofs.lemmas.Int.{ints}
 use Rattle.std.proofs.lemmas.Bool.Decides.{nat_tests}
 use Rattle.std.specs.List.{AllByRecursion}
+use Rattle.std.proofs.lemmas.Bool.{and_parts, or_cases}
 use Rattle.ts_core.specs.declared.settings_fault.RuleFault.{RuleFault}
 use Rattle.ts_core.specs.declared.settings_fault.SettingsFault.{SettingsFault}
 use Rattle.ts_core.specs.declared.settings_fault.SettingsFault.TheVariants.{TooManyRules, OfRule}
 use Rattle.ts_core.specs.Settings.{Rule, Settings}
 use Rattle.ts_core.specs.Marks.{Outlasts}
 use Rattle.ts_core.specs.SettingsFaults.{is_interval, outlasts, unless, rule_fault, or_fault, rules_fault, settings_fault}
-use Rattle.ts_core.proofs.Tests.{and_parts, or_cases, le_from}
+use Rattle.ts_core.proofs.Tests.{le_from}
 
 well : (b : Bool) (f : RuleFault) (next : Option RuleFault) → unless b f next ≡ None → (b ≡ true) × (next ≡ None)
 well true f next h = (refl, h)

@@ -1,22 +1,15 @@
 -- Entries in the order of their keys, by what is among them.
-use Rattle.std.proofs.Common.{◌≡◌, true, false, cond, T, List, [], ◌∷◌, refl, sym, ◌∙◌, ap, inl, inr, ◌⊎◌, ⊎_elim, true≢false, Some, None, Ordering, Less, Equal, Greater, is_lt, is_eq}
+use Rattle.std.proofs.Common.{◌≡◌, true, false, cond, T, List, [], ◌∷◌, refl, sym, ◌∙◌, ap, inl, inr, ◌⊎◌, ⊎_elim, true≢false, Some, Ordering, Less, Greater, is_lt, is_eq}
 use Rattle.std.specs.Ordering.{ordering_reverse}
 use Rattle.std.specs.Cmp.{IsTotalOrder}
 use Rattle.std.specs.FinMap.{find, is_sorted}
 use Rattle.std.specs.FinMap.Entries.{below_all}
 use Rattle.std.proofs.lemmas.Cmp.{tied_itself}
 use Rattle.std.proofs.lemmas.Map.Lookups.{CmpEqualImpliesEq}
+use Rattle.std.proofs.lemmas.Option.{none-some, same_Some}
 use Rattle.ts_core.specs.Members.{Among, AllDistinct}
 use Rattle.ts_core.proofs.Places.{both_of, less_of}
-
-the_same : {X : Type 0} (x y : X) → Some x ≡ Some y → x ≡ y
-the_same x y e = cc
-
-not_there : {X : Type 0} (x : X) → None ≡ Some x → ⊥
-not_there x e = cc
-
-equal_of : (o : Ordering) → is_eq o ≡ true → o ≡ Equal
-equal_of o h = elim o as (λ r. is_eq r ≡ true → r ≡ Equal) [ Equal ↦ λ _. refl | _ ↦ λ e. absurd (true≢false (sym e)) ] h
+use Rattle.ts_core.proofs.Ids.{equal_of}
 
 not_itself : {K : Type 0} {R : K → K → Ordering} (o : IsTotalOrder R) (x : K) → R x x ≡ Less → ⊥
 not_itself o x h = true≢false (sym (ap is_lt h) ∙ ap is_lt (tied_itself o x))
@@ -50,9 +43,9 @@ module _ {K X : Type 0} {R : K → K → Ordering} (exact : CmpEqualImpliesEq R)
 
   -- what is found is an entry of the list
   pub among_found : (es : List (K × X)) (k : K) (v : X) → find R k es ≡ Some v → Among (k, v) es
-  among_found [] k v h = absurd (not_there v h)
+  among_found [] k v h = absurd (none-some v h)
   among_found (e ∷ es) k v h =
       elim (is_eq (R k e.0)) as (λ b. is_eq (R k e.0) ≡ b → cond b (Some e.1) (find R k es) ≡ Some v → ((k, v) ≡ e) ⊎ Among (k, v) es) [
-        | true ↦ λ t q. inl (entry k v e (exact k e.0 (equal_of _ t)) (sym (the_same e.1 v q)))
+        | true ↦ λ t q. inl (entry k v e (exact k e.0 (equal_of _ t)) (sym (same_Some e.1 v q)))
         | false ↦ λ t q. inr (among_found es k v q)
       ] refl h

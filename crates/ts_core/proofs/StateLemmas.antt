@@ -4,6 +4,7 @@ use Rattle.std.proofs.lemmas.Int.{ints, clamps}
 use Rattle.std.proofs.lemmas.Cmp.{tied_itself}
 use Rattle.std.specs.List.{AllByRecursion}
 use Rattle.std.specs.Int.{int_max}
+use Rattle.std.proofs.lemmas.Bool.{and_parts, or_right}
 use Rattle.ts_core.specs.Members.{Among, AllDistinct}
 use Rattle.ts_core.specs.Times.{least_time}
 use Rattle.ts_core.specs.Facts.{Column, Fact, column_cmp}
@@ -14,7 +15,7 @@ use Rattle.ts_core.specs.RawFacts.{same_column, is_waiting, earlier_mark, kept_f
 use Rattle.ts_core.specs.StoreStates.{RuleCells, StoreState, StandsFor, HasCells, facts_of}
 use Rattle.ts_core.proofs.Ids.{columns_total, exact_columns, equal_of}
 use Rattle.ts_core.proofs.MembersLemmas.{Among-filter_passes, Among-filter_was, Among-filter_stays}
-use Rattle.ts_core.proofs.Tests.{and_parts, or_right, le_true}
+use Rattle.ts_core.proofs.Tests.{le_true}
 use Rattle.ts_core.proofs.Cuts.{Holds}
 use Rattle.ts_core.proofs.Moves.{AllTwo}
 
@@ -31,10 +32,6 @@ AllTwo-map R f g h [] [] t = refl
 AllTwo-map R f g h [] (y ∷ ys) t = absurd t
 AllTwo-map R f g h (x ∷ xs) [] t = absurd t
 AllTwo-map R f g h (x ∷ xs) (y ∷ ys) t = ap₂ (λ a bs. a ∷ bs) (h x y t.0) (AllTwo-map R f g h xs ys t.1)
-
-pub all_as : {X : Type 0} (P Q : X → Type 0) → ((x : X) → P x → Q x) → (xs : List X) → AllByRecursion P xs → AllByRecursion Q xs
-all_as P Q h [] a = tt
-all_as P Q h (x ∷ xs) a = (h x a.0, all_as P Q h xs a.1)
 
 abbrev head_or : {X : Type 0} → X → List X → X
 head_or d [] = d
@@ -114,7 +111,7 @@ is_kept-above opening h waiting f m =
 
 -- ---- the raw facts, as one list
 
-abbrev is_raw_of : Settings → History → List Column → Column → Fact → Bool
+abbrev pub is_raw_of : Settings → History → List Column → Column → Fact → Bool
 is_raw_of opening h waiting c f = same_column f.column c && is_kept (kept_from opening h waiting) f
 
 pub raw_of-Holds : (opening : Settings) (h : History) (waiting : List Column) (held : List Fact) → AllDistinct held

@@ -1,32 +1,13 @@
 -- Tests that answer yes or no, and what they say.
-use Rattle.std.proofs.Common.{◌≡◌, ℤ, ◌<ℤ◌, ◌≤ℤ◌, int_le, int_lt, arith, refl, sym, ◌∙◌, ap, List, [], ◌∷◌, ◌⊎◌, Bool, true, false, ◌&&◌, ◌||◌, inl, inr, subst, true≢false, is_eq}
+use Rattle.std.proofs.Common.{◌≡◌, ℤ, ◌<ℤ◌, ◌≤ℤ◌, int_le, int_lt, arith, refl, sym, ◌∙◌, ap, List, [], ◌∷◌, Bool, true, false, inl, inr, subst, true≢false, is_eq}
 use Rattle.std.specs.List.{list_any, list_all, AllByRecursion}
 use Rattle.std.proofs.lemmas.Int.{ints}
 use Rattle.std.proofs.lemmas.Cmp.{nat_list_cmp_total, tied_itself}
 use Rattle.ts_core.specs.Members.{Among}
 use Rattle.std.proofs.lemmas.Map.Text.{is_eq-slice_cmp}
+use Rattle.std.proofs.lemmas.Bool.{and_parts, and_from, or_cases, or_left, or_right}
 use Rattle.ts_core.specs.Facts.{Text, same_text}
 use Rattle.ts_core.proofs.Ids.{same_text-eq}
-
-pub and_parts : (x y : Bool) → (x && y) ≡ true → (x ≡ true) × (y ≡ true)
-and_parts true y h = (refl, h)
-and_parts false y h = absurd (true≢false (sym h))
-
-pub and_both : (x y : Bool) → x ≡ true → y ≡ true → (x && y) ≡ true
-and_both true y h k = k
-and_both false y h k = h
-
-pub or_cases : (x y : Bool) → (x || y) ≡ true → (x ≡ true) ⊎ (y ≡ true)
-or_cases true y h = inl refl
-or_cases false y h = inr h
-
-pub or_left : (x y : Bool) → x ≡ true → (x || y) ≡ true
-or_left true y h = refl
-or_left false y h = absurd (true≢false (sym h))
-
-pub or_right : (x y : Bool) → y ≡ true → (x || y) ≡ true
-or_right true y h = refl
-or_right false y h = h
 
 pub le_from : (x y : ℤ) → int_le x y ≡ true → x ≤ℤ y
 le_from x y h = grind (arith, ints)
@@ -73,4 +54,4 @@ all_among (s ∷ ss) ts h = let k = and_parts (list_any (same_text s) ts) _ h in
 
 pub among_all : (ss ts : List Text) → AllByRecursion (λ s. Among s ts) ss → list_all (λ s. list_any (same_text s) ts) ss ≡ true
 among_all [] ts h = refl
-among_all (s ∷ ss) ts h = and_both _ _ (texts_among s ts h.0) (among_all ss ts h.1)
+among_all (s ∷ ss) ts h = and_from _ _ (texts_among s ts h.0) (among_all ss ts h.1)

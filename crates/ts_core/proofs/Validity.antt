@@ -4,13 +4,14 @@ use Rattle.std.specs.Ordering.{int_eq}
 use Rattle.std.specs.Int.{int_rem_euclid}
 use Rattle.std.proofs.lemmas.Bool.Decides.{Decides-int_eq}
 use Rattle.std.specs.List.{AllByRecursion}
+use Rattle.std.proofs.lemmas.Bool.{and_parts, and_from, or_cases, or_left, or_right}
 use Rattle.ts_core.specs.Settings.{Rule, Settings}
 use Rattle.ts_core.specs.Buckets.{bucket_of}
 use Rattle.ts_core.specs.Marks.{Marks, index_of}
 use Rattle.ts_core.specs.Queries.{Query}
 use Rattle.ts_core.specs.Pieces.{Source, Raw, Rollup, Piece, MarkedRule, Asked, asked, rule_named, start_of, Divides, IsInOneBucket, tags_of, RuleServes, SourceServes, IsValidPiece, Covers, IsValidFrom, IsValid}
 use Rattle.ts_core.specs.Faults.{Fault, Gap, NoSuchRule, unless, divides, is_in_one_bucket, rule_fault, source_fault, piece_fault, gap_at, or_fault, pieces_fault, or_gap, fault_from, first_fault}
-use Rattle.ts_core.proofs.Tests.{and_parts, and_both, or_cases, or_left, or_right, le_from, le_true, lt_from, lt_true, same_text-from_eq, all_among, among_all}
+use Rattle.ts_core.proofs.Tests.{le_from, le_true, lt_from, lt_true, same_text-from_eq, all_among, among_all}
 use Rattle.ts_core.proofs.Ids.{same_text-eq}
 
 well : (b : Bool) (f : Fault) (next : Option Fault) → unless b f next ≡ None → (b ≡ true) × (next ≡ None)
@@ -29,7 +30,7 @@ fits_from r q a b h =
     ]
 
 fits_true : (r : Rule) (q : Query) (a b : ℤ) → Divides r q ⊎ IsInOneBucket q a b → (divides r q || is_in_one_bucket q a b) ≡ true
-fits_true r q a b (inl d) = or_left _ _ (and_both _ _ ((Decides-int_eq (int_rem_euclid q.interval r.interval) (pos 0)).1 d.interval) ((Decides-int_eq (int_rem_euclid (q.offset -ℤ r.offset) r.interval) (pos 0)).1 d.offset))
+fits_true r q a b (inl d) = or_left _ _ (and_from _ _ ((Decides-int_eq (int_rem_euclid q.interval r.interval) (pos 0)).1 d.interval) ((Decides-int_eq (int_rem_euclid (q.offset -ℤ r.offset) r.interval) (pos 0)).1 d.offset))
 fits_true r q a b (inr d) = or_right (divides r q) _ ((Decides-int_eq (bucket_of a q.interval q.offset) (bucket_of (b -ℤ pos 1) q.interval q.offset)).1 d)
 
 -- ---- one piece

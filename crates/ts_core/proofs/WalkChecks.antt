@@ -3,11 +3,12 @@ use Rattle.std.proofs.Common.{◌≡◌, ℕ, ℤ, ◌+◌, ◌+ℤ◌, ◌<ℤ�
 use Rattle.std.specs.Prelude.{slice_get}
 use Rattle.std.specs.Ordering.{int_eq}
 use Rattle.std.proofs.lemmas.Bool.Decides.{Decides-int_eq}
+use Rattle.std.proofs.lemmas.Bool.{and_parts}
 use Rattle.ts_core.specs.Facts.{Text, same_text}
 use Rattle.ts_core.specs.Pieces.{Source, Raw, Rollup, Piece, MarkedRule, Asked, HasIntervals, IsValidPiece}
 use Rattle.ts_core.specs.Faults.{piece_fault}
 use Rattle.ts_core.specs.Plans.{IsGood, rollup_piece, LeadsOn, NoneBefore, IsFirstToLead, Steps, IsWalk, is_faultless}
-use Rattle.ts_core.proofs.Tests.{and_parts, lt_from, le_from}
+use Rattle.ts_core.proofs.Tests.{lt_from, le_from}
 use Rattle.ts_core.proofs.Ids.{same_text-eq}
 use Rattle.ts_core.proofs.Validity.{source_from, source_none}
 use Rattle.ts_core.proofs.Walks.{walk_valid, faultless_none}

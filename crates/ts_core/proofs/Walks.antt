@@ -3,11 +3,11 @@ use Rattle.std.proofs.Common.{◌≡◌, ℕ, ℤ, pos, ◌<◌, ◌+ℤ◌, ◌
 use Rattle.std.specs.Prelude.{slice_get}
 use Rattle.std.proofs.lemmas.Int.{ints, by_lt_z}
 use Rattle.std.specs.List.{AllByRecursion}
+use Rattle.std.proofs.lemmas.Bool.{and_parts}
 use Rattle.ts_core.specs.Facts.{Text}
 use Rattle.ts_core.specs.Pieces.{Source, Raw, Rollup, Piece, MarkedRule, Asked, HasIntervals, SourceServes, IsValidPiece, Covers, IsValidFrom}
 use Rattle.ts_core.specs.Faults.{Fault, piece_fault}
 use Rattle.ts_core.specs.Plans.{IsFirstToLead, Steps, IsWalk, is_same_rule, is_faultless, drawn, joined_onto, joined, IsPlanOf}
-use Rattle.ts_core.proofs.Tests.{and_parts}
 use Rattle.ts_core.proofs.Validity.{source_from}
 use Rattle.ts_core.proofs.GoodPlaces.{rule_wide, good_within}
 

@@ -45,7 +45,7 @@ numeral_by b bs false m e =
     rw (m, digit_not_plus b q.0) (not_empty (b ∷ bs) first, all_digits (b ∷ bs) rest)
 
 -- a text of a number is a numeral to `parse`
-numeral : (text : Text) → is_number text ≡ true → IsNumeral 10 (without_leading_sign text)
+pub numeral : (text : Text) → is_number text ≡ true → IsNumeral 10 (without_leading_sign text)
 unfolding is_number
 numeral [] e = absurd cc
 numeral (b ∷ bs) e = numeral_by b bs (eqb b 45) refl e

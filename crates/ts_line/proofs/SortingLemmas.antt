@@ -105,7 +105,3 @@ put_last tags t es all some is so_far =
     let split : tags ≡ take (length tags - 1) tags ++ t ∷ [] = sym (take_all (length tags) tags (omega arith)) ∙ ap (λ n. take n tags) (sym whole) ∙ take_more tags (length tags - 1) t within ∙ ap (λ x. take (length tags - 1) tags ++ x ∷ []) (sym is) in
     sym (put_all_push (map tag_texts (take (length tags - 1) tags)) (tag_texts t) es)
     ∙ ap (λ ts. put_all ts es) (sym (map_push tag_texts (take (length tags - 1) tags) t) ∙ ap (map tag_texts) (sym split)) ∙ so_far
-
-pub no_items : {X : Type 0} (xs : List X) → length xs ≡ 0 → xs ≡ []
-no_items [] e = refl
-no_items (x ∷ xs) e = absurd (omega arith)

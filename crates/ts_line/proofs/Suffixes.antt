@@ -1,5 +1,5 @@
 -- What stands in a line from a place on.
-use Rattle.std.proofs.Common.{◌≡◌, ℕ, ◌+◌, ◌-◌, ◌≤◌, Bool, true, not, eqb, [], ◌∷◌, ◌++◌, length, get_or, take, drop, slice_range, slice_index, refl, sym, ap, ◌∙◌, arith, length-drop}
+use Rattle.std.proofs.Common.{◌≡◌, ℕ, ◌+◌, ◌-◌, Bool, true, not, eqb, [], ◌∷◌, ◌++◌, length, get_or, take, drop, slice_range, slice_index, refl, sym, ap, ◌∙◌, arith}
 use Rattle.std.proofs.lemmas.Bool.{not-true, and_parts}
 use Rattle.std.proofs.lemmas.List.{take_at, drop_at, drop-drop, get_or-drop}
 use Rattle.ts_core.specs.Facts.{Text}
@@ -26,9 +26,6 @@ pub at_slice : (line raw rest : Text) (n end : ℕ) → At line n (raw ++ rest) 
 at_slice line raw rest n end at e =
     let len : length raw ≡ end - n = omega arith in
     ap (λ l. take (end - n) l) at ∙ take_at raw rest (end - n) len
-
-pub at_length : (line text : Text) (n : ℕ) → n ≤ length line → At line n text → length line ≡ n + length text
-at_length line text n le at = omega (arith, length-drop n line, ap length at)
 
 -- ---- the end of a part
 

@@ -1,6 +1,6 @@
 -- The ends of statements and the beginnings of clauses: what each token leads to, and what each rest spells.
-use Rattle.std.proofs.Common.{◌≡◌, inl, inr, ℕ, ℤ, ◌+◌, ◌<◌, List, [], ◌∷◌, ◌++◌, Bool, true, false, Option, Some, None, Result, Ok, Err, map, arith, refl, sym, ap, ◌∙◌, subst, append_assoc}
-use Rattle.std.proofs.lemmas.Bool.{eqb-true, eqb-false}
+use Rattle.std.proofs.Common.{◌≡◌, inl, inr, ℤ, ◌+◌, ◌<◌, List, [], ◌∷◌, ◌++◌, Bool, true, false, Option, Some, None, Result, Ok, Err, map, arith, refl, sym, ap, ◌∙◌, subst, append_assoc}
+use Rattle.std.proofs.lemmas.Bool.{eqb-false}
 use Rattle.std.proofs.lemmas.List.{map-append}
 use Rattle.std.specs.Prelude.{codes, nat_le, ◌==◌, if◌then◌else◌}
 use Rattle.ts_ql.specs.declared.place.Place.{Place}
@@ -19,6 +19,7 @@ use Rattle.ts_ql.specs.Tokens.{Lexeme}
 use Rattle.ts_ql.proofs.Rests.{SelectTail, Rest, left_at, left_ending, left_statement, said_ending, said_at, said_statement, SoundAt, SuitsAt}
 use Rattle.ts_ql.proofs.Completions.{aggregate as any_aggregate, select_tail as any_tail}
 use Rattle.ts_ql.proofs.Steps.{at, Back, Faulty, Answer, Leads, passes, fails, passed, failed}
+use Rattle.ts_core.proofs.LowIndices.{not_zero}
 
 -- ---- the end of a statement
 
@@ -204,13 +205,6 @@ begun_answers now s t sound =
 
 abbrev begun_steps : State → Lexeme → Kind → Step
 begun_steps s t k = begun_at k t (at places.Statement (fresh s))
-
-not_zero_by : (n : ℕ) → 0 < n → (b : Bool) → (n == 0) ≡ b → b ≡ false
-not_zero_by n some true e = absurd (omega (arith, eqb-true n 0 e))
-not_zero_by n some false e = refl
-
-not_zero : (n : ℕ) → 0 < n → (n == 0) ≡ false
-not_zero n some = not_zero_by n some (n == 0) refl
 
 -- the statement, begun by the token
 abbrev selected_by : Lexeme → Statement → Statement

@@ -141,12 +141,6 @@ open_leads now s q t ts reach w =
 abbrev pub OptionLeads : ℤ → State → FillOption → Ending → Lexeme → List Lexeme → Reach → Kind → Type 0
 OptionLeads now s o r t ts reach k = Leads now (at places.FillOption s) (o, r) ts reach (fill_steps s places.FillOption t k)
 
--- the three words differ, so that each is taken for itself
-abbrev pub worded : State → Lexeme → Bool → Bool → Bool → Step
-worded s t null none previous =
-    filled s places.FillOption (if null then chosen fills.Null s.draft.filling else if none then chosen fills.None s.draft.filling
-    else if previous then chosen fills.Previous s.draft.filling else Err (unexpected t))
-
 signed_leads : (now : ℤ) (s : State) (m : Option Lexeme) (l : Lexeme) (r : Ending) (t : Lexeme) (ts : List Lexeme) (reach : Reach)
     → Reads (left_at places.FillOption now (at places.FillOption s) (NumberOption (record { minus = m; number = l }), r)) (t ∷ ts) reach
     → OptionLeads now s (NumberOption (record { minus = m; number = l })) r t ts reach t.kind

@@ -2,7 +2,6 @@
 use Rattle.std.proofs.Common.{◌≡◌, inl, inr, ℤ, pos, List, [], ◌∷◌, ◌++◌, Bool, true, false, Option, Some, None, Result, Ok, Err, map, refl, sym, ap, ◌∙◌, subst}
 use Rattle.std.specs.Prelude.{codes, int_le, if◌then◌else◌}
 use Rattle.std.specs.Option.{unwrap_or}
-use Rattle.ts_core.specs.Facts.{Text}
 use Rattle.ts_ql.specs.declared.place.Place.{Place}
 use Rattle.ts_ql.specs.declared.place.Place.TheVariants as places
 use Rattle.ts_ql.specs.declared.token.Kind.{Kind}
@@ -21,6 +20,7 @@ use Rattle.ts_ql.specs.Tokens.{Lexeme}
 use Rattle.ts_ql.specs.Words.{is_time}
 use Rattle.ts_ql.proofs.Rests.{DimensionTail, left_at, left_dimensions, said_dimensions, with_buckets}
 use Rattle.ts_ql.proofs.Steps.{at, Answer, Leads, passes, fails, passed, failed, carried}
+use Rattle.ts_ql.proofs.WhereRuns.{time_is_name}
 
 abbrev pub grouping : State → Place → Grouping → Step
 grouping s p step = with_draft (at p s) (in_groups s.draft step)
@@ -189,13 +189,6 @@ group_by_leads now s q t ts reach w =
     subst (λ (k : Kind). Leads now (at places.GroupBy s) q ts reach (group_steps s places.GroupBy t k)) (sym w.0.0)
     (subst (λ (b : Bool). Leads now (at places.GroupBy s) q ts reach (grouping s places.GroupBy (if b then Ok (places.Item, s.draft.groups) else Err (unexpected t)))) (sym w.0.1)
     (q, tt, w.1, refl))
-
--- the column of time has a name, and an item begins with a name
-time_is_name : (k : Kind) (text : Text) → is_time k text ≡ true → is_name k ≡ true
-unfolding is_time
-time_is_name kinds.Word text is = refl
-time_is_name kinds.QuotedName text is = refl
-time_is_name k text is = is
 
 name_begins : (k : Kind) (t : Lexeme) (g : Grouped) → is_name k ≡ true → group_at places.Item k t g ≡ item_at t g
 name_begins kinds.Word t g is = refl

@@ -1,6 +1,6 @@
 -- One step of what literals mean.
 use Rattle.std.proofs.Common.{◌≡◌, ℕ, ◌+◌, ◌*◌, ◌-◌, ◌<◌, ◌≤◌, Bool, true, false, cond, [], ◌∷◌, ◌++◌, length, get_or, drop, arith, refl, sym, ◌∙◌, None, append-nil, append_assoc}
-use Rattle.std.proofs.lemmas.List.{at_drop_more, at_drop_all}
+use Rattle.std.proofs.lemmas.List.{at_drop_more}
 use Rattle.std.proofs.lemmas.Str.{chars_past_char}
 use Rattle.std.specs.Char.{is_ascii_digit}
 use Rattle.std.specs.Char.{encode_utf8}
@@ -19,9 +19,6 @@ pub added_up_step : (total number : ℕ) (text : Text) (i : ℕ) → i < length 
     (added_up total (number * 10 + (get_or text i 0 - 48)) (drop (i + 1) text))
     (added_up (total + number * unit_of (get_or text i 0) (get_or text (i + 1) 0)) 0 (drop (i + 1) text))
 added_up_step total number text i lt = at_drop_more (added_up total number) text i 0 lt ∙ rw (next_byte text i) refl
-
-pub added_up_past : (total number : ℕ) (text : Text) (i : ℕ) → length text ≤ i → added_up total number (drop i text) ≡ total + number
-added_up_past total number text i le = at_drop_all (added_up total number) text i le
 
 unit_some : (byte next : ℕ) → 1 ≤ unit_of byte next
 unfolding unit_of

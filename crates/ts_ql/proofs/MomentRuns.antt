@@ -439,14 +439,6 @@ time_by m b = if b then Ok m.total else Err (OutOfRange m.first)
 abbrev pub fault_by : Moment → Bool → Option Fault
 fault_by m b = if b then None else Some (OutOfRange m.first)
 
-settles_by : (m : Moment) (range r : Range) (b : Bool) → bounded_by m.comparison range (time_by m b) ≡ Ok r → (fault_by m b ≡ None) × (r ≡ bounded m.comparison m.total range)
-settles_by m range r true w = let same : bounded m.comparison m.total range ≡ r = cc in (refl, sym same)
-settles_by m range r false w = absurd (cc)
-
-unsettled_by : (m : Moment) (range : Range) (f : Fault) (b : Bool) → bounded_by m.comparison range (time_by m b) ≡ Err f → (fault_by m b ≡ Some f) × (time_by m b ≡ Err f)
-unsettled_by m range f true w = absurd (cc)
-unsettled_by m range f false w = let same : OutOfRange m.first ≡ f = cc in (ap Some same, ap Err same)
-
 settles_back_by : (m : Moment) (range : Range) (b : Bool) → fault_by m b ≡ None → bounded_by m.comparison range (time_by m b) ≡ Ok (bounded m.comparison m.total range)
 settles_back_by m range true w = refl
 settles_back_by m range false w = absurd (cc)
@@ -454,16 +446,6 @@ settles_back_by m range false w = absurd (cc)
 unsettled_back_by : (m : Moment) (range : Range) (f : Fault) (b : Bool) → fault_by m b ≡ Some f → (bounded_by m.comparison range (time_by m b) ≡ Err f) × (time_by m b ≡ Err f)
 unsettled_back_by m range f true w = absurd (cc)
 unsettled_back_by m range f false w = let same : OutOfRange m.first ≡ f = cc in (ap Err same, ap Err same)
-
-pub settles : (s : State) → (r : Range) → settled s.draft.moment s.draft.range ≡ Ok r
-    → (time_fault s.draft.moment.first s.draft.moment.total ≡ None) × (r ≡ bounded s.draft.moment.comparison s.draft.moment.total s.draft.range)
-unfolding settled
-settles s r w = settles_by s.draft.moment s.draft.range r (valid s.draft.moment) w
-
-pub unsettled : (s : State) → (f : Fault) → settled s.draft.moment s.draft.range ≡ Err f
-    → (time_fault s.draft.moment.first s.draft.moment.total ≡ Some f) × (time_of s.draft.moment ≡ Err f)
-unfolding settled
-unsettled s f w = unsettled_by s.draft.moment s.draft.range f (valid s.draft.moment) w
 
 pub settles_back : (s : State) → time_fault s.draft.moment.first s.draft.moment.total ≡ None
     → settled s.draft.moment s.draft.range ≡ Ok (bounded s.draft.moment.comparison s.draft.moment.total s.draft.range)

@@ -1,5 +1,5 @@
 -- The reading of a text as a run over its tokens.
-use Rattle.std.proofs.Common.{◌≡◌, ℕ, zero, suc, ℤ, ◌+◌, ◌<◌, ◌≤◌, Bool, true, false, List, [], ◌∷◌, ◌++◌, length, take, Result, Ok, Err, arith, refl, sym, ap, ◌∙◌, subst, length-append}
+use Rattle.std.proofs.Common.{◌≡◌, ℕ, zero, suc, ℤ, ◌+◌, ◌<◌, ◌≤◌, Bool, true, false, List, [], ◌∷◌, ◌++◌, length, take, Result, Ok, Err, arith, refl, sym, ap, ◌∙◌, length-append}
 use Rattle.std.proofs.Math.Seq.{take-append_seam, take-append-add}
 use Rattle.ts_core.specs.Facts.{Text}
 use Rattle.ts_ql.specs.Faults.{Fault}
@@ -37,14 +37,6 @@ run-append_ok now s n xs ys e = run-append now s xs ys ∙ ap (run_then (λ (m :
 
 pub run-append_err : (now : ℤ) (s : State) (xs ys : List Lexeme) (f : Fault) → run now s xs ≡ Err f → run now s (xs ++ ys) ≡ Err f
 run-append_err now s xs ys f e = run-append now s xs ys ∙ ap (run_then (λ (m : State). run now m ys)) e
-
-front_then : (now : ℤ) (n : State) (ys : List Lexeme) (after : Step) → run_then (λ (m : State). run now m ys) after ≡ Ok n → (m : State) × (after ≡ Ok m) × (run now m ys ≡ Ok n)
-front_then now n ys (Ok m) e = (m, refl, e)
-front_then now n ys (Err fault) e = absurd (cc)
-
--- what runs through goes through each list
-pub run-front : (now : ℤ) (s n : State) (xs ys : List Lexeme) → run now s (xs ++ ys) ≡ Ok n → (m : State) × (run now s xs ≡ Ok m) × (run now m ys ≡ Ok n)
-run-front now s n xs ys e = front_then now n ys (run now s xs) (sym (run-append now s xs ys) ∙ e)
 
 -- ---- the token at fault
 
@@ -127,10 +119,6 @@ agrees now text = agrees_on (length text + 1) now text start_state 0 (omega arit
 
 pub reads_tokens : (now : ℤ) (text : Text) → length text ≤ 65536 → queries_of now text ≡ finished (run now start_state (tokens_of text))
 reads_tokens now text le = short_text now text le ∙ (agrees now text).0
-
--- a run over the tokens of a text ends where the text has been read
-pub run_done : (now : ℤ) (text : Text) (s : State) → run now start_state (tokens_of text) ≡ Ok s → is_done s.place ≡ true
-run_done now text s e = subst Finishes e (agrees now text).1
 
 finished_ok : (after : Step) (qs : List Select) → finished after ≡ Ok qs → Finishes after → (s : State) × (after ≡ Ok s) × (s.queries ≡ qs) × (is_done s.place ≡ true)
 finished_ok (Ok s) qs e done = (s, refl, cc, done)

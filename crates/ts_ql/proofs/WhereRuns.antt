@@ -193,11 +193,11 @@ closing_leads now s q ts reach d c false suits w said = (c, suits, w, said)
 
 -- ---- the first token of a term
 
-timed : (k : Kind) (text : Text) → is_time k text ≡ true → is_name k ≡ true
+pub time_is_name : (k : Kind) (text : Text) → is_time k text ≡ true → is_name k ≡ true
 unfolding is_time
-timed kinds.Word text is = refl
-timed kinds.QuotedName text is = refl
-timed k text is = absurd cc
+time_is_name kinds.Word text is = refl
+time_is_name kinds.QuotedName text is = refl
+time_is_name k text is = absurd cc
 
 name_step : (k : Kind) (t : Lexeme) (f : Filtered) → is_name k ≡ true → where_at places.Term k t f ≡ term_at t f
 name_step kinds.Word t f is = refl
@@ -213,7 +213,7 @@ compare_leads : (now : ℤ) (s : State) (l : Lexeme) (c : Comparison) (i : Insta
     → Leads now (at places.Term s) (Compare l c i, closing) ts reach (where_steps s places.Term t t.kind)
 compare_leads now s l c i closing t ts reach suits w =
     let stepped : where_steps s places.Term t t.kind ≡ name_steps s t true
-    = ap (filtering s places.Term) (name_step t.kind t s.draft.filter (timed t.kind t.text w.1)) ∙ ap (name_steps s t) w.1 in
+    = ap (filtering s places.Term) (name_step t.kind t s.draft.filter (time_is_name t.kind t.text w.1)) ∙ ap (name_steps s t) w.1 in
     subst (Leads now (at places.Term s) (Compare l c i, closing) ts reach) (sym stepped) ((c, (i, closing)), suits, w.2, refl)
 
 abbrev tag_items : ℤ → State → Bool → Bool → Lexeme → Closing → Lexeme → List Item

@@ -1,16 +1,19 @@
 -- The points of a column by what is among them: after one was put in, from a mark on, and within a range.
-use Rattle.std.proofs.Common.{◌≡◌, ◌≢◌, ◌↔◌, ℤ, ◌≤ℤ◌, ◌<ℤ◌, int_le, int_lt, Bool, true, false, cond, refl, sym, ◌∙◌, ap, inl, inr, ◌⊎◌, ⊎_elim, Option, Some, None, true≢false, Ordering, Equal, is_eq}
+use Rattle.std.proofs.Common.{◌≡◌, ◌≢◌, ◌↔◌, ℤ, ◌≤ℤ◌, ◌<ℤ◌, int_le, int_lt, Bool, true, false, cond, refl, sym, ◌∙◌, ap, inl, inr, ◌⊎◌, ⊎_elim, Option, Some, None, true≢false, is_eq}
 use Rattle.std.specs.Ordering.{int_cmp}
 use Rattle.std.specs.Cmp.{int_cmp_total}
 use Rattle.std.specs.FinMap as map
 use Rattle.std.specs.FinMap.{entries, entries_sorted, get-entries, get-insert, get-retain_keys, int_cmp-IsAntisymmetric}
 use Rattle.std.specs.FinMap.Entries.{is_sorted-where_key}
 use Rattle.std.proofs.lemmas.Cmp.{tied_itself}
+use Rattle.std.proofs.lemmas.Option.{same_Some}
+use Rattle.std.proofs.lemmas.Bool.{and_parts, and_from}
 use Rattle.ts_core.specs.Members.{Among, AllDistinct}
 use Rattle.ts_core.specs.Facts.{is_within}
 use Rattle.ts_core.proofs.MembersLemmas.{Among-filter_passes, Among-filter_was, Among-filter_stays}
 use Rattle.ts_core.proofs.Sorted.{sorted-distinct, found_among, among_found}
-use Rattle.ts_core.proofs.Tests.{and_parts, and_both, le_from, le_true, lt_from, lt_true}
+use Rattle.ts_core.proofs.Tests.{le_from, le_true, lt_from, lt_true}
+use Rattle.ts_core.proofs.Ids.{equal_of}
 use Rattle.ts_raw.specs.Columns.{PointMap, points_within, points_from}
 use Rattle.ts_raw.specs.PlainColumns.{IsRising}
 
@@ -33,7 +36,7 @@ pub among-within : (m : PointMap) (a b : ℤ) (p : ℤ × ℤ) → Among p (poin
 among-within m a b p =
     let q : ℤ × ℤ → Bool = λ x. is_within a b x.0 in (
       λ h. let t = and_parts (int_le a p.0) (int_lt p.0 b) (Among-filter_passes q p (entries m) h) in (Among-filter_was q p (entries m) h, le_from a p.0 t.0, lt_from p.0 b t.1),
-      λ h. Among-filter_stays q p (entries m) h.0 (and_both (int_le a p.0) (int_lt p.0 b) (le_true a p.0 h.1) (lt_true p.0 b h.2)),
+      λ h. Among-filter_stays q p (entries m) h.0 (and_from (int_le a p.0) (int_lt p.0 b) (le_true a p.0 h.1) (lt_true p.0 b h.2)),
     )
 
 pub within-rising : (m : PointMap) (a b : ℤ) → IsRising (points_within m a b)
@@ -55,11 +58,8 @@ among-from m mark p = (
   λ h. get-among (points_from m mark) p (get-points_from m mark p.0 ∙ ap (λ b. cond b (map.get m p.0) None) (le_true mark p.0 h.1) ∙ among-get m p h.0),
 )
 
-tied_is : (r : Ordering) → is_eq r ≡ true → r ≡ Equal
-tied_is r h = elim r as (λ o. is_eq o ≡ true → o ≡ Equal) [ Equal ↦ λ _. refl | _ ↦ λ e. absurd (true≢false (sym e)) ] h
-
 same_time : (x y : ℤ) → is_eq (int_cmp x y) ≡ true → x ≡ y
-same_time x y h = int_cmp-IsAntisymmetric x y (tied_is (int_cmp x y) h)
+same_time x y h = int_cmp-IsAntisymmetric x y (equal_of (int_cmp x y) h)
 
 its_time : (x y : ℤ) → x ≡ y → is_eq (int_cmp x y) ≡ true
 its_time x y e = ap (λ z. is_eq (int_cmp x z)) (sym e) ∙ ap is_eq (tied_itself int_cmp_total x)
@@ -67,16 +67,13 @@ its_time x y e = ap (λ z. is_eq (int_cmp x z)) (sym e) ∙ ap is_eq (tied_itsel
 other_time : (x y : ℤ) → x ≢ y → is_eq (int_cmp x y) ≡ false
 other_time x y apart = elim (is_eq (int_cmp x y)) as (λ b. is_eq (int_cmp x y) ≡ b → b ≡ false) [ true ↦ λ h. absurd (apart (same_time x y h)) | false ↦ λ h. refl ] refl
 
-the_value : (x y : ℤ) → Some x ≡ Some y → x ≡ y
-the_value x y e = cc
-
 -- after a point was put in: that one, and those of other times
 pub among-insert : (m : PointMap) (t v : ℤ) (p : ℤ × ℤ) → Among p (entries (map.insert m t v)) ↔ ((p ≡ (t, v)) ⊎ (Among p (entries m) × (p.0 ≢ t)))
 among-insert m t v p =
     let has = get-insert int_cmp_total m t v p.0 in (
       λ h.
           elim (is_eq (int_cmp p.0 t)) as (λ b. is_eq (int_cmp p.0 t) ≡ b → cond b (Some v) (map.get m p.0) ≡ Some p.1 → (p ≡ (t, v)) ⊎ (Among p (entries m) × (p.0 ≢ t))) [
-            | true ↦ λ e q. inl (λ i. (same_time p.0 t e i, sym (the_value v p.1 q) i))
+            | true ↦ λ e q. inl (λ i. (same_time p.0 t e i, sym (same_Some v p.1 q) i))
             | false ↦ λ e q. inr (get-among m p q, λ same. true≢false (sym (its_time p.0 t same) ∙ e))
           ] refl (sym has ∙ among-get (map.insert m t v) p h),
       λ h.

@@ -1,7 +1,7 @@
 -- Columns by their numbers: what is found, one more field, one more column.
 use Rattle.std.proofs.Common.{◌≡◌, ℕ, ◌<◌, ◌≤◌, true, false, cond, nat_eq, List, [], ◌∷◌, ◌++◌, length, get_or, set, Option, Some, None, refl, sym, ◌∙◌, ap, subst, ⊎_elim, arith, true≢false, eq-eqb, eqb-true}
 use Rattle.std.proofs.Math.Nat.{eq-or-lt_of_le}
-use Rattle.std.proofs.lemmas.Bool.{cases_eq}
+use Rattle.std.proofs.lemmas.Bool.{cases_eq, and_parts}
 use Rattle.std.proofs.lemmas.List.{length_push, get_or_push, get_or_append_left, get_or-set_same, get_or-set_other, length-set, append-nil}
 use Rattle.std.proofs.lemmas.Option.{slice_get-get_or, get_or_from_slice_get}
 use Rattle.std.specs.Cmp.Derive.{both_true}
@@ -11,11 +11,11 @@ use Rattle.ts_raw.specs.ColumnTables.{same_numbers, has_field, IsColumnTable}
 use Rattle.ts_raw.specs.LastBelow.{last_below, last_with}
 use Rattle.ts_raw.specs.Numbered.{IsAt, numbers_where}
 use Rattle.ts_raw.proofs.LastBelows.{last_below-some, last_below-none, last_with-push}
-use Rattle.ts_raw.proofs.NumberedLemmas.{split_and, among_at, at_within, at_among, once_more, numbers_where-push, numbers_from-none}
+use Rattle.ts_raw.proofs.NumberedLemmas.{among_at, at_within, at_among, once_more, numbers_where-push, numbers_from-none}
 
 same_numbers-eq : (x y : ℕ × ℕ) → same_numbers x y ≡ true → x ≡ y
 same_numbers-eq x y h =
-    let s = split_and (nat_eq x.0 y.0) (nat_eq x.1 y.1) h in
+    let s = and_parts (nat_eq x.0 y.0) (nat_eq x.1 y.1) h in
     let a = eqb-true x.0 y.0 s.0 in
     let b = eqb-true x.1 y.1 s.1 in
     λ i. (a i, b i)

@@ -1,26 +1,19 @@
 -- An index by its parts: what its names stand for.
-use Rattle.std.proofs.Common.{◌≡◌, ℕ, ◌<◌, Bool, true, false, nat_eq, List, [], length, map, get_or, refl, sym, ◌∙◌, ap, subst, eq-eqb, eqb-true}
+use Rattle.std.proofs.Common.{◌≡◌, ℕ, ◌<◌, true, false, nat_eq, List, [], length, map, get_or, refl, sym, ◌∙◌, ap, subst, eq-eqb, eqb-true}
 use Rattle.std.proofs.lemmas.Option.{slice_get-get_or, get_or_from_slice_get}
 use Rattle.std.specs.Cmp.Derive.{both_true}
+use Rattle.std.proofs.lemmas.Bool.{and_parts, false_from_ne_true}
 use Rattle.ts_core.specs.Members.{Among}
 use Rattle.ts_core.specs.Facts.{Text, Series, Column, is_of, same_text}
 use Rattle.ts_core.proofs.Ids.{same_text-eq}
-use Rattle.ts_core.proofs.Tests.{same_text-from_eq}
+use Rattle.ts_core.proofs.Tests.{same_text-from_eq, same_bool}
 use Rattle.ts_raw.specs.FieldKeys.{FieldKey, field_key}
 use Rattle.ts_raw.specs.ColumnTables.{ColumnNumbers, has_field}
 use Rattle.ts_raw.specs.Indexed.{IsSound, no_series, column_in}
 use Rattle.ts_raw.specs.IndexParts.{no_field, column_named, IsNamed, index_of, IsIndex}
 use Rattle.ts_raw.specs.Numbered.{IsAt, numbers_where, numbers_from}
-use Rattle.ts_raw.proofs.NumberedLemmas.{split_and, at_among, among_at, at_within, same_place, Among-map, map_back, AllDistinct-map, numbers_from-map, numbers_from-none}
-
-not_true : (b : Bool) → (b ≡ true → ⊥) → b ≡ false
-not_true true n = absurd (n refl)
-not_true false n = refl
-
-same_tests : (a b : Bool) → (a ≡ true → b ≡ true) → (b ≡ true → a ≡ true) → a ≡ b
-same_tests true b f g = sym (f refl)
-same_tests false true f g = g refl
-same_tests false false f g = refl
+use Rattle.ts_core.proofs.MembersLemmas.{Among-map, map_back}
+use Rattle.ts_raw.proofs.NumberedLemmas.{at_among, among_at, at_within, same_place, AllDistinct-map, numbers_from-map, numbers_from-none}
 
 none_pass : {X : Type 0} (n : ℕ) (xs : List X) → numbers_from (λ x. false) n xs ≡ []
 none_pass n xs = numbers_from-none (λ x. false) n xs (λ x a. refl)
@@ -97,7 +90,7 @@ module _ (series : List Series) (fields : List FieldKey) (t : ColumnNumbers) (is
 
   asked_key : (m field : Text) (x : ℕ × ℕ) → IsNamed series fields x → is_of m field (column_named series fields x) ≡ true → get_or fields x.1 no_field ≡ field_key m field
   asked_key m field x named h =
-      let s = split_and (same_text (get_or series x.0 no_series).measurement m) (same_text (get_or fields x.1 no_field).field field) h in
+      let s = and_parts (same_text (get_or series x.0 no_series).measurement m) (same_text (get_or fields x.1 no_field).field field) h in
       let measurement = sym named.together ∙ same_text-eq (get_or series x.0 no_series).measurement m s.0 in
       let name = same_text-eq (get_or fields x.1 no_field).field field s.1 in
       λ i. record { measurement = measurement i; field = name i }
@@ -110,7 +103,7 @@ module _ (series : List Series) (fields : List FieldKey) (t : ColumnNumbers) (is
       alike x a =
           let named = among_named x a in
           let key : get_or fields f no_field ≡ field_key m field = get_or_from_slice_get fields f (field_key m field) no_field at in
-          same_tests (is_of m field (column_named series fields x)) (nat_eq x.1 f)
+          same_bool (is_of m field (column_named series fields x)) (nat_eq x.1 f)
           (λ h. eq-eqb x.1 f (same_place fields no_field x.1 f is.fields_once named.field_there (at_within fields f (field_key m field) at) (asked_key m field x named h ∙ sym key)))
           (λ h.
           let name : get_or fields x.1 no_field ≡ field_key m field = ap (λ n. get_or fields n no_field) (eqb-true x.1 f h) ∙ key in
@@ -124,5 +117,5 @@ module _ (series : List Series) (fields : List FieldKey) (t : ColumnNumbers) (is
       other : (x : ℕ × ℕ) → Among x t.columns → is_of m field (column_named series fields x) ≡ false
       other x a =
           let named = among_named x a in
-          not_true (is_of m field (column_named series fields x))
+          false_from_ne_true (is_of m field (column_named series fields x))
           (λ h. absent (subst (λ (k : FieldKey). Among k fields) (asked_key m field x named h) (at_among fields x.1 (get_or fields x.1 no_field) (slice_get-get_or fields x.1 no_field named.field_there))))

@@ -100,9 +100,6 @@ module _ (series : List Series) (fields : List FieldKey) (t t' : ColumnNumbers) 
           (Among-append y t.columns (x ∷ []) (subst (λ (cs : List (ℕ × ℕ)). Among y cs) pushed (at_among t'.columns n y at)));
     }
 
-    pub columns_pushed : map (column_named series fields) t'.columns ≡ map (column_named series fields) t.columns ++ column_named series fields x ∷ []
-    columns_pushed = ap (λ (cs : List (ℕ × ℕ)). map (column_named series fields) cs) pushed ∙ map-append (column_named series fields) t.columns (x ∷ [])
-
 -- ---- a column is made: there is room for its field, and the field has a number
 
 pub record IsMaking (series : List Series) (fields fields' : List FieldKey) (t t' : ColumnNumbers) (s : ℕ) (m field : Text) (f : ℕ) : Type 0 where

@@ -1,17 +1,9 @@
 -- Numbered lists, and one more behind the others.
-use Rattle.std.proofs.Common.{◌≡◌, ℕ, zero, suc, ◌+◌, ◌<◌, List, [], ◌∷◌, ◌++◌, length, map, get_or, Option, Some, None, refl, sym, ◌∙◌, ap, subst, inl, inr, ◌⊎◌, ⊎_elim, arith, Bool, true, false, true≢false, ◌&&◌, cond, add-zero, zero-add, IfSome, IfNone, IfOk, OnOk, OnErr, Result, Ok, Err}
-use Rattle.std.specs.Bool.{OnTrue}
-use Rattle.std.proofs.lemmas.Option.{slice_get_within, slice_get-get_or}
+use Rattle.std.proofs.Common.{◌≡◌, ℕ, zero, suc, ◌+◌, ◌<◌, List, [], ◌∷◌, ◌++◌, length, map, get_or, Option, Some, None, refl, sym, ◌∙◌, ap, subst, inl, inr, ◌⊎◌, ⊎_elim, arith, Bool, true, false, cond, add-zero, zero-add, IfNone, IfOk, OnOk, OnErr, Result, Ok, Err}
+use Rattle.std.proofs.lemmas.Option.{slice_get_within, slice_get-get_or, same_Some}
 use Rattle.ts_core.specs.Members.{Among, AllDistinct}
-use Rattle.ts_core.proofs.MembersLemmas.{AllDistinct-append}
+use Rattle.ts_core.proofs.MembersLemmas.{AllDistinct-append, map_back}
 use Rattle.ts_raw.specs.Numbered.{IsAt, numbers_from, numbers_where}
-
-pub some_member : {X : Type 0} (x y : X) → Some x ≡ Some y → x ≡ y
-some_member x y e = cc
-
-pub split_and : (a b : Bool) → (a && b) ≡ true → (a ≡ true) × (b ≡ true)
-split_and true b h = (refl, h)
-split_and false b h = absurd (true≢false (sym h))
 
 module _ {X : Type 0} where
   pub at_within : (xs : List X) (n : ℕ) (x : X) → IsAt xs n x → n < length xs
@@ -19,7 +11,7 @@ module _ {X : Type 0} where
 
   pub at_among : (xs : List X) (n : ℕ) (x : X) → IsAt xs n x → Among x xs
   at_among [] n x h = absurd (cc)
-  at_among (y ∷ ys) zero x h = inl (sym (some_member y x h))
+  at_among (y ∷ ys) zero x h = inl (sym (same_Some y x h))
   at_among (y ∷ ys) (suc n) x h = inr (at_among ys n x h)
 
   pub among_at : (xs : List X) (x : X) → Among x xs → (n : ℕ) × IsAt xs n x
@@ -27,17 +19,12 @@ module _ {X : Type 0} where
   among_at (y ∷ ys) x h =
       ⊎_elim {C = (n : ℕ) × IsAt (y ∷ ys) n x} (λ e. (0, ap Some (sym e))) (λ k. let s = among_at ys x k in (suc s.0, s.1)) h
 
-  pub at_before : (xs ys : List X) (n : ℕ) (x : X) → IsAt xs n x → IsAt (xs ++ ys) n x
-  at_before [] ys n x h = absurd (cc)
-  at_before (y ∷ xs) ys zero x h = h
-  at_before (y ∷ xs) ys (suc n) x h = at_before xs ys n x h
-
   pub at_end : (xs : List X) (x : X) → IsAt (xs ++ x ∷ []) (length xs) x
   at_end [] x = refl
   at_end (y ∷ xs) x = at_end xs x
 
   pub same_at : (xs : List X) (n : ℕ) (x y : X) → IsAt xs n x → IsAt xs n y → x ≡ y
-  same_at xs n x y h k = some_member x y (sym h ∙ k)
+  same_at xs n x y h k = same_Some x y (sym h ∙ k)
 
   -- one that isn't there is added
   pub once_more : (xs : List X) (x : X) → AllDistinct xs → (Among x xs → ⊥) → AllDistinct (xs ++ x ∷ [])
@@ -48,7 +35,7 @@ module _ {X : Type 0} where
 -- the number that goes with a member
 pub at_map : {X : Type 0} (f : X → ℕ) (xs : List X) (n : ℕ) (x : X) → IsAt xs n x → get_or (map f xs) n 0 ≡ f x
 at_map f [] n x h = absurd (cc)
-at_map f (y ∷ ys) zero x h = ap f (some_member y x h)
+at_map f (y ∷ ys) zero x h = ap f (same_Some y x h)
 at_map f (y ∷ ys) (suc n) x h = at_map f ys n x h
 
 -- ---- the numbers of those that pass
@@ -94,26 +81,12 @@ module _ {X : Type 0} where
   same_place (x ∷ xs) d (suc i) (suc j) once l k e = ap suc (same_place xs d i j once.1 (omega (arith, l)) (omega (arith, k)) e)
 
 module _ {X Y : Type 0} (f : X → Y) where
-  pub Among-map : (x : X) (xs : List X) → Among x xs → Among (f x) (map f xs)
-  Among-map x [] a = a
-  Among-map x (y ∷ ys) a = ⊎_elim {C = Among (f x) (map f (y ∷ ys))} (λ e. inl (ap f e)) (λ k. inr (Among-map x ys k)) a
-
-  pub map_back : (xs : List X) (y : Y) → Among y (map f xs) → (x : X) × Among x xs × (f x ≡ y)
-  map_back [] y a = absurd a
-  map_back (x ∷ xs) y a =
-      ⊎_elim {C = (z : X) × Among z (x ∷ xs) × (f z ≡ y)} (λ e. (x, inl refl, sym e)) (λ k. let s = map_back xs y k in (s.0, inr s.1, s.2)) a
-
   pub AllDistinct-map : (xs : List X) → AllDistinct xs → ((x y : X) → Among x xs → Among y xs → f x ≡ f y → x ≡ y) → AllDistinct (map f xs)
   AllDistinct-map [] once apart = tt
   AllDistinct-map (x ∷ xs) once apart = (
-    λ a. let y = map_back xs (f x) a in once.0 (subst (λ z. Among z xs) (apart y.0 x (inr y.1) (inl refl) y.2) y.1),
+    λ a. let y = map_back f xs (f x) a in once.0 (subst (λ z. Among z xs) (apart y.0 x (inr y.1) (inl refl) y.2) y.1),
     AllDistinct-map xs once.1 (λ y z a b e. apart y z (inr a) (inr b) e),
   )
-
-  pub at_map_of : (xs : List X) (n : ℕ) (x : X) → IsAt xs n x → IsAt (map f xs) n (f x)
-  at_map_of [] n x h = absurd (cc)
-  at_map_of (y ∷ ys) zero x h = ap (λ z. Some (f z)) (some_member y x h)
-  at_map_of (y ∷ ys) (suc n) x h = at_map_of ys n x h
 
   -- where no member is told apart
   pub map_alike : (g : X → Y) (xs : List X) → ((x : X) → Among x xs → f x ≡ g x) → map f xs ≡ map g xs
@@ -122,25 +95,9 @@ module _ {X Y : Type 0} (f : X → Y) where
 
 -- ---- outcomes
 
-pub some_so : {X : Type 0} {P Q : X → Type 0} (o : Option X) → ((x : X) → P x → Q x) → IfSome o P → IfSome o Q
-some_so None f h = tt
-some_so (Some x) f h = f x h
-
 pub none_so : {X : Type 0} {P Q : Type 0} (o : Option X) → (P → Q) → IfNone o P → IfNone o Q
 none_so None f h = f h
 none_so (Some x) f h = tt
-
-pub ok_so : {X E : Type 0} {P Q : X → Type 0} (r : Result X E) → ((x : X) → P x → Q x) → IfOk r P → IfOk r Q
-ok_so (Ok x) f h = f x h
-ok_so (Err e) f h = tt
-
-pub on_ok_so : {X E : Type 0} {P Q : Type 0} (r : Result X E) → (P → Q) → OnOk r P → OnOk r Q
-on_ok_so (Ok x) f h = f h
-on_ok_so (Err e) f h = tt
-
-pub on_err_so : {X E : Type 0} {P Q : Type 0} (r : Result X E) → (P → Q) → OnErr r P → OnErr r Q
-on_err_so (Ok x) f h = tt
-on_err_so (Err e) f h = f h
 
 pub outcome : {X E : Type 0} {P Q : Type 0} (r : Result X E) → OnOk r P → OnErr r Q → P ⊎ Q
 outcome (Ok x) p q = inl p
@@ -149,7 +106,3 @@ outcome (Err e) p q = inr q
 pub ok_with : {X E : Type 0} {P R : X → Type 0} {Q : Type 0} (r : Result X E) → ((x : X) → P x → Q → R x) → IfOk r P → OnOk r Q → IfOk r R
 ok_with (Ok x) f p q = f x p q
 ok_with (Err e) f p q = tt
-
-pub on_true_so : {P : Type 0} (b : Bool) → (b ≡ true → P) → OnTrue b P
-on_true_so true f = f refl
-on_true_so false f = tt

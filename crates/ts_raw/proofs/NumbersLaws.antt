@@ -2,9 +2,9 @@
 use Rattle.std.proofs.Common.{◌≡◌, ℕ, zero, suc, ◌+◌, Bool, true, false, cond, List, [], ◌∷◌, ◌++◌, length, map, filter, get_or, refl, sym, ◌∙◌, ap, subst, inl, inr, ⊎_elim, arith, append_assoc}
 use Rattle.std.proofs.Math.Seq.{get_or-append_seam}
 use Rattle.std.proofs.lemmas.List.{length_push}
+use Rattle.std.proofs.lemmas.Option.{same_Some}
 use Rattle.ts_core.specs.Members.{Among, AllDistinct}
 use Rattle.ts_raw.specs.Numbered.{IsAt, numbers_from, numbers_where}
-use Rattle.ts_raw.proofs.NumberedLemmas.{some_member}
 
 module _ {X : Type 0} (p : X → Bool) where
   -- what a number stands for, counted from the first
@@ -32,7 +32,7 @@ module _ {X : Type 0} (p : X → Bool) where
   among_from : (n k : ℕ) (x : X) (xs : List X) → IsAt xs k x → p x ≡ true → Among (n + k) (numbers_from p n xs)
   among_from n k x [] h t = absurd (cc)
   among_from n zero x (y ∷ ys) h t =
-      let same : y ≡ x = some_member y x h in
+      let same : y ≡ x = same_Some y x h in
       subst (λ b. Among (n + 0) (cond b (n ∷ numbers_from p (n + 1) ys) (numbers_from p (n + 1) ys))) (sym (ap p same ∙ t)) (inl (let e : n + 0 ≡ n = omega arith in e))
   among_from n (suc k) x (y ∷ ys) h t =
       let later : Among (n + suc k) (numbers_from p (n + 1) ys) =

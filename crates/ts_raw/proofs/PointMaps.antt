@@ -7,6 +7,7 @@ use Rattle.std.specs.FinMap.{put, is_sorted, from_sorted, entries, entries-from_
 use Rattle.std.specs.FinMap.Entries.{is_sorted-put, is_sorted-where_key, find-where_key, where_key}
 use Rattle.std.specs.List.Sorted.{IsBinarySearchResult}
 use Rattle.std.proofs.lemmas.List.{get_or_default}
+use Rattle.std.proofs.lemmas.List.Edits.{insert_end}
 use Rattle.ts_core.proofs.Places.{rises, put_at, put_between}
 use Rattle.ts_raw.specs.PlainColumns.{IsRising, IsPlaceOf}
 
@@ -68,14 +69,10 @@ pub put_new : (points : List (ℤ × ℤ)) (point : ℤ × ℤ) (i : ℕ) → i 
     → insert points i point ≡ put int_cmp point.0 point.1 points
 put_new points point i l p = sym (put_between int_cmp_total points point.0 point.1 i l p)
 
-at_end : {X : Type 0} (xs : List X) (x : X) → insert xs (length xs) x ≡ xs ++ x ∷ []
-at_end [] x = refl
-at_end (y ∷ xs) x = ap (λ zs. y ∷ zs) (at_end xs x)
-
 -- a point after the last one goes to the end
 pub put_last : (points : List (ℤ × ℤ)) → IsRising points → (point last : ℤ × ℤ) → last ≡ get_or points (length points - 1) last → int_cmp last.0 point.0 ≡ Less
     → points ++ point ∷ [] ≡ put int_cmp point.0 point.1 points
-put_last points s point last is before = sym (at_end points point) ∙ put_new points point (length points) (omega arith) (after_last points s point.0 last is before)
+put_last points s point last is before = sym (insert_end points point) ∙ put_new points point (length points) (omega arith) (after_last points s point.0 last is before)
 
 -- what a binary search answers
 pub found_place : (points : List (ℤ × ℤ)) → IsRising points → (t : ℤ) (r : Result ℕ ℕ) → IsBinarySearchResult (λ (p : ℤ × ℤ). int_cmp p.0 t) points r → IsPlaceOf t points r

@@ -35,9 +35,6 @@ module _ {X : Type 0} (hash_of : X → ℕ) (names : List X) (hashes : List ℕ)
 pub found_at : {X : Type 0} (names : List X) (n : ℕ) (found name : X) → n < length names → found ≡ get_or names n found → found ≡ name → IsAt names n name
 found_at names n found name l at e = subst (λ x. IsAt names n x) e (slice_get_read names (length names) n found refl l at)
 
-pub table_none : {X : Type 0} (hash_of : X → ℕ) → IsTable hash_of [] []
-table_none hash_of = record { once = tt; hashed = refl }
-
 pub table_more : {X : Type 0} (hash_of : X → ℕ) (names : List X) (hashes : List ℕ) (name : X) → IsTable hash_of names hashes → (Among name names → ⊥)
     → IsTable hash_of (names ++ name ∷ []) (hashes ++ hash_of name ∷ [])
 table_more hash_of names hashes name table absent = record {

@@ -2,8 +2,8 @@
 use Rattle.std.proofs.Common.{◌≡◌, ℕ, zero, suc, ℤ, ◌+◌, ◌<◌, List, [], ◌∷◌, ◌++◌, length, map, set, get_or, refl, sym, ◌∙◌, ap, subst, take, true≢false, inl, inr, ⊎_elim, arith, Option, Some, None, IsSome, IfSome}
 use Rattle.std.specs.List.{slice_get}
 use Rattle.std.specs.FinMap as finmap
-use Rattle.std.proofs.lemmas.List.{get_or_default, get_or-set_same, append-nil, append_assoc, map-append, length-append, take_more, map-set, get_or-set_other, length-set, length-map, get_or_append_left}
-use Rattle.std.proofs.lemmas.Option.{slice_get_within, get_or_from_slice_get}
+use Rattle.std.proofs.lemmas.List.{get_or_default, get_or-set_same, append_assoc, map-append, length-append, take_more, map-set, get_or-set_other, length-set, length-map, get_or_append_left}
+use Rattle.std.proofs.lemmas.Option.{slice_get_within, get_or_from_slice_get, none-some, same_Some}
 use Rattle.std.proofs.Math.Seq.{map-set_same}
 use Rattle.ts_core.specs.Members.{Among, AllDistinct}
 use Rattle.ts_core.specs.Facts.{Text, Column, Fact}
@@ -13,15 +13,9 @@ use Rattle.ts_raw.specs.Indexed.{Indexed, no_series, column_in}
 use Rattle.ts_store.specs.Puts.{Puts, PutsAll}
 use Rattle.ts_store.specs.ColumnsKept.{facts_of_columns, points_of, no_column, with_aside, with_point_aside, committed, all_committed, AreReady, AreAside, MayGrow}
 use Rattle.ts_store.specs.Registered.{MakesColumns}
-use Rattle.ts_store.proofs.ColumnsLemmas.{columns_puts, facts-grown, at_among}
-use Rattle.ts_core.proofs.MembersLemmas.{Among-left, Among-append}
-use Rattle.ts_raw.proofs.NumberedLemmas.{Among-map}
-
-none_some : {X : Type 0} (x : X) → None ≡ Some x → ⊥
-none_some x e = cc
-
-the_same : {X : Type 0} (x y : X) → Some x ≡ Some y → x ≡ y
-the_same x y e = cc
+use Rattle.ts_store.proofs.ColumnsLemmas.{columns_puts, facts-grown}
+use Rattle.ts_core.proofs.MembersLemmas.{Among-left, Among-append, Among-map}
+use Rattle.ts_raw.proofs.NumberedLemmas.{at_among}
 
 pub points_at : (ss : List ColumnState) (n : ℕ) → get_or (points_of ss) n finmap.empty ≡ (get_or ss n no_column).points
 points_at [] n = refl
@@ -58,7 +52,7 @@ column_of_number : (cs : List Column) (ss : List ColumnState) (ns : List ℕ) (f
 column_of_number cs ss [] fs n c a at k = absurd k
 column_of_number cs ss (m ∷ ns) [] n c a at k = absurd a
 column_of_number cs ss (m ∷ ns) (f ∷ fs) n c a at k =
-    ⊎_elim {C = Among c (map (λ (g : Fact). g.column) (f ∷ fs))} (λ e. inl (the_same c f.column (sym at ∙ ap (slice_get cs) e ∙ a.0)))
+    ⊎_elim {C = Among c (map (λ (g : Fact). g.column) (f ∷ fs))} (λ e. inl (same_Some c f.column (sym at ∙ ap (slice_get cs) e ∙ a.0)))
     (λ q. inr (column_of_number cs ss ns fs n c a.2 at q)) k
 
 pub numbers_distinct : (cs : List Column) (ss : List ColumnState) (ns : List ℕ) (fs : List Fact) → AreAside cs ss ns fs → AllDistinct (map (λ (f : Fact). f.column) fs) → AllDistinct ns
@@ -93,7 +87,7 @@ aside_push cs ss (m ∷ ns) [] n f a at is = absurd a
 aside_push cs ss (m ∷ ns) (g ∷ fs) n f a at is = (a.0, a.1, aside_push cs ss ns fs n f a.2 at is)
 
 slice_get_left : {X : Type 0} (xs ys : List X) (n : ℕ) (x : X) → slice_get xs n ≡ Some x → slice_get (xs ++ ys) n ≡ Some x
-slice_get_left [] ys n x e = absurd (none_some x e)
+slice_get_left [] ys n x e = absurd (none-some x e)
 slice_get_left (y ∷ xs) ys zero x e = e
 slice_get_left (y ∷ xs) ys (suc n) x e = slice_get_left xs ys n x e
 
@@ -197,9 +191,6 @@ grown_aside c cs cs' ss ss' ns fs l grown a =
     grown
 
 -- ---- columns that are made
-
-pub none_made : (cs : List Column) (fs : List Fact) → MakesColumns cs cs fs
-none_made cs fs = ([], sym (append-nil cs), λ c a. absurd a)
 
 -- the columns that there were stay
 pub made_stay : (cs cs' : List Column) (fs : List Fact) → MakesColumns cs cs' fs → (c : Column) → Among c cs → Among c cs'

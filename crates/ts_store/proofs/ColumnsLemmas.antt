@@ -1,9 +1,9 @@
 -- What the facts of columns become by one more point in one of them, and how many of them are asked for.
-use Rattle.std.proofs.Common.{◌≡◌, ℕ, zero, suc, ℤ, ◌+◌, Bool, true, false, cond, List, [], ◌∷◌, ◌++◌, length, map, filter, set, get_or, refl, sym, ◌∙◌, ap, subst, inl, inr, ◌⊎◌, ⊎_elim, arith, ◌&&◌, Some, None, is_eq, T}
+use Rattle.std.proofs.Common.{◌≡◌, ℕ, zero, suc, ℤ, ◌+◌, Bool, true, false, cond, List, [], ◌∷◌, ◌++◌, length, map, filter, set, get_or, refl, sym, ◌∙◌, ap, subst, inl, inr, ◌⊎◌, ⊎_elim, arith, ◌&&◌, Some, is_eq, T}
 use Rattle.std.specs.Ordering.{int_cmp, ordering_then, eq_by_cmp}
 use Rattle.std.specs.List.{slice_get, sum_by}
 use Rattle.std.proofs.lemmas.List.Elements.{filter-append}
-use Rattle.std.proofs.lemmas.List.{length-append}
+use Rattle.std.proofs.lemmas.List.{length-append, nil_from_length}
 use Rattle.std.proofs.lemmas.List.Sums.{sum_by-cons}
 use Rattle.std.proofs.Math.Numerals.{add-one}
 use Rattle.std.specs.Cmp.{int_cmp_total}
@@ -11,6 +11,7 @@ use Rattle.std.specs.FinMap as finmap
 use Rattle.std.specs.FinMap.{find, is_sorted, entries, entries-insert, entries_sorted, len-entries, len-empty, int_cmp-IsAntisymmetric}
 use Rattle.std.specs.FinMap.Entries.{find-put}
 use Rattle.std.proofs.lemmas.Cmp.{tied_itself}
+use Rattle.std.proofs.lemmas.Option.{none-some, same_Some}
 use Rattle.ts_core.specs.Members.{Among, AllDistinct}
 use Rattle.ts_core.specs.Facts.{Text, Column, Fact, Id, id_of, same_id, is_of, is_within, is_asked}
 use Rattle.ts_core.proofs.MembersLemmas.{Among-left, Among-right, Among-append, AllDistinct-append}
@@ -19,6 +20,7 @@ use Rattle.ts_core.proofs.Sorted.{sorted-distinct, found_among, among_found}
 use Rattle.ts_store.specs.Puts.{Puts}
 use Rattle.ts_raw.specs.Columns.{PointMap}
 use Rattle.ts_raw.specs.Numbered.{numbers_from, numbers_where}
+use Rattle.ts_raw.proofs.NumberedLemmas.{at_among}
 use Rattle.ts_store.specs.ColumnsKept.{fact_at, facts_in, facts_of_columns}
 
 -- ---- in one column
@@ -50,19 +52,6 @@ same_id_of c f t e = ap (λ (d : Column). same_id (record { column = d; time = f
 zero_plus : (n : ℕ) → 0 + n ≡ n
 zero_plus n = omega arith
 
-none_long : {X : Type 0} (xs : List X) → length xs ≡ 0 → xs ≡ []
-none_long [] e = refl
-none_long (x ∷ xs) e = absurd (omega arith)
-
-none_some : {X : Type 0} (x : X) → None ≡ Some x → ⊥
-none_some x e = cc
-
-pub the_same : {X : Type 0} (x y : X) → Some x ≡ Some y → x ≡ y
-the_same x y e = cc
-
-some_value : (x y : ℤ) → Some x ≡ Some y → x ≡ y
-some_value x y e = cc
-
 -- a point is put in
 pub column_puts : (c : Column) (m : PointMap) (t v : ℤ) → Puts (facts_in c m) (facts_in c (finmap.insert m t v)) (fact_at c (t, v))
 column_puts c m t v =
@@ -86,7 +75,7 @@ column_puts c m t v =
           let r = in_column c es' g a in
           let h : cond (eq_by_cmp int_cmp g.time t) (Some v) (find int_cmp g.time es) ≡ Some g.value = sym (found g.time) ∙ found_among int_cmp_total es' s' (g.time, g.value) r.1 in
           elim (eq_by_cmp int_cmp g.time t) as (λ b. eq_by_cmp int_cmp g.time t ≡ b → cond b (Some v) (find int_cmp g.time es) ≡ Some g.value → (g ≡ f) ⊎ (Among g (facts_in c m) × (same_id (id_of g) (id_of f) ≡ false))) [
-            | true ↦ λ e q. inl (sym (same_as c g r.0) ∙ ap (fact_at c) (λ i. (int_cmp-IsAntisymmetric g.time t (equal_of _ e) i, sym (some_value v g.value q) i)))
+            | true ↦ λ e q. inl (sym (same_as c g r.0) ∙ ap (fact_at c) (λ i. (int_cmp-IsAntisymmetric g.time t (equal_of _ e) i, sym (same_Some v g.value q) i)))
             | false ↦ λ e q. inr (
               subst (λ (x : Fact). Among x (facts_in c m)) (same_as c g r.0) (to_column c es (g.time, g.value) (among_found int_cmp-IsAntisymmetric es g.time g.value q)),
               same_id_of c g t r.0 ∙ e,
@@ -141,18 +130,13 @@ facts-distinct (c ∷ cs) [] d = tt
 facts-distinct (c ∷ cs) (m ∷ ms) d =
     AllDistinct-append (facts_in c m) (facts_of_columns cs ms) (distinct_in c (entries m) (sorted-distinct int_cmp_total (entries m) (entries_sorted m))) (facts-distinct cs ms d.1) (apart_from c cs m ms d.0)
 
-pub at_among : {X : Type 0} (xs : List X) (n : ℕ) (x : X) → slice_get xs n ≡ Some x → Among x xs
-at_among [] n x e = absurd (none_some x e)
-at_among (y ∷ xs) zero x e = inl (sym (the_same y x e))
-at_among (y ∷ xs) (suc n) x e = inr (at_among xs n x e)
-
 -- a point is put into the column of a number
 pub columns_puts : (cs : List Column) (ms : List PointMap) (n : ℕ) (c : Column) (t v : ℤ) → AllDistinct cs → length ms ≡ length cs → slice_get cs n ≡ Some c
     → Puts (facts_of_columns cs ms) (facts_of_columns cs (set ms n (finmap.insert (get_or ms n finmap.empty) t v))) (fact_at c (t, v))
-columns_puts [] ms n c t v d l e = absurd (none_some c e)
+columns_puts [] ms n c t v d l e = absurd (none-some c e)
 columns_puts (b ∷ cs) [] n c t v d l e = absurd (omega arith)
 columns_puts (b ∷ cs) (m ∷ ms) zero c t v d l e =
-    let same : b ≡ c = the_same b c e in
+    let same : b ≡ c = same_Some b c e in
     let at : Puts (facts_in b m) (facts_in b (finmap.insert m t v)) (fact_at c (t, v)) = subst (λ (x : Column). Puts (facts_in b m) (facts_in b (finmap.insert m t v)) (fact_at x (t, v))) same (column_puts b m t v) in
     puts_before (facts_in b m) (facts_in b (finmap.insert m t v)) (facts_of_columns cs ms) (fact_at c (t, v)) (facts-distinct cs ms d.1)
     (λ g a. other_column g (fact_at c (t, v)) (λ q. d.0 (subst (λ (x : Column). Among x cs) (q ∙ sym same) (column_among cs ms g a))))
@@ -168,7 +152,7 @@ columns_puts (b ∷ cs) (m ∷ ms) (suc n) c t v d l e =
 -- ---- a column without points
 
 no_entries : entries (finmap.empty {X = ℤ} {R = int_cmp}) ≡ []
-no_entries = none_long _ (sym (len-entries (finmap.empty {X = ℤ} {R = int_cmp})) ∙ len-empty int_cmp ℤ)
+no_entries = nil_from_length _ (sym (len-entries (finmap.empty {X = ℤ} {R = int_cmp})) ∙ len-empty int_cmp ℤ)
 
 pub facts-grown : (cs : List Column) (ms : List PointMap) (c : Column) → length ms ≡ length cs → facts_of_columns (cs ++ c ∷ []) (ms ++ finmap.empty ∷ []) ≡ facts_of_columns cs ms
 facts-grown [] [] c l = ap (λ es. map (fact_at c) es ++ []) no_entries

@@ -6,6 +6,7 @@ use Rattle.std.specs.FinMap.{entries, len-entries}
 use Rattle.std.proofs.lemmas.List.{length-append, length-map, append-nil, get_or_default, take_all}
 use Rattle.std.proofs.lemmas.List.Elements.{filter-append}
 use Rattle.std.proofs.lemmas.List.Sums.{sum_by-cons, length-filter, count_by-le-length, sum_by_more, sum_by_more_le}
+use Rattle.std.proofs.lemmas.Option.{same_Some}
 use Rattle.ts_core.specs.Members.{Among, AllDistinct}
 use Rattle.ts_core.specs.Facts.{Text, Column, Fact, is_of, is_within, is_asked}
 use Rattle.ts_core.specs.RawFacts.{same_column}
@@ -13,9 +14,10 @@ use Rattle.ts_core.proofs.MembersLemmas.{filter-none}
 use Rattle.ts_core.proofs.StateLemmas.{same_column-refl, same_column-eq}
 use Rattle.ts_raw.specs.Columns.{PointMap, ColumnState, points_within}
 use Rattle.ts_raw.specs.Numbered.{numbers_from, numbers_where}
+use Rattle.ts_raw.proofs.NumberedLemmas.{at_among}
 use Rattle.ts_store.specs.ColumnsKept.{fact_at, facts_in, facts_of_columns, points_of, no_column}
 use Rattle.ts_store.specs.PointsRead.{number_of_points, column_points}
-use Rattle.ts_store.proofs.ColumnsLemmas.{asked_of, asked_by_columns, the_same, in_column, column_among, at_among}
+use Rattle.ts_store.proofs.ColumnsLemmas.{asked_of, asked_by_columns, in_column, column_among}
 use Rattle.ts_store.proofs.ColumnsAside.{points_at}
 
 -- ---- how many
@@ -133,7 +135,7 @@ pub points_of_column : (cs : List Column) (ms : List PointMap) (n : ℕ) (c : Co
 points_of_column [] ms n c a b d l at = absurd (cc)
 points_of_column (e ∷ cs) [] n c a b d l at = absurd (omega (arith, l))
 points_of_column (e ∷ cs) (m ∷ ms) zero c a b d l at =
-    let same : e ≡ c = the_same e c at in
+    let same : e ≡ c = same_Some e c at in
     let p : Fact → Bool = is_its c a b in
     let here : List Fact = facts_in e m in
     let later : List Fact = facts_of_columns cs ms in

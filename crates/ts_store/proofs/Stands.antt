@@ -1,9 +1,10 @@
 -- What is kept goes on standing for its history.
-use Rattle.std.proofs.Common.{◌≡◌, ◌↔◌, ℕ, ℤ, ◌+◌, ◌≤◌, ◌≤ℤ◌, ◌^◌, Bool, int_le, true, not, List, [], ◌∷◌, length, filter, refl, sym, ap, subst, inl, inr, ◌⊎◌, ⊎_elim, arith, ◌++◌, false, true≢false, Option, Some, None, IfSome, IfNone, Result, Ok, Err, OnErr}
+use Rattle.std.proofs.Common.{◌≡◌, ◌↔◌, ℕ, ℤ, ◌+◌, ◌≤◌, ◌≤ℤ◌, ◌^◌, Bool, int_le, true, not, List, [], ◌∷◌, length, filter, refl, sym, ap, subst, inl, inr, ◌⊎◌, ⊎_elim, arith, ◌++◌, false, true≢false, Option, Some, None, IfSome, IfNone}
 use Rattle.std.specs.Option.{is_some}
 use Rattle.std.specs.List.{slice_get}
 use Rattle.std.proofs.lemmas.Int.{ints}
 use Rattle.std.specs.List.{AllByRecursion}
+use Rattle.std.proofs.lemmas.Bool.{not-true}
 use Rattle.ts_core.specs.Members.{Among, AllDistinct}
 use Rattle.ts_core.specs.Times.{least_time}
 use Rattle.ts_core.specs.Facts.{Text, Series, Column, Fact, id_of, same_id, is_asked}
@@ -14,12 +15,12 @@ use Rattle.ts_core.specs.Kept.{Kept, StandsFor, raw_facts}
 use Rattle.ts_core.proofs.Tests.{le_true, le_from}
 use Rattle.ts_core.proofs.MembersLemmas.{Among-filter_passes, Among-filter_was, Among-filter_stays, AllDistinct-filter}
 use Rattle.ts_core.proofs.Folds.{length-same}
-use Rattle.ts_core.proofs.Latests.{latest-distinct, not_false}
+use Rattle.ts_core.proofs.Latests.{latest-distinct}
 use Rattle.ts_line.specs.Parts.{Parts, series_of}
 use Rattle.ts_store.specs.ColumnsKept.{Held}
 use Rattle.ts_store.specs.Puts.{Puts, PutsAll}
 use Rattle.ts_store.specs.Registered.{IsTooMany}
-use Rattle.ts_store.proofs.ColumnsLemmas.{at_among}
+use Rattle.ts_raw.proofs.NumberedLemmas.{at_among}
 
 -- what is kept in a store that has never dropped a fact
 abbrev pub all_kept : Settings → ℕ → Held → Kept
@@ -58,7 +59,7 @@ keeps_one mark before after facts f above puts k = record {
     λ p. ⊎_elim {C = Among g after}
         (λ e. subst (λ (x : Fact). Among x after) (sym e) puts.new)
         (λ l.
-        let other = not_false _ (Among-filter_passes (is_other f) g (latest facts) l) in
+        let other = not-true _ (Among-filter_passes (is_other f) g (latest facts) l) in
         puts.kept g ((k.raw g).1 (Among-filter_was (is_other f) g (latest facts) l, p.1)) other)
         p.0,
   );

@@ -1,6 +1,5 @@
 -- Lines and their parts.
-use Rattle.std.proofs.Common.{◌≡◌, ◌≢◌, ℕ, ◌+◌, ◌≤◌, ◌<◌, ◌^◌, eqb, cond, List, [], ◌∷◌, ◌++◌, length, take, drop, get_or, Bool, true, false, Option, Some, None, refl, sym, ap, ◌∙◌, append_assoc, append-nil, arith, IfSome, subst, not}
-use Rattle.std.proofs.lemmas.List.{at_drop_more, take_more, drop_all}
+use Rattle.std.proofs.Common.{◌≡◌, ◌≢◌, ℕ, ◌≤◌, ◌^◌, List, [], ◌∷◌, ◌++◌, length, take, drop, Bool, true, false, Option, Some, None, refl, sym, ap, ◌∙◌, append_assoc, append-nil, arith, IfSome, subst, not}
 use Rattle.std.proofs.lemmas.Bool.Decides.{nat_tests}
 use Rattle.std.specs.Io.KnownBytes.{Consumes, prepend_known, Keeps, IsAtEnd}
 use Rattle.ts_core.specs.Devices.{Input}
@@ -17,19 +16,6 @@ pub record Scanned (bytes : List ℕ) (i : ℕ) : Type 0 where
   pub first : first_line bytes ≡ take i bytes ++ first_line (drop i bytes)
   pub after : after_line bytes ≡ after_line (drop i bytes)
   pub lf : has_lf bytes ≡ has_lf (drop i bytes)
-
-cond_at : {X : Type 0} (b : ℕ) (x y : X) → b ≢ 10 → cond (eqb b 10) x y ≡ y
-cond_at b x y h = grind (arith, nat_tests)
-
-pub scanned_more : (bytes : List ℕ) (i : ℕ) → Scanned bytes i → i < length bytes → get_or bytes i 0 ≢ 10 → Scanned bytes (i + 1)
-scanned_more bytes i s lt ne =
-    let b = get_or bytes i 0 in
-    let rest = drop (i + 1) bytes in
-    record {
-      first = s.first ∙ ap (λ l. take i bytes ++ l) (at_drop_more first_line bytes i 0 lt ∙ cond_at b [] (b ∷ first_line rest) ne) ∙ sym (append_assoc (take i bytes) (b ∷ []) (first_line rest)) ∙ ap (λ l. l ++ first_line rest) (sym (take_more bytes i 0 lt));
-      after = s.after ∙ at_drop_more after_line bytes i 0 lt ∙ cond_at b rest (after_line rest) ne;
-      lf = s.lf ∙ at_drop_more has_lf bytes i 0 lt ∙ cond_at b true (has_lf rest) ne;
-    }
 
 -- ---- lines of two parts
 
@@ -142,15 +128,6 @@ last_next (Some xs) (Some left) bytes (b ∷ line) false so end =
     rw (last_of-cons b line) (told xs (b ∷ line) bytes false _ some (sym (ap first_line e ∙ first-whole bytes so.no_lf)) so.kept (ap Some (end ∙ sym (ap after_line e ∙ after-whole bytes so.no_lf))))
 
 -- ---- what was used of what was read ahead
-
-pub after-found : (bytes : List ℕ) (size : ℕ) → drop (size + 1) bytes ≡ after_line bytes → (used : ℕ) → used ≡ size + 1 → drop used bytes ≡ after_line bytes
-after-found bytes size rest used e = ap (λ (n : ℕ). drop n bytes) e ∙ rest
-
-pub after-all : (bytes : List ℕ) (size : ℕ) → length bytes ≤ size → drop (size + 1) bytes ≡ after_line bytes → (used : ℕ) → used ≡ size → drop used bytes ≡ after_line bytes
-after-all bytes size le rest used e =
-    let all : length bytes ≤ used = omega arith in
-    let more : length bytes ≤ size + 1 = omega arith in
-    drop_all used bytes all ∙ sym (drop_all (size + 1) bytes more) ∙ rest
 
 -- ---- the turns of the loop, where start is the reader with its line forgotten, and now is the reader at the loop's head
 

@@ -148,8 +148,5 @@ did_it bytes answer s m short text d = (d.0, does bytes answer d.0 short text d.
 pub was_no_text : (bytes : Text) (s : State) (m : Serving) → (IsUtf8 bytes → ⊥) → IsIn s m → Stepped bytes s (line (codes "fault 95")) m
 was_no_text bytes s m not_text i = (s, no_text bytes not_text, i)
 
-pub line_answered : (bytes text : Text) (left : Option Text) (s : State) (m : Serving) (answer : Text) → NextOf bytes next.Line text left → Stepped text s answer m → IsAnswered bytes left s m answer
-line_answered bytes text left s m answer n d = record { rest = n.0; left_is = n.1; text = text; lines_are = n.2; stepped = d }
-
 pub long_answered : (bytes text : Text) (left : Option Text) (s : State) (m : Serving) → NextOf bytes next.TooLong text left → IsIn s m → IsAnswered bytes left s m (line (codes "fault 95"))
 long_answered bytes text left s m n i = record { rest = n.0; left_is = n.1; text = n.2; lines_are = n.3; stepped = (s, too_long n.2 n.4, i) }

@@ -1,63 +1,24 @@
 -- What a text of a number is to `parse`, and where a number ends.
-use Rattle.std.proofs.Common.{◌≡◌, ℕ, ◌+◌, ◌*◌, ◌<◌, ◌≤◌, Bool, true, false, cond, not, ◌&&◌, ◌||◌, eqb, [], ◌∷◌, length, drop, get_or, ap, refl, ◌∙◌, arith, ℤ, pos, negsuc, suc, int_le, ◌*ℤ◌, ◌≤ℤ◌, FitsSigned, w64, None}
-use Rattle.std.specs.Char.{is_ascii_digit, digit_value}
-use Rattle.std.specs.List.{list_all}
-use Rattle.std.specs.Str.Parse.{AllDigits, IsNumeral, without_leading_sign, signed_digits_value}
-use Rattle.std.proofs.lemmas.Bool.{and_parts}
+use Rattle.std.proofs.Common.{◌≡◌, ℕ, ◌+◌, ◌*◌, ◌<◌, ◌≤◌, Bool, true, false, cond, not, ◌&&◌, ◌||◌, eqb, [], length, drop, get_or, ap, refl, ◌∙◌, arith, ℤ, pos, negsuc, suc, int_le, ◌*ℤ◌, ◌≤ℤ◌, FitsSigned, w64, None}
+use Rattle.std.specs.Char.{is_ascii_digit}
+use Rattle.std.specs.Str.Parse.{IsNumeral, without_leading_sign, signed_digits_value}
+use Rattle.std.proofs.lemmas.Bool.{false_from_ne_true}
 use Rattle.std.proofs.lemmas.Bool.Decides.{nat_tests}
 use Rattle.std.proofs.lemmas.Int.{ints}
 use Rattle.std.proofs.lemmas.List.{at_drop_more, drop_all}
 use Rattle.std.proofs.Math.Nat.{mul-le-mul_left}
 use Rattle.ts_core.specs.Facts.{Text}
-use Rattle.ts_line.specs.Numbers.{is_number, without_minus}
+use Rattle.ts_line.specs.Numbers.{is_number}
+use Rattle.ts_line.proofs.NumberLemmas.{numeral}
 use Rattle.tsdb.specs.Numbers.{is_valid_time, nanoseconds_of, moment_in, number_len}
 use Rattle.tsdb.specs.declared.number.Unit.{Unit}
 use Rattle.tsdb.specs.declared.number.Unit.TheVariants.{Nanosecond, Microsecond, Millisecond, Second, Minute, Hour, Day, Week}
-
-digit_below : (c : ℕ) → is_ascii_digit c ≡ true → digit_value c < 10
-digit_below c e = grind (arith, nat_tests)
-
-digit_not_plus : (c : ℕ) → is_ascii_digit c ≡ true → eqb c 43 ≡ false
-digit_not_plus c e = grind (arith, nat_tests)
-
-all_digits : (ds : Text) → list_all is_ascii_digit ds ≡ true → AllDigits 10 ds
-all_digits [] e = tt
-all_digits (c ∷ cs) e =
-    let p = and_parts (is_ascii_digit c) (list_all is_ascii_digit cs) e in
-    (digit_below c p.0, all_digits cs p.1)
-
-not_empty : (ds : Text) → not (eqb (length ds) 0) ≡ true → 0 < length ds
-not_empty ds e = grind (arith, nat_tests)
-
-numeral_by : (b : ℕ) (bs : Text) (minus : Bool) → eqb b 45 ≡ minus → is_number (b ∷ bs) ≡ true → IsNumeral 10 (without_leading_sign (b ∷ bs))
-unfolding is_number
-numeral_by b bs true m e =
-    let p = and_parts (not (eqb (length (without_minus (b ∷ bs))) 0)) (list_all is_ascii_digit (without_minus (b ∷ bs))) e in
-    let first = rw m at p.0 in
-    let rest = rw m at p.1 in
-    rw m (not_empty bs first, all_digits bs rest)
-numeral_by b bs false m e =
-    let p = and_parts (not (eqb (length (without_minus (b ∷ bs))) 0)) (list_all is_ascii_digit (without_minus (b ∷ bs))) e in
-    let first = rw m at p.0 in
-    let rest = rw m at p.1 in
-    let q = and_parts (is_ascii_digit b) (list_all is_ascii_digit bs) rest in
-    rw (m, digit_not_plus b q.0) (not_empty (b ∷ bs) first, all_digits (b ∷ bs) rest)
-
--- a text of a number is a numeral to `parse`
-numeral : (text : Text) → is_number text ≡ true → IsNumeral 10 (without_leading_sign text)
-unfolding is_number
-numeral [] e = absurd cc
-numeral (b ∷ bs) e = numeral_by b bs (eqb b 45) refl e
 
 abbrev within : ℤ → ℤ → ℤ → Bool
 within least greatest n = int_le least n && int_le n greatest
 
 within_fits : (n : ℤ) → within (negsuc 9223372036854775807) (pos 9223372036854775807) n ≡ true → FitsSigned w64 n
 within_fits n h = grind (arith, ints)
-
-no_fit : (b : Bool) → (b ≡ true → ⊥) → b ≡ false
-no_fit true h = absurd (h refl)
-no_fit false h = refl
 
 -- a number that has no 64 bits is no valid time in any unit
 past_units : (n unit : ℤ) → pos 1 ≤ℤ unit → within (negsuc 9223372036854775807) (pos 9223372036854775807) n ≡ false → is_valid_time (n *ℤ unit) ≡ false
@@ -90,7 +51,7 @@ pub no_moment : (u : Unit) (text : Text) → is_number text ≡ true → (IsNume
 unfolding moment_in
 no_moment u text number refused =
     let n = signed_digits_value 10 text in
-    let out : within (negsuc 9223372036854775807) (pos 9223372036854775807) n ≡ false = no_fit (within (negsuc 9223372036854775807) (pos 9223372036854775807) n) (λ w. refused (numeral text number, within_fits n w)) in
+    let out : within (negsuc 9223372036854775807) (pos 9223372036854775807) n ≡ false = false_from_ne_true (within (negsuc 9223372036854775807) (pos 9223372036854775807) n) (λ w. refused (numeral text number, within_fits n w)) in
     rw (number, past_units n (nanoseconds_of u) (one_or_more u) out) refl
 
 -- ---- where a number ends

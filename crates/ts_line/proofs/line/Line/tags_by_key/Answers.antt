@@ -1,7 +1,8 @@
 use Rattle.std.proofs.Common.{◌≡◌, ◌≤◌, ◌-◌, map, length, get_or, [], sym, subst, ◌∙◌, arith}
+use Rattle.std.proofs.lemmas.List.{nil_from_length}
 use Rattle.ts_core.specs.Texts.{lent_pairs}
 use Rattle.ts_line.specs.Parts.{Piece, tag_texts}
-use Rattle.ts_line.proofs.SortingLemmas.{put_all, put_last, entries_put_all, put_all_set, no_items}
+use Rattle.ts_line.proofs.SortingLemmas.{put_all, put_last, entries_put_all, put_all_set}
 use Rattle.ts_line.proofs.line.Line.tags_by_key.Goals as goal
 
 pub loop-left-preserved : goal.loop-left-preserved
@@ -15,12 +16,12 @@ loop-left-preserved g c =
 
 pub returns-clause-value : goal.returns-clause-value
 returns-clause-value g c =
-    let none : c.loop-left.left.now ≡ [] = no_items c.loop-left.left.now (omega (arith, c.in_default.len_below)) in
+    let none : c.loop-left.left.now ≡ [] = nil_from_length c.loop-left.left.now (omega (arith, c.in_default.len_below)) in
     let done : lent_pairs c.loop-left.pairs.items ≡ put_all (map tag_texts c.args.self.now.tags) [] = rw none at c.loop-left.invariant in
     done ∙ sym (entries_put_all (map tag_texts c.args.self.now.tags))
 
 pub returns-clause-set : goal.returns-clause-set
 returns-clause-set g c =
-    let none : c.loop-left.left.now ≡ [] = no_items c.loop-left.left.now (omega (arith, c.in_default.len_below)) in
+    let none : c.loop-left.left.now ≡ [] = nil_from_length c.loop-left.left.now (omega (arith, c.in_default.len_below)) in
     let done : lent_pairs c.loop-left.pairs.items ≡ put_all (map tag_texts c.args.self.now.tags) [] = rw none at c.loop-left.invariant in
     put_all_set (map tag_texts c.args.self.now.tags) c.loop-left.pairs.items done

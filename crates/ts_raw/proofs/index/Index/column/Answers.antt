@@ -1,4 +1,5 @@
 use Rattle.std.proofs.Common.{◌≡◌, ℕ, ◌<◌, List, length, Option, IfNone, map, get_or, sym, subst}
+use Rattle.std.proofs.lemmas.Option.{IfSome_then}
 use Rattle.ts_core.specs.Facts.{Text, Series, Column}
 use Rattle.ts_core.specs.Members.{Among}
 use Rattle.ts_raw.specs.FieldKeys.{FieldKey}
@@ -7,7 +8,8 @@ use Rattle.ts_raw.specs.IndexParts.{column_named, index_of}
 use Rattle.ts_raw.specs.Indexed.{Indexed, IsSound, no_series, column_in}
 use Rattle.ts_raw.specs.Numbered.{IsAt}
 use Rattle.ts_raw.proofs.IndexLemmas.{measurement_of, index_sound, name_is, no_column_of, no_column_at}
-use Rattle.ts_raw.proofs.NumberedLemmas.{at_within, at_map_of, some_so, none_so}
+use Rattle.ts_core.proofs.MembersLemmas.{at_map_of}
+use Rattle.ts_raw.proofs.NumberedLemmas.{at_within, none_so}
 use Rattle.ts_raw.proofs.index.Index.column.Goals as goal
 
 pub returns-in_err-field-clause-absent : goal.returns-in_err-field-clause-absent
@@ -31,14 +33,13 @@ returns-clause-found g c =
     let m : Text = c.measurement-measurement.result.now in
     let there : c.args.series < length series = at_within series c.args.series c.key.result.now c.key.ensures in
     let of : (get_or series c.args.series no_series).measurement ≡ m = measurement_of series c.args.series c.key.result.now m c.key.ensures c.measurement-measurement.ensures in
-    some_so c.lookup-2.result
+    IfSome_then c.lookup-2.result c.lookup-2.ensures.found
     (λ n at.
     subst (λ (i : Indexed). IsAt i.columns n (column_in i c.args.series c.args.field.now)) c.self.view_is
     (subst (λ (d : Column). IsAt (map (column_named series fields) t.columns) n d)
     (name_is series fields t c.self.invariant c.args.series m c.args.field.now there of c.in_ok-field.field c.in_ok-field.ensures.found)
     (at_map_of (column_named series fields) t.columns n (c.args.series, c.in_ok-field.field)
     (subst (λ s. IsAt t.columns n (s, c.in_ok-field.field)) c.series.view_is at))))
-    c.lookup-2.ensures.found
 
 pub returns-clause-absent : goal.returns-clause-absent
 returns-clause-absent g c =

@@ -6,7 +6,8 @@ use Rattle.ts_raw.specs.ColumnTables.{ColumnNumbers}
 use Rattle.ts_raw.specs.IndexParts.{no_field, column_named}
 use Rattle.ts_raw.specs.Indexed.{Indexed}
 use Rattle.ts_raw.specs.Numbered.{IsAt}
-use Rattle.ts_raw.proofs.NumberedLemmas.{at_map_of, same_at}
+use Rattle.ts_core.proofs.MembersLemmas.{at_map_of}
+use Rattle.ts_raw.proofs.NumberedLemmas.{same_at}
 use Rattle.ts_raw.proofs.index.Index.field_of.Goals as goal
 
 pub key-requires : goal.key-requires

@@ -1,4 +1,5 @@
 use Rattle.std.proofs.Common.{◌≡◌, ℕ, List, map, get_or, sym, ◌∙◌, ap, subst}
+use Rattle.std.proofs.lemmas.Bool.{OnTrue_from}
 use Rattle.std.proofs.lemmas.Option.{get_or_from_slice_get}
 use Rattle.ts_core.specs.Facts.{Series, Column}
 use Rattle.ts_core.proofs.Ids.{same_text-eq}
@@ -7,7 +8,7 @@ use Rattle.ts_raw.specs.ColumnTables.{ColumnNumbers}
 use Rattle.ts_raw.specs.IndexParts.{no_field, column_named, index_of}
 use Rattle.ts_raw.specs.Indexed.{Indexed, no_series, column_in}
 use Rattle.ts_raw.specs.Numbered.{IsAt}
-use Rattle.ts_raw.proofs.NumberedLemmas.{at_map_of, on_true_so}
+use Rattle.ts_core.proofs.MembersLemmas.{at_map_of}
 use Rattle.ts_raw.proofs.index.Index.is_column.Goals as goal
 
 pub key-requires : goal.key-requires
@@ -21,7 +22,7 @@ returns-then-of-series g c =
     let x : ℕ × ℕ = c.numbers-of.result in
     let key : get_or fields x.1 no_field ≡ c.key.result.now = get_or_from_slice_get fields x.1 c.key.result.now no_field c.key.ensures in
     let number : x.0 ≡ c.args.series = c.if-of-series.true ∙ c.series.view_is in
-    on_true_so c.eq.result
+    OnTrue_from c.eq.result _
     (λ h.
     let text : c.as_str.result.now ≡ c.args.field.now = same_text-eq c.as_str.result.now c.args.field.now (sym c.eq.ensures ∙ h) in
     let name : (get_or fields x.1 no_field).field ≡ c.args.field.now = ap (λ (k : FieldKey). k.field) key ∙ sym c.field.ensures ∙ sym c.as_str.ensures ∙ text in

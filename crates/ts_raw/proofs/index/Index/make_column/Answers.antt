@@ -1,4 +1,5 @@
 use Rattle.std.proofs.Common.{◌≡◌, ◌<◌, List, [], ◌∷◌, ◌++◌, length, map, OnOk, sym, ◌∙◌, ap, subst}
+use Rattle.std.proofs.lemmas.Result.{on_err_weaker, on_ok_weaker}
 use Rattle.ts_core.specs.Facts.{Series, Column}
 use Rattle.ts_core.specs.Members.{Among}
 use Rattle.ts_raw.specs.FieldKeys.{FieldKey}
@@ -7,7 +8,7 @@ use Rattle.ts_raw.specs.Indexed.{Indexed, column_in}
 use Rattle.ts_raw.specs.Numbered.{IsAt}
 use Rattle.ts_raw.proofs.IndexLemmas.{measurement_of, index_sound}
 use Rattle.ts_raw.proofs.IndexSteps.{IsMaking, index_roomy, made_room, made_absent, made_more, made_same, made_at, made_pushes}
-use Rattle.ts_raw.proofs.NumberedLemmas.{outcome, ok_with, on_ok_so, on_err_so}
+use Rattle.ts_raw.proofs.NumberedLemmas.{outcome, ok_with}
 use Rattle.ts_raw.proofs.index.Index.make_column.Given.{Over}
 use Rattle.ts_raw.proofs.index.Index.make_column.Goals as goal
 
@@ -69,7 +70,7 @@ push-requires-clause-absent g c =
 
 pushed : (g : Over) (c : goal.After-push g) → OnOk c.push.result (c.push.new.self.columns ≡ c.make_room.new.self.columns ++ (c.args.series, c.in_ok-field.field) ∷ [])
 pushed g c =
-    on_ok_so c.push.result (λ e. e ∙ ap (λ s. c.make_room.new.self.columns ++ (s, c.in_ok-field.field) ∷ []) c.series.view_is) c.push.ensures.ok
+    on_ok_weaker c.push.result (λ e. e ∙ ap (λ s. c.make_room.new.self.columns ++ (s, c.in_ok-field.field) ∷ []) c.series.view_is) c.push.ensures.ok
 
 pub invariant_of-self-2 : goal.invariant_of-self-2
 invariant_of-self-2 g c =
@@ -90,7 +91,7 @@ returns-clause-number g c =
 pub returns-clause-ok : goal.returns-clause-ok
 returns-clause-ok g c =
     let series : List Series = c.self.inside.series in
-    on_ok_so c.push.result
+    on_ok_weaker c.push.result
     (λ p.
     made_more series c.self.inside.fields c.register.new.self c.self.inside.columns c.make_room.new.self c.args.series c.measurement-measurement.result.now c.args.field.now c.in_ok-field.field
     (made g c) c.push.new.self p
@@ -100,7 +101,7 @@ returns-clause-ok g c =
 pub returns-clause-err : goal.returns-clause-err
 returns-clause-err g c =
     let series : List Series = c.self.inside.series in
-    on_err_so c.push.result
+    on_err_weaker c.push.result
     (λ kept.
     let columns = made_same series c.self.inside.fields c.register.new.self c.self.inside.columns c.make_room.new.self c.args.series c.measurement-measurement.result.now c.args.field.now
     c.in_ok-field.field (made g c) c.push.new.self kept in
