@@ -25,7 +25,6 @@ module _ (hashes : List ℕ) (hash : ℕ) where
   other_hash i apart e = true≢false (sym (eq-eqb (get_or hashes i 0) hash e) ∙ apart)
 
   module _ (Is : ℕ → Type 0) where
-
     pub search_within : (i : ℕ) → IsSearched hashes hash Is (Some i) → i < length hashes
     search_within i s = let at = newest_within s.below i (sym s.next_is) in omega (arith, at.0, s.within)
 

@@ -151,26 +151,32 @@ impl<A: Allocator + Copy> Index<A> {
         self.columns.lookup(series.number, field)
     }
 
-    /// The same as `column`, found at once where it was made right after another.
-    pub fn column_after(&self, before: ColumnId, series: SeriesId, field: &str) -> Option<ColumnId>
+    /// The same as `column`, found at once where it was made right after the one before.
+    fn column_after(
+        &self,
+        before: Option<ColumnId>,
+        series: SeriesId,
+        field: &str,
+    ) -> Option<ColumnId>
         requires { series < length self.now.series }
         ensures found { IfSome result (λ id. IsAt self.now.columns id (column_in self.now series field.now)) }
         ensures absent { IfNone result (Among (column_in self.now series field.now) self.now.columns → ⊥) }
+        ensures sound { IsSound self.now }
     {
-        let next = before.next();
-        if self.is_column(next, series, field) {
-            return Some(next);
+        if let Some(before) = before {
+            let next = before.next();
+            if next.number() < self.column_count() && self.is_column(next, series, field) {
+                return Some(next);
+            }
         }
         self.column(series, field)
     }
 
-    /// Whether a column is there, and is of a series and a field.
+    /// Whether a column is of a series and a field.
     fn is_column(&self, column: ColumnId, series: SeriesId, field: &str) -> bool
+        requires { column < length self.now.columns }
         ensures { OnTrue result (IsAt self.now.columns column (column_in self.now series field.now)) }
     {
-        if column.number() >= self.columns.len() {
-            return false;
-        }
         let (of, number) = self.columns.numbers(column);
         of == series.number && self.fields.key(number).field().as_str() == field
     }
@@ -185,9 +191,15 @@ impl<A: Allocator + Copy> Index<A> {
         }
     }
 
-    /// The column of a series and a field, made where there is none yet. Fields and columns have numbers of 32 bits,
-    /// and one too many is told as want of memory.
-    pub fn add_column(&mut self, series: SeriesId, field: &str) -> Result<ColumnId, AllocError>
+    /// The column of a series and a field, made where there is none yet. The column of the field before is a guess: a
+    /// column that was made right after it is found at once. Fields and columns have numbers of 32 bits, and one too
+    /// many is told as want of memory.
+    pub fn add_column(
+        &mut self,
+        before: Option<ColumnId>,
+        series: SeriesId,
+        field: &str,
+    ) -> Result<ColumnId, AllocError>
         requires { series < length self.old.series }
         ensures number { IfOk result (λ id. IsAt self.new.columns id (column_in self.old series field.now)) }
         ensures ok { OnOk result (Gains self.old.columns self.new.columns (column_in self.old series field.now)) }
@@ -198,7 +210,7 @@ impl<A: Allocator + Copy> Index<A> {
         ensures known { Among (column_in self.old series field.now) self.old.columns → IsOk result }
         ensures sound { IsSound self.new }
     {
-        match self.column(series, field) {
+        match self.column_after(before, series, field) {
             Some(column) => Ok(column),
             None => self.make_column(series, field),
         }

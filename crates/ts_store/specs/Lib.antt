@@ -2,4 +2,3 @@ pub mod PointsRead
 pub mod Puts
 pub mod ColumnsKept
 pub mod Registered
-pub mod Faults

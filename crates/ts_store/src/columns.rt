@@ -15,10 +15,12 @@ use ts_core::Time;
 use ts_line::Line;
 use ts_raw::{Column, ColumnId, Index, PlainColumn, SeriesId};
 
-/// The column of a series and a field, made without points where there is none yet.
+/// The column of a series and a field, made without points where there is none yet. It is looked for right behind the
+/// column before.
 fn column_for<A: Allocator + Copy>(
     index: &mut Index<A>,
     columns: &mut Vec<PlainColumn<A>, A>,
+    before: Option<ColumnId>,
     series: SeriesId,
     field: &str,
 ) -> Result<ColumnId, AllocError>
@@ -30,7 +32,7 @@ fn column_for<A: Allocator + Copy>(
     ensures sound { IsSound index.old → IsSound index.new }
 {
     columns.reserve(1)?;
-    let column = index.add_column(series, field)?;
+    let column = index.add_column(before, series, field)?;
     if columns.len() < index.column_count() {
         columns
             .push(PlainColumn::new(*columns.allocator()))
@@ -88,7 +90,8 @@ pub(crate) fn prepare_line<A: Allocator + Copy>(
     ensures unchanged { facts_of_columns index.new.columns (points_of columns.new.items) ≡ facts_of_columns index.old.columns (points_of columns.old.items) }
 {
     for field in line.fields() {
-        let column = column_for(index, columns, series, field.name().text())?;
+        let before = touched.last().copied();
+        let column = column_for(index, columns, before, series, field.name().text())?;
         prepare_at(columns, column.number(), line.time(), &field.value())?;
         touched.push(column)?;
     }

@@ -114,17 +114,3 @@ fn points_and_columns_are_told(rt: HostRuntime) -> Result<(), Fail> {
     }
     Ok(())
 }
-
-#[test]
-fn faults_have_texts(rt: HostRuntime) -> Result<(), Fail> {
-    for (fault, want) in [
-        (WriteFault::TooManySeries, "fault 41"),
-        (WriteFault::TooManyFacts, "fault 52"),
-        (WriteFault::OutOfMemory, "fault memory"),
-    ] {
-        let mut text = String::new(rt.alloc());
-        fault.text_to(&mut text)?;
-        assert_eq!(rt; text.as_str(), want);
-    }
-    Ok(())
-}

@@ -11,7 +11,7 @@ pub(crate) fn make<A: Allocator + Copy>(
     field: &str,
 ) -> Result<ColumnId, IndexFault> {
     let series = index.register(measurement, &[("host", host)])?;
-    Ok(index.add_column(series, field)?)
+    Ok(index.add_column(None, series, field)?)
 }
 
 /// The column of a series and a field, where it is there.
@@ -25,7 +25,7 @@ pub(crate) fn find<A: Allocator + Copy>(
     index.column(series, field)
 }
 
-/// The same, guessed to be made right after another.
+/// The same, guessed to stand right behind another.
 fn find_after<A: Allocator + Copy>(
     index: &Index<A>,
     before: ColumnId,
@@ -34,7 +34,7 @@ fn find_after<A: Allocator + Copy>(
     field: &str,
 ) -> Option<ColumnId> {
     let series = index.lookup(measurement, &[("host", host)])?;
-    index.column_after(before, series, field)
+    index.column_after(Some(before), series, field)
 }
 
 #[test]
@@ -164,18 +164,5 @@ fn a_series_too_many_is_refused(rt: HostRuntime) -> Result<(), Fail> {
         );
     }
     assert_eq!(rt; table.len(), 2);
-    Ok(())
-}
-
-#[test]
-fn faults_have_texts(rt: HostRuntime) -> Result<(), Fail> {
-    for (fault, want) in [
-        (IndexFault::TooManySeries, "fault 41"),
-        (IndexFault::OutOfMemory, "fault memory"),
-    ] {
-        let mut text = String::new(rt.alloc());
-        fault.text_to(&mut text)?;
-        assert_eq!(rt; text.as_str(), want);
-    }
     Ok(())
 }
