@@ -1,4 +1,5 @@
--- What a store keeps, and when that stands for a history. (Own rules.)
+-- What a store keeps before its first run of retention, and when that stands for a history. `StoreStates` says it with
+-- rules, runs and cells, and of a history in which nothing began it says the same. (Own rules.)
 use Rattle.std.specs.Prelude.{◌≡◌, ◌↔◌, ℕ, ℤ, ◌≤ℤ◌, int_le, List, ◌∷◌, length, filter}
 use Rattle.ts_core.specs.Members.{Among, AllDistinct}
 use Rattle.ts_core.specs.Facts.{Series, Column, Fact}
