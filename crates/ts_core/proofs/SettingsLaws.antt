@@ -9,7 +9,8 @@ use Rattle.ts_core.specs.declared.settings_fault.SettingsFault.{SettingsFault}
 use Rattle.ts_core.specs.declared.settings_fault.SettingsFault.TheVariants.{TooManyRules, OfRule}
 use Rattle.ts_core.specs.Settings.{Rule, Settings}
 use Rattle.ts_core.specs.Marks.{Outlasts}
-use Rattle.ts_core.specs.SettingsFaults.{is_interval, outlasts, unless, rule_fault, or_fault, rules_fault, settings_fault}
+use Rattle.ts_core.specs.Faults.{unless}
+use Rattle.ts_core.specs.SettingsFaults.{is_interval, outlasts, rule_fault, or_fault, rules_fault, settings_fault}
 use Rattle.ts_core.proofs.Tests.{le_from}
 
 well : (b : Bool) (f : RuleFault) (next : Option RuleFault) → unless b f next ≡ None → (b ≡ true) × (next ≡ None)

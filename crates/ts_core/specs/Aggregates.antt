@@ -62,7 +62,7 @@ pub record AreReached (ps : List (ℤ × ℤ)) (e : Extremes) : Type 0 where
   pub first : Among e.first ps
   pub last : Among e.last ps
 
--- the point has no lesser value and no greater one, and comes neither before the first nor after the last;
+-- the value of the point is neither below the least nor above the greatest, and it comes neither before the first nor after the last;
 -- at the time of one of these its value isn't greater
 pub record LiesWithin (e : Extremes) (p : ℤ × ℤ) : Type 0 where
   pub min : e.min ≤ℤ p.1

@@ -17,7 +17,7 @@ text_cmp = slice_cmp nat_cmp
 abbrev pub same_text : Text → Text → Bool
 same_text = bytes_eq
 
--- a measurement with a tag set; the tags stand in byte order of their keys, each key once
+-- a measurement with a tag set. (A line has its tags in byte order of their keys, each key once: `series_of` of ts_line puts them so.)
 pub record Series : Type 0 where
   pub measurement : Text
   pub tags : List (Text × Text)

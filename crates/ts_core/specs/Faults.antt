@@ -32,7 +32,7 @@ fault_number TagNotKept = 89
 -- ---- of one piece
 
 -- the next fault where all is well, else this one
-abbrev pub unless : Bool → Fault → Option Fault → Option Fault
+abbrev pub unless : {F : Type 0} → Bool → F → Option F → Option F
 unless well fault next = if well then next else Some fault
 
 abbrev pub is_boundary : Rule → ℤ → Bool

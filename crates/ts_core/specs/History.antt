@@ -70,7 +70,8 @@ pub record MayBeTaken (mark : ℤ) (f : Fact) : Type 0 where
   pub fits : FitsSigned w64 f.value
   pub raw : mark ≤ℤ f.time
 
--- at most 2^62 facts are accepted, none below the raw mark of its moment, and no run begins in an open one
+-- at most 2^62 facts are accepted, none below the raw mark of its moment, and no run begins in an open one; a run may begin at
+-- any moment, and a step where no run is open changes nothing
 abbrev pub IsLawful : Settings → History → Type 0
 IsLawful opening [] = Unit {0}
 IsLawful opening (Line facts ∷ h) =

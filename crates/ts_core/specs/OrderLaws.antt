@@ -1,4 +1,4 @@
--- The lesser of two is a meet: it is one of them, not after either, and in any order the same. (Own rules.)
+-- The lesser of two is one of them, not after either, and in any order the same. (Own rules.)
 use Rattle.std.proofs.Common.{◌≡◌, ◌⊎◌, ℤ, ◌≤ℤ◌, ◌<ℤ◌, true, false, cond, refl, sym, ◌∙◌, ap, inl, inr, Ordering, Less, Equal, Greater, is_gt, true≢false, int_cmp, arith}
 use Rattle.std.specs.Ordering.{ordering_reverse, ordering_then, MatchOrdering}
 use Rattle.std.specs.Cmp.{IsTotalOrder, int_cmp_total, int_ranks}

@@ -1,4 +1,4 @@
--- What can be added up by parts: a commutative monoid that counts. (Own rules.)
+-- What can be added up by parts: neither order nor grouping matters, and counts add up. (Own rules.)
 use Rattle.std.specs.Prelude.{◌≡◌, ℕ, ◌+◌, ℤ, List, [], ◌∷◌}
 
 pub record PartialLaws {M : Type 0} (empty : M) (single : ℤ → ℤ → M) (merge : M → M → M) (count : M → ℕ) : Type 0 where

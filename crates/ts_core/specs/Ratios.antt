@@ -1,4 +1,4 @@
--- The mean of an aggregate as a fraction: its sum and its count, both divided by their greatest common divisor.
+-- The mean of an aggregate with points as a fraction: its sum and its count, both divided by their greatest common divisor.
 -- (InfluxData 1.8, InfluxQL functions: MEAN. Own rule: exact, in lowest terms.)
 use Rattle.std.specs.Prelude.{ℕ, zero, suc, ◌/◌, ◌%◌, unsigned_abs}
 use Rattle.ts_core.specs.declared.means.Frac.{Frac}

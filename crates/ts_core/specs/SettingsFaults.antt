@@ -7,6 +7,7 @@ use Rattle.ts_core.specs.declared.settings_fault.SettingsFault.{SettingsFault}
 use Rattle.ts_core.specs.declared.settings_fault.SettingsFault.TheVariants.{TooManyRules, OfRule}
 use Rattle.ts_core.specs.Facts.{Text, same_text}
 use Rattle.ts_core.specs.Settings.{Rule, Settings}
+use Rattle.ts_core.specs.Faults.{unless}
 
 -- ---- names, intervals, tags and durations
 
@@ -52,10 +53,6 @@ fault_number Duration = 2
 fault_number RepeatedName = 3
 fault_number BadName = 4
 fault_number KeptTags = 6
-
--- the next fault where all is well, else this one
-abbrev pub unless : Bool → RuleFault → Option RuleFault → Option RuleFault
-unless well fault next = if well then next else Some fault
 
 -- of a rule behind others
 abbrev pub rule_fault : ℕ → List Rule → Rule → Option RuleFault

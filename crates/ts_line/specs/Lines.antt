@@ -62,7 +62,7 @@ parts_at unit now line start =
     time_at unit now line fields.1 >>= λ time.
     Ok (record { measurement = m.0; tags = tags.0; fields = fields.0; time = time })
 
--- a line without its line feed
+-- what a line says, given without its line feed: its parts, nothing for a comment or a blank line, or its first fault
 unfoldable pub line_of : ℤ → ℤ → Text → Result (Option Parts) LineFault
 line_of unit now source =
     if nat_lt 65536 (length source) then Err (OverLimit 65536) else

@@ -9,9 +9,13 @@ abbrev pub without_minus : Text → Text
 without_minus [] = []
 without_minus (b ∷ bs) = if b == 45 then bs else (b ∷ bs)
 
+-- one digit or more
+abbrev pub are_digits : Text → Bool
+are_digits text = not (length text == 0) && list_all is_ascii_digit text
+
 -- digits, perhaps behind a minus
 unfoldable pub is_number : Text → Bool
-is_number text = not (length (without_minus text) == 0) && list_all is_ascii_digit (without_minus text)
+is_number text = are_digits (without_minus text)
 
 abbrev pub is_within : ℤ → ℤ → ℤ → Bool
 is_within least greatest n = int_le least n && int_le n greatest

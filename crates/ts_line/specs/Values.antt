@@ -6,14 +6,11 @@ use Rattle.ts_core.specs.Facts.{Text}
 use Rattle.ts_line.specs.declared.fault.LineFault.{LineFault}
 use Rattle.ts_line.specs.declared.fault.LineFault.TheVariants.{BadField, FieldType, IntegerRange}
 use Rattle.ts_line.specs.declared.scan.Stops.TheVariants.{Plain}
-use Rattle.ts_line.specs.Numbers.{is_number, without_minus, whole_of}
+use Rattle.ts_line.specs.Numbers.{are_digits, is_number, without_minus, whole_of}
 use Rattle.ts_line.specs.Scan.{end_of}
 use Rattle.ts_line.specs.Steps.{◌>>=◌}
 
 -- ---- shapes
-
-abbrev pub are_digits : Text → Bool
-are_digits text = not (length text == 0) && list_all is_ascii_digit text
 
 -- this text and one more byte
 abbrev pub ends_in : ℕ → (Text → Bool) → Text → Bool
@@ -34,7 +31,7 @@ abbrev pub behind_digits : Bool → Text → Option Text
 behind_digits some [] = if some then Some [] else None
 behind_digits some (b ∷ bs) = if is_ascii_digit b then behind_digits true bs else (if some then Some (b ∷ bs) else None)
 
--- a point and digits, or nothing
+-- a point and digits, or nothing (own: digits must stand behind the point, though the reference also shows `1.e+78`)
 abbrev pub behind_fraction : Text → Option Text
 behind_fraction [] = Some []
 behind_fraction (b ∷ bs) = if b == 46 then behind_digits false bs else Some (b ∷ bs)

@@ -16,6 +16,7 @@ mod value;
 
 pub use fault::{LineFault, ReadLineError};
 pub use line::{Field, Line, Part, Tag};
+pub use number::{is_number, moment};
 pub use precision::Precision;
 pub use read::read_line;
 

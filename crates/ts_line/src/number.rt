@@ -1,13 +1,10 @@
 //! Numbers as text.
-ghost use Rattle.std.specs.Prelude.{◌≡◌, true};
+ghost use Rattle.std.specs.Prelude.{◌≡◌, ◌≤ℤ◌, pos, true};
 ghost use Rattle.std.specs.Char.{is_ascii_digit};
 ghost use Rattle.std.specs.List.{list_all};
-ghost use Rattle.ts_line.specs.Units.{unit_of};
-ghost use Rattle.ts_line.specs.Numbers.{is_number, without_minus, whole_of};
-ghost use Rattle.ts_line.specs.Values.{are_digits};
+ghost use Rattle.ts_line.specs.Numbers.{are_digits, is_number, without_minus, whole_of};
 ghost use Rattle.ts_line.specs.Lines.{time_of};
 
-use crate::precision::Precision;
 use ts_core::Time;
 
 /// A text without its minus.
@@ -52,12 +49,13 @@ pub fn whole(text: &str) -> Option<i64>
     }
 }
 
-/// The time that a number of units tells.
+/// The time that a number of units tells, each of so many nanoseconds; none where it isn't a valid time.
 #[tactic(auto, unfolding(crate::specs::Lines::time_of))]
-pub fn moment(text: &str, precision: Precision) -> Option<Time>
-    requires { is_number text.now ≡ true }
-    ensures { result ≡ time_of (unit_of precision) text.now }
+pub fn moment(text: &str, unit: i64) -> Option<Time>
+    requires number { is_number text.now ≡ true }
+    requires unit { pos 1 ≤ℤ unit }
+    ensures { result ≡ time_of unit text.now }
 {
     let number = whole(text)?;
-    Time::new(number.checked_mul(precision.nanoseconds())?)
+    Time::new(number.checked_mul(unit)?)
 }

@@ -151,7 +151,7 @@ fn time(line: &str, at: usize, precision: Precision, now: Time) -> Result<Time, 
     if !is_number(number.as_bytes()) {
         return Err(LineFault::BadTimestamp(start));
     }
-    moment(number, precision).ok_or(LineFault::TimestampRange(start))
+    moment(number, precision.nanoseconds()).ok_or(LineFault::TimestampRange(start))
 }
 
 /// The parts of a line from `start` on.

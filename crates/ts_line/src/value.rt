@@ -1,7 +1,8 @@
 //! The values of fields, told by their shape.
 ghost use Rattle.std.specs.Prelude.{◌≡◌, ◌≤◌, IfOk, option_map, if◌then◌else◌, false};
 ghost use Rattle.std.specs.Str.{IsCharBoundary};
-ghost use Rattle.ts_line.specs.Values.{is_unsigned, is_boolean, is_float, are_digits, behind_digits, behind_fraction, is_exponent, without_sign, behind_quotes, is_value_end, then_is, value_of, value_at};
+ghost use Rattle.ts_line.specs.Numbers.{are_digits};
+ghost use Rattle.ts_line.specs.Values.{is_unsigned, is_boolean, is_float, behind_digits, behind_fraction, is_exponent, without_sign, behind_quotes, is_value_end, then_is, value_of, value_at};
 
 use crate::fault::LineFault;
 use crate::number::{after_minus, are_digits, is_number, whole};

@@ -158,10 +158,6 @@ abbrev pub parts_of : ℤ → Statement → Parts
 parts_of now s =
     after_fill (after_group (after_filter now (after_source (after_aggregates (after_aggregate no_parts s.first) s.more) s.source) s.filter) s.group) s.fill
 
--- the query of a statement, or what is wrong with the whole of it
-abbrev pub said : ℤ → Statement → Result Select Fault
-said now s = statement_said s.select.start now (parts_of now s)
-
 -- what a statement of these parts says, and those behind it
 abbrev pub said_all : ℤ → ℕ → Parts → Ending → List (Result Select Fault)
 said_all now start p Stop = statement_said start now p ∷ []

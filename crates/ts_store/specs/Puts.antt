@@ -1,4 +1,4 @@
--- What a list of facts becomes by one more fact, and by several.
+-- What a list of facts becomes by one more fact, and by several. (Own rules.)
 use Rattle.std.specs.Prelude.{◌≡◌, ◌⊎◌, List, [], ◌∷◌, false}
 use Rattle.ts_core.specs.Members.{Among, AllDistinct}
 use Rattle.ts_core.specs.Facts.{Fact, id_of, same_id}

@@ -1,42 +1,15 @@
--- What a text of a number is to `parse`, and where a number ends.
-use Rattle.std.proofs.Common.{◌≡◌, ℕ, ◌+◌, ◌*◌, ◌<◌, ◌≤◌, Bool, true, false, cond, not, ◌&&◌, ◌||◌, eqb, [], length, drop, get_or, ap, refl, ◌∙◌, arith, ℤ, pos, negsuc, suc, int_le, ◌*ℤ◌, ◌≤ℤ◌, FitsSigned, w64, None}
+-- Units have a nanosecond or more; and where a number ends.
+use Rattle.std.proofs.Common.{◌≡◌, ℕ, ◌+◌, ◌<◌, Bool, true, false, cond, not, ◌||◌, eqb, [], length, drop, get_or, ap, refl, ◌∙◌, arith, pos, ◌≤ℤ◌}
 use Rattle.std.specs.Char.{is_ascii_digit}
-use Rattle.std.specs.Str.Parse.{IsNumeral, without_leading_sign, signed_digits_value}
-use Rattle.std.proofs.lemmas.Bool.{false_from_ne_true}
 use Rattle.std.proofs.lemmas.Bool.Decides.{nat_tests}
 use Rattle.std.proofs.lemmas.Int.{ints}
 use Rattle.std.proofs.lemmas.List.{at_drop_more, drop_all}
-use Rattle.std.proofs.Math.Nat.{mul-le-mul_left}
 use Rattle.ts_core.specs.Facts.{Text}
-use Rattle.ts_line.specs.Numbers.{is_number}
-use Rattle.ts_line.proofs.NumberLemmas.{numeral}
-use Rattle.tsdb.specs.Numbers.{is_valid_time, nanoseconds_of, moment_in, number_len}
+use Rattle.tsdb.specs.Numbers.{nanoseconds_of, number_len}
 use Rattle.tsdb.specs.declared.number.Unit.{Unit}
 use Rattle.tsdb.specs.declared.number.Unit.TheVariants.{Nanosecond, Microsecond, Millisecond, Second, Minute, Hour, Day, Week}
 
-abbrev within : ℤ → ℤ → ℤ → Bool
-within least greatest n = int_le least n && int_le n greatest
-
-within_fits : (n : ℤ) → within (negsuc 9223372036854775807) (pos 9223372036854775807) n ≡ true → FitsSigned w64 n
-within_fits n h = grind (arith, ints)
-
--- a number that has no 64 bits is no valid time in any unit
-past_units : (n unit : ℤ) → pos 1 ≤ℤ unit → within (negsuc 9223372036854775807) (pos 9223372036854775807) n ≡ false → is_valid_time (n *ℤ unit) ≡ false
-past_units (pos m) (pos u) h e =
-    let one : 1 ≤ u = omega (arith, ints) in
-    let k : m * 1 ≤ m * u = mul-le-mul_left m one in
-    let far : 9223372036854775807 < m = grind (arith, ints) in
-    let low : int_le (pos (m * u)) (pos 9223372036854775806) ≡ false = grind (arith, ints) in
-    grind (arith, ints)
-past_units (negsuc m) (pos u) h e =
-    let one : 1 ≤ u = omega (arith, ints) in
-    let k : suc m * 1 ≤ suc m * u = mul-le-mul_left (suc m) one in
-    let far : 9223372036854775807 < m = grind (arith, ints) in
-    grind (arith, ints)
-past_units (pos m) (negsuc u) h e = absurd (omega (arith, ints))
-past_units (negsuc m) (negsuc u) h e = absurd (omega (arith, ints))
-
-one_or_more : (u : Unit) → pos 1 ≤ℤ nanoseconds_of u
+pub one_or_more : (u : Unit) → pos 1 ≤ℤ nanoseconds_of u
 one_or_more Nanosecond = omega (arith, ints)
 one_or_more Microsecond = omega (arith, ints)
 one_or_more Millisecond = omega (arith, ints)
@@ -45,14 +18,6 @@ one_or_more Minute = omega (arith, ints)
 one_or_more Hour = omega (arith, ints)
 one_or_more Day = omega (arith, ints)
 one_or_more Week = omega (arith, ints)
-
--- what `parse` refuses is no moment
-pub no_moment : (u : Unit) (text : Text) → is_number text ≡ true → (IsNumeral 10 (without_leading_sign text) × FitsSigned w64 (signed_digits_value 10 text) → ⊥) → None ≡ moment_in (nanoseconds_of u) text
-unfolding moment_in
-no_moment u text number refused =
-    let n = signed_digits_value 10 text in
-    let out : within (negsuc 9223372036854775807) (pos 9223372036854775807) n ≡ false = false_from_ne_true (within (negsuc 9223372036854775807) (pos 9223372036854775807) n) (λ w. refused (numeral text number, within_fits n w)) in
-    rw (number, past_units n (nanoseconds_of u) (one_or_more u) out) refl
 
 -- ---- where a number ends
 

@@ -1,22 +1,17 @@
 -- Numbers and moments as commands write them.
 -- (InfluxData 1.8, InfluxQL reference, durations: ns, u or µ, ms, s, m, h, d, w; own rule: one unit, a minus sign, nanoseconds without a unit.)
-use Rattle.std.specs.Prelude.{ℕ, ℤ, pos, ◌*ℤ◌, int_le, [], ◌∷◌, length, take, drop, Bool, not, ◌&&◌, ◌||◌, ◌==◌, if◌then◌else◌, Option, Some, None, option_and_then, codes, bytes_eq}
+use Rattle.std.specs.Prelude.{ℕ, ℤ, pos, [], ◌∷◌, length, take, drop, not, ◌||◌, ◌==◌, if◌then◌else◌, Option, Some, None, option_and_then, codes, bytes_eq}
 use Rattle.std.specs.Char.{is_ascii_digit}
 use Rattle.std.specs.List.{position_or_len}
-use Rattle.std.specs.Str.Parse.{signed_digits_value}
 use Rattle.ts_core.specs.Facts.{Text}
 use Rattle.ts_line.specs.Numbers.{is_number}
+use Rattle.ts_line.specs.Lines.{time_of}
 use Rattle.tsdb.specs.declared.number.Unit.{Unit}
 use Rattle.tsdb.specs.declared.number.Unit.TheVariants.{Nanosecond, Microsecond, Millisecond, Second, Minute, Hour, Day, Week}
-use Rattle.ts_core.specs.Times.{least_time, greatest_time}
-
-abbrev pub is_valid_time : ℤ → Bool
-is_valid_time t = int_le least_time t && int_le t greatest_time
 
 -- the moment that a number of units of so many nanoseconds tells, where it is a valid time
 unfoldable pub moment_in : ℤ → Text → Option ℤ
-moment_in unit number =
-    if is_number number && is_valid_time (signed_digits_value 10 number *ℤ unit) then Some (signed_digits_value 10 number *ℤ unit) else None
+moment_in unit number = if is_number number then time_of unit number else None
 
 abbrev pub nanoseconds_of : Unit → ℤ
 nanoseconds_of Nanosecond = pos 1

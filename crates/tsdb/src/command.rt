@@ -6,9 +6,9 @@ ghost use Rattle.ts_line.specs.Units.{precision_of};
 ghost use Rattle.tsdb.specs.Numbers.{moment_of};
 ghost use Rattle.tsdb.specs.CommandParts.{command_view};
 
-use crate::number::{Unit, is_number, moment_in, moment_of};
+use crate::number::{Unit, moment_in, moment_of};
 use ts_core::Time;
-use ts_line::Precision;
+use ts_line::{Precision, is_number};
 
 /// What a line asks for.
 #[derive(Clone, Copy, Drop)]
@@ -119,7 +119,11 @@ fn count(text: &str) -> Command<'_>
     let (measurement, rest) = first_word(text);
     let (field, rest) = first_word(rest);
     let (from, to) = first_word(rest);
-    if measurement.is_empty() || field.is_empty() || !is_number(from) || !is_number(to) {
+    if measurement.is_empty()
+        || field.is_empty()
+        || !is_number(from.as_bytes())
+        || !is_number(to.as_bytes())
+    {
         return Command::Unknown;
     }
     count_between(

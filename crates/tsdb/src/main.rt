@@ -1,4 +1,4 @@
-//! The program `tsdb`. It runs scripts from standard input (`tsdb replay`), and stands on ts_store and ts_line.
+//! The program `tsdb`. It runs scripts from standard input (`tsdb replay`), and stands on ts_store, ts_line and ts_core.
 //! It promises, on `engine::run`: what it prints is what the definitions of specs/ say of the script, from
 //! the bytes read to the bytes written; and where a device fails, a beginning of it.
 #![tactic(auto)]
@@ -84,14 +84,12 @@ fn replay(rt: &(impl Input + Print + Eprint + AllocGlobal)) -> ExitCode {
 }
 
 /// One line on standard error: the fault's text, and what it means.
-fn tell(rt: &(impl Eprint + AllocGlobal), fault: RunFault) {
-    let mut text = String::new(rt.alloc());
-    let _ = fault.text_to(&mut text);
+fn tell(rt: &impl Eprint, fault: RunFault) {
     let meaning = match fault {
         RunFault::Reader => "standard input could not be read",
         RunFault::Writer => "standard output could not be written",
         RunFault::Turns => "standard input did not end within 4294967296 reads",
         RunFault::OutOfMemory => "there is no memory for reading the script",
     };
-    let _ = eprintln!(rt; "{text}: {meaning}");
+    let _ = eprintln!(rt; "{}: {meaning}", fault.text());
 }

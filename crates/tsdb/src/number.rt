@@ -1,36 +1,11 @@
 //! Numbers and moments as commands write them.
 ghost use Rattle.std.specs.Prelude.{◌≡◌, ◌==◌, ◌||◌};
 ghost use Rattle.std.specs.Char.{is_ascii_digit};
-ghost use Rattle.std.specs.List.{list_all};
 ghost use Rattle.std.specs.Str.{IsCharBoundary};
-ghost use Rattle.ts_line.specs.Numbers.{without_minus, is_number};
 ghost use Rattle.tsdb.specs.Numbers.{nanoseconds_of, unit_called, moment_in, moment_of, number_len};
 
 use ts_core::Time;
-
-fn after_minus(text: &[u8]) -> &[u8]
-    ensures { result.now ≡ without_minus text.now }
-{
-    match text {
-        [b'-', digits @ ..] => digits,
-        _ => text,
-    }
-}
-
-fn are_digits(bytes: &[u8]) -> bool
-    ensures { result ≡ list_all is_ascii_digit bytes.now }
-{
-    bytes.iter().all(|b| b.is_ascii_digit())
-}
-
-/// Whether the text is one digit or more, with a minus or none before them.
-#[tactic(auto, unfolding(ts_line::specs::Numbers::is_number))]
-pub(crate) fn is_number(text: &str) -> bool
-    ensures { result ≡ is_number text.now }
-{
-    let digits = after_minus(text.as_bytes());
-    !digits.is_empty() && are_digits(digits)
-}
+use ts_line::{is_number, moment};
 
 /// A unit of time.
 #[derive(Clone, Copy, Debug, Drop)]
@@ -86,16 +61,10 @@ impl Unit {
 pub(crate) fn moment_in(unit: Unit, number: &str) -> Option<Time>
     ensures { result ≡ moment_in (nanoseconds_of unit) number.now }
 {
-    if !is_number(number) {
+    if !is_number(number.as_bytes()) {
         return None;
     }
-    match number.parse::<i64>() {
-        Ok(count) => match count.checked_mul(unit.nanoseconds()) {
-            Some(nanos) => Time::new(nanos),
-            None => None,
-        },
-        Err(_) => None,
-    }
+    moment(number, unit.nanoseconds())
 }
 
 fn is_in_number(b: u8) -> bool

@@ -1,8 +1,8 @@
 //! Why a script was not answered to its end.
-ghost use Rattle.std.specs.Prelude.{◌≡◌, ◌+◌, ◌≤◌, ◌++◌, length, IsOk, OnOk, OnErr, string_bytes, string_len, string_capacity};
+ghost use Rattle.std.specs.Prelude.{◌≡◌};
 ghost use Rattle.tsdb.specs.RunFaults.{run_fault_text};
 
-use std::alloc::{AllocError, Allocator};
+use std::alloc::AllocError;
 use ts_core::{ReadFault, Refused};
 
 /// Why a script was not answered to its end.
@@ -19,17 +19,15 @@ pub enum RunFault {
 }
 
 impl RunFault {
-    /// Appends its text, or leaves the text as it was. Where the room is there, it takes no memory.
-    pub fn text_to<A: Allocator>(&self, text: &mut String<A>) -> Result<(), AllocError>
-        ensures ok { OnOk result (string_bytes text.new ≡ string_bytes text.old ++ run_fault_text self.now) }
-        ensures err { OnErr result (string_bytes text.new ≡ string_bytes text.old) }
-        ensures room { string_len text.old + length (run_fault_text self.now) ≤ string_capacity text.old → IsOk result }
+    /// Its text.
+    pub fn text(self) -> &'static str
+        ensures { result.now ≡ run_fault_text self }
     {
         match self {
-            RunFault::Reader => text.push_str("fault 96"),
-            RunFault::Writer => text.push_str("fault 97"),
-            RunFault::Turns => text.push_str("fault 98"),
-            RunFault::OutOfMemory => text.push_str("fault memory"),
+            RunFault::Reader => "fault 96",
+            RunFault::Writer => "fault 97",
+            RunFault::Turns => "fault 98",
+            RunFault::OutOfMemory => "fault memory",
         }
     }
 }
