@@ -1,7 +1,6 @@
 -- What is lent: one more of it, a part of it, and what passes a test.
-use Rattle.std.proofs.Common.{◌≡◌, ℕ, suc, ◌<◌, ◌+◌, Bool, true, false, cond, ◌||◌, List, [], ◌∷◌, ◌++◌, length, filter, get_or, take, refl, sym, ◌∙◌, ap, Bor, Ordering}
+use Rattle.std.proofs.Common.{◌≡◌, ℕ, suc, ◌<◌, ◌+◌, Bool, true, false, cond, List, [], ◌∷◌, ◌++◌, length, filter, get_or, take, refl, sym, ◌∙◌, ap, Bor, Ordering}
 use Rattle.std.proofs.lemmas.List.{take_more}
-use Rattle.std.specs.List.{list_any}
 use Rattle.std.specs.Ordering.{ordering_then}
 use Rattle.std.specs.Cmp.Lexicographic.{slice_cmp}
 use Rattle.ts_core.specs.Lent.{lent}
@@ -10,10 +9,6 @@ module _ {X : Type 0} where
   pub lent-push : (xs : List (Bor X)) (x : Bor X) → lent (xs ++ x ∷ []) ≡ lent xs ++ x.now ∷ []
   lent-push [] x = refl
   lent-push (y ∷ xs) x = ap (λ zs. y.now ∷ zs) (lent-push xs x)
-
-  pub lent-any : (p : X → Bool) (xs : List (Bor X)) → list_any (λ (x : Bor X). p x.now) xs ≡ list_any p (lent xs)
-  lent-any p [] = refl
-  lent-any p (x ∷ xs) = ap (λ b. p x.now || b) (lent-any p xs)
 
   pub lent-filter : (p : X → Bool) (xs : List (Bor X)) → lent (filter (λ (x : Bor X). p x.now) xs) ≡ filter p (lent xs)
   lent-filter p [] = refl

@@ -1,6 +1,7 @@
--- Steps of loops over lists: one more of what is made of a list one by one.
-use Rattle.std.proofs.Common.{◌≡◌, ℕ, ◌<◌, ◌+◌, Bool, true, false, cond, List, [], ◌∷◌, ◌++◌, length, map, filter, get_or, take, refl, sym, ◌∙◌, ap}
+-- Steps of loops over lists: one more of what is made of a list one by one. And a test of what is made.
+use Rattle.std.proofs.Common.{◌≡◌, ℕ, ◌<◌, ◌+◌, Bool, true, false, cond, ◌||◌, List, [], ◌∷◌, ◌++◌, length, map, filter, get_or, take, refl, sym, ◌∙◌, ap}
 use Rattle.std.proofs.lemmas.List.{take_more}
+use Rattle.std.specs.List.{list_any}
 
 pub map-push : {X Y : Type 0} (f : X → Y) (xs : List X) (x : X) → map f (xs ++ x ∷ []) ≡ map f xs ++ f x ∷ []
 map-push f [] x = refl
@@ -17,3 +18,7 @@ filter-push p (z ∷ xs) x =
       | true ↦ ap (λ zs. z ∷ zs) (filter-push p xs x) ∙ elim (p x) as (λ b. z ∷ cond b (filter p xs ++ x ∷ []) (filter p xs) ≡ cond b (z ∷ (filter p xs ++ x ∷ [])) (z ∷ filter p xs)) [ true ↦ refl | false ↦ refl ]
       | false ↦ filter-push p xs x
     ]
+
+pub any-map : {X Y : Type 0} (p : Y → Bool) (f : X → Y) (xs : List X) → list_any p (map f xs) ≡ list_any (λ x. p (f x)) xs
+any-map p f [] = refl
+any-map p f (x ∷ xs) = ap (λ b. p (f x) || b) (any-map p f xs)

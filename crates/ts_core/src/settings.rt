@@ -53,10 +53,7 @@ fn owned<A: Allocator + Copy>(alloc: A, texts: &[&str]) -> Result<Vec<String<A>,
 fn all_written(texts: &[&str]) -> bool
     ensures { IsTrue result ↔ AllByRecursion (λ text. text ≢ []) (lent texts.now) }
 {
-    match texts.split_first() {
-        None => true,
-        Some((text, others)) => !text.is_empty() && all_written(others),
-    }
+    texts.iter().all(|text| !text.is_empty())
 }
 
 fn is_rule(measurement: &str, kept_tags: &[&str], duration: &i64) -> bool

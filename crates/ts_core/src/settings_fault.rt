@@ -1,7 +1,7 @@
 //! What is wrong with settings.
 ghost use Rattle.std.specs.Prelude.{◌≡◌, map, [], string_bytes};
 ghost use Rattle.std.specs.List.{list_all};
-ghost use Rattle.ts_core.specs.SettingsFaults.{is_between, is_name_byte, is_rule_name, is_named, is_interval, are_distinct, are_kept_tags, outlasts, rule_fault, rules_fault, settings_fault, fault_number};
+ghost use Rattle.ts_core.specs.SettingsFaults.{is_name_byte, is_rule_name, is_named, is_interval, are_distinct, are_kept_tags, outlasts, rule_fault, rules_fault, settings_fault, fault_number};
 
 use crate::settings::Rule;
 use crate::texts::is_among;
@@ -31,25 +31,16 @@ pub enum SettingsFault {
     OfRule(RuleFault, usize),
 }
 
-fn is_between(low: u8, high: u8, byte: u8) -> bool
-    ensures { result ≡ is_between low high byte }
-{
-    low <= byte && byte <= high
-}
-
 fn is_name_byte(byte: u8) -> bool
     ensures { result ≡ is_name_byte byte }
 {
-    is_between(b'a', b'z', byte) || is_between(b'0', b'9', byte) || byte == b'_'
+    matches!(byte, b'a'..=b'z' | b'0'..=b'9' | b'_')
 }
 
 fn are_name_bytes(bytes: &[u8]) -> bool
     ensures { result ≡ list_all is_name_byte bytes.now }
 {
-    match bytes.split_first() {
-        None => true,
-        Some((first, others)) => is_name_byte(*first) && are_name_bytes(others),
-    }
+    bytes.iter().all(|byte| is_name_byte(*byte))
 }
 
 fn is_rule_name(name: &str) -> bool
@@ -62,10 +53,7 @@ fn is_rule_name(name: &str) -> bool
 fn is_named<A: Allocator>(rules: &[Rule<A>], name: &str) -> bool
     ensures { result ≡ is_named rules.now name.now }
 {
-    match rules.split_first() {
-        None => false,
-        Some((first, others)) => first.name() == name || is_named(others, name),
-    }
+    rules.iter().any(|rule| rule.name() == name)
 }
 
 fn is_interval(interval: i64) -> bool

@@ -9,8 +9,5 @@ use std::alloc::Allocator;
 pub(crate) fn is_among<A: Allocator>(text: &str, texts: &[String<A>]) -> bool
     ensures { result ≡ list_any (same_text text.now) (map string_bytes texts.now) }
 {
-    match texts.split_first() {
-        None => false,
-        Some((first, others)) => text == first.as_str() || is_among(text, others),
-    }
+    texts.iter().any(|other| text == other.as_str())
 }

@@ -1,5 +1,0 @@
-use Rattle.std.proofs.Common.{length}
-use Rattle.ts_core.proofs.texts.+is_among.Given as goal
-
-abbrev pub decreases-is_among : goal.decreases-is_among
-decreases-is_among g l = length l.texts.now
