@@ -1,7 +1,6 @@
 -- The values of fields, told by their shape. (InfluxData 1.8, line protocol reference, data types and format; the store takes integers alone.)
 use Rattle.std.specs.Prelude.{ℕ, ℤ, ◌+◌, ◌-◌, [], ◌∷◌, length, take, drop, Bool, true, false, not, ◌&&◌, ◌||◌, ◌==◌, if◌then◌else◌, slice_index, slice_range, Option, Some, None, Result, Ok, Err, bytes_eq, codes}
 use Rattle.std.specs.Char.{is_ascii_digit}
-use Rattle.std.specs.List.{list_all}
 use Rattle.ts_core.specs.Facts.{Text}
 use Rattle.ts_line.specs.declared.fault.LineFault.{LineFault}
 use Rattle.ts_line.specs.declared.fault.LineFault.TheVariants.{BadField, FieldType, IntegerRange}
