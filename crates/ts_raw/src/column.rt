@@ -28,8 +28,8 @@ pub trait Column {
         ensures put { IfSome (aside self.old) (λ p. points self.new ≡ map.insert (points self.old) p.0 p.1) }
         ensures none_aside { aside self.new ≡ None };
 
-    /// The points from a time on and before another, in the order of time: none where the first isn't
-    /// below the second.
+    /// The points from a time on and before another (nanoseconds), in the order of time: none where the
+    /// first isn't below the second.
     fn range(&self, from: i64, to: i64) -> Points<'_>
         ensures { result ≡ points_within (points self.now) from to };
 
@@ -42,7 +42,7 @@ pub trait Column {
     fn live(&self) -> usize
         ensures { result ≡ map.len (points self.now) };
 
-    /// How many points are stored: those that there are, and a few that were dropped.
+    /// How many points are stored: those that there are, and at most 256 that were dropped.
     fn held(&self) -> usize
         ensures all { map.len (points self.now) ≤ result }
         ensures few_more { result ≤ map.len (points self.now) + 256 };

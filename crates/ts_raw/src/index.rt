@@ -13,6 +13,7 @@ mod columns;
 mod fault;
 mod fields;
 mod hash;
+mod next_number;
 mod series;
 mod series_id;
 
@@ -33,7 +34,7 @@ use std::marker::Model;
 use ts_core::{FieldName, Key};
 
 /// How many series are registered at most.
-const SERIES_LIMIT: usize = 1_000_000;
+pub const SERIES_LIMIT: usize = 1_000_000;
 
 /// The registered series and their columns, each found by its names and numbered in the order of making.
 /// (InfluxData 1.8: series, field key.)
@@ -140,7 +141,7 @@ impl<A: Allocator + Copy> Index<A> {
     }
 
     /// The column of a series and a field, where there is one.
-    pub fn column(&self, series: SeriesId, field: &str) -> Option<ColumnId>
+    fn column(&self, series: SeriesId, field: &str) -> Option<ColumnId>
         requires { series < length self.now.series }
         ensures found { IfSome result (λ id. IsAt self.now.columns id (column_in self.now series field.now)) }
         ensures absent { IfNone result (Among (column_in self.now series field.now) self.now.columns → ⊥) }

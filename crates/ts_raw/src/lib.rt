@@ -10,7 +10,7 @@ mod plain_column;
 mod points;
 
 pub use column::Column;
-pub use index::{ColumnId, Index, IndexFault, SeriesId};
+pub use index::{ColumnId, Index, IndexFault, SERIES_LIMIT, SeriesId};
 pub use plain_column::PlainColumn;
 pub use points::Points;
 

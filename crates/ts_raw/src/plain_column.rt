@@ -36,52 +36,52 @@ impl<A: Allocator> Model for PlainColumn<A> {
 }
 
 /// Where the point of a time is, or where it would go.
-fn place_of(points: &[(Time, i64)], time: &Time) -> Result<usize, usize>
+fn place_of(points: &[(Time, i64)], time: Time) -> Result<usize, usize>
     requires { IsRising points.now }
     ensures bound { IsSearchInRange result (length points.now) }
-    ensures place { IsPlaceOf time.now points.now result }
+    ensures place { IsPlaceOf time points.now result }
 {
-    points.binary_search_by(|point| point.0.cmp(time))
+    points.binary_search_by(|point| point.0.cmp(&time))
 }
 
 /// Puts a point among the others, in place of the one of its time.
 #[cold]
-fn put_among<A: Allocator>(points: &mut Vec<(Time, i64), A>, point: &(Time, i64))
+fn put_among<A: Allocator>(points: &mut Vec<(Time, i64), A>, point: (Time, i64))
     requires rising { IsRising points.old.items }
     requires room { vec_len points.old < vec_capacity points.old }
-    ensures { points.new.items ≡ put int_cmp point.now.0 point.now.1 points.old.items }
+    ensures { points.new.items ≡ put int_cmp point.0 point.1 points.old.items }
 {
-    match place_of(points.as_slice(), &point.0) {
-        Ok(at) => points[at] = *point,
-        Err(at) => points.insert(at, *point).unwrap(),
+    match place_of(points.as_slice(), point.0) {
+        Ok(at) => points[at] = point,
+        Err(at) => points.insert(at, point).unwrap(),
     }
 }
 
 /// Puts a point in, in place of the one of its time: at the end, where it comes after all others.
-fn put_point<A: Allocator>(points: &mut Vec<(Time, i64), A>, point: &(Time, i64))
+fn put_point<A: Allocator>(points: &mut Vec<(Time, i64), A>, point: (Time, i64))
     requires rising { IsRising points.old.items }
     requires room { vec_len points.old < vec_capacity points.old }
-    ensures { points.new.items ≡ put int_cmp point.now.0 point.now.1 points.old.items }
+    ensures { points.new.items ≡ put int_cmp point.0 point.1 points.old.items }
 {
     match points.last() {
-        Some(last) if last.0 < point.0 => points.push(*point).unwrap(),
+        Some(last) if last.0 < point.0 => points.push(point).unwrap(),
         _ => put_among(points, point),
     }
 }
 
-/// How many points are before a time.
-fn count_before(points: &[(Time, i64)], time: &i64) -> usize
+/// How many points are before a time (nanoseconds).
+fn count_before(points: &[(Time, i64)], time: i64) -> usize
     requires { IsRising points.now }
     ensures bound { result ≤ length points.now }
-    ensures start { IsStartOf time.now points.now result }
+    ensures start { IsStartOf time points.now result }
 {
-    points.partition_point(|point| point.0.nanos() < *time)
+    points.partition_point(|point| point.0.nanos() < time)
 }
 
-/// The points from a time on, before another.
-fn between<'a>(points: &'a [(Time, i64)], from: &i64, to: &i64) -> &'a [(Time, i64)]
+/// The points from a time on, before another (nanoseconds).
+fn between<'a>(points: &'a [(Time, i64)], from: i64, to: i64) -> &'a [(Time, i64)]
     requires { IsRising points.now }
-    ensures { result.now ≡ filter (λ p. is_within from.now to.now p.0) points.now }
+    ensures { result.now ≡ filter (λ p. is_within from to p.0) points.now }
 {
     let start = count_before(points, from);
     let end = count_before(points, to);
@@ -126,16 +126,16 @@ impl<A: Allocator> Column for PlainColumn<A> {
 
     fn commit(&mut self) {
         let point = self.aside.take().unwrap();
-        put_point(&mut self.points, &point);
+        put_point(&mut self.points, point);
     }
 
     fn range(&self, from: i64, to: i64) -> Points<'_> {
-        Points::plain(between(self.points.as_slice(), &from, &to))
+        Points::plain(between(self.points.as_slice(), from, to))
     }
 
     fn drop_below(&mut self, mark: Time) {
         self.aside = None;
-        let count = count_before(self.points.as_slice(), &mark.nanos());
+        let count = count_before(self.points.as_slice(), mark.nanos());
         drop_front(&mut self.points, count);
     }
 

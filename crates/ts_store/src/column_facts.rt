@@ -19,10 +19,7 @@ use std::alloc::{AllocError, Allocator};
 use std::marker::Model;
 use ts_core::Time;
 use ts_line::Line;
-use ts_raw::{ColumnId, Index, PlainColumn, Points};
-
-/// How many series are registered at most.
-const SERIES_LIMIT: usize = 1_000_000;
+use ts_raw::{ColumnId, Index, PlainColumn, Points, SERIES_LIMIT};
 
 /// Facts in columns, one for each series and field, and the numbers of the columns that a line touches.
 #[derive(Drop)]
@@ -137,7 +134,7 @@ impl<A: Allocator + Copy> ColumnFacts<A> {
         self.index.columns_of(measurement, field)
     }
 
-    /// The points of a column, from a time on and before another.
+    /// The points of a column, from a time on and before another (nanoseconds).
     pub(crate) fn raw_range(&self, column: ColumnId, from: i64, to: i64) -> Points<'_>
         requires { column < length self.now.columns }
         ensures points { (c : Column) → IsAt self.now.columns column c → result ≡ column_points c from to self.now.raw }

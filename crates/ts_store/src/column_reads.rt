@@ -52,7 +52,8 @@ pub(crate) fn raw_points<A: Allocator + Copy>(columns: &[PlainColumn<A>]) -> u64
     count
 }
 
-/// How many points all columns store: those that there are, and a few in each that were dropped.
+/// How many points all columns store: those that there are, and at most 256 in each that
+/// were dropped.
 pub(crate) fn held_points<A: Allocator + Copy>(columns: &[PlainColumn<A>]) -> u64
     requires { number_of_points columns.now ≤ 2 ^ 62 }
     ensures all { number_of_points columns.now ≤ result }
@@ -65,7 +66,7 @@ pub(crate) fn held_points<A: Allocator + Copy>(columns: &[PlainColumn<A>]) -> u6
     count
 }
 
-/// The points of one of the columns, from a time on and before another.
+/// The points of one of the columns, from a time on and before another (nanoseconds).
 pub(crate) fn raw_range<'a, A: Allocator + Copy>(
     columns: &'a [PlainColumn<A>],
     at: usize,

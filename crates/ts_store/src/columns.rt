@@ -46,14 +46,14 @@ fn prepare_at<A: Allocator + Copy>(
     columns: &mut Vec<PlainColumn<A>, A>,
     at: usize,
     time: Time,
-    value: &i64,
+    value: i64,
 ) -> Result<(), AllocError>
     requires { at < length columns.old.items }
-    ensures ok { OnOk result (columns.new.items ≡ set columns.old.items at (with_point_aside (get_or columns.old.items at no_column) time value.now)) }
+    ensures ok { OnOk result (columns.new.items ≡ set columns.old.items at (with_point_aside (get_or columns.old.items at no_column) time value)) }
     ensures len { length columns.new.items ≡ length columns.old.items }
     ensures unchanged { points_of columns.new.items ≡ points_of columns.old.items }
 {
-    columns[at].prepare(time, *value)
+    columns[at].prepare(time, value)
 }
 
 /// Puts in what is aside in the columns of these numbers. It takes no memory.
@@ -92,7 +92,7 @@ pub(crate) fn prepare_line<A: Allocator + Copy>(
     for field in line.fields() {
         let before = touched.last().copied();
         let column = column_for(index, columns, before, series, field.name().text())?;
-        prepare_at(columns, column.number(), line.time(), &field.value())?;
+        prepare_at(columns, column.number(), line.time(), field.value())?;
         touched.push(column)?;
     }
     Ok(())

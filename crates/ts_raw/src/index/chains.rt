@@ -2,6 +2,7 @@
 ghost use Rattle.std.specs.Prelude.{◌≡◌, ◌<◌, ◌++◌, [], ◌∷◌, length, slice_index, OnOk, OnErr};
 ghost use Rattle.ts_raw.specs.LastBelow.{newest_of};
 
+use crate::index::next_number::next_number;
 use std::alloc::{AllocError, Allocator};
 use std::collections::HashMap;
 use std::hash::{BuildHasherDefault, FoldHasher};
@@ -64,9 +65,7 @@ impl<A: Allocator + Copy> Chains<A> {
         ensures ok { OnOk result (self.new ≡ self.old ++ hash ∷ []) }
         ensures err { OnErr result (self.new ≡ self.old) }
     {
-        let Ok(at) = u32::try_from(self.links.len()) else {
-            return Err(AllocError);
-        };
+        let at = next_number(self.links.len())?;
         self.links.reserve(1)?;
         let older = self.newest.insert(hash, at)?;
         self.links.push(Link { hash, older }).unwrap();

@@ -1,5 +1,5 @@
 //! Small numbers in place of columns' names.
-ghost use Rattle.std.specs.Prelude.{◌≡◌};
+ghost use Rattle.std.specs.Prelude.{◌≡◌, ◌+◌, min};
 
 use std::marker::Model;
 
@@ -17,8 +17,10 @@ impl ColumnId {
         self.number as usize
     }
 
-    /// The number after it, where there is one.
-    pub(crate) fn next(self) -> ColumnId {
+    /// The column of the number after it: of the same number, where that is the largest of 32 bits.
+    pub(crate) fn next(self) -> ColumnId
+        ensures { result ≡ min (self + 1) 4_294_967_295 }
+    {
         ColumnId {
             number: self.number.saturating_add(1),
         }

@@ -5,6 +5,7 @@ ghost use Rattle.ts_raw.specs.ColumnTables.{has_field};
 ghost use Rattle.ts_raw.specs.Numbered.{IsAt, numbers_where};
 
 use crate::index::column_id::ColumnId;
+use crate::index::next_number::next_number;
 use std::alloc::{AllocError, Allocator};
 use std::collections::HashMap;
 use std::hash::{BuildHasherDefault, FoldHasher};
@@ -77,7 +78,7 @@ impl<A: Allocator + Copy> ColumnTable<A> {
         self.members[field as usize].as_slice()
     }
 
-    /// Makes room for one more field.
+    /// Adds the list of the columns of one more field: it has none yet.
     fn add_field(&mut self) -> Result<(), AllocError>
         ensures columns { self.new.columns ≡ self.old.columns }
         ensures ok { OnOk result (self.new.fields ≡ self.old.fields + 1) }
@@ -88,7 +89,8 @@ impl<A: Allocator + Copy> ColumnTable<A> {
         Ok(())
     }
 
-    /// Makes room for one more field than there are.
+    /// Sees to it that more fields than so many have a list of columns: one is added, without columns, where just so
+    /// many have it, and nothing changes where more have.
     pub(crate) fn make_room(&mut self, fields: usize) -> Result<(), AllocError>
         requires { fields ≤ self.old.fields }
         ensures columns { self.new.columns ≡ self.old.columns }
@@ -110,9 +112,7 @@ impl<A: Allocator + Copy> ColumnTable<A> {
         ensures fields { self.new.fields ≡ self.old.fields }
         ensures err { OnErr result (self.new.columns ≡ self.old.columns) }
     {
-        let Ok(number) = u32::try_from(self.columns.len()) else {
-            return Err(AllocError);
-        };
+        let number = next_number(self.columns.len())?;
         self.columns.reserve(1)?;
         self.places.reserve(1)?;
         let members = &mut self.members[field as usize];

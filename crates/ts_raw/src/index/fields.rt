@@ -6,6 +6,7 @@ ghost use Rattle.ts_raw.specs.Numbered.{IsAt, Gains};
 
 use crate::index::chains::Chains;
 use crate::index::hash::hash_field;
+use crate::index::next_number::next_number;
 use std::alloc::{AllocError, Allocator};
 use std::marker::Model;
 use ts_core::FieldName;
@@ -122,9 +123,7 @@ impl<A: Allocator + Copy> FieldTable<A> {
         if let Some(number) = self.lookup(measurement, field) {
             return Ok(number);
         }
-        let Ok(number) = u32::try_from(self.keys.len()) else {
-            return Err(AllocError);
-        };
+        let number = next_number(self.keys.len())?;
         let key = FieldKey::new(*self.keys.allocator(), measurement, field)?;
         self.keys.reserve(1)?;
         self.chains.push(hash_field(measurement, field))?;

@@ -7,6 +7,7 @@ ghost use Rattle.ts_raw.specs.Numbered.{IsAt, Gains};
 use crate::index::chains::Chains;
 use crate::index::fault::IndexFault;
 use crate::index::hash::hash_series;
+use crate::index::next_number::next_number;
 use crate::index::series_id::SeriesId;
 use std::alloc::Allocator;
 use std::cmp::Ordering;
@@ -97,9 +98,7 @@ impl<A: Allocator + Copy> SeriesTable<A> {
         if self.keys.len() >= limit {
             return Err(IndexFault::TooManySeries);
         }
-        let Ok(number) = u32::try_from(self.keys.len()) else {
-            return Err(IndexFault::OutOfMemory);
-        };
+        let number = next_number(self.keys.len())?;
         let key = Key::new(*self.keys.allocator(), measurement, tags)?;
         self.keys.reserve(1)?;
         self.chains.push(hash_series(measurement, tags))?;

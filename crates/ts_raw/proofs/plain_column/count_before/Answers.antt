@@ -5,4 +5,4 @@ use Rattle.ts_raw.proofs.plain_column.count_before.Goals as goal
 
 pub returns-clause-start : goal.returns-clause-start
 returns-clause-start c =
-    IsPartitionPoint-from_clause (λ (p : ℤ × ℤ). int_lt p.0 c.args.time.now) _ _ c.partition_point.ensures.partitioned (rising_first c.args.points.now c.requires c.args.time.now) (λ a r q k. search rules)
+    IsPartitionPoint-from_clause (λ (p : ℤ × ℤ). int_lt p.0 c.args.time) _ _ c.partition_point.ensures.partitioned (rising_first c.args.points.now c.requires c.args.time) (λ a r q k. search rules)

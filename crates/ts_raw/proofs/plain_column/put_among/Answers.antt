@@ -6,7 +6,7 @@ use Rattle.ts_raw.proofs.plain_column.put_among.Goals as goal
 pub returns-in-Ok : goal.returns-in-Ok
 returns-in-Ok g c =
     let points : List (ℤ × ℤ) = c.args.points.now.items in
-    let point : ℤ × ℤ = c.args.point.now in
+    let point : ℤ × ℤ = c.args.point in
     let at : ℕ = c.in-Ok.at in
     let place : IsPlaceOf point.0 points (Ok at) = subst (λ xs. IsPlaceOf point.0 xs (Ok at)) c.as_slice.ensures.value c.in-Ok.ensures.place in
     let bound : at < length points = subst (λ (xs : List (ℤ × ℤ)). at < length xs) c.as_slice.ensures.value c.in-Ok.ensures.bound in
@@ -15,7 +15,7 @@ returns-in-Ok g c =
 pub returns-in-Err : goal.returns-in-Err
 returns-in-Err g c =
     let points : List (ℤ × ℤ) = c.args.points.now.items in
-    let point : ℤ × ℤ = c.args.point.now in
+    let point : ℤ × ℤ = c.args.point in
     let at : ℕ = c.in-Err.at in
     let place : IsPlaceOf point.0 points (Err at) = subst (λ xs. IsPlaceOf point.0 xs (Err at)) c.as_slice.ensures.value c.in-Err.ensures.place in
     let bound : at ≤ length points = subst (λ (xs : List (ℤ × ℤ)). at ≤ length xs) c.as_slice.ensures.value c.in-Err.ensures.bound in

@@ -9,7 +9,7 @@ pub invariant_of-self-2 : goal.invariant_of-self-2
 invariant_of-self-2 g c =
     let links : List Link = c.self.inside.links.items in
     let before : ℕ → Option ℕ = get nat_eq c.self.inside.newest in
-    let place : c.in-Ok.at ≡ length links = search rules in
+    let place : c.in_ok-at.at ≡ length links = search rules in
     let link : Link = record { hash = c.args.hash; older = c.in_ok-older.older } in
     let pushed : c.push.new.self.items ≡ links ++ record { hash = c.args.hash; older = before c.args.hash } ∷ [] =
     c.push.ensures.items ∙ ap (λ r. cond (is_ok r) (c.reserve.new.self.items ++ link ∷ []) c.reserve.new.self.items) c.unwrap.ensures

@@ -33,8 +33,8 @@ pub returns-clause-number : goal.returns-clause-number
 returns-clause-number g c =
     let key : FieldKey = field_key c.args.measurement.now c.args.field.now in
     let before : List FieldKey = c.self.inside.keys.items in
-    let number : c.in-Ok.number ≡ length before = search rules in
-    subst (λ (xs : List FieldKey). IsAt xs c.in-Ok.number key) (sym (pushed g c)) (subst (λ n. IsAt (before ++ key ∷ []) n key) (sym number) (at_end before key))
+    let number : c.in_ok-number.number ≡ length before = search rules in
+    subst (λ (xs : List FieldKey). IsAt xs c.in_ok-number.number key) (sym (pushed g c)) (subst (λ n. IsAt (before ++ key ∷ []) n key) (sym number) (at_end before key))
 
 pub returns-clause-once : goal.returns-clause-once
 returns-clause-once g c = (invariant_of-self-2 g c).once

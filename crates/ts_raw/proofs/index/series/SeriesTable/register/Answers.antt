@@ -40,8 +40,8 @@ pub returns-clause-number : goal.returns-clause-number
 returns-clause-number g c =
     let key : Series = lent_series c.args.measurement.now c.args.tags.now in
     let before : List Series = c.self.inside.keys.items in
-    let number : c.in-Ok.number ≡ length before = search rules in
-    subst (λ (xs : List Series). IsAt xs c.in-Ok.number key) (sym (pushed g c)) (subst (λ n. IsAt (before ++ key ∷ []) n key) (sym number) (at_end before key))
+    let number : c.in_ok-number.number ≡ length before = search rules in
+    subst (λ (xs : List Series). IsAt xs c.in_ok-number.number key) (sym (pushed g c)) (subst (λ n. IsAt (before ++ key ∷ []) n key) (sym number) (at_end before key))
 
 pub returns-clause-once : goal.returns-clause-once
 returns-clause-once g c = (invariant_of-self-2 g c).once
