@@ -9,7 +9,7 @@ use Rattle.std.proofs.lemmas.List.{take_at, length_push, get_or_push, get_or-dro
 use Rattle.std.proofs.lemmas.Slice.Eq.{bytes_eq-Decides}
 use Rattle.ts_core.specs.Facts.{Text}
 use Rattle.ts_line.specs.declared.scan.Stops.TheVariants.{Space, Equals, Plain}
-use Rattle.ts_line.specs.Numbers.{is_number, without_minus, is_within, whole_of}
+use Rattle.ts_line.specs.Numbers.{is_number, without_minus, is_from_to, whole_of}
 use Rattle.ts_line.specs.Parts.{Piece}
 use Rattle.ts_line.specs.Scan.{end_of}
 use Rattle.ts_line.specs.Pieces.{unescaped}
@@ -75,7 +75,7 @@ value_is_read start number number_is fits =
     let last : get_or text (length text - 1) 0 ≡ 105 = get_or_push number 105 0 (length text - 1) place in
     let front : take (length text - 1) text ≡ number = take_at number (105 ∷ []) (length text - 1) place in
     let within : whole_of number ≡ Some (signed_digits_value 10 number) =
-    cond-true (is_within (neg_ℤ (pos 9223372036854775808)) (pos 9223372036854775807) (signed_digits_value 10 number)) (Some (signed_digits_value 10 number)) None (fits_within (signed_digits_value 10 number) fits) in
+    cond-true (is_from_to (neg_ℤ (pos 9223372036854775808)) (pos 9223372036854775807) (signed_digits_value 10 number)) (Some (signed_digits_value 10 number)) None (fits_within (signed_digits_value 10 number) fits) in
     rw (some, last, front, number_is) (ap (integer_by start) within)
 
 value_by : (number line rest : Text) (start at : ℕ) → At line at (number ++ (105 ∷ rest)) → list_all is_number_byte number ≡ true → 1 ≤ length number → eqb (slice_index line at) 34 ≡ false

@@ -11,7 +11,7 @@ use Rattle.ts_core.specs.Facts.{Text}
 use Rattle.ts_line.specs.declared.fault.LineFault.{LineFault}
 use Rattle.ts_line.specs.declared.fault.LineFault.TheVariants.{BadField, FieldType, ReservedKey}
 use Rattle.ts_line.specs.declared.scan.Stops.TheVariants.{Equals, Plain}
-use Rattle.ts_line.specs.Numbers.{is_number, is_within, whole_of}
+use Rattle.ts_line.specs.Numbers.{is_number, is_from_to, whole_of}
 use Rattle.ts_line.specs.Parts.{Piece}
 use Rattle.ts_line.specs.Scan.{is_stop, end_of}
 use Rattle.ts_line.specs.Pieces.{unescaped, piece_at}
@@ -36,7 +36,7 @@ pub record IsValue (text : Text) (value : ℤ) : Type 0 where
 whole_told : (start : ℕ) (number : Text) (o : Option ℤ) (value : ℤ) → whole_of number ≡ o → integer_by start o ≡ Ok value → FitsSigned w64 (signed_digits_value 10 number) × (value ≡ signed_digits_value 10 number)
 whole_told start number None value e done = absurd cc
 whole_told start number (Some n) value e done =
-    let w = cond_some (is_within (neg_ℤ (pos 9223372036854775808)) (pos 9223372036854775807) (signed_digits_value 10 number)) (signed_digits_value 10 number) n e in
+    let w = cond_some (is_from_to (neg_ℤ (pos 9223372036854775808)) (pos 9223372036854775807) (signed_digits_value 10 number)) (signed_digits_value 10 number) n e in
     let same : n ≡ value = cc in
     (within_fits (signed_digits_value 10 number) w.0, sym (w.1 ∙ same))
 

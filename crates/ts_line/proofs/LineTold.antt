@@ -9,7 +9,7 @@ use Rattle.std.proofs.lemmas.Option.{cond_some}
 use Rattle.ts_core.specs.Facts.{Text}
 use Rattle.ts_core.specs.Times.{least_time, greatest_time}
 use Rattle.ts_line.specs.declared.fault.LineFault.TheVariants.{BadTimestamp}
-use Rattle.ts_line.specs.Numbers.{is_number, is_within}
+use Rattle.ts_line.specs.Numbers.{is_number, is_from_to}
 use Rattle.ts_line.specs.Scan.{spaces, spaces_end}
 use Rattle.ts_line.specs.Lines.{is_bare_space, trimmed, without_return, content, time_of, time_by, time_at}
 use Rattle.ts_line.specs.Spelling.{are_spaces, IsStamp, SaysTime}
@@ -61,7 +61,7 @@ stamp_by unit start number time (Some t) e done = let same : t ≡ time = cc in 
 stamp_told : (unit : ℤ) (gap number stamp : Text) (time : ℤ) → stamp ≡ 32 ∷ (gap ++ number) → are_spaces gap ≡ true → is_number number ≡ true → time_of unit number ≡ Some time → IsStamp unit stamp time
 unfolding time_of
 stamp_told unit gap number stamp time spelled gap_is number_is e =
-    let c = cond_some (is_within least_time greatest_time (signed_digits_value 10 number *ℤ unit)) (signed_digits_value 10 number *ℤ unit) time e in
+    let c = cond_some (is_from_to least_time greatest_time (signed_digits_value 10 number *ℤ unit)) (signed_digits_value 10 number *ℤ unit) time e in
     record { gap = gap; number = number; spelled = spelled; gap_is = gap_is; number_is = number_is; counted = sym c.1; valid = rw (← c.1) (within_time (signed_digits_value 10 number *ℤ unit) c.0) }
 
 number_by : (unit : ℤ) (start : ℕ) (number : Text) (time : ℤ) (b : Bool) → is_number number ≡ b → cond b (time_by start (time_of unit number)) (Err (BadTimestamp start)) ≡ Ok time → (is_number number ≡ true) × (time_of unit number ≡ Some time)

@@ -10,7 +10,7 @@ use Rattle.std.proofs.lemmas.Option.{cond_some}
 use Rattle.std.proofs.Math.Nat.{mul-le-mul_left}
 use Rattle.ts_core.specs.Facts.{Text}
 use Rattle.ts_core.specs.Times.{IsTime, least_time, greatest_time}
-use Rattle.ts_line.specs.Numbers.{is_number, without_minus, is_within, whole_of}
+use Rattle.ts_line.specs.Numbers.{is_number, without_minus, is_from_to, whole_of}
 use Rattle.ts_line.specs.Lines.{time_of}
 
 digit_below : (c : ℕ) → is_ascii_digit c ≡ true → digit_value c < 10
@@ -49,10 +49,10 @@ numeral [] e = absurd cc
 numeral (b ∷ bs) e = numeral_by b bs (eqb b 45) refl e
 
 -- within 64 bits
-pub fits_within : (n : ℤ) → FitsSigned w64 n → is_within (neg_ℤ (pos 9223372036854775808)) (pos 9223372036854775807) n ≡ true
+pub fits_within : (n : ℤ) → FitsSigned w64 n → is_from_to (neg_ℤ (pos 9223372036854775808)) (pos 9223372036854775807) n ≡ true
 fits_within n h = grind (arith, ints)
 
-pub within_fits : (n : ℤ) → is_within (neg_ℤ (pos 9223372036854775808)) (pos 9223372036854775807) n ≡ true → FitsSigned w64 n
+pub within_fits : (n : ℤ) → is_from_to (neg_ℤ (pos 9223372036854775808)) (pos 9223372036854775807) n ≡ true → FitsSigned w64 n
 within_fits n h = grind (arith, ints)
 
 abbrev none_ℤ : Option ℤ
@@ -66,17 +66,17 @@ none_within_by : (b : Bool) (n : ℤ) → none_ℤ ≡ cond b (Some n) None → 
 none_within_by true n e = cc
 none_within_by false n e = refl
 
-none_within : (n : ℤ) → None ≡ cond (is_within (neg_ℤ (pos 9223372036854775808)) (pos 9223372036854775807) n) (Some n) None → is_within (neg_ℤ (pos 9223372036854775808)) (pos 9223372036854775807) n ≡ false
-none_within n e = none_within_by (is_within (neg_ℤ (pos 9223372036854775808)) (pos 9223372036854775807) n) n e
+none_within : (n : ℤ) → None ≡ cond (is_from_to (neg_ℤ (pos 9223372036854775808)) (pos 9223372036854775807) n) (Some n) None → is_from_to (neg_ℤ (pos 9223372036854775808)) (pos 9223372036854775807) n ≡ false
+none_within n e = none_within_by (is_from_to (neg_ℤ (pos 9223372036854775808)) (pos 9223372036854775807) n) n e
 
 -- what `parse` refuses has no 64 bits
 pub not_whole : (text : Text) → is_number text ≡ true → (IsNumeral 10 (without_leading_sign text) × FitsSigned w64 (signed_digits_value 10 text) → ⊥) → None ≡ whole_of text
-not_whole text e h = none_by (is_within (neg_ℤ (pos 9223372036854775808)) (pos 9223372036854775807) (signed_digits_value 10 text)) (signed_digits_value 10 text) (λ w. h (numeral text e, within_fits (signed_digits_value 10 text) w))
+not_whole text e h = none_by (is_from_to (neg_ℤ (pos 9223372036854775808)) (pos 9223372036854775807) (signed_digits_value 10 text)) (signed_digits_value 10 text) (λ w. h (numeral text e, within_fits (signed_digits_value 10 text) w))
 
 -- what was read has 64 bits
 pub whole_fits : (text : Text) (n : ℤ) → Some n ≡ whole_of text → FitsSigned w64 n
 whole_fits text n e =
-    let read = cond_some (is_within (neg_ℤ (pos 9223372036854775808)) (pos 9223372036854775807) (signed_digits_value 10 text)) (signed_digits_value 10 text) n (sym e) in
+    let read = cond_some (is_from_to (neg_ℤ (pos 9223372036854775808)) (pos 9223372036854775807) (signed_digits_value 10 text)) (signed_digits_value 10 text) n (sym e) in
     let fits : FitsSigned w64 (signed_digits_value 10 text) = within_fits (signed_digits_value 10 text) read.0 in
     rw read.1 at fits
 
@@ -85,14 +85,14 @@ pub product_of : (n u m : ℤ) → FitsSigned w64 n → FitsSigned w64 u → m �
 product_of n u m a b e = e ∙ (ap (λ x. x *ℤ to_z w64 (of_z w64 u)) (to_z-of_z w64 n a) ∙ ap (λ x. n *ℤ x) (to_z-of_z w64 u b))
 
 -- a valid time is within its bounds
-pub time_within : (t : ℤ) → IsTime t → is_within least_time greatest_time t ≡ true
+pub time_within : (t : ℤ) → IsTime t → is_from_to least_time greatest_time t ≡ true
 time_within t h = grind (arith, ints)
 
-pub within_time : (t : ℤ) → is_within least_time greatest_time t ≡ true → IsTime t
+pub within_time : (t : ℤ) → is_from_to least_time greatest_time t ≡ true → IsTime t
 within_time t h = record { not_before = grind (arith, ints); not_after = grind (arith, ints) }
 
 -- a number that has no 64 bits is no valid time in any unit
-past_units : (n unit : ℤ) → pos 1 ≤ℤ unit → is_within (neg_ℤ (pos 9223372036854775808)) (pos 9223372036854775807) n ≡ false → is_within least_time greatest_time (n *ℤ unit) ≡ false
+past_units : (n unit : ℤ) → pos 1 ≤ℤ unit → is_from_to (neg_ℤ (pos 9223372036854775808)) (pos 9223372036854775807) n ≡ false → is_from_to least_time greatest_time (n *ℤ unit) ≡ false
 past_units (pos m) (pos u) h e =
     let one : 1 ≤ u = omega (arith, ints) in
     let k : m * 1 ≤ m * u = mul-le-mul_left m one in
@@ -111,7 +111,7 @@ past_units (negsuc m) (negsuc u) h e = absurd (omega (arith, ints))
 pub no_moment : (unit : ℤ) (text : Text) → pos 1 ≤ℤ unit → None ≡ whole_of text → None ≡ time_of unit text
 unfolding time_of
 no_moment unit text h none =
-    let out : is_within (neg_ℤ (pos 9223372036854775808)) (pos 9223372036854775807) (signed_digits_value 10 text) ≡ false = none_within (signed_digits_value 10 text) none in
+    let out : is_from_to (neg_ℤ (pos 9223372036854775808)) (pos 9223372036854775807) (signed_digits_value 10 text) ≡ false = none_within (signed_digits_value 10 text) none in
     rw (past_units (signed_digits_value 10 text) unit h out) refl
 
 -- a number of units, read and multiplied, is a time where that is valid
@@ -119,11 +119,11 @@ pub moment_read : (unit : ℤ) (text : Text) (n m : ℤ) (r : Option ℤ) → So
     → (IsSome r ↔ IsTime m) → IfSome r (λ t. t ≡ m) → r ≡ time_of unit text
 unfolding time_of
 moment_read unit text n m None whole product valid value =
-    let read = cond_some (is_within (neg_ℤ (pos 9223372036854775808)) (pos 9223372036854775807) (signed_digits_value 10 text)) (signed_digits_value 10 text) n (sym whole) in
+    let read = cond_some (is_from_to (neg_ℤ (pos 9223372036854775808)) (pos 9223372036854775807) (signed_digits_value 10 text)) (signed_digits_value 10 text) n (sym whole) in
     let same : signed_digits_value 10 text *ℤ unit ≡ m = ap (λ x. x *ℤ unit) read.1 ∙ sym product in
-    let outside : is_within least_time greatest_time m ≡ false = false_from_ne_true (is_within least_time greatest_time m) (λ w. false≢true (valid.1 (within_time m w))) in
+    let outside : is_from_to least_time greatest_time m ≡ false = false_from_ne_true (is_from_to least_time greatest_time m) (λ w. false≢true (valid.1 (within_time m w))) in
     rw (same, outside) refl
 moment_read unit text n m (Some t) whole product valid value =
-    let read = cond_some (is_within (neg_ℤ (pos 9223372036854775808)) (pos 9223372036854775807) (signed_digits_value 10 text)) (signed_digits_value 10 text) n (sym whole) in
+    let read = cond_some (is_from_to (neg_ℤ (pos 9223372036854775808)) (pos 9223372036854775807) (signed_digits_value 10 text)) (signed_digits_value 10 text) n (sym whole) in
     let same : signed_digits_value 10 text *ℤ unit ≡ m = ap (λ x. x *ℤ unit) read.1 ∙ sym product in
     rw (same, time_within m (valid.0 refl)) (ap (λ x. Some x) value)

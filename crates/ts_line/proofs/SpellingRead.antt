@@ -8,7 +8,7 @@ use Rattle.std.proofs.lemmas.List.{drop_at}
 use Rattle.ts_core.specs.Facts.{Text}
 use Rattle.ts_core.specs.Times.{IsTime, least_time, greatest_time}
 use Rattle.ts_line.specs.declared.scan.Stops.TheVariants.{Space, Comma, Equals}
-use Rattle.ts_line.specs.Numbers.{is_number, is_within}
+use Rattle.ts_line.specs.Numbers.{is_number, is_from_to}
 use Rattle.ts_line.specs.Scan.{is_backslash, ends, end_of, spaces_end}
 use Rattle.ts_line.specs.Fields.{fields_at}
 use Rattle.ts_line.specs.Lines.{content, measurement_at, time_of, time_at, line_of}
@@ -126,7 +126,7 @@ tags_closed (t ∷ ts) w =
 time_is_read : (unit : ℤ) (number : Text) → IsTime (signed_digits_value 10 number *ℤ unit) → time_of unit number ≡ Some (signed_digits_value 10 number *ℤ unit)
 unfolding time_of
 time_is_read unit number valid =
-    cond-true (is_within least_time greatest_time (signed_digits_value 10 number *ℤ unit)) (Some (signed_digits_value 10 number *ℤ unit)) None (time_within (signed_digits_value 10 number *ℤ unit) valid)
+    cond-true (is_from_to least_time greatest_time (signed_digits_value 10 number *ℤ unit)) (Some (signed_digits_value 10 number *ℤ unit)) None (time_within (signed_digits_value 10 number *ℤ unit) valid)
 
 time_read : (unit now : ℤ) (line stamp : Text) (at : ℕ) (time : ℤ) → At line at stamp → length line ≡ at + length stamp → SaysTime unit now stamp time → time_at unit now line at ≡ Ok time
 unfolding time_at

@@ -8,7 +8,7 @@ use Rattle.ts_line.specs.declared.fault.LineFault.{LineFault}
 use Rattle.ts_line.specs.declared.fault.LineFault.TheVariants.{NoMeasurement, NoField, BadTimestamp, TimestampRange, OverLimit}
 use Rattle.ts_line.specs.declared.scan.Stops.TheVariants.{Space, Comma}
 use Rattle.ts_line.specs.Parts.{Piece, Parts}
-use Rattle.ts_line.specs.Numbers.{is_number, is_within}
+use Rattle.ts_line.specs.Numbers.{is_number, is_from_to}
 use Rattle.ts_line.specs.Scan.{is_backslash, end_of, spaces_end}
 use Rattle.ts_line.specs.Pieces.{piece_at}
 use Rattle.ts_line.specs.Steps.{◌>>=◌}
@@ -40,7 +40,7 @@ measurement_at line start =
 
 -- the time of so many units
 unfoldable pub time_of : ℤ → Text → Option ℤ
-time_of unit number = if is_within least_time greatest_time (signed_digits_value 10 number *ℤ unit) then Some (signed_digits_value 10 number *ℤ unit) else None
+time_of unit number = if is_from_to least_time greatest_time (signed_digits_value 10 number *ℤ unit) then Some (signed_digits_value 10 number *ℤ unit) else None
 
 abbrev pub time_by : ℕ → Option ℤ → Result ℤ LineFault
 time_by start None = Err (TimestampRange start)

@@ -17,9 +17,10 @@ are_digits text = not (length text == 0) && list_all is_ascii_digit text
 unfoldable pub is_number : Text → Bool
 is_number text = are_digits (without_minus text)
 
-abbrev pub is_within : ℤ → ℤ → ℤ → Bool
-is_within least greatest n = int_le least n && int_le n greatest
+-- between two numbers, or one of them
+abbrev pub is_from_to : ℤ → ℤ → ℤ → Bool
+is_from_to least greatest n = int_le least n && int_le n greatest
 
 -- the value of a number, where it has 64 bits
 abbrev pub whole_of : Text → Option ℤ
-whole_of number = if is_within (neg_ℤ (pos 9223372036854775808)) (pos 9223372036854775807) (signed_digits_value 10 number) then Some (signed_digits_value 10 number) else None
+whole_of number = if is_from_to (neg_ℤ (pos 9223372036854775808)) (pos 9223372036854775807) (signed_digits_value 10 number) then Some (signed_digits_value 10 number) else None

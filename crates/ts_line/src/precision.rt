@@ -16,7 +16,7 @@ pub enum Precision {
 impl Precision {
     /// The precision of that name: `ns`, `n`, `u`, `ms`, `s`, `m` or `h`.
     #[tactic(auto, unfolding(crate::specs::Units::precision_of))]
-    pub fn named(name: &str) -> Option<Precision>
+    pub fn from_name(name: &str) -> Option<Precision>
         ensures { result ≡ precision_of name.now }
     {
         match name {

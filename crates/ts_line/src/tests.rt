@@ -248,14 +248,14 @@ const UNITS: [(&str, &str, (u8, usize)); 12] = [
 fn units_are_counted(rt: HostRuntime) -> Result<(), Fail> {
     let alloc = rt.alloc();
     for (name, text, expected) in UNITS {
-        let precision = Precision::named(name).ok_or("a precision")?;
+        let precision = Precision::from_name(name).ok_or("a precision")?;
         assert!(rt;
             fault(alloc, text, precision) == Some(expected),
             "at {text}"
         );
     }
     for name in ["", "µ", "us", "S", "d", "w"] {
-        assert!(rt; Precision::named(name).is_none(), "at {name}");
+        assert!(rt; Precision::from_name(name).is_none(), "at {name}");
     }
     Ok(())
 }

@@ -82,7 +82,7 @@ fn at(text: &str) -> Command<'_>
 fn precision(text: &str) -> Command<'_>
     ensures { command_view result ≡ precision_from (precision_of text.now) }
 {
-    match Precision::named(text) {
+    match Precision::from_name(text) {
         Some(precision) => Command::SetPrecision(precision),
         None => Command::Unknown,
     }

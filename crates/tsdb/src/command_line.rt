@@ -26,7 +26,8 @@ Scripts have one command a line; blank lines and lines that begin with # are pas
   count M F A B  prints how many points field F of measurement M has from time A on and before
                  time B, in nanoseconds. A point that was written again counts once.
 
-What is wrong is printed as `fault` with its number, and the script goes on with its next line.
+What is wrong is printed as `fault` with its number, want of memory as `fault memory`, and the
+script goes on with its next line.
 
 Example:
 

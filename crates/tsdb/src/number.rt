@@ -39,7 +39,7 @@ impl Unit {
 
     /// The unit of this name; without a name it is the nanosecond.
     #[tactic(auto, unfolding(crate::specs::Numbers::unit_called))]
-    fn called(name: &str) -> Option<Unit>
+    fn from_name(name: &str) -> Option<Unit>
         ensures { result ≡ unit_called name.now }
     {
         match name.as_bytes() {
@@ -92,5 +92,5 @@ pub(crate) fn moment_of(text: &str) -> Option<Time>
     ensures { result ≡ moment_of text.now }
 {
     let end = number_len(text);
-    moment_in(Unit::called(&text[end..])?, &text[..end])
+    moment_in(Unit::from_name(&text[end..])?, &text[..end])
 }
