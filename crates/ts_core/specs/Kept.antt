@@ -1,5 +1,5 @@
 -- What a store keeps before its first run of retention, and when that stands for a history. `StoreStates` says it with
--- rules, runs and cells, and of a history in which nothing began it says the same. (Own rules.)
+-- rules, runs and cells; where no run began, what is said here follows from that (`proofs/Shown`). (Own rules.)
 use Rattle.std.specs.Prelude.{◌≡◌, ◌↔◌, ℕ, ℤ, ◌≤ℤ◌, int_le, List, ◌∷◌, length, filter}
 use Rattle.ts_core.specs.Members.{Among, AllDistinct}
 use Rattle.ts_core.specs.Facts.{Series, Column, Fact}
