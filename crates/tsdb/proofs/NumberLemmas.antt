@@ -1,25 +1,10 @@
--- Units have a nanosecond or more; and where a number ends.
-use Rattle.std.proofs.Common.{◌≡◌, ℕ, ◌+◌, ◌<◌, Bool, true, false, cond, not, ◌||◌, eqb, [], length, drop, get_or, ap, refl, ◌∙◌, arith, pos, ◌≤ℤ◌}
+-- Where a number ends.
+use Rattle.std.proofs.Common.{◌≡◌, ℕ, ◌+◌, ◌<◌, Bool, true, false, cond, not, ◌||◌, eqb, [], length, drop, get_or, ap, refl, ◌∙◌, arith}
 use Rattle.std.specs.Char.{is_ascii_digit}
 use Rattle.std.proofs.lemmas.Bool.Decides.{nat_tests}
-use Rattle.std.proofs.lemmas.Int.{ints}
 use Rattle.std.proofs.lemmas.List.{at_drop_more, drop_all}
 use Rattle.ts_core.specs.Facts.{Text}
-use Rattle.tsdb.specs.Numbers.{nanoseconds_of, number_len}
-use Rattle.tsdb.specs.declared.number.Unit.{Unit}
-use Rattle.tsdb.specs.declared.number.Unit.TheVariants.{Nanosecond, Microsecond, Millisecond, Second, Minute, Hour, Day, Week}
-
-pub one_or_more : (u : Unit) → pos 1 ≤ℤ nanoseconds_of u
-one_or_more Nanosecond = omega (arith, ints)
-one_or_more Microsecond = omega (arith, ints)
-one_or_more Millisecond = omega (arith, ints)
-one_or_more Second = omega (arith, ints)
-one_or_more Minute = omega (arith, ints)
-one_or_more Hour = omega (arith, ints)
-one_or_more Day = omega (arith, ints)
-one_or_more Week = omega (arith, ints)
-
--- ---- where a number ends
+use Rattle.tsdb.specs.Numbers.{number_len}
 
 cond_not_at : (b : Bool) (x y : ℕ) → b ≡ true → cond (not (not b)) x y ≡ x
 cond_not_at true x y e = refl
