@@ -23,14 +23,14 @@ facts_of-column [] f a = absurd a
 facts_of-column (c ∷ cs) f a =
     ⊎_elim {C = Among f.column (map column_of (c ∷ cs))} (λ k. inl (facts_at-column c.column c.points f k)) (λ k. inr (facts_of-column cs f k)) (Among-append f (facts_at c.column c.points) (facts_of cs) a)
 
-facts_of-there : (cs : List ColumnPoints) (c : ColumnPoints) (f : Fact) → Among c cs → Among f (facts_at c.column c.points) → Among f (facts_of cs)
+pub facts_of-there : (cs : List ColumnPoints) (c : ColumnPoints) (f : Fact) → Among c cs → Among f (facts_at c.column c.points) → Among f (facts_of cs)
 facts_of-there [] c f m a = absurd m
 facts_of-there (d ∷ ds) c f m a =
     ⊎_elim {C = Among f (facts_of (d ∷ ds))}
     (λ e. Among-left f (facts_at d.column d.points) (facts_of ds) (subst (λ (x : ColumnPoints). Among f (facts_at x.column x.points)) e a))
     (λ k. Among-right f (facts_at d.column d.points) (facts_of ds) (facts_of-there ds c f k a)) m
 
-column_there : (cs : List ColumnPoints) (c : ColumnPoints) → Among c cs → Among c.column (map column_of cs)
+pub column_there : (cs : List ColumnPoints) (c : ColumnPoints) → Among c cs → Among c.column (map column_of cs)
 column_there [] c m = absurd m
 column_there (d ∷ ds) c m = ⊎_elim {C = Among c.column (map column_of (d ∷ ds))} (λ e. inl (ap column_of e)) (λ k. inr (column_there ds c k)) m
 

@@ -66,3 +66,8 @@ pub mod BucketsNear
 pub mod TooMany
 pub mod SettingsLaws
 pub mod ColumnTests
+pub mod Freezing
+pub mod StepStands
+pub mod MovesStand
+pub mod LineStands
+pub mod StoreNew

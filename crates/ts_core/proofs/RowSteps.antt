@@ -9,7 +9,7 @@ use Rattle.ts_core.proofs.Folds.{fold-push, fold-count}
 use Rattle.ts_core.proofs.ListSteps.{filter-push}
 use Rattle.ts_core.proofs.LentLemmas.{lent-take_more, length-lent}
 
-length-filter : {X : Type 0} (p : X → Bool) (xs : List X) → length (filter p xs) ≤ length xs
+pub length-filter : {X : Type 0} (p : X → Bool) (xs : List X) → length (filter p xs) ≤ length xs
 length-filter p [] = omega arith
 length-filter p (x ∷ xs) =
     let ih = length-filter p xs in

@@ -35,4 +35,9 @@ pub mod Cells
 pub mod StoreStates
 pub mod Runs
 pub mod Views
+pub mod Changes
+pub mod StoreData
+pub mod StoreCodes
+pub mod StoreMoves
+pub mod StoreLaws
 pub mod Assembly

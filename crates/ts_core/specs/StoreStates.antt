@@ -52,8 +52,11 @@ abbrev pub lowest_of : RuleCells → ℤ
 lowest_of r = r.low
 
 -- the facts that points of a column are
+abbrev pub fact_at : Column → ℤ × ℤ → Fact
+fact_at c p = record { column = c; time = p.0; value = p.1 }
+
 abbrev pub facts_at : Column → List (ℤ × ℤ) → List Fact
-facts_at c ps = map (λ (p : ℤ × ℤ). record { column = c; time = p.0; value = p.1 }) ps
+facts_at c ps = map (fact_at c) ps
 
 abbrev pub facts_of : List ColumnPoints → List Fact
 facts_of [] = []

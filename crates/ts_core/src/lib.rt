@@ -22,6 +22,7 @@ mod settings;
 mod settings_fault;
 mod sink;
 mod source;
+mod stands;
 mod tally;
 mod texts;
 mod time;
@@ -44,6 +45,7 @@ pub use settings::{Rule, Settings};
 pub use settings_fault::{RuleFault, SettingsFault};
 pub use sink::{Refused, Sink};
 pub use source::Source;
+pub use stands::store_moves;
 pub use time::Time;
 pub use value::{Function, Value};
 

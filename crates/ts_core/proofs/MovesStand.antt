@@ -1,0 +1,227 @@
+-- The other moves, on what the store keeps.
+use Rattle.std.proofs.Common.{◌≡◌, ℤ, true, false, cond, not, List, [], ◌∷◌, filter, map, refl, sym, ◌∙◌, ap, subst, inl, inr, ◌⊎◌, ⊎_elim, true≢false, Some, None, is_eq, T}
+use Rattle.std.specs.Int.{int_max}
+use Rattle.std.specs.List.{AllByRecursion}
+use Rattle.std.specs.FinMap as finmap
+use Rattle.std.specs.FinMap.{find, is_sorted, get-entries, entries_sorted}
+use Rattle.std.specs.FinMap.Entries.{below_all}
+use Rattle.ts_core.specs.Members.{Among, AllDistinct}
+use Rattle.ts_core.specs.Facts.{Series, Column, Fact, Id, id_of, same_id}
+use Rattle.ts_core.specs.Settings.{Rule, Settings}
+use Rattle.ts_core.specs.History.{History, Begin, Step, kept_since}
+use Rattle.ts_core.specs.Latest.{latest_of}
+use Rattle.ts_core.specs.Marks.{index_of}
+use Rattle.ts_core.specs.Aggregates.{Aggregate, empty_aggregate}
+use Rattle.ts_core.specs.MergeLaws.{aggregate_laws}
+use Rattle.ts_core.specs.RawFacts.{kept_from}
+use Rattle.ts_core.specs.Cells.{Cell, cell_cmp, same_cell, cell_of, is_in_cell, total_of}
+use Rattle.ts_core.specs.StoreStates.{ColumnPoints, RuleCells, StandsFor, HasCells, column_of, rule_of, lowest_of, facts_of}
+use Rattle.ts_core.proofs.Folds.{fold-same}
+use Rattle.ts_core.proofs.MembersLemmas.{AllDistinct-filter, Among-filter_was, Among-filter_passes, Among-filter_stays}
+use Rattle.ts_core.proofs.PieceCells.{same_cell-eq, same_cell-refl}
+use Rattle.ts_core.proofs.Ids.{same_id-eq}
+use Rattle.ts_core.proofs.Places.{both_of, less_of}
+use Rattle.ts_core.proofs.Cuts.{one_fact}
+use Rattle.ts_core.proofs.Moves.{AllTwo, IsRaised, IsExpired, IsWritten, FactsToo}
+use Rattle.ts_core.proofs.StateLemmas.{cons_not, same_rest}
+use Rattle.ts_core.proofs.Begins.{begin_stands}
+use Rattle.ts_core.proofs.RunSteps.{expire_stands, close_stands}
+use Rattle.ts_core.proofs.Writes.{is_other}
+use Rattle.ts_core.specs.Changes.{or_else}
+use Rattle.ts_core.specs.StoreData.{FrozenCells, StoreData, rules_of, state_of}
+use Rattle.ts_core.specs.StoreMoves.{raised, run_begun, Expired, with_cells, run_ended, HaveRoom, grown, PutsFact}
+use Rattle.ts_core.proofs.StepStands.{find_among}
+
+-- ---- begin
+
+raised_rules : (now : ℤ) (cs : List ColumnPoints) (rs : List Rule) (lows : List ℤ) (ms : List FrozenCells) → AllTwo (IsRaised now) (rules_of cs rs lows ms) (rules_of cs rs (raised now rs lows) ms)
+raised_rules now cs [] lows ms = tt
+raised_rules now cs (r ∷ rs) [] ms = tt
+raised_rules now cs (r ∷ rs) (low ∷ lows) [] = tt
+raised_rules now cs (r ∷ rs) (low ∷ lows) (m ∷ ms) = (record { rule = refl; low = refl; cells = refl; parts = λ k. refl }, raised_rules now cs rs lows ms)
+
+raised_lows : (now : ℤ) (cs : List ColumnPoints) (rs : List Rule) (lows : List ℤ) (ms : List FrozenCells) → map lowest_of (rules_of cs rs lows ms) ≡ lows → map lowest_of (rules_of cs rs (raised now rs lows) ms) ≡ raised now rs lows
+raised_lows now cs [] lows ms e = e
+raised_lows now cs (r ∷ rs) [] ms e = refl
+raised_lows now cs (r ∷ rs) (low ∷ lows) [] e = absurd (cons_not (sym e))
+raised_lows now cs (r ∷ rs) (low ∷ lows) (m ∷ ms) e =
+    ap (λ xs. int_max low (index_of r (kept_since r.duration now)) ∷ xs) (raised_lows now cs rs lows ms (same_rest low low (map lowest_of (rules_of cs rs lows ms)) lows e))
+
+pub run_begins : (opening : Settings) (h : History) (k : StoreData) (now : ℤ) → StandsFor opening h (state_of k) → k.running ≡ false → StandsFor opening (Begin now ∷ h) (state_of (run_begun now k))
+run_begins opening h k now st e =
+    let after : List RuleCells = rules_of k.columns k.settings.rules (raised now k.settings.rules k.marks.lows) k.cells in
+    subst (StandsFor opening (Begin now ∷ h))
+    (λ i. record {
+      settings = k.settings;
+      marks = record { raw = int_max k.marks.raw (kept_since k.settings.raw_duration now); lows = raised_lows now k.columns k.settings.rules k.marks.lows k.cells st.lows i };
+      running = true;
+      waiting = map column_of k.columns;
+      series = k.series;
+      columns = k.columns;
+      accepted = k.accepted;
+      rules = after;
+    })
+    (begin_stands opening h (state_of k) now after st e (raised_rules now k.columns k.settings.rules k.marks.lows k.cells))
+
+-- ---- keys
+
+below_not : (k : Cell) (es : List (Cell × Aggregate)) → T (below_all cell_cmp k es) → Among k (map (λ (e : Cell × Aggregate). e.0) es) → ⊥
+below_not k [] b a = a
+below_not k (e ∷ es) b a =
+    let p = both_of _ _ b in
+    ⊎_elim {C = ⊥} (λ s. true≢false (sym (same_cell-refl k) ∙ ap (same_cell k) s ∙ ap is_eq (less_of _ p.0))) (λ r. below_not k es p.1 r) a
+
+sorted_once : (es : List (Cell × Aggregate)) → T (is_sorted cell_cmp es) → AllDistinct (map (λ (e : Cell × Aggregate). e.0) es)
+sorted_once [] s = tt
+sorted_once (e ∷ es) s = let p = both_of _ _ s in (below_not e.0 es p.0, sorted_once es p.1)
+
+pub keys_once : (m : FrozenCells) → AllDistinct (finmap.keys m)
+keys_once m = sorted_once (finmap.entries m) (entries_sorted m)
+
+find_some : (k : Cell) (es : List (Cell × Aggregate)) → (find cell_cmp k es ≡ None → ⊥) → Among k (map (λ (e : Cell × Aggregate). e.0) es)
+find_some k [] h = h refl
+find_some k (e ∷ es) h =
+    elim (same_cell k e.0) as (λ b. same_cell k e.0 ≡ b → (cond b (Some e.1) (find cell_cmp k es) ≡ None → ⊥) → Among k (map (λ (x : Cell × Aggregate). x.0) (e ∷ es))) [
+      | true ↦ λ q n. inl (same_cell-eq k e.0 q)
+      | false ↦ λ q n. inr (find_some k es n)
+    ] refl h
+
+pub key_there : (m : FrozenCells) (k : Cell) → (finmap.get m k ≡ None → ⊥) → Among k (finmap.keys m)
+key_there m k h = find_some k (finmap.entries m) (λ e. h (get-entries m k ∙ e))
+
+pub key_not : (m : FrozenCells) (k : Cell) → Among k (finmap.keys m) → finmap.get m k ≡ None → ⊥
+key_not m k a e = find_among k (finmap.entries m) a (sym (get-entries m k) ∙ e)
+
+-- ---- expiry
+
+expired_rules : (cs : List ColumnPoints) (rs : List Rule) (lows : List ℤ) (ms ns : List FrozenCells) → Expired lows ms ns → AllTwo IsExpired (rules_of cs rs lows ms) (rules_of cs rs lows ns)
+expired_rules cs [] lows ms ns e = tt
+expired_rules cs (r ∷ rs) [] ms ns e = tt
+expired_rules cs (r ∷ rs) (low ∷ lows) [] [] e = tt
+expired_rules cs (r ∷ rs) (low ∷ lows) [] (n ∷ ns) e = absurd e
+expired_rules cs (r ∷ rs) (low ∷ lows) (m ∷ ms) [] e = absurd e
+expired_rules cs (r ∷ rs) (low ∷ lows) (m ∷ ms) (n ∷ ns) e = (
+  record {
+    rule = refl;
+    low = refl;
+    once = keys_once n;
+    stays = λ k l a. key_there n k (λ z. key_not m k a (sym (e.0 k l) ∙ z));
+    parts = λ k l i. record { frozen = or_else empty_aggregate (e.0 k l i); live = total_of r k (facts_of cs) };
+  },
+  expired_rules cs rs lows ms ns e.1,
+)
+
+pub cells_go : (opening : Settings) (h : History) (k : StoreData) (ms : List FrozenCells) → StandsFor opening h (state_of k) → Expired k.marks.lows k.cells ms → StandsFor opening (Step false ∷ h) (state_of (with_cells ms k))
+cells_go opening h k ms st e = expire_stands opening h (state_of k) (rules_of k.columns k.settings.rules k.marks.lows ms) st (expired_rules k.columns k.settings.rules k.marks.lows k.cells ms e)
+
+pub run_ends : (opening : Settings) (h : History) (k : StoreData) → StandsFor opening h (state_of k) → k.waiting ≡ [] → StandsFor opening (Step true ∷ h) (state_of (run_ended k))
+run_ends opening h k st e = close_stands opening h (state_of k) st e
+
+-- ---- what has grown
+
+grown_cells : (cut : Column → ℤ) (fs facts : List Fact) (before after : List ColumnPoints) → facts_of after ≡ facts_of before → (rs : List Rule) (lows : List ℤ) (ms ns : List FrozenCells) → HaveRoom rs facts ms ns
+    → AllByRecursion (HasCells cut fs) (rules_of before rs lows ms) → AllByRecursion (HasCells cut fs) (rules_of after rs lows ns)
+grown_cells cut fs facts before after same [] lows ms ns e a = tt
+grown_cells cut fs facts before after same (r ∷ rs) [] ms ns e a = tt
+grown_cells cut fs facts before after same (r ∷ rs) (low ∷ lows) [] [] e a = tt
+grown_cells cut fs facts before after same (r ∷ rs) (low ∷ lows) [] (n ∷ ns) e a = absurd e
+grown_cells cut fs facts before after same (r ∷ rs) (low ∷ lows) (m ∷ ms) [] e a = tt
+grown_cells cut fs facts before after same (r ∷ rs) (low ∷ lows) (m ∷ ms) (n ∷ ns) e a = (
+  record {
+    once = keys_once n;
+    there = λ f b t l. key_there n (cell_of r f) (λ z. key_not m (cell_of r f) (a.0.there f b t l) (e.0.stays (cell_of r f) z));
+    frozen = λ k l. e.0.parts k ∙ a.0.frozen k l;
+    live = λ k l. ap (total_of r k) same ∙ a.0.live k l;
+  },
+  grown_cells cut fs facts before after same rs lows ms ns e.1 a.1,
+)
+
+rules_same : (before after : List ColumnPoints) (rs : List Rule) (lows : List ℤ) (facts : List Fact) (ms ns : List FrozenCells) → HaveRoom rs facts ms ns → map rule_of (rules_of after rs lows ns) ≡ map rule_of (rules_of before rs lows ms)
+rules_same before after [] lows facts ms ns e = refl
+rules_same before after (r ∷ rs) [] facts ms ns e = refl
+rules_same before after (r ∷ rs) (low ∷ lows) facts [] [] e = refl
+rules_same before after (r ∷ rs) (low ∷ lows) facts [] (n ∷ ns) e = absurd e
+rules_same before after (r ∷ rs) (low ∷ lows) facts (m ∷ ms) [] e = absurd e
+rules_same before after (r ∷ rs) (low ∷ lows) facts (m ∷ ms) (n ∷ ns) e = ap (λ xs. r ∷ xs) (rules_same before after rs lows facts ms ns e.1)
+
+lows_same : (before after : List ColumnPoints) (rs : List Rule) (lows : List ℤ) (facts : List Fact) (ms ns : List FrozenCells) → HaveRoom rs facts ms ns → map lowest_of (rules_of after rs lows ns) ≡ map lowest_of (rules_of before rs lows ms)
+lows_same before after [] lows facts ms ns e = refl
+lows_same before after (r ∷ rs) [] facts ms ns e = refl
+lows_same before after (r ∷ rs) (low ∷ lows) facts [] [] e = refl
+lows_same before after (r ∷ rs) (low ∷ lows) facts [] (n ∷ ns) e = absurd e
+lows_same before after (r ∷ rs) (low ∷ lows) facts (m ∷ ms) [] e = absurd e
+lows_same before after (r ∷ rs) (low ∷ lows) facts (m ∷ ms) (n ∷ ns) e = ap (λ xs. low ∷ xs) (lows_same before after rs lows facts ms ns e.1)
+
+pub grows : (opening : Settings) (h : History) (k : StoreData) (series : List Series) (columns : List ColumnPoints) (ms : List FrozenCells) (facts : List Fact) → StandsFor opening h (state_of k)
+    → AllDistinct (map column_of columns) → ((c : Column) → Among c (map column_of k.columns) → Among c (map column_of columns)) → ((c : Column) → Among c (map column_of columns) → Among c.series series)
+    → facts_of columns ≡ facts_of k.columns → HaveRoom k.settings.rules facts k.cells ms → StandsFor opening h (state_of (grown series columns ms k))
+grows opening h k series columns ms facts st once stay registered same room = record {
+  lawful = st.lawful;
+  settings = st.settings;
+  marks = st.marks;
+  accepted = st.accepted;
+  running = st.running;
+  waiting_once = st.waiting_once;
+  waiting_there = λ c a. stay c (st.waiting_there c a);
+  idle = st.idle;
+  columns_once = once;
+  columns_there = λ f a. stay f.column (st.columns_there f a);
+  registered = registered;
+  once = subst AllDistinct (sym same) st.once;
+  raw = λ f. (λ a. (st.raw f).0 (subst (Among f) same a), λ a. subst (Among f) (sym same) ((st.raw f).1 a));
+  rules = rules_same k.columns columns k.settings.rules k.marks.lows facts k.cells ms room ∙ st.rules;
+  lows = lows_same k.columns columns k.settings.rules k.marks.lows facts k.cells ms room ∙ st.lows;
+  rolled = grown_cells (kept_from opening h k.waiting) (latest_of h) facts k.columns columns same k.settings.rules k.marks.lows k.cells ms room st.rolled;
+}
+
+-- ---- facts are put
+
+other_true : (f g : Fact) → same_id (id_of g) (id_of f) ≡ false → is_other f g ≡ true
+other_true f g e = ap not e
+
+other_false : (f g : Fact) → is_other f g ≡ true → same_id (id_of g) (id_of f) ≡ false
+other_false f g e = elim (same_id (id_of g) (id_of f)) as (λ b. not b ≡ true → b ≡ false) [ true ↦ λ q. absurd (true≢false (sym q)) | false ↦ λ q. refl ] e
+
+pub too : (before after : List ColumnPoints) (f : Fact) → PutsFact before after f → FactsToo (facts_of before) (facts_of after) f (is_other f)
+too before after f p = record {
+  once = p.once;
+  new = p.new;
+  stays = λ g a e. p.stays g a (other_false f g e);
+  only = λ g a. ⊎_elim {C = (g ≡ f) ⊎ (Among g (facts_of before) × (is_other f g ≡ true))} (λ e. inl e) (λ q. inr (q.0, other_true f g q.1)) (p.only g a);
+}
+
+-- a cell that the fact isn't in has the same live part: where it is of the id of a fact that went, that one isn't in it either
+elsewhere : (before after : List ColumnPoints) (f : Fact) → AllDistinct (facts_of before) → PutsFact before after f → (r : Rule) (k : Cell) → is_in_cell r k f ≡ false → total_of r k (facts_of after) ≡ total_of r k (facts_of before)
+elsewhere before after f d p r k e =
+    fold-same aggregate_laws one_fact (filter (is_in_cell r k) (facts_of after)) (filter (is_in_cell r k) (facts_of before))
+    (AllDistinct-filter (is_in_cell r k) (facts_of after) p.once) (AllDistinct-filter (is_in_cell r k) (facts_of before) d)
+    (λ g a. let t = Among-filter_passes (is_in_cell r k) g (facts_of after) a in
+    ⊎_elim {C = Among g (filter (is_in_cell r k) (facts_of before))} (λ s. absurd (true≢false (sym t ∙ ap (is_in_cell r k) s ∙ e))) (λ q. Among-filter_stays (is_in_cell r k) g (facts_of before) q.0 t)
+    (p.only g (Among-filter_was (is_in_cell r k) g (facts_of after) a)))
+    (λ g a. let t = Among-filter_passes (is_in_cell r k) g (facts_of before) a in
+    let w = Among-filter_was (is_in_cell r k) g (facts_of before) a in
+    let other : same_id (id_of g) (id_of f) ≡ false = elim (same_id (id_of g) (id_of f)) as (λ b. same_id (id_of g) (id_of f) ≡ b → b ≡ false) [
+      | true ↦ λ s. absurd (true≢false (sym t ∙ ap (λ (i : Id). is_in_cell r k (record { column = i.column; time = i.time; value = g.value })) (same_id-eq (id_of g) (id_of f) s) ∙ e))
+      | false ↦ λ s. refl
+    ] refl in
+    Among-filter_stays (is_in_cell r k) g (facts_of after) (p.stays g w other) t)
+
+pub written_rules : (before after : List ColumnPoints) (f : Fact) (facts : List Fact) → Among f facts → AllDistinct (facts_of before) → PutsFact before after f → (rs : List Rule) (lows : List ℤ) (ms ns : List FrozenCells) → HaveRoom rs facts ms ns
+    → AllTwo (IsWritten f after) (rules_of before rs lows ns) (rules_of after rs lows ns)
+written_rules before after f facts a d p [] lows ms ns e = tt
+written_rules before after f facts a d p (r ∷ rs) [] ms ns e = tt
+written_rules before after f facts a d p (r ∷ rs) (low ∷ lows) ms [] e = tt
+written_rules before after f facts a d p (r ∷ rs) (low ∷ lows) [] (n ∷ ns) e = absurd e
+written_rules before after f facts a d p (r ∷ rs) (low ∷ lows) (m ∷ ms) (n ∷ ns) e = (
+  record {
+    rule = refl;
+    low = refl;
+    once = keys_once n;
+    new = λ t l. key_there n (cell_of r f) (e.0.there f a t);
+    stays = λ k b. b;
+    frozen = λ k l. refl;
+    live_here = λ k l t. refl;
+    live_elsewhere = λ k l t. elsewhere before after f d p r k t;
+  },
+  written_rules before after f facts a d p rs lows ms ns e.1,
+)

@@ -1,0 +1,20 @@
+-- A finite map with one key's value changed where it is there, and parts joined where they fit. (Own rules.)
+use Rattle.std.specs.Prelude.{ℕ, ◌+◌, ◌^◌, nat_lt, Option, Some, None, if◌then◌else◌}
+use Rattle.std.specs.declared.cmp.Ordering.{Ordering}
+use Rattle.std.specs.FinMap.{FinMap, get, insert}
+
+abbrev pub with_change : {K X : Type 0} {R : K → K → Ordering} → FinMap R X → K → (X → X) → Option X → FinMap R X
+with_change m k f None = m
+with_change m k f (Some x) = insert m k (f x)
+
+-- the value of the key changed, where it is there
+abbrev pub changed : {K X : Type 0} {R : K → K → Ordering} → FinMap R X → K → (X → X) → FinMap R X
+changed m k f = with_change m k f (get m k)
+
+abbrev pub or_else : {X : Type 0} → X → Option X → X
+or_else x None = x
+or_else x (Some y) = y
+
+-- joined where the sizes fit together, else as it was
+abbrev pub joined_within : {P : Type 0} → (P → ℕ) → (P → P → P) → P → P → P
+joined_within size join part c = if nat_lt (2 ^ 62) (size c + size part) then c else join c part

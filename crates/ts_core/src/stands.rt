@@ -1,0 +1,15 @@
+//! What the moves of a store do to what it stands for.
+ghost use Rattle.ts_core.specs.StoreLaws.{NewStands, RunBegins, StepMoves, CellsGo, RunEnds, Grows, LinePut, AllShow};
+
+/// The laws of a store's moves, for every history and any number of rules. It does nothing: its contract says that
+/// they are proved.
+pub fn store_moves()
+    ensures new { NewStands }
+    ensures begins { RunBegins }
+    ensures steps { StepMoves }
+    ensures expires { CellsGo }
+    ensures ends { RunEnds }
+    ensures grows { Grows }
+    ensures line { LinePut }
+    ensures shows { AllShow }
+{}
