@@ -19,6 +19,3 @@ pub use line::{Field, Line, Part, Tag};
 pub use number::{is_number, moment};
 pub use precision::Precision;
 pub use read::read_line;
-
-#[cfg(test)]
-mod tests;

@@ -17,14 +17,8 @@ mod next_number;
 mod series;
 mod series_id;
 
-use columns::ColumnTable;
-
-#[cfg(test)]
-mod memory_tests;
-#[cfg(test)]
-mod tests;
-
 pub use column_id::ColumnId;
+use columns::ColumnTable;
 pub use fault::IndexFault;
 use fields::FieldTable;
 use series::SeriesTable;

@@ -13,6 +13,3 @@ pub use column::Column;
 pub use index::{ColumnId, Index, IndexFault, SERIES_LIMIT, SeriesId};
 pub use plain_column::PlainColumn;
 pub use points::Points;
-
-#[cfg(test)]
-mod column_tests;

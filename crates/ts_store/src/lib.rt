@@ -13,10 +13,3 @@ mod store;
 
 pub use fault::WriteFault;
 pub use store::Store;
-
-#[cfg(test)]
-mod column_reads_tests;
-#[cfg(test)]
-mod memory_tests;
-#[cfg(test)]
-mod tests;

@@ -8,7 +8,11 @@ mod command;
 mod command_line;
 #[cfg(test)]
 mod command_line_tests;
+#[cfg(test)]
+mod device_tests;
 mod engine;
+#[cfg(test)]
+mod limit_tests;
 mod line_reader;
 mod machine;
 #[cfg(test)]
@@ -17,7 +21,7 @@ mod number;
 mod reply;
 mod run_fault;
 #[cfg(test)]
-mod tests;
+mod script_tests;
 
 use clap::Error;
 use command_line::Told;

@@ -1,0 +1,62 @@
+//! The points of a store's columns are read.
+use crate::column_tests::gives;
+use std::alloc::Global;
+use std::test::Fail;
+use ts_core::{Settings, Time};
+use ts_line::{Precision, read_line};
+use ts_store::Store;
+
+/// Lines that are written, in another order than that of time.
+const LINES: [&str; 6] = [
+    "m,a=1 f=10i 1",
+    "m,a=2 f=40i,g=7i 5",
+    "m,a=1 f=20i 2",
+    "m,a=2 f=30i 2",
+    "m,a=2 f=0i 4",
+    "m,a=1 f=21i 2",
+];
+
+/// A field, the number of its column, a range, and the points that it has.
+const RANGES: [(&str, usize, i64, i64, &[(i64, i64)]); 7] = [
+    ("f", 0, 0, 9, &[(1, 10), (2, 21)]),
+    ("f", 1, 0, 9, &[(2, 30), (4, 0), (5, 40)]),
+    ("f", 1, 2, 5, &[(2, 30), (4, 0)]),
+    ("g", 0, i64::MIN, i64::MAX, &[(5, 7)]),
+    ("f", 0, 2, 2, &[]),
+    ("f", 0, 9, 0, &[]),
+    ("g", 0, 6, 9, &[]),
+];
+
+fn written(alloc: Global) -> Result<Store<Global>, Fail> {
+    let mut store = Store::new(alloc, Settings::open(alloc));
+    for text in LINES {
+        let line = read_line(alloc, text, Precision::Nanoseconds, Time::least())?;
+        store.write(&line.ok_or("a line")?)?;
+    }
+    Ok(store)
+}
+
+/// Whether a column of a field has these points.
+fn has(
+    store: &Store<Global>,
+    field: &str,
+    number: usize,
+    from: i64,
+    to: i64,
+    expected: &[(i64, i64)],
+) -> bool {
+    let columns = store.columns_of("m", field);
+    number < columns.len() && gives(store.raw_range(columns[number], from, to), expected)
+}
+
+#[test]
+fn a_range_is_of_its_column(rt: HostRuntime) -> Result<(), Fail> {
+    let store = written(rt.alloc())?;
+    for (field, number, from, to, expected) in RANGES {
+        assert!(rt; has(&store, field, number, from, to, expected));
+    }
+    assert_eq!(rt; store.accepted(), 7);
+    assert_eq!(rt; store.raw_points(), 6);
+    assert_eq!(rt; store.held_points(), 6);
+    Ok(())
+}
