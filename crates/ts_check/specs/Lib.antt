@@ -1,3 +1,3 @@
 pub mod Certificates
 pub mod Checks
-pub mod FaultText
+pub mod CheckTexts

@@ -1,6 +1,6 @@
 //! Why pieces are no plan of a query.
 ghost use Rattle.std.specs.Prelude.{◌≡◌, ◌+◌, ◌≤◌, ◌++◌, length, IsOk, OnOk, OnErr, string_bytes, string_len, string_capacity};
-ghost use Rattle.ts_check.specs.FaultText.{fault_text, BeginsFault};
+ghost use Rattle.ts_check.specs.CheckTexts.{check_fault_text, BeginsCheckFault};
 ghost use Rattle.ts_check.specs.declared.fault.CheckError.TheVariants as errors;
 
 use itoa::Buffer;
@@ -34,12 +34,12 @@ fn words(kind: Fault) -> &'static str {
 
 impl CheckFault {
     /// Appends its text, or a beginning of it where memory is wanted. Where the room is there, none is.
-    #[tactic(auto, using(crate::proofs::FaultLemmas::fault_text_short), unfolding(crate::specs::FaultText::fault_text))]
+    #[tactic(auto, using(crate::proofs::FaultLemmas::check_fault_text_short), unfolding(crate::specs::CheckTexts::check_fault_text))]
     pub fn text_to<A: Allocator>(&self, text: &mut String<A>) -> Result<(), AllocError>
-        ensures ok { OnOk result (string_bytes text.new ≡ string_bytes text.old ++ fault_text self.now) }
-        ensures err { OnErr result (BeginsFault self.now (string_bytes text.old) (string_bytes text.new)) }
-        ensures room { string_len text.old + length (fault_text self.now) ≤ string_capacity text.old → IsOk result }
-        ensures short { length (fault_text self.now) ≤ 35 }
+        ensures ok { OnOk result (string_bytes text.new ≡ string_bytes text.old ++ check_fault_text self.now) }
+        ensures err { OnErr result (BeginsCheckFault self.now (string_bytes text.old) (string_bytes text.new)) }
+        ensures room { string_len text.old + length (check_fault_text self.now) ≤ string_capacity text.old → IsOk result }
+        ensures short { length (check_fault_text self.now) ≤ 35 }
         ensures capacity { string_capacity text.old ≤ string_capacity text.new }
     {
         let number = self.kind.number();

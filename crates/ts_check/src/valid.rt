@@ -1,5 +1,5 @@
 //! The first fault of a list of pieces.
-ghost use Rattle.std.specs.Prelude.{◌≡◌, ◌+◌, ◌<◌, ◌^◌, ◌&&◌, length, pos, int_lt, int_le, ◌≤ℤ◌, Some};
+ghost use Rattle.std.specs.Prelude.{◌≡◌, ◌&&◌, pos, int_lt, int_le, ◌≤ℤ◌, Some};
 ghost use Rattle.std.specs.List.{AllByRecursion};
 ghost use Rattle.std.specs.Ordering.{int_eq};
 ghost use Rattle.ts_core.specs.Marks.{index_of};
@@ -81,23 +81,19 @@ fn joins(piece: &Piece<'_>, at: i64, end: i64) -> bool
     piece.from == at && piece.from < piece.to && piece.to <= end
 }
 
-/// The number of the first piece that doesn't join, counted on from `number`, or the number behind the last
-/// where that one doesn't reach the end.
-fn gap_at(number: usize, at: i64, end: i64, pieces: &[Piece<'_>]) -> Option<usize>
-    requires { number + length pieces.now < 2 ^ 64 }
-    ensures { result ≡ gap_at number at end pieces.now }
+/// The number of the first piece that doesn't join, or the number of the pieces where the last one doesn't
+/// reach the end.
+fn gap(from: i64, end: i64, pieces: &[Piece<'_>]) -> Option<usize>
+    ensures { result ≡ gap_at 0 from end pieces.now }
 {
-    match pieces.split_first() {
-        None if at == end => None,
-        None => Some(number),
-        Some((piece, others)) => {
-            if joins(piece, at, end) {
-                gap_at(number + 1, piece.to, end, others)
-            } else {
-                Some(number)
-            }
+    let mut at = from;
+    for (number, piece) in pieces.iter().enumerate() {
+        if !joins(piece, at, end) {
+            return Some(number);
         }
+        at = piece.to;
     }
+    if at == end { None } else { Some(pieces.len()) }
 }
 
 /// The first fault of a piece by itself.
@@ -127,7 +123,7 @@ pub(crate) fn first_fault<A: Allocator>(
     requires { AllByRecursion (λ r. pos 1 ≤ℤ r.interval) settings.now.rules }
     ensures { result ≡ first_fault settings.now marks.now query.now.query pieces.now }
 {
-    if let Some(number) = gap_at(0, query.from(), query.to(), pieces) {
+    if let Some(number) = gap(query.from(), query.to(), pieces) {
         return Some((Fault::Gap, number));
     }
     first_of_pieces(&Asked::new(settings, marks, query), pieces)

@@ -1,6 +1,6 @@
 //! Why a query has no plan.
 ghost use Rattle.std.specs.Prelude.{◌≡◌, ◌+◌, ◌≤◌, ◌++◌, length, IsOk, OnOk, OnErr, string_bytes, string_len, string_capacity};
-ghost use Rattle.ts_plan.specs.FaultText.{fault_text};
+ghost use Rattle.ts_plan.specs.PlanTexts.{plan_fault_text};
 ghost use Rattle.ts_plan.specs.declared.fault.PlanError.TheVariants as errors;
 
 use std::alloc::{AllocError, Allocator};
@@ -19,11 +19,11 @@ pub enum PlanFault {
 
 impl PlanFault {
     /// Appends its text, or nothing where memory is wanted. Where the room is there, none is.
-    #[tactic(auto, unfolding(crate::specs::FaultText::fault_text))]
+    #[tactic(auto, unfolding(crate::specs::PlanTexts::plan_fault_text))]
     pub fn text_to<A: Allocator>(&self, text: &mut String<A>) -> Result<(), AllocError>
-        ensures ok { OnOk result (string_bytes text.new ≡ string_bytes text.old ++ fault_text self.now) }
+        ensures ok { OnOk result (string_bytes text.new ≡ string_bytes text.old ++ plan_fault_text self.now) }
         ensures err { OnErr result (string_bytes text.new ≡ string_bytes text.old) }
-        ensures room { string_len text.old + length (fault_text self.now) ≤ string_capacity text.old → IsOk result }
+        ensures room { string_len text.old + length (plan_fault_text self.now) ≤ string_capacity text.old → IsOk result }
         ensures capacity { string_capacity text.old ≤ string_capacity text.new }
     {
         match self {

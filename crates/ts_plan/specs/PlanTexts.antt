@@ -4,6 +4,6 @@ use Rattle.ts_core.specs.Facts.{Text}
 use Rattle.ts_plan.specs.declared.fault.PlanFault.{PlanFault}
 use Rattle.ts_plan.specs.declared.fault.PlanFault.TheVariants.{NoPlan, TooManyBuckets}
 
-unfoldable pub fault_text : PlanFault → Text
-fault_text NoPlan = codes "fault 91"
-fault_text TooManyBuckets = codes "fault 92"
+unfoldable pub plan_fault_text : PlanFault → Text
+plan_fault_text NoPlan = codes "fault 91"
+plan_fault_text TooManyBuckets = codes "fault 92"
