@@ -9,7 +9,6 @@ pub mod Places
 pub mod Sorted
 pub mod Ids
 pub mod Latests
-pub mod LatestSteps
 pub mod BucketsLemmas
 pub mod BucketsOrder
 pub mod GoodPlaces
@@ -25,10 +24,6 @@ pub mod RemaindersLemmas
 pub mod EqualLemmas
 pub mod BucketsInRange
 pub mod GroupsInOrder
-pub mod BucketSteps
-pub mod RowSteps
-pub mod GroupTests
-pub mod GroupSteps
 pub mod RatiosLemmas
 pub mod AnswersLaws
 pub mod FillsLaws
@@ -55,17 +50,9 @@ pub mod PieceCells
 pub mod AssembledRows
 pub mod AssembledAnswers
 pub mod RetentionRows
-pub mod PlainMarks
 pub mod OwnedTexts
-pub mod Bits
-pub mod BoundaryNumbers
-pub mod ValidTests
-pub mod CellTests
-pub mod PlainPlans
 pub mod BucketsNear
-pub mod TooMany
 pub mod SettingsLaws
-pub mod ColumnTests
 pub mod Freezing
 pub mod StepStands
 pub mod MovesStand

@@ -22,7 +22,7 @@ use Rattle.ts_core.proofs.Latests.{latest-distinct}
 use Rattle.ts_core.proofs.Cuts.{aggregate_where, one_fact, Holds, total_of-parts, live_of-held}
 use Rattle.ts_core.proofs.Moves.{AllTwo, IsMoved, is_left, left_points, columns_left}
 use Rattle.ts_core.proofs.ColumnFacts.{facts_of-there}
-use Rattle.ts_core.proofs.RowSteps.{length-filter}
+use Rattle.ts_core.proofs.ListSteps.{length-filter}
 use Rattle.ts_core.proofs.StateLemmas.{StandsFor-Holds}
 use Rattle.ts_core.proofs.RunSteps.{move_stands}
 use Rattle.ts_core.specs.Changes.{or_else}

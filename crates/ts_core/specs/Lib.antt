@@ -4,7 +4,6 @@ pub mod Facts
 pub mod Settings
 pub mod SettingsFaults
 pub mod History
-pub mod Events
 pub mod Latest
 pub mod Kept
 pub mod Partials
@@ -17,7 +16,6 @@ pub mod Tags
 pub mod Queries
 pub mod Marks
 pub mod Pieces
-pub mod LentPieces
 pub mod Faults
 pub mod Plans
 pub mod Orders

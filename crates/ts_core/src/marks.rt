@@ -1,8 +1,8 @@
 //! Marks.
-ghost use Rattle.std.specs.Prelude.{◌≡◌};
+ghost use Rattle.std.specs.Prelude.{◌≡◌, IfOk};
 
 use crate::time::Time;
-use std::alloc::Allocator;
+use std::alloc::{AllocError, Allocator};
 use std::marker::Model;
 
 /// From where on a store still knows everything: its raw points, and the cells of each rule in the order of
@@ -41,5 +41,19 @@ impl<A: Allocator> Marks<A> {
         ensures { result.now ≡ self.now.lows }
     {
         self.lows.as_slice()
+    }
+}
+
+impl<A: Allocator + Copy> Marks<A> {
+    /// The same marks, in memory of their own.
+    pub fn copied(&self, alloc: A) -> Result<Marks<A>, AllocError>
+        ensures { IfOk result (λ m. m ≡ self.now) }
+    {
+        let mut lows = Vec::new(alloc);
+        lows.extend_from_slice(self.lows.as_slice())?;
+        Ok(Marks {
+            raw: self.raw,
+            lows,
+        })
     }
 }

@@ -10,6 +10,10 @@ use crate::settings_fault::{SettingsFault, settings_fault};
 use std::alloc::{AllocError, Allocator};
 use std::marker::Model;
 
+mod copies;
+
+pub use copies::copied_texts;
+
 /// A rollup rule: aggregates of one measurement, kept by time buckets and by the values of some tags.
 /// Interval, offset and duration are in nanoseconds; a duration of 0 is for ever.
 #[derive(Drop)]

@@ -8,6 +8,8 @@ use std::alloc::Allocator;
 use std::marker::Model;
 use ts_core::{Fill, Function};
 
+mod copies;
+
 /// A column of the answer: a function under a name.
 #[derive(Drop)]
 pub struct Column<A: Allocator> {

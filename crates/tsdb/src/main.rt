@@ -4,6 +4,8 @@
 #![tactic(auto)]
 
 mod chunk;
+#[cfg(test)]
+mod column_tests;
 mod command;
 mod command_line;
 #[cfg(test)]
@@ -14,6 +16,8 @@ mod engine;
 #[cfg(test)]
 mod limit_tests;
 mod line_reader;
+#[cfg(test)]
+mod line_tests;
 mod machine;
 #[cfg(test)]
 mod memory_tests;
@@ -22,6 +26,8 @@ mod reply;
 mod run_fault;
 #[cfg(test)]
 mod script_tests;
+#[cfg(test)]
+mod store_tests;
 
 use clap::Error;
 use command_line::Told;

@@ -1,0 +1,22 @@
+-- Plans without a fault are valid, and so are their copies.
+use Rattle.std.proofs.Common.{◌≡◌, sym, subst, List, None}
+use Rattle.ts_core.specs.Settings.{Settings}
+use Rattle.ts_core.specs.Marks.{Marks}
+use Rattle.ts_core.specs.Pieces.{Piece, IsValid}
+use Rattle.ts_core.specs.Faults.{first_fault}
+use Rattle.ts_core.proofs.Validity.{first_fault-valid}
+use Rattle.ts_ql.specs.Selects.{Select}
+use Rattle.ts_check.specs.Checks.{Plan, IsValidPlan}
+
+abbrev pub plan : Settings → Marks → Select → List Piece → Plan
+plan s m q ps = record { settings = s; marks = m; select = q; pieces = ps }
+
+-- a plan of the same parts is the same
+pub same_plan : (s t : Settings) (m n : Marks) (q r : Select) (ps ns : List Piece) → s ≡ t → m ≡ n → q ≡ r → ps ≡ ns → plan s m q ps ≡ plan t n r ns
+same_plan s t m n q r ps ns a b c d = λ i. plan (a i) (b i) (c i) (d i)
+
+pub copy_valid : (p k : Plan) → k ≡ p → IsValidPlan p → IsValidPlan k
+copy_valid p k e v = subst IsValidPlan (sym e) v
+
+pub faultless_valid : (s : Settings) (m : Marks) (q : Select) (ps ns : List Piece) → ns ≡ ps → None ≡ first_fault s m q.query ns → IsValid s m q.query ps
+faultless_valid s m q ps ns e h = subst (IsValid s m q.query) e ((first_fault-valid s m q.query ns).0 (sym h))

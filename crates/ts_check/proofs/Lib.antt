@@ -1,0 +1,5 @@
+pub mod Bits
+pub mod BoundaryNumbers
+pub mod NamedRules
+pub mod FaultLemmas
+pub mod CheckedPlans

@@ -1,0 +1,14 @@
+use Rattle.std.proofs.Common.{◌∙◌}
+use Rattle.ts_check.proofs.CheckedPlans.{same_plan, copy_valid, faultless_valid}
+use Rattle.ts_check.proofs.checked.check.Goals as goal
+
+pub invariant_of-result : goal.invariant_of-result
+invariant_of-result g c =
+    copy_valid _ _ (same_plan _ _ _ _ _ _ _ _ c.in_ok-copied.ensures c.in_ok-copied-2.ensures c.in_ok-copied-3.ensures (c.in_ok-copied-4.ensures ∙ c.pieces-2.ensures))
+    (faultless_valid c.args.settings.now c.args.marks.now c.args.query.now c.args.certificate.now _ c.pieces.ensures c.in_default.ensures)
+
+pub returns : goal.returns
+returns g c = (
+  same_plan _ _ _ _ _ _ _ _ c.in_ok-copied.ensures c.in_ok-copied-2.ensures c.in_ok-copied-3.ensures (c.in_ok-copied-4.ensures ∙ c.pieces-2.ensures),
+  faultless_valid c.args.settings.now c.args.marks.now c.args.query.now c.args.certificate.now _ c.pieces.ensures c.in_default.ensures,
+)

@@ -1,0 +1,140 @@
+//! A query with what a store still knows.
+ghost use Rattle.std.specs.Prelude.{◌≡◌, ◌≤◌, length, pos, ◌≤ℤ◌, slice_get};
+ghost use Rattle.std.specs.List.{AllByRecursion};
+ghost use Rattle.ts_core.specs.Pieces.{marked_rules, rule_named, asked, HasIntervals};
+
+use std::alloc::Allocator;
+use std::marker::Model;
+use ts_core::{Marks, Rule, Settings};
+use ts_ql::Query;
+
+/// A rule with its low index.
+#[derive(Drop)]
+pub struct MarkedRule<'a, A: Allocator> {
+    /// The rule.
+    pub rule: &'a Rule<A>,
+    /// The index of its least bucket that is still whole.
+    pub low: i128,
+}
+
+impl<'a, A: Allocator> Model for MarkedRule<'a, A> {
+    ghost use Rattle.ts_core.specs.Pieces.{MarkedRule as MarkedRuleValue};
+
+    ghost Value = { MarkedRuleValue };
+
+    ghost view = { λ r. record { rule = r.rule.now; low = r.low } };
+}
+
+/// A query, with what a store still knows.
+#[derive(Drop)]
+pub struct Asked<'a, A: Allocator> {
+    settings: &'a Settings<A>,
+    marks: &'a Marks<A>,
+    query: &'a Query<A>,
+}
+
+impl<'a, A: Allocator> Model for Asked<'a, A> {
+    ghost use Rattle.ts_core.specs.Pieces.{Asked as AskedValue, asked};
+
+    ghost Value = { AskedValue };
+
+    ghost view = { λ t. asked t.settings.now t.marks.now t.query.now.query };
+}
+
+/// The first rule of a name.
+fn rule_named<'a, A: Allocator>(
+    name: &str,
+    rules: &'a [Rule<A>],
+    lows: &[i128],
+) -> Option<MarkedRule<'a, A>>
+    ensures { result ≡ rule_named name.now (marked_rules rules.now lows.now) }
+{
+    match (rules.split_first(), lows.split_first()) {
+        (Some((rule, rules)), Some((low, lows))) => {
+            if rule.name() == name {
+                Some(MarkedRule { rule, low: *low })
+            } else {
+                rule_named(name, rules, lows)
+            }
+        }
+        _ => None,
+    }
+}
+
+/// The rule of a number.
+fn rule_at<'a, A: Allocator>(
+    number: usize,
+    rules: &'a [Rule<A>],
+    lows: &[i128],
+) -> Option<MarkedRule<'a, A>>
+    ensures { result ≡ slice_get (marked_rules rules.now lows.now) number }
+{
+    match (rules.split_first(), lows.split_first()) {
+        (Some((rule, rules)), Some((low, lows))) => {
+            if number == 0 {
+                Some(MarkedRule { rule, low: *low })
+            } else {
+                rule_at(number - 1, rules, lows)
+            }
+        }
+        _ => None,
+    }
+}
+
+impl<'a, A: Allocator> Asked<'a, A> {
+    /// A query, asked where a store has these settings and marks.
+    pub fn new(settings: &'a Settings<A>, marks: &'a Marks<A>, query: &'a Query<A>) -> Asked<'a, A>
+        requires { AllByRecursion (λ r. pos 1 ≤ℤ r.interval) settings.now.rules }
+        ensures value { result ≡ asked settings.now marks.now query.now.query }
+        ensures intervals { HasIntervals result }
+    {
+        let _interval = query.interval();
+        Asked {
+            settings,
+            marks,
+            query,
+        }
+    }
+
+    /// The query.
+    pub(crate) fn query(&self) -> &'a Query<A>
+        ensures { result.now.query ≡ self.now.query }
+    {
+        self.query
+    }
+
+    /// Before when the query asks, in nanoseconds of the Unix epoch.
+    pub fn end(&self) -> i64
+        ensures { result ≡ self.now.query.to }
+    {
+        self.query.to()
+    }
+
+    /// The raw mark, in nanoseconds of the Unix epoch.
+    pub fn mark(&self) -> i64
+        ensures { result ≡ self.now.mark }
+    {
+        self.marks.raw().nanos()
+    }
+
+    /// At least how many rules there are.
+    pub fn rule_count(&self) -> usize
+        ensures { length self.now.rules ≤ result }
+    {
+        self.settings.rules().len()
+    }
+
+    /// The rule of this number, from 0.
+    pub fn rule_at(&self, number: usize) -> Option<MarkedRule<'a, A>>
+        ensures { result ≡ slice_get self.now.rules number }
+    {
+        rule_at(number, self.settings.rules(), self.marks.lows())
+    }
+
+    /// The first rule of a name.
+    pub(crate) fn rule_named(&self, name: &str) -> Option<MarkedRule<'a, A>>
+        ensures { result ≡ rule_named name.now self.now.rules }
+    {
+        rule_named(name, self.settings.rules(), self.marks.lows())
+    }
+}

@@ -1,0 +1,79 @@
+//! Why pieces are no plan of a query.
+ghost use Rattle.std.specs.Prelude.{◌≡◌, ◌+◌, ◌≤◌, ◌++◌, length, IsOk, OnOk, OnErr, string_bytes, string_len, string_capacity};
+ghost use Rattle.ts_check.specs.CheckTexts.{check_fault_text, BeginsCheckFault};
+ghost use Rattle.ts_check.specs.declared.fault.CheckError.TheVariants as errors;
+
+use itoa::Buffer;
+use std::alloc::{AllocError, Allocator};
+use thiserror::Error;
+use ts_core::Fault;
+
+/// What is wrong with a list of pieces that is to stand for all points of a query.
+#[derive(Clone, Copy, Debug, PartialEq, Eq, Error)]
+#[error("{}, at piece {piece}", words(*.kind))]
+pub struct CheckFault {
+    /// What is wrong.
+    pub kind: Fault,
+    /// The number of the piece, from 0; that of the pieces where the last one doesn't reach the end.
+    pub piece: usize,
+}
+
+/// A fault in words.
+fn words(kind: Fault) -> &'static str {
+    match kind {
+        Fault::Gap => "the pieces don't lead from the start of the range to its end",
+        Fault::BelowMark => "raw points below the raw mark",
+        Fault::NoSuchRule => "no rule of this name",
+        Fault::OtherMeasurement => "a rule of another measurement",
+        Fault::OffBoundary => "an end that isn't a boundary of the rule",
+        Fault::BelowLow => "a bucket below the rule's low index",
+        Fault::Straddles => "buckets that don't fit the query's",
+        Fault::TagNotKept => "a tag that the rule doesn't keep",
+    }
+}
+
+impl CheckFault {
+    /// Appends its text, or a beginning of it where memory is wanted. Where the room is there, none is.
+    #[tactic(auto, using(crate::proofs::FaultLemmas::check_fault_text_short), unfolding(crate::specs::CheckTexts::check_fault_text))]
+    pub fn text_to<A: Allocator>(&self, text: &mut String<A>) -> Result<(), AllocError>
+        ensures ok { OnOk result (string_bytes text.new ≡ string_bytes text.old ++ check_fault_text self.now) }
+        ensures err { OnErr result (BeginsCheckFault self.now (string_bytes text.old) (string_bytes text.new)) }
+        ensures room { string_len text.old + length (check_fault_text self.now) ≤ string_capacity text.old → IsOk result }
+        ensures short { length (check_fault_text self.now) ≤ 35 }
+        ensures capacity { string_capacity text.old ≤ string_capacity text.new }
+    {
+        let number = self.kind.number();
+        let piece = self.piece;
+        text.push_str("fault ")?;
+        text.push_str(Buffer::new().format(number))?;
+        text.push_str(" piece ")?;
+        text.push_str(Buffer::new().format(piece))
+    }
+}
+
+/// Why no plan was checked.
+#[derive(Clone, Copy, Debug, PartialEq, Eq, Error)]
+pub enum CheckError {
+    /// The pieces are no plan of the query.
+    #[error(transparent)]
+    Fault(CheckFault),
+    /// No memory was found.
+    #[error("out of memory")]
+    OutOfMemory,
+}
+
+impl From<CheckFault> for CheckError {
+    ghost from_gives = { λ f e. e ≡ errors.Fault f };
+
+    fn from(fault: CheckFault) -> CheckError {
+        CheckError::Fault(fault)
+    }
+}
+
+impl From<AllocError> for CheckError {
+    ghost from_gives = { λ _ e. e ≡ errors.OutOfMemory };
+
+    fn from(_failed: AllocError) -> CheckError {
+        CheckError::OutOfMemory
+    }
+}

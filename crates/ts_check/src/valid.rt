@@ -1,0 +1,130 @@
+//! The first fault of a list of pieces.
+ghost use Rattle.std.specs.Prelude.{◌≡◌, ◌&&◌, pos, int_lt, int_le, ◌≤ℤ◌, Some};
+ghost use Rattle.std.specs.List.{AllByRecursion};
+ghost use Rattle.std.specs.Ordering.{int_eq};
+ghost use Rattle.ts_core.specs.Marks.{index_of};
+ghost use Rattle.ts_core.specs.Faults.{rule_fault, piece_fault, gap_at, pieces_fault, first_fault};
+
+use crate::asked::{Asked, MarkedRule};
+use crate::certificate::{Piece, PieceSource};
+use crate::serves::{fits, is_boundary, keeps_tags};
+use std::alloc::Allocator;
+use ts_core::{Fault, Marks, Settings, index_of};
+use ts_ql::Query;
+
+/// Whether the bucket of a moment is at or above the rule's low index.
+fn is_whole<A: Allocator>(marked: &MarkedRule<'_, A>, at: i64) -> bool
+    requires { pos 1 ≤ℤ marked.now.rule.interval }
+    ensures { result ≡ int_le marked.now.low (index_of marked.now.rule at) }
+{
+    marked.low <= index_of(marked.rule, i128::from(at))
+}
+
+/// The first reason why the cells of a rule don't stand for a query's points.
+fn rule_fault<A: Allocator>(
+    query: &Query<A>,
+    marked: &MarkedRule<'_, A>,
+    from: i64,
+    to: i64,
+) -> Option<Fault>
+    requires { pos 1 ≤ℤ marked.now.rule.interval }
+    ensures { result ≡ rule_fault query.now.query (Some marked.now) from to }
+{
+    let rule = marked.rule;
+    if rule.measurement() != query.measurement() {
+        return Some(Fault::OtherMeasurement);
+    }
+    if !is_boundary(rule, from) {
+        return Some(Fault::OffBoundary);
+    }
+    if !is_boundary(rule, to) {
+        return Some(Fault::OffBoundary);
+    }
+    if !is_whole(marked, from) {
+        return Some(Fault::BelowLow);
+    }
+    if !fits(rule, query, from, to) {
+        return Some(Fault::Straddles);
+    }
+    if !keeps_tags(rule, query) {
+        return Some(Fault::TagNotKept);
+    }
+    None
+}
+
+impl<'a, A: Allocator> Asked<'a, A> {
+    /// What is wrong with a piece, but for its place in a list.
+    pub fn piece_fault(&self, piece: &Piece<'_>) -> Option<Fault>
+        requires { AllByRecursion (λ r. pos 1 ≤ℤ r.rule.interval) self.now.rules }
+        ensures { result ≡ piece_fault self.now piece.now }
+    {
+        match piece.source {
+            PieceSource::Raw => {
+                if piece.from < self.mark() {
+                    Some(Fault::BelowMark)
+                } else {
+                    None
+                }
+            }
+            PieceSource::Rollup(name) => match self.rule_named(name) {
+                None => Some(Fault::NoSuchRule),
+                Some(marked) => rule_fault(self.query(), &marked, piece.from, piece.to),
+            },
+        }
+    }
+}
+
+/// Whether a piece starts at a moment, isn't empty, and ends no later than another moment.
+fn joins(piece: &Piece<'_>, at: i64, end: i64) -> bool
+    ensures { result ≡ (int_eq piece.now.from at && (int_lt piece.now.from piece.now.to && int_le piece.now.to end)) }
+{
+    piece.from == at && piece.from < piece.to && piece.to <= end
+}
+
+/// The number of the first piece that doesn't join, or the number of the pieces where the last one doesn't
+/// reach the end.
+fn gap(from: i64, end: i64, pieces: &[Piece<'_>]) -> Option<usize>
+    ensures { result ≡ gap_at 0 from end pieces.now }
+{
+    let mut at = from;
+    for (number, piece) in pieces.iter().enumerate() {
+        if !joins(piece, at, end) {
+            return Some(number);
+        }
+        at = piece.to;
+    }
+    if at == end { None } else { Some(pieces.len()) }
+}
+
+/// The first fault of a piece by itself.
+fn first_of_pieces<A: Allocator>(
+    asked: &Asked<'_, A>,
+    pieces: &[Piece<'_>],
+) -> Option<(Fault, usize)>
+    requires { AllByRecursion (λ r. pos 1 ≤ℤ r.rule.interval) asked.now.rules }
+    ensures { result ≡ pieces_fault asked.now 0 pieces.now }
+{
+    for (number, piece) in pieces.iter().enumerate() {
+        if let Some(fault) = asked.piece_fault(piece) {
+            return Some((fault, number));
+        }
+    }
+    None
+}
+
+/// The first fault of pieces that are to stand for all points of a query, with the number of its piece,
+/// from 0. Gaps come first, over the whole list.
+pub(crate) fn first_fault<A: Allocator>(
+    settings: &Settings<A>,
+    marks: &Marks<A>,
+    query: &Query<A>,
+    pieces: &[Piece<'_>],
+) -> Option<(Fault, usize)>
+    requires { AllByRecursion (λ r. pos 1 ≤ℤ r.interval) settings.now.rules }
+    ensures { result ≡ first_fault settings.now marks.now query.now.query pieces.now }
+{
+    if let Some(number) = gap(query.from(), query.to(), pieces) {
+        return Some((Fault::Gap, number));
+    }
+    first_of_pieces(&Asked::new(settings, marks, query), pieces)
+}

@@ -1,5 +1,0 @@
-use Rattle.std.proofs.Common.{length}
-use Rattle.ts_core.proofs.plain.plan.+joined_onto.Given as goal
-
-abbrev pub decreases-joined_onto : goal.decreases-joined_onto
-decreases-joined_onto g l = length l.buckets.now

@@ -1,7 +1,0 @@
-use Rattle.std.proofs.Common.{◌∙◌}
-use Rattle.ts_core.specs.Facts.{text_cmp}
-use Rattle.ts_core.proofs.LentLemmas.{lent-cmp}
-use Rattle.ts_core.proofs.plain.tag_values.compare.Goals as goal
-
-pub returns : goal.returns
-returns c = c.cmp.ensures ∙ lent-cmp text_cmp c.args.values.now c.args.others.now

@@ -1,5 +1,0 @@
-use Rattle.std.proofs.Common.{length}
-use Rattle.ts_core.proofs.plain.valid.+gap_at.Given as goal
-
-abbrev pub decreases-gap_at : goal.decreases-gap_at
-decreases-gap_at l = length l.pieces.now

@@ -1,6 +1,0 @@
-use Rattle.std.proofs.Common.{◌≡◌, drop}
-use Rattle.ts_core.specs.Faults.{pieces_fault}
-use Rattle.ts_core.proofs.plain.valid.first_of_pieces.Given as goal
-
-abbrev pub invariant-loop-number : goal.invariant-loop-number
-invariant-loop-number g l = pieces_fault l.asked l.number (drop l.number l.pieces) ≡ pieces_fault l.asked 0 l.pieces

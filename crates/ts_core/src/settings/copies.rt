@@ -1,0 +1,61 @@
+//! Copies of rules and of settings, in memory of their own.
+ghost use Rattle.std.specs.Prelude.{◌≡◌, map, string_bytes, IfOk};
+
+use super::{Rule, Settings};
+use std::alloc::{AllocError, Allocator};
+
+/// The same texts, in their order.
+pub fn copied_texts<A: Allocator + Copy>(
+    alloc: A,
+    texts: &[String<A>],
+) -> Result<Vec<String<A>, A>, AllocError>
+    ensures { IfOk result (λ v. map string_bytes v.items ≡ map string_bytes texts.now) }
+{
+    let mut all = Vec::new(alloc);
+    for text in texts {
+        all.push(String::from_str(alloc, text.as_str())?)?;
+    }
+    Ok(all)
+}
+
+/// The same rules, in their order.
+fn copied_rules<A: Allocator + Copy>(
+    alloc: A,
+    rules: &[Rule<A>],
+) -> Result<Vec<Rule<A>, A>, AllocError>
+    ensures { IfOk result (λ v. v.items ≡ rules.now) }
+{
+    let mut all = Vec::new(alloc);
+    for rule in rules {
+        all.push(rule.copied(alloc)?)?;
+    }
+    Ok(all)
+}
+
+impl<A: Allocator + Copy> Rule<A> {
+    /// The same rule.
+    pub fn copied(&self, alloc: A) -> Result<Rule<A>, AllocError>
+        ensures { IfOk result (λ r. r ≡ self.now) }
+    {
+        Ok(Rule {
+            name: String::from_str(alloc, self.name.as_str())?,
+            measurement: String::from_str(alloc, self.measurement.as_str())?,
+            interval: self.interval,
+            offset: self.offset,
+            kept_tags: copied_texts(alloc, self.kept_tags.as_slice())?,
+            duration: self.duration,
+        })
+    }
+}
+
+impl<A: Allocator + Copy> Settings<A> {
+    /// The same settings.
+    pub fn copied(&self, alloc: A) -> Result<Settings<A>, AllocError>
+        ensures { IfOk result (λ s. s ≡ self.now) }
+    {
+        Ok(Settings {
+            raw_duration: self.raw_duration,
+            rules: copied_rules(alloc, self.rules.as_slice())?,
+        })
+    }
+}

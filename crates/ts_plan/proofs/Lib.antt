@@ -1,0 +1,3 @@
+pub mod WalkSteps
+pub mod TooMany
+pub mod Planned

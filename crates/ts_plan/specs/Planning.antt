@@ -1,0 +1,33 @@
+-- What a planner answers. (Own rules.)
+use Rattle.std.specs.Prelude.{List, Result, Ok, Err}
+use Rattle.ts_core.specs.Settings.{Settings}
+use Rattle.ts_core.specs.Marks.{Marks}
+use Rattle.ts_core.specs.Queries.{Query}
+use Rattle.ts_core.specs.Pieces.{Piece, IsValid}
+use Rattle.ts_core.specs.Plans.{IsPlan, IsTooMany}
+use Rattle.ts_plan.specs.declared.fault.PlanError.{PlanError}
+use Rattle.ts_plan.specs.declared.fault.PlanError.TheVariants as errors
+use Rattle.ts_plan.specs.declared.fault.PlanFault.{PlanFault}
+use Rattle.ts_plan.specs.declared.fault.PlanFault.TheVariants.{NoPlan, TooManyBuckets}
+
+-- the plan of a query: the one that is determined, and so a valid one
+pub record IsPlanned (s : Settings) (m : Marks) (q : Query) (pieces : List Piece) : Type 0 where
+  pub searched : IsTooMany s m q → ⊥
+  pub determined : IsPlan s m q pieces
+  pub valid : IsValid s m q pieces
+
+-- there is no plan: no list of pieces is valid
+pub record IsWithoutPlan (s : Settings) (m : Marks) (q : Query) : Type 0 where
+  pub searched : IsTooMany s m q → ⊥
+  pub none : (pieces : List Piece) → IsValid s m q pieces → ⊥
+
+-- what a planner says of a query that it doesn't plan
+abbrev pub Refuses : Settings → Marks → Query → PlanError → Type 0
+Refuses s m q (errors.Fault TooManyBuckets) = IsTooMany s m q
+Refuses s m q (errors.Fault NoPlan) = IsWithoutPlan s m q
+Refuses s m q errors.OutOfMemory = IsTooMany s m q → ⊥
+
+-- what a planner answers for a query
+abbrev pub IsPlanFor : Settings → Marks → Query → Result (List Piece) PlanError → Type 0
+IsPlanFor s m q (Ok pieces) = IsPlanned s m q pieces
+IsPlanFor s m q (Err error) = Refuses s m q error

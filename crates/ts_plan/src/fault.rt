@@ -1,0 +1,61 @@
+//! Why a query has no plan.
+ghost use Rattle.std.specs.Prelude.{◌≡◌, ◌+◌, ◌≤◌, ◌++◌, length, IsOk, OnOk, OnErr, string_bytes, string_len, string_capacity};
+ghost use Rattle.ts_plan.specs.PlanTexts.{plan_fault_text};
+ghost use Rattle.ts_plan.specs.declared.fault.PlanError.TheVariants as errors;
+
+use std::alloc::{AllocError, Allocator};
+use thiserror::Error;
+
+/// Why a query has no plan.
+#[derive(Clone, Copy, Debug, PartialEq, Eq, Error)]
+pub enum PlanFault {
+    /// No list of pieces may stand for all points that it asks for (number 91).
+    #[error("no plan: what the query asks for is no longer there")]
+    NoPlan,
+    /// More than 1,000,000 buckets of rules would be searched (number 92).
+    #[error("too many buckets to search for a plan")]
+    TooManyBuckets,
+}
+
+impl PlanFault {
+    /// Appends its text, or nothing where memory is wanted. Where the room is there, none is.
+    #[tactic(auto, unfolding(crate::specs::PlanTexts::plan_fault_text))]
+    pub fn text_to<A: Allocator>(&self, text: &mut String<A>) -> Result<(), AllocError>
+        ensures ok { OnOk result (string_bytes text.new ≡ string_bytes text.old ++ plan_fault_text self.now) }
+        ensures err { OnErr result (string_bytes text.new ≡ string_bytes text.old) }
+        ensures room { string_len text.old + length (plan_fault_text self.now) ≤ string_capacity text.old → IsOk result }
+        ensures capacity { string_capacity text.old ≤ string_capacity text.new }
+    {
+        match self {
+            PlanFault::NoPlan => text.push_str("fault 91"),
+            PlanFault::TooManyBuckets => text.push_str("fault 92"),
+        }
+    }
+}
+
+/// Why no plan was made.
+#[derive(Clone, Copy, Debug, PartialEq, Eq, Error)]
+pub enum PlanError {
+    /// There is none, or it isn't searched for.
+    #[error(transparent)]
+    Fault(PlanFault),
+    /// No memory was found.
+    #[error("out of memory")]
+    OutOfMemory,
+}
+
+impl From<PlanFault> for PlanError {
+    ghost from_gives = { λ f e. e ≡ errors.Fault f };
+
+    fn from(fault: PlanFault) -> PlanError {
+        PlanError::Fault(fault)
+    }
+}
+
+impl From<AllocError> for PlanError {
+    ghost from_gives = { λ _ e. e ≡ errors.OutOfMemory };
+
+    fn from(_failed: AllocError) -> PlanError {
+        PlanError::OutOfMemory
+    }
+}

@@ -1,0 +1,76 @@
+//! Copies of queries, in memory of their own.
+ghost use Rattle.std.specs.Prelude.{◌≡◌, IfOk};
+
+use super::{Column, Condition, Query};
+use std::alloc::{AllocError, Allocator};
+use ts_core::copied_texts;
+
+impl<A: Allocator + Copy> Column<A> {
+    /// The same column.
+    fn copied(&self, alloc: A) -> Result<Column<A>, AllocError>
+        ensures { IfOk result (λ c. c ≡ self.now) }
+    {
+        Ok(Column::new(self.function, String::from_str(alloc, self.name.as_str())?))
+    }
+}
+
+impl<A: Allocator + Copy> Condition<A> {
+    /// The same condition.
+    fn copied(&self, alloc: A) -> Result<Condition<A>, AllocError>
+        ensures { IfOk result (λ c. c ≡ self.now) }
+    {
+        Ok(Condition::new(
+            String::from_str(alloc, self.tag.as_str())?,
+            String::from_str(alloc, self.value.as_str())?,
+            self.differs,
+        ))
+    }
+}
+
+/// The same columns, in their order.
+fn copied_columns<A: Allocator + Copy>(
+    alloc: A,
+    columns: &[Column<A>],
+) -> Result<Vec<Column<A>, A>, AllocError>
+    ensures { IfOk result (λ v. v.items ≡ columns.now) }
+{
+    let mut all = Vec::new(alloc);
+    for column in columns {
+        all.push(column.copied(alloc)?)?;
+    }
+    Ok(all)
+}
+
+/// The same conditions, in their order.
+fn copied_conditions<A: Allocator + Copy>(
+    alloc: A,
+    conditions: &[Condition<A>],
+) -> Result<Vec<Condition<A>, A>, AllocError>
+    ensures { IfOk result (λ v. v.items ≡ conditions.now) }
+{
+    let mut all = Vec::new(alloc);
+    for condition in conditions {
+        all.push(condition.copied(alloc)?)?;
+    }
+    Ok(all)
+}
+
+impl<A: Allocator + Copy> Query<A> {
+    /// The same query.
+    pub fn copied(&self, alloc: A) -> Result<Query<A>, AllocError>
+        ensures { IfOk result (λ q. q ≡ self.now) }
+    {
+        Ok(Query {
+            columns: copied_columns(alloc, self.columns.as_slice())?,
+            fill: self.fill,
+            measurement: String::from_str(alloc, self.measurement.as_str())?,
+            field: String::from_str(alloc, self.field.as_str())?,
+            conditions: copied_conditions(alloc, self.conditions.as_slice())?,
+            from: self.from,
+            to: self.to,
+            interval: self.interval,
+            offset: self.offset,
+            group_tags: copied_texts(alloc, self.group_tags.as_slice())?,
+        })
+    }
+}

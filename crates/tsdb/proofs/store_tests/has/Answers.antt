@@ -1,0 +1,8 @@
+use Rattle.std.proofs.Common.{refl}
+use Rattle.ts_store.proofs.ColumnsReads.{number_there}
+use Rattle.tsdb.proofs.store_tests.has.Goals as goal
+
+pub raw_range-requires : goal.raw_range-requires
+raw_range-requires c =
+    number_there _ c.args.store.now.columns c.columns_of-columns.result.now c.args.number c.index-columns-number.result c.index-columns-number.result
+    c.columns_of-columns.ensures c.if-number-columns.true c.index-columns-number.is refl
