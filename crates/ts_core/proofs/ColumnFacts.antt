@@ -35,7 +35,7 @@ column_there [] c m = absurd m
 column_there (d ∷ ds) c m = ⊎_elim {C = Among c.column (map column_of (d ∷ ds))} (λ e. inl (ap column_of e)) (λ k. inr (column_there ds c k)) m
 
 -- where columns are distinct, the facts of a column are in that one
-facts_of-here : (cs : List ColumnPoints) (c : ColumnPoints) (f : Fact) → AllDistinct (map column_of cs) → Among c cs → f.column ≡ c.column → Among f (facts_of cs) → Among f (facts_at c.column c.points)
+pub facts_of-here : (cs : List ColumnPoints) (c : ColumnPoints) (f : Fact) → AllDistinct (map column_of cs) → Among c cs → f.column ≡ c.column → Among f (facts_of cs) → Among f (facts_at c.column c.points)
 facts_of-here [] c f d m e a = absurd m
 facts_of-here (b ∷ bs) c f d m e a =
     let split = Among-append f (facts_at b.column b.points) (facts_of bs) a in

@@ -76,12 +76,12 @@ line_more opening h k n us (f ∷ vs) facts before after ms e count same st room
     let front : IsLawful opening (Line (us ++ f ∷ []) ∷ h) = front_lawful opening h (us ++ f ∷ []) vs (subst (λ fs. IsLawful opening (Line fs ∷ h)) (sym rest) lawful) in
     let taken : MayBeTaken (raw_mark opening h) f = all_middle (MayBeTaken (raw_mark opening h)) us f vs whole.1 in
     let s : StoreState = state_of (put_facts before n k) in
-    let columns : ColumnsToo before between f = same_columns before between f st.columns_once (subst (Among f.column) (sym same) (there f among)) p.same in
+    let columns : ColumnsToo before between f = same_columns before between f st.columns_once (subst (Among f.column) (sym same) (there f among)) p.0 in
     let next : StandsFor opening (Line (us ++ f ∷ []) ∷ h) (state_of (put_facts between (n + 1) k)) =
     subst (λ m. StandsFor opening (Line (us ++ f ∷ []) ∷ h) (state_of (put_at between m k))) (one_later k.accepted n)
-    (write_more opening h s us f k.series between (rules_of between k.settings.rules k.marks.lows k.cells) st taken front columns (λ c a. st.registered c (subst (Among c) p.same a)) (too before between f p)
+    (write_more opening h s us f k.series between (rules_of between k.settings.rules k.marks.lows k.cells) st taken front columns (λ c a. st.registered c (subst (Among c) p.0 a)) (too before between f p)
     (written_rules before between f facts among st.once p k.settings.rules k.marks.lows ms k.cells room)) in
-    line_more opening h k (n + 1) (us ++ f ∷ []) vs facts between after ms rest (let l = length-append us (f ∷ []) in omega arith) (p.same ∙ same) next room there puts.2 lawful
+    line_more opening h k (n + 1) (us ++ f ∷ []) vs facts between after ms rest (let l = length-append us (f ∷ []) in omega arith) (p.0 ∙ same) next room there puts.2 lawful
 
 pub line_put : (opening : Settings) (h : History) (k : StoreData) (columns : List ColumnPoints) (facts : List Fact) (ms : List FrozenCells) → StandsFor opening h (state_of k)
     → HaveRoom k.settings.rules facts ms k.cells → ((f : Fact) → Among f facts → Among f.column (map column_of k.columns)) → PutsFacts k.columns columns facts → IsLawful opening (Line facts ∷ h)

@@ -184,27 +184,27 @@ other_false f g e = elim (same_id (id_of g) (id_of f)) as (λ b. not b ≡ true 
 
 pub too : (before after : List ColumnPoints) (f : Fact) → PutsFact before after f → FactsToo (facts_of before) (facts_of after) f (is_other f)
 too before after f p = record {
-  once = p.once;
-  new = p.new;
-  stays = λ g a e. p.stays g a (other_false f g e);
-  only = λ g a. ⊎_elim {C = (g ≡ f) ⊎ (Among g (facts_of before) × (is_other f g ≡ true))} (λ e. inl e) (λ q. inr (q.0, other_true f g q.1)) (p.only g a);
+  once = p.1.once;
+  new = p.1.new;
+  stays = λ g a e. p.1.kept g a (other_false f g e);
+  only = λ g a. ⊎_elim {C = (g ≡ f) ⊎ (Among g (facts_of before) × (is_other f g ≡ true))} (λ e. inl e) (λ q. inr (q.0, other_true f g q.1)) (p.1.only g a);
 }
 
 -- a cell that the fact isn't in has the same live part: where it is of the id of a fact that went, that one isn't in it either
 elsewhere : (before after : List ColumnPoints) (f : Fact) → AllDistinct (facts_of before) → PutsFact before after f → (r : Rule) (k : Cell) → is_in_cell r k f ≡ false → total_of r k (facts_of after) ≡ total_of r k (facts_of before)
 elsewhere before after f d p r k e =
     fold-same aggregate_laws one_fact (filter (is_in_cell r k) (facts_of after)) (filter (is_in_cell r k) (facts_of before))
-    (AllDistinct-filter (is_in_cell r k) (facts_of after) p.once) (AllDistinct-filter (is_in_cell r k) (facts_of before) d)
+    (AllDistinct-filter (is_in_cell r k) (facts_of after) p.1.once) (AllDistinct-filter (is_in_cell r k) (facts_of before) d)
     (λ g a. let t = Among-filter_passes (is_in_cell r k) g (facts_of after) a in
     ⊎_elim {C = Among g (filter (is_in_cell r k) (facts_of before))} (λ s. absurd (true≢false (sym t ∙ ap (is_in_cell r k) s ∙ e))) (λ q. Among-filter_stays (is_in_cell r k) g (facts_of before) q.0 t)
-    (p.only g (Among-filter_was (is_in_cell r k) g (facts_of after) a)))
+    (p.1.only g (Among-filter_was (is_in_cell r k) g (facts_of after) a)))
     (λ g a. let t = Among-filter_passes (is_in_cell r k) g (facts_of before) a in
     let w = Among-filter_was (is_in_cell r k) g (facts_of before) a in
     let other : same_id (id_of g) (id_of f) ≡ false = elim (same_id (id_of g) (id_of f)) as (λ b. same_id (id_of g) (id_of f) ≡ b → b ≡ false) [
       | true ↦ λ s. absurd (true≢false (sym t ∙ ap (λ (i : Id). is_in_cell r k (record { column = i.column; time = i.time; value = g.value })) (same_id-eq (id_of g) (id_of f) s) ∙ e))
       | false ↦ λ s. refl
     ] refl in
-    Among-filter_stays (is_in_cell r k) g (facts_of after) (p.stays g w other) t)
+    Among-filter_stays (is_in_cell r k) g (facts_of after) (p.1.kept g w other) t)
 
 pub written_rules : (before after : List ColumnPoints) (f : Fact) (facts : List Fact) → Among f facts → AllDistinct (facts_of before) → PutsFact before after f → (rs : List Rule) (lows : List ℤ) (ms ns : List FrozenCells) → HaveRoom rs facts ms ns
     → AllTwo (IsWritten f after) (rules_of before rs lows ns) (rules_of after rs lows ns)

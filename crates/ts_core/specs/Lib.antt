@@ -5,7 +5,6 @@ pub mod Settings
 pub mod SettingsFaults
 pub mod History
 pub mod Latest
-pub mod Kept
 pub mod Partials
 pub mod Lent
 pub mod Texts

@@ -40,6 +40,10 @@ cut_at cut c = if is_waiting cut.waiting c then cut.earlier else cut.mark
 abbrev pub is_kept : (Column → ℤ) → Fact → Bool
 is_kept cut f = int_le (cut f.column) f.time
 
+-- the latest facts from the raw mark on: where no column waits, these are the raw facts of all columns
+abbrev pub raw_facts : Settings → History → List Fact
+raw_facts opening h = filter (λ (f : Fact). int_le (raw_mark opening h) f.time) (latest_of h)
+
 -- the raw facts of a column
 abbrev pub raw_of : Settings → History → List Column → Column → List Fact
 raw_of opening h waiting c = filter (λ (f : Fact). same_column f.column c && is_kept (kept_from opening h waiting) f) (latest_of h)

@@ -138,13 +138,16 @@ grown series columns ms k = record {
   cells = ms;
 }
 
--- of facts: the new one, and those of other ids
-pub record PutsFact (before after : List ColumnPoints) (f : Fact) : Type 0 where
-  pub same : map column_of after ≡ map column_of before
-  pub once : AllDistinct (facts_of after)
-  pub new : Among f (facts_of after)
-  pub stays : (g : Fact) → Among g (facts_of before) → same_id (id_of g) (id_of f) ≡ false → Among g (facts_of after)
-  pub only : (g : Fact) → Among g (facts_of after) → (g ≡ f) ⊎ (Among g (facts_of before) × (same_id (id_of g) (id_of f) ≡ false))
+-- the fact is put among others: it is there, in place of the one of its id, and nothing else changes
+pub record Puts (before after : List Fact) (f : Fact) : Type 0 where
+  pub once : AllDistinct after
+  pub new : Among f after
+  pub kept : (g : Fact) → Among g before → same_id (id_of g) (id_of f) ≡ false → Among g after
+  pub only : (g : Fact) → Among g after → (g ≡ f) ⊎ (Among g before × (same_id (id_of g) (id_of f) ≡ false))
+
+-- the fact is put into its column
+abbrev pub PutsFact : List ColumnPoints → List ColumnPoints → Fact → Type 0
+PutsFact before after f = (map column_of after ≡ map column_of before) × Puts (facts_of before) (facts_of after) f
 
 -- one fact after another
 abbrev pub PutsFacts : List ColumnPoints → List ColumnPoints → List Fact → Type 0

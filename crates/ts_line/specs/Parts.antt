@@ -43,3 +43,8 @@ pub record AreFields (fields : List (Piece × ℤ)) : Type 0 where
   pub some : 1 ≤ length fields
   pub few : length fields ≤ 256
   pub once : AllDistinct (map field_text fields)
+
+-- the tags and the fields of a line: no more than 64 tags
+pub record AreParts (ts : List (Piece × Piece)) (fs : List (Piece × ℤ)) : Type 0 where
+  pub few_tags : length ts ≤ 64
+  pub fields : AreFields fs

@@ -1,5 +1,6 @@
 //! What a line says, part by part.
-ghost use Rattle.std.specs.Prelude.{◌≡◌, ◌<◌, ◌≤◌, length, map, IfOk, OnOk, MatchResult};
+ghost use Rattle.std.specs.Prelude.{◌≡◌, ◌<◌, ◌≤◌, ◌+◌, length, map, MatchResult};
+ghost use Rattle.arrayvec.specs.ArrayVec.{array_vec_len};
 ghost use Rattle.std.specs.Cow.{cow_str_bytes};
 ghost use Rattle.std.specs.FinMap.{put};
 ghost use Rattle.ts_core.specs.Facts.{text_cmp};
@@ -8,11 +9,15 @@ ghost use Rattle.ts_core.specs.Texts.{lent_pairs, IsTagSet};
 ghost use Rattle.ts_line.specs.Parts.{field_text, series_of};
 ghost use Rattle.ts_line.specs.Sorting.{place_from};
 
-use std::alloc::{AllocError, Allocator};
+use arrayvec::ArrayVec;
+use std::alloc::Allocator;
 use std::borrow::CowStr;
 use std::cmp::Ordering;
 use std::marker::Model;
 use ts_core::Time;
+
+/// A line has no more tags than this.
+pub(crate) const TAG_LIMIT: usize = 64;
 
 /// A part of a line. Its bytes are borrowed from the line; so is the text that they spell, but where an
 /// escape stands in it.
@@ -154,13 +159,13 @@ pub struct Line<'a, A: Allocator> {
 }
 
 impl<'a, A: Allocator> Model for Line<'a, A> {
-    ghost use Rattle.ts_line.specs.Parts.{Parts, AreFields};
+    ghost use Rattle.ts_line.specs.Parts.{Parts, AreParts};
 
     ghost Value = { Parts };
 
     ghost view = { λ l. record { measurement = l.measurement; tags = l.tags.items; fields = l.fields.items; time = l.time } };
 
-    ghost invariant = { λ l. AreFields l.fields.items };
+    ghost invariant = { λ l. AreParts l.tags.items l.fields.items };
 }
 
 impl<'a, A: Allocator> Line<'a, A> {
@@ -172,7 +177,8 @@ impl<'a, A: Allocator> Line<'a, A> {
         fields: Vec<Field<'a, A>, A>,
         time: Time,
     ) -> Self
-        requires { AreFields fields.items }
+        requires tags { length tags.items ≤ 64 }
+        requires fields { AreFields fields.items }
         ensures { result ≡ record { measurement = measurement.entry; tags = tags.entry.items; fields = fields.entry.items; time = time } }
     {
         Line {
@@ -192,7 +198,8 @@ impl<'a, A: Allocator> Line<'a, A> {
 
     /// The tags, in the order of the line.
     pub fn tags(&self) -> &[Tag<'a, A>]
-        ensures { result.now ≡ self.now.tags }
+        ensures value { result.now ≡ self.now.tags }
+        ensures few { length result.now ≤ 64 }
     {
         self.tags.as_slice()
     }
@@ -214,18 +221,18 @@ impl<'a, A: Allocator> Line<'a, A> {
         self.time
     }
 
-    /// The texts of the tags with their values, in byte order of the keys.
-    pub fn tags_by_key<B: Allocator>(&self, alloc: B) -> Result<Vec<(&str, &str), B>, AllocError>
-        ensures value { IfOk result (λ v. lent_pairs v.items ≡ (series_of self.now).tags) }
-        ensures set { IfOk result (λ v. IsTagSet (lent_pairs v.items)) }
+    /// The texts of the tags with their values, in byte order of the keys. It takes no memory.
+    pub fn tags_by_key(&self) -> ArrayVec<(&str, &str), 64>
+        ensures value { lent_pairs result.items ≡ (series_of self.now).tags }
+        ensures set { IsTagSet (lent_pairs result.items) }
     {
-        let mut pairs = Vec::with_capacity(alloc, self.tags.len())?;
+        let mut pairs = ArrayVec::new();
         let mut left = self.tags();
         while let [rest @ .., tag] = left {
-            put(&mut pairs, tag.key.text(), tag.value.text())?;
+            put(&mut pairs, tag.key.text(), tag.value.text());
             left = rest;
         }
-        Ok(pairs)
+        pairs
     }
 }
 
@@ -245,16 +252,13 @@ fn place_of(pairs: &[(&str, &str)], key: &str) -> Result<usize, usize>
 }
 
 /// Puts a pair in its place by its key.
-fn put<'a, B: Allocator>(
-    pairs: &mut Vec<(&'a str, &'a str), B>,
-    key: &'a str,
-    value: &'a str,
-) -> Result<(), AllocError>
-    ensures { OnOk result (lent_pairs pairs.new.items ≡ put text_cmp key.now value.now (lent_pairs pairs.old.items)) }
+fn put<'a>(pairs: &mut ArrayVec<(&'a str, &'a str), 64>, key: &'a str, value: &'a str)
+    requires { array_vec_len pairs.old < 64 }
+    ensures pairs { lent_pairs pairs.new.items ≡ put text_cmp key.now value.now (lent_pairs pairs.old.items) }
+    ensures few { array_vec_len pairs.new ≤ array_vec_len pairs.old + 1 }
 {
     match place_of(pairs, key) {
         Ok(at) => pairs[at] = (key, value),
-        Err(at) => pairs.insert(at, (key, value))?,
+        Err(at) => pairs.insert(at, (key, value)),
     }
-    Ok(())
 }

@@ -1,17 +1,14 @@
 //! The tags of a line.
-ghost use Rattle.std.specs.Prelude.{◌≡◌, ◌<◌, length, [], IfOk};
+ghost use Rattle.std.specs.Prelude.{◌≡◌, ◌<◌, ◌≤◌, length, [], IfOk};
 ghost use Rattle.std.specs.Str.{IsCharBoundary};
 ghost use Rattle.ts_line.specs.Steps.{GivesIfRoom};
 ghost use Rattle.ts_line.specs.Tags.{has_key, next_tag, tags_at};
 
 use crate::fault::{LineFault, ReadLineError};
-use crate::line::Tag;
+use crate::line::{TAG_LIMIT, Tag};
 use crate::part::part_at;
 use crate::scan::{Stops, after, byte_at, end_at};
 use std::alloc::Allocator;
-
-/// A line has no more tags than this.
-const TAG_LIMIT: usize = 64;
 
 /// Whether a tag has a key.
 fn has_key<A: Allocator>(tags: &[Tag<'_, A>], key: &str) -> bool
@@ -65,6 +62,7 @@ pub fn tags<'a, A: Allocator + Copy>(
 ) -> Result<(Vec<Tag<'a, A>, A>, usize), ReadLineError>
     requires { IsCharBoundary line.now start }
     ensures value { GivesIfRoom (λ x. (x.0.items, x.1)) result (tags_at 65 [] line.now start) }
+    ensures few { IfOk result (λ x. length x.0.items ≤ 64) }
     ensures boundary { IfOk result (λ x. IsCharBoundary line.now x.1) }
 {
     let mut tags = Vec::new(alloc);

@@ -1,20 +1,24 @@
 -- What the facts of columns become when points that were set aside are put in.
-use Rattle.std.proofs.Common.{◌≡◌, ℕ, zero, suc, ℤ, ◌+◌, ◌<◌, List, [], ◌∷◌, ◌++◌, length, map, set, get_or, refl, sym, ◌∙◌, ap, subst, take, true≢false, inl, inr, ⊎_elim, arith, Option, Some, None, IsSome, IfSome}
+use Rattle.std.proofs.Common.{◌≡◌, ℕ, zero, suc, ℤ, ◌+◌, ◌<◌, not, cond, List, [], ◌∷◌, ◌++◌, length, map, filter, set, get_or, refl, sym, ◌∙◌, ap, subst, take, drop, true≢false, inl, inr, ⊎_elim, arith, Option, Some, None, IsSome, IfSome}
 use Rattle.std.specs.List.{slice_get}
 use Rattle.std.specs.FinMap as finmap
-use Rattle.std.proofs.lemmas.List.{get_or_default, get_or-set_same, append_assoc, map-append, length-append, take_more, map-set, get_or-set_other, length-set, length-map, get_or_append_left}
+use Rattle.std.proofs.lemmas.List.{append-nil, take-append-drop, get_or_default, get_or-set_same, append_assoc, map-append, length-append, take_more, map-set, get_or-set_other, length-set, length-map, get_or_append_left}
 use Rattle.std.proofs.lemmas.Option.{slice_get_within, get_or_from_slice_get, none-some, same_Some}
+use Rattle.std.proofs.lemmas.List.Elements.{filter-append}
 use Rattle.std.proofs.Math.Seq.{map-set_same}
 use Rattle.ts_core.specs.Members.{Among, AllDistinct}
 use Rattle.ts_core.specs.Facts.{Text, Column, Fact}
 use Rattle.ts_line.specs.Parts.{Piece, Parts, field_text, series_of, fact_of, facts_of}
 use Rattle.ts_raw.specs.Columns.{PointMap, ColumnState}
 use Rattle.ts_raw.specs.Indexed.{Indexed, no_series, column_in}
-use Rattle.ts_store.specs.Puts.{Puts, PutsAll}
-use Rattle.ts_store.specs.ColumnsKept.{facts_of_columns, points_of, no_column, with_aside, with_point_aside, committed, all_committed, AreReady, AreAside, MayGrow}
-use Rattle.ts_store.specs.Registered.{MakesColumns}
-use Rattle.ts_store.proofs.ColumnsLemmas.{columns_puts, facts-grown}
-use Rattle.ts_core.proofs.MembersLemmas.{Among-left, Among-append, Among-map}
+use Rattle.ts_core.specs.StoreStates.{ColumnPoints, column_of}
+use Rattle.ts_core.specs.StoreMoves.{Puts, PutsFacts}
+use Rattle.ts_store.specs.ColumnsKept.{with_points, columns_in, facts_of_columns, points_of, no_column, with_aside, with_point_aside, committed, all_committed, AreReady, AreAside, MayGrow}
+use Rattle.ts_store.specs.Registered.{new_columns, without_points, with_columns, MakesAll, MakesFirst}
+use Rattle.ts_store.proofs.ColumnsLemmas.{columns_puts, names_of, grown_behind}
+use Rattle.ts_core.specs.RawFacts.{is_waiting}
+use Rattle.ts_core.proofs.MembersLemmas.{Among-left, Among-append, Among-map, Among-filter_was}
+use Rattle.ts_core.proofs.StateLemmas.{is_waiting-there, is_waiting-not}
 use Rattle.ts_raw.proofs.NumberedLemmas.{at_among}
 
 pub points_at : (ss : List ColumnState) (n : ℕ) → get_or (points_of ss) n finmap.empty ≡ (get_or ss n no_column).points
@@ -60,17 +64,22 @@ numbers_distinct cs ss [] fs a d = tt
 numbers_distinct cs ss (n ∷ ns) [] a d = absurd a
 numbers_distinct cs ss (n ∷ ns) (f ∷ fs) a d = (λ k. d.0 (column_of_number cs ss ns fs n f.column a.2 a.0 k), numbers_distinct cs ss ns fs a.2 d.1)
 
+same_names : (cs : List Column) (ss : List ColumnState) (n : ℕ) (s : ColumnState) → length ss ≡ length cs → map column_of (with_points cs (points_of (set ss n s))) ≡ map column_of (with_points cs (points_of ss))
+same_names cs ss n s l =
+    names_of cs (points_of (set ss n s)) (length-map (set ss n s) (λ (t : ColumnState). t.points) ∙ length-set ss n s ∙ l) ∙ sym (names_of cs (points_of ss) (length-map ss (λ (t : ColumnState). t.points) ∙ l))
+
 -- all are put in, one after another
 pub all_put : (cs : List Column) (ss : List ColumnState) (ns : List ℕ) (fs : List Fact) → AllDistinct cs → length ss ≡ length cs → AllDistinct ns → AreAside cs ss ns fs
-    → PutsAll (facts_of_columns cs (points_of ss)) (facts_of_columns cs (points_of (all_committed ss ns))) fs
+    → PutsFacts (with_points cs (points_of ss)) (with_points cs (points_of (all_committed ss ns))) fs
 all_put cs ss [] [] d l once a = refl
 all_put cs ss [] (f ∷ fs) d l once a = absurd a
 all_put cs ss (n ∷ ns) [] d l once a = absurd a
 all_put cs ss (n ∷ ns) (f ∷ fs) d l once a =
-    let ss' : List ColumnState = set ss n (committed (get_or ss n no_column)) in (
-      facts_of_columns cs (points_of ss'),
-      one_committed cs ss n f d l a.0 a.1,
-      all_put cs ss' ns fs d (length-set ss n (committed (get_or ss n no_column)) ∙ l) once.1 (aside_others cs ss ns fs n (committed (get_or ss n no_column)) once.0 a.2),
+    let s' : ColumnState = committed (get_or ss n no_column) in
+    let ss' : List ColumnState = set ss n s' in (
+      with_points cs (points_of ss'),
+      (same_names cs ss n s' l, one_committed cs ss n f d l a.0 a.1),
+      all_put cs ss' ns fs d (length-set ss n s' ∙ l) once.1 (aside_others cs ss ns fs n s' once.0 a.2),
     )
 
 pub all_committed-length : (ss : List ColumnState) (ns : List ℕ) → length (all_committed ss ns) ≡ length ss
@@ -174,41 +183,27 @@ fresh (f ∷ fields) (suc i) x d l e a =
     (λ k. fresh fields i x d.1 (omega (arith, l)) e k) a
 
 pub grown_aside : (c : Column) (cs cs' : List Column) (ss ss' : List ColumnState) (ns : List ℕ) (fs : List Fact) → length ss ≡ length cs → MayGrow c cs ss cs' ss' → AreAside cs ss ns fs
-    → AreAside cs' ss' ns fs × (length ss' ≡ length cs') × (facts_of_columns cs' (points_of ss') ≡ facts_of_columns cs (points_of ss))
+    → AreAside cs' ss' ns fs × (length ss' ≡ length cs')
 grown_aside c cs cs' ss ss' ns fs l grown a =
-    ⊎_elim {C = AreAside cs' ss' ns fs × (length ss' ≡ length cs') × (facts_of_columns cs' (points_of ss') ≡ facts_of_columns cs (points_of ss))}
+    ⊎_elim {C = AreAside cs' ss' ns fs × (length ss' ≡ length cs')}
     (λ same. (
-      subst (λ (xs : List Column). AreAside xs ss' ns fs) (sym same.0) (subst (λ (xs : List ColumnState). AreAside cs xs ns fs) (sym same.1) a),
-      ap length same.1 ∙ l ∙ sym (ap length same.0),
-      λ i. facts_of_columns (same.0 i) (points_of (same.1 i)),
+      subst (λ (xs : List Column). AreAside xs ss' ns fs) (sym same.1) (subst (λ (xs : List ColumnState). AreAside cs xs ns fs) (sym same.2) a),
+      ap length same.2 ∙ l ∙ sym (ap length same.1),
     ))
     (λ made. (
-      subst (λ (xs : List Column). AreAside xs ss' ns fs) (sym made.0) (subst (λ (xs : List ColumnState). AreAside (cs ++ c ∷ []) xs ns fs) (sym made.1) (aside_grown cs ss ns fs c no_column l a)),
-      ap length made.1 ∙ length-append ss (no_column ∷ []) ∙ ap (λ k. k + 1) l ∙ sym (length-append cs (c ∷ [])) ∙ sym (ap length made.0),
-      (λ i. facts_of_columns (made.0 i) (points_of (made.1 i))) ∙ ap (facts_of_columns (cs ++ c ∷ [])) (map-append (λ (s : ColumnState). s.points) ss (no_column ∷ []))
-          ∙ facts-grown cs (points_of ss) c (length-map ss (λ (s : ColumnState). s.points) ∙ l),
+      subst (λ (xs : List Column). AreAside xs ss' ns fs) (sym made.1) (subst (λ (xs : List ColumnState). AreAside (cs ++ c ∷ []) xs ns fs) (sym made.2) (aside_grown cs ss ns fs c no_column l a)),
+      ap length made.2 ∙ length-append ss (no_column ∷ []) ∙ ap (λ k. k + 1) l ∙ sym (length-append cs (c ∷ [])) ∙ sym (ap length made.1),
     ))
     grown
 
 -- ---- columns that are made
 
--- the columns that there were stay
-pub made_stay : (cs cs' : List Column) (fs : List Fact) → MakesColumns cs cs' fs → (c : Column) → Among c cs → Among c cs'
-made_stay cs cs' fs made c a = subst (Among c) (sym made.1) (Among-left c cs made.0 a)
+names_without : (made : List Column) → map column_of (map without_points made) ≡ made
+names_without [] = refl
+names_without (c ∷ cs) = ap (λ ds. c ∷ ds) (names_without cs)
 
--- one more of these facts' columns may be made
-made_one : (c : Column) (before cs cs' : List Column) (ss ss' : List ColumnState) (fs : List Fact) → MayGrow c cs ss cs' ss' → Among c (map (λ (f : Fact). f.column) fs) → MakesColumns before cs fs
-    → MakesColumns before cs' fs
-made_one c before cs cs' ss ss' fs grown of made =
-    ⊎_elim {C = MakesColumns before cs' fs} (λ same. (made.0, same.0 ∙ made.1, made.2))
-    (λ more. (
-      made.0 ++ c ∷ [],
-      more.0 ∙ ap (λ (xs : List Column). xs ++ c ∷ []) made.1 ∙ append_assoc before made.0 (c ∷ []),
-      λ d a. ⊎_elim {C = Among d (map (λ (f : Fact). f.column) fs)} (made.2 d)
-          (λ k. ⊎_elim {C = Among d (map (λ (f : Fact). f.column) fs)} (λ e. subst (λ (x : Column). Among x (map (λ (f : Fact). f.column) fs)) (sym e) of) (λ n. absurd n) k)
-          (Among-append d made.0 (c ∷ []) a),
-    ))
-    grown
+pub names_with : (before : List ColumnPoints) (made : List Column) → map column_of (with_columns before made) ≡ map column_of before ++ made
+names_with before made = map-append column_of before (map without_points made) ∙ ap (λ cs. map column_of before ++ cs) (names_without made)
 
 pub facts_next : (p : Parts) (i : ℕ) (x : Piece × ℤ) → i < length p.fields → x ≡ get_or p.fields i x → map (fact_of p) (take i p.fields) ++ fact_of p x ∷ [] ≡ map (fact_of p) (take (i + 1) p.fields)
 facts_next p i x within is =
@@ -217,7 +212,7 @@ facts_next p i x within is =
 pub next_aside : (p : Parts) (cs cs' : List Column) (ss ss' ss'' : List ColumnState) (ns : List ℕ) (n i : ℕ) (x : Piece × ℤ) → length ss ≡ length cs
     → AreAside cs ss ns (map (fact_of p) (take i p.fields)) → MayGrow (fact_of p x).column cs ss cs' ss' → slice_get cs' n ≡ Some (fact_of p x).column → i < length p.fields → x ≡ get_or p.fields i x
     → AllDistinct (map field_text p.fields) → ss'' ≡ set ss' n (with_point_aside (get_or ss' n no_column) p.time x.1)
-    → AreAside cs' ss'' (ns ++ n ∷ []) (map (fact_of p) (take (i + 1) p.fields)) × (length ss'' ≡ length cs') × (facts_of_columns cs' (points_of ss'') ≡ facts_of_columns cs (points_of ss))
+    → AreAside cs' ss'' (ns ++ n ∷ []) (map (fact_of p) (take (i + 1) p.fields)) × (length ss'' ≡ length cs')
 next_aside p cs cs' ss ss' ss'' ns n i x l a grown at within is once set_is =
     let fs : List Fact = map (fact_of p) (take i p.fields) in
     let s : ColumnState = with_point_aside (get_or ss' n no_column) p.time x.1 in
@@ -229,22 +224,75 @@ next_aside p cs cs' ss ss' ss'' ns n i x l a grown at within is once set_is =
     aside_push cs' (set ss' n s) ns fs n (fact_of p x) (aside_others cs' ss' ns fs n s away g.0) at (ap (λ (t : ColumnState). t.aside) (get_or-set_same ss' n s no_column there)) in (
       subst (λ (xs : List ColumnState). AreAside cs' xs (ns ++ n ∷ []) (map (fact_of p) (take (i + 1) p.fields))) (sym set_is) (subst (AreAside cs' (set ss' n s) (ns ++ n ∷ [])) more pushed),
       ap length set_is ∙ length-set ss' n s ∙ g.1,
-      ap (λ (xs : List ColumnState). facts_of_columns cs' (points_of xs)) set_is ∙ ap (facts_of_columns cs') (aside_leaves ss' n s refl) ∙ g.2,
     )
 
 -- the column that an index gives for a field of the line
 pub column_is : (p : Parts) (index : Indexed) (series : ℕ) (field : Text) (x : Piece × ℤ) → slice_get index.series series ≡ Some (series_of p) → field ≡ x.0.text → column_in index series field ≡ (fact_of p x).column
 column_is p index series field x there name = λ i. record { series = get_or_from_slice_get index.series series (series_of p) no_series there i; field = name i }
 
--- the column that an index gives for a field of the line may be made
-pub made_next : (p : Parts) (index : Indexed) (series : ℕ) (field : Text) (before cs' : List Column) (ss ss' : List ColumnState) (fields : List (Piece × ℤ)) (i : ℕ) (x : Piece × ℤ)
-    → MayGrow (column_in index series field) index.columns ss cs' ss' → slice_get index.series series ≡ Some (series_of p) → field ≡ x.0.text → fields ≡ p.fields → i < length fields → x ≡ get_or fields i x
-    → MakesColumns before index.columns (facts_of p) → MakesColumns before cs' (facts_of p)
-made_next p index series field before cs' ss ss' fields i x grown there name e within is made =
-    let here : Among x p.fields = subst (Among x) e (field_at fields i x within is) in
-    let of : Among (fact_of p x).column (map (λ (f : Fact). f.column) (facts_of p)) = Among-map (λ (f : Fact). f.column) (fact_of p x) (facts_of p) (Among-map (fact_of p) x p.fields here) in
-    made_one (column_in index series field) before index.columns cs' ss ss' (facts_of p) grown
-    (subst (λ (d : Column). Among d (map (λ (f : Fact). f.column) (facts_of p))) (sym (column_is p index series field x there name)) of) made
+new_more : (cs : List Column) (fs : List Fact) (f : Fact) → new_columns cs (fs ++ f ∷ []) ≡ new_columns cs fs ++ filter (λ (c : Column). not (is_waiting cs c)) (f.column ∷ [])
+new_more cs fs f =
+    ap (filter (λ (c : Column). not (is_waiting cs c))) (map-append (λ (g : Fact). g.column) fs (f ∷ []))
+    ∙ filter-append (λ (c : Column). not (is_waiting cs c)) (map (λ (g : Fact). g.column) fs) (f.column ∷ [])
+
+with_more : (before : List ColumnPoints) (made : List Column) (c : Column) → with_columns before (made ++ c ∷ []) ≡ with_columns before made ++ without_points c ∷ []
+with_more before made c = ap (λ (ds : List ColumnPoints). before ++ ds) (map-append without_points made (c ∷ [])) ∙ sym (append_assoc before (map without_points made) (without_points c ∷ []))
+
+-- the columns of the first fields are made, and then that of one more
+pub next_made : (p : Parts) (before : List ColumnPoints) (cs cs' : List Column) (ss ss' : List ColumnState) (i : ℕ) (x : Piece × ℤ) → length ss ≡ length cs → MayGrow (fact_of p x).column cs ss cs' ss' → i < length p.fields
+    → x ≡ get_or p.fields i x → AllDistinct (map field_text p.fields) → with_points cs (points_of ss) ≡ with_columns before (new_columns (map column_of before) (map (fact_of p) (take i p.fields)))
+    → with_points cs' (points_of ss') ≡ with_columns before (new_columns (map column_of before) (map (fact_of p) (take (i + 1) p.fields)))
+next_made p before cs cs' ss ss' i x l grown within is once so =
+    let names : List Column = map column_of before in
+    let front : List Fact = map (fact_of p) (take i p.fields) in
+    let f : Fact = fact_of p x in
+    let made : List Column = new_columns names front in
+    let last : List Column = filter (λ (c : Column). not (is_waiting names c)) (f.column ∷ []) in
+    let all : cs ≡ names ++ made = sym (names_of cs (points_of ss) (length-map ss (λ (s : ColumnState). s.points) ∙ l)) ∙ ap (map column_of) so ∙ names_with before made in
+    let more : new_columns names (map (fact_of p) (take (i + 1) p.fields)) ≡ made ++ last = ap (new_columns names) (sym (facts_next p i x within is)) ∙ new_more names front f in
+    ⊎_elim {C = with_points cs' (points_of ss') ≡ with_columns before (new_columns names (map (fact_of p) (take (i + 1) p.fields)))}
+    (λ same.
+    let there : Among f.column names = ⊎_elim {C = Among f.column names} (λ k. k)
+    (λ k. absurd (fresh p.fields i x once within is (text_among p x (take i p.fields) (Among-filter_was (λ (c : Column). not (is_waiting names c)) f.column (map (λ (g : Fact). g.column) front) k))))
+    (Among-append f.column names made (subst (Among f.column) all same.0)) in
+    let none : last ≡ [] = ap (λ b. cond (not b) (f.column ∷ []) []) (is_waiting-there f.column names there) in
+    (λ j. with_points (same.1 j) (points_of (same.2 j))) ∙ so ∙ ap (with_columns before) (sym (more ∙ ap (λ cs. made ++ cs) none ∙ append-nil made)))
+    (λ new.
+    let away : Among f.column names → ⊥ = λ k. new.0 (subst (Among f.column) (sym all) (Among-left f.column names made k)) in
+    let one : last ≡ f.column ∷ [] = ap (λ b. cond (not b) (f.column ∷ []) []) (is_waiting-not f.column names away) in
+    (λ j. with_points (new.1 j) (points_of (new.2 j))) ∙ ap (with_points (cs ++ f.column ∷ [])) (map-append (λ (s : ColumnState). s.points) ss (no_column ∷ []))
+    ∙ grown_behind cs (points_of ss) f.column (length-map ss (λ (s : ColumnState). s.points) ∙ l) ∙ ap (λ (ds : List ColumnPoints). ds ++ without_points f.column ∷ []) so
+    ∙ sym (ap (with_columns before) (more ∙ ap (λ cs. made ++ cs) one) ∙ with_more before made f.column))
+    grown
+
+-- the column that an index gives for a field of the line is there or made
+pub made_next : (p : Parts) (index : Indexed) (series : ℕ) (field : Text) (before : List ColumnPoints) (cs' : List Column) (ss ss' : List ColumnState) (fields : List (Piece × ℤ)) (i : ℕ) (x : Piece × ℤ)
+    → MayGrow (column_in index series field) index.columns ss cs' ss' → slice_get index.series series ≡ Some (series_of p) → field ≡ x.0.text → fields ≡ p.fields → AllDistinct (map field_text fields) → i < length fields → x ≡ get_or fields i x
+    → length ss ≡ length index.columns → MakesAll before (columns_in index ss) (map (fact_of p) (take i fields)) → MakesAll before (with_points cs' (points_of ss')) (map (fact_of p) (take (i + 1) fields))
+made_next p index series field before cs' ss ss' fields i x grown there name e once within is l so =
+    let whole : AllDistinct (map field_text p.fields) = subst (λ (fs : List (Piece × ℤ)). AllDistinct (map field_text fs)) e once in
+    let here : i < length p.fields = subst (λ (fs : List (Piece × ℤ)). i < length fs) e within in
+    let at : x ≡ get_or p.fields i x = subst (λ (fs : List (Piece × ℤ)). x ≡ get_or fs i x) e is in
+    let may : MayGrow (fact_of p x).column index.columns ss cs' ss' = subst (λ (d : Column). MayGrow d index.columns ss cs' ss') (column_is p index series field x there name) grown in
+    let front : MakesAll before (columns_in index ss) (map (fact_of p) (take i p.fields)) = subst (λ (fs : List (Piece × ℤ)). MakesAll before (columns_in index ss) (map (fact_of p) (take i fs))) e so in
+    subst (λ (fs : List (Piece × ℤ)). MakesAll before (with_points cs' (points_of ss')) (map (fact_of p) (take (i + 1) fs))) (sym e)
+    (next_made p before index.columns cs' ss ss' i x l may here at whole front)
+
+-- what is made is a beginning of what all fields make
+pub first_made : (p : Parts) (before after : List ColumnPoints) (fields : List (Piece × ℤ)) (i : ℕ) → fields ≡ p.fields → MakesAll before after (map (fact_of p) (take i fields)) → MakesFirst before after (facts_of p)
+first_made p before after fields i e so =
+    let names : List Column = map column_of before in
+    let column : Fact → Column = λ f. f.column in
+    let front : List Fact = map (fact_of p) (take i fields) in
+    let back : List Fact = map (fact_of p) (drop i fields) in
+    let split : facts_of p ≡ front ++ back = ap (map (fact_of p)) (sym e ∙ sym (take-append-drop i fields)) ∙ map-append (fact_of p) (take i fields) (drop i fields) in
+    record {
+      made = new_columns names front;
+      others = new_columns names back;
+      order = sym (ap (new_columns names) split ∙ ap (filter (λ (c : Column). not (is_waiting names c))) (map-append column front back)
+          ∙ filter-append (λ (c : Column). not (is_waiting names c)) (map column front) (map column back));
+      columns = so;
+    }
 
 -- each fact that is aside has its column
 pub columns_there : (cs : List Column) (ss : List ColumnState) (ns : List ℕ) (fs : List Fact) → AreAside cs ss ns fs → (f : Fact) → Among f fs → Among f.column cs

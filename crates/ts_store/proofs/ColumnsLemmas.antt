@@ -3,7 +3,7 @@ use Rattle.std.proofs.Common.{◌≡◌, ℕ, zero, suc, ℤ, ◌+◌, Bool, tru
 use Rattle.std.specs.Ordering.{int_cmp, ordering_then, eq_by_cmp}
 use Rattle.std.specs.List.{slice_get, sum_by}
 use Rattle.std.proofs.lemmas.List.Elements.{filter-append}
-use Rattle.std.proofs.lemmas.List.{length-append, nil_from_length}
+use Rattle.std.proofs.lemmas.List.{length-append, length-map, nil_from_length}
 use Rattle.std.proofs.lemmas.List.Sums.{sum_by-cons}
 use Rattle.std.proofs.Math.Numerals.{add-one}
 use Rattle.std.specs.Cmp.{int_cmp_total}
@@ -17,11 +17,13 @@ use Rattle.ts_core.specs.Facts.{Text, Column, Fact, Id, id_of, same_id, is_of, i
 use Rattle.ts_core.proofs.MembersLemmas.{Among-left, Among-right, Among-append, AllDistinct-append}
 use Rattle.ts_core.proofs.Ids.{columns_total, equal_of, other_id}
 use Rattle.ts_core.proofs.Sorted.{sorted-distinct, found_among, among_found}
-use Rattle.ts_store.specs.Puts.{Puts}
-use Rattle.ts_raw.specs.Columns.{PointMap}
+use Rattle.ts_core.specs.StoreMoves.{Puts}
+use Rattle.ts_raw.specs.Columns.{PointMap, ColumnState}
+use Rattle.ts_raw.specs.Indexed.{Indexed}
 use Rattle.ts_raw.specs.Numbered.{numbers_from, numbers_where}
 use Rattle.ts_raw.proofs.NumberedLemmas.{at_among}
-use Rattle.ts_store.specs.ColumnsKept.{fact_at, facts_in, facts_of_columns}
+use Rattle.ts_core.specs.StoreStates.{ColumnPoints, column_of, fact_at}
+use Rattle.ts_store.specs.ColumnsKept.{facts_in, points_of, with_points, columns_in, facts_of_columns, held_of, AreKnown, IsHeld}
 
 -- ---- in one column
 
@@ -154,11 +156,26 @@ columns_puts (b ∷ cs) (m ∷ ms) (suc n) c t v d l e =
 no_entries : entries (finmap.empty {X = ℤ} {R = int_cmp}) ≡ []
 no_entries = nil_from_length _ (sym (len-entries (finmap.empty {X = ℤ} {R = int_cmp})) ∙ len-empty int_cmp ℤ)
 
-pub facts-grown : (cs : List Column) (ms : List PointMap) (c : Column) → length ms ≡ length cs → facts_of_columns (cs ++ c ∷ []) (ms ++ finmap.empty ∷ []) ≡ facts_of_columns cs ms
-facts-grown [] [] c l = ap (λ es. map (fact_at c) es ++ []) no_entries
-facts-grown [] (m ∷ ms) c l = absurd (omega (arith, l))
-facts-grown (b ∷ cs) [] c l = absurd (omega (arith, l))
-facts-grown (b ∷ cs) (m ∷ ms) c l = ap (λ fs. facts_in b m ++ fs) (facts-grown cs ms c (omega (arith, l)))
+-- each column stands with its points
+pub names_of : (cs : List Column) (ms : List PointMap) → length ms ≡ length cs → map column_of (with_points cs ms) ≡ cs
+names_of [] ms l = refl
+names_of (c ∷ cs) [] l = absurd (omega (arith, l))
+names_of (c ∷ cs) (m ∷ ms) l = ap (λ ds. c ∷ ds) (names_of cs ms (omega (arith, l)))
+
+-- each column of an index is known
+pub known_of : (index : Indexed) (ss : List ColumnState) → IsHeld index ss → AreKnown (held_of index ss)
+known_of index ss h =
+    let names : map column_of (columns_in index ss) ≡ index.columns = names_of index.columns (points_of ss) (length-map ss (λ (s : ColumnState). s.points) ∙ h.each) in
+    record {
+      once = subst (λ (cs : List Column). AllDistinct cs) (sym names) h.sound.columns_once;
+      registered = λ c a. h.sound.registered c (subst (λ (cs : List Column). Among c cs) names a);
+    }
+
+pub grown_behind : (cs : List Column) (ms : List PointMap) (c : Column) → length ms ≡ length cs → with_points (cs ++ c ∷ []) (ms ++ finmap.empty ∷ []) ≡ with_points cs ms ++ record { column = c; points = [] } ∷ []
+grown_behind [] [] c l = ap (λ (ps : List (ℤ × ℤ)). record { column = c; points = ps } ∷ []) no_entries
+grown_behind [] (m ∷ ms) c l = absurd (omega (arith, l))
+grown_behind (b ∷ cs) [] c l = absurd (omega (arith, l))
+grown_behind (b ∷ cs) (m ∷ ms) c l = ap (λ (ds : List ColumnPoints). record { column = b; points = entries m } ∷ ds) (grown_behind cs ms c (omega (arith, l)))
 
 -- ---- how many are asked for
 

@@ -1,23 +1,18 @@
 -- How many facts columns have, which columns are asked, and what the points of one column are.
-use Rattle.std.proofs.Common.{◌≡◌, ℕ, zero, suc, ℤ, ◌+◌, ◌<◌, ◌≤◌, Bool, true, false, cond, List, [], ◌∷◌, ◌++◌, length, map, filter, get_or, take, refl, sym, ◌∙◌, ap, subst, arith, ◌&&◌, Some}
+use Rattle.std.proofs.Common.{◌≡◌, ℕ, zero, suc, ℤ, ◌+◌, ◌<◌, ◌≤◌, Bool, true, false, cond, List, [], ◌∷◌, length, filter, get_or, take, refl, sym, ◌∙◌, ap, subst, arith, Some}
 use Rattle.std.specs.List.{slice_get, sum_by}
 use Rattle.std.specs.FinMap as finmap
 use Rattle.std.specs.FinMap.{entries, len-entries}
-use Rattle.std.proofs.lemmas.List.{length-append, length-map, append-nil, get_or_default, take_all}
-use Rattle.std.proofs.lemmas.List.Elements.{filter-append}
+use Rattle.std.proofs.lemmas.List.{length-append, length-map, get_or_default, take_all}
 use Rattle.std.proofs.lemmas.List.Sums.{sum_by-cons, length-filter, count_by-le-length, sum_by_more, sum_by_more_le}
-use Rattle.std.proofs.lemmas.Option.{same_Some}
-use Rattle.ts_core.specs.Members.{Among, AllDistinct}
-use Rattle.ts_core.specs.Facts.{Text, Column, Fact, is_of, is_within, is_asked}
-use Rattle.ts_core.specs.RawFacts.{same_column}
-use Rattle.ts_core.proofs.MembersLemmas.{filter-none}
-use Rattle.ts_core.proofs.StateLemmas.{same_column-refl, same_column-eq}
+use Rattle.std.proofs.lemmas.Option.{none-some, same_Some}
+use Rattle.ts_core.specs.Facts.{Text, Column, Fact, is_of, is_asked}
+use Rattle.ts_core.specs.StoreStates.{ColumnPoints, column_of, fact_at}
 use Rattle.ts_raw.specs.Columns.{PointMap, ColumnState, points_within}
 use Rattle.ts_raw.specs.Numbered.{numbers_from, numbers_where}
-use Rattle.ts_raw.proofs.NumberedLemmas.{at_among}
-use Rattle.ts_store.specs.ColumnsKept.{fact_at, facts_in, facts_of_columns, points_of, no_column}
-use Rattle.ts_store.specs.PointsRead.{number_of_points, column_points}
-use Rattle.ts_store.proofs.ColumnsLemmas.{asked_of, asked_by_columns, in_column, column_among}
+use Rattle.ts_store.specs.ColumnsKept.{facts_in, with_points, facts_of_columns, points_of, no_column}
+use Rattle.ts_store.specs.PointsRead.{number_of_points}
+use Rattle.ts_store.proofs.ColumnsLemmas.{asked_of, asked_by_columns, names_of}
 use Rattle.ts_store.proofs.ColumnsAside.{points_at}
 
 -- ---- how many
@@ -96,57 +91,11 @@ asked_all m f a b cs ss ns i count len is l so =
 
 -- ---- the points of one column
 
-abbrev is_its : Column → ℤ → ℤ → Fact → Bool
-is_its c a b f = same_column f.column c && is_within a b f.time
+pub at_points : (cs : List Column) (ms : List PointMap) (n : ℕ) (s : ColumnPoints) → slice_get (with_points cs ms) n ≡ Some s → s.points ≡ entries (get_or ms n finmap.empty)
+at_points [] ms n s e = absurd (none-some s e)
+at_points (c ∷ cs) [] n s e = absurd (none-some s e)
+at_points (c ∷ cs) (m ∷ ms) zero s e = ap (λ (d : ColumnPoints). d.points) (sym (same_Some (record { column = c; points = entries m }) s e))
+at_points (c ∷ cs) (m ∷ ms) (suc n) s e = at_points cs ms n s e
 
-its_alike : (c d : Column) (a b : ℤ) (points : List (ℤ × ℤ)) → filter (is_its c a b) (map (fact_at d) points) ≡ filter (λ (f : Fact). same_column d c && is_within a b f.time) (map (fact_at d) points)
-its_alike c d a b [] = refl
-its_alike c d a b (p ∷ points) = ap (λ (xs : List Fact). cond (same_column d c && is_within a b p.0) (fact_at d p ∷ xs) xs) (its_alike c d a b points)
-
-its_points : (c : Column) (a b : ℤ) (points : List (ℤ × ℤ))
-    → map (λ (f : Fact). (f.time, f.value)) (filter (λ (f : Fact). is_within a b f.time) (map (fact_at c) points)) ≡ filter (λ (p : ℤ × ℤ). is_within a b p.0) points
-its_points c a b [] = refl
-its_points c a b (p ∷ points) =
-    let later : List Fact = filter (λ (f : Fact). is_within a b f.time) (map (fact_at c) points) in
-    elim (is_within a b p.0) as (λ o. map (λ (f : Fact). (f.time, f.value)) (cond o (fact_at c p ∷ later) later) ≡ cond o (p ∷ filter (λ (q : ℤ × ℤ). is_within a b q.0) points) (filter (λ (q : ℤ × ℤ). is_within a b q.0) points)) [
-      | true ↦ ap (λ ps. p ∷ ps) (its_points c a b points)
-      | false ↦ its_points c a b points
-    ]
-
-not_same : (c d : Column) → (d ≡ c → ⊥) → same_column d c ≡ false
-not_same c d n = elim (same_column d c) as (λ o. same_column d c ≡ o → o ≡ false) [ true ↦ λ e. absurd (n (same_column-eq d c e)) | false ↦ λ e. refl ] refl
-
-not_its : (c : Column) (a b : ℤ) (f : Fact) → (f.column ≡ c → ⊥) → is_its c a b f ≡ false
-not_its c a b f n = ap (λ o. o && is_within a b f.time) (not_same c f.column n)
-
-abbrev time_values : List Fact → List (ℤ × ℤ)
-time_values facts = map (λ (f : Fact). (f.time, f.value)) facts
-
--- in the column itself
-in_itself : (c d : Column) (a b : ℤ) (points : List (ℤ × ℤ)) → d ≡ c → time_values (filter (is_its c a b) (map (fact_at d) points)) ≡ filter (λ (p : ℤ × ℤ). is_within a b p.0) points
-in_itself c d a b points same =
-    ap (λ (fs : List Fact). time_values fs) (its_alike c d a b points)
-    ∙ ap (λ o. time_values (filter (λ (f : Fact). o && is_within a b f.time) (map (fact_at d) points))) (ap (λ (x : Column). same_column x c) same ∙ same_column-refl c)
-    ∙ its_points d a b points
-
--- the points of a number are those of its column among the facts of all
-pub points_of_column : (cs : List Column) (ms : List PointMap) (n : ℕ) (c : Column) (a b : ℤ) → AllDistinct cs → length ms ≡ length cs → slice_get cs n ≡ Some c
-    → points_within (get_or ms n finmap.empty) a b ≡ column_points c a b (facts_of_columns cs ms)
-points_of_column [] ms n c a b d l at = absurd (cc)
-points_of_column (e ∷ cs) [] n c a b d l at = absurd (omega (arith, l))
-points_of_column (e ∷ cs) (m ∷ ms) zero c a b d l at =
-    let same : e ≡ c = same_Some e c at in
-    let p : Fact → Bool = is_its c a b in
-    let here : List Fact = facts_in e m in
-    let later : List Fact = facts_of_columns cs ms in
-    let none : filter p later ≡ [] = filter-none p later (λ f k. not_its c a b f (λ q. d.0 (subst (λ (x : Column). Among x cs) (q ∙ sym same) (column_among cs ms f k)))) in
-    let picked : filter p (here ++ later) ≡ filter p here = filter-append p here later ∙ ap (λ (fs : List Fact). filter p here ++ fs) none ∙ append-nil (filter p here) in
-    sym (ap (λ (fs : List Fact). time_values fs) picked ∙ in_itself c e a b (entries m) same)
-points_of_column (e ∷ cs) (m ∷ ms) (suc n) c a b d l at =
-    let p : Fact → Bool = is_its c a b in
-    let here : List Fact = facts_in e m in
-    let later : List Fact = facts_of_columns cs ms in
-    let none : filter p here ≡ [] =
-    filter-none p here (λ f k. not_its c a b f (λ q. d.0 (subst (λ (x : Column). Among x cs) (sym q ∙ (in_column e (entries m) f k).0) (at_among cs n c at)))) in
-    points_of_column cs ms n c a b d.1 (omega (arith, l)) at
-    ∙ sym (ap (λ (fs : List Fact). time_values fs) (filter-append p here later ∙ ap (λ (fs : List Fact). fs ++ filter p later) none))
+pub with_points-length : (cs : List Column) (ms : List PointMap) → length ms ≡ length cs → length (with_points cs ms) ≡ length cs
+with_points-length cs ms l = sym (length-map (with_points cs ms) column_of) ∙ ap length (names_of cs ms l)

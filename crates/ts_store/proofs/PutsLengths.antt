@@ -4,7 +4,8 @@ use Rattle.std.proofs.lemmas.List.{length-append}
 use Rattle.ts_core.specs.Members.{Among, AllDistinct}
 use Rattle.ts_core.specs.Facts.{Fact}
 use Rattle.ts_core.proofs.MembersLemmas.{Split, split_at, out_of_middle}
-use Rattle.ts_store.specs.Puts.{Puts, PutsAll}
+use Rattle.ts_core.specs.StoreStates.{ColumnPoints, facts_of}
+use Rattle.ts_core.specs.StoreMoves.{Puts, PutsFacts}
 
 -- distinct ones that are all among others are no more than these
 length-within : {X : Type 0} (xs ys : List X) → AllDistinct xs → ((z : X) → Among z xs → Among z ys) → length xs ≤ length ys
@@ -23,9 +24,9 @@ puts-length before after f p =
     let l : length after ≤ length (f ∷ before) = length-within after (f ∷ before) p.once (λ g a. ⊎_elim {C = Among g (f ∷ before)} (λ e. inl e) (λ k. inr k.0) (p.only g a)) in
     omega (arith, l)
 
-pub PutsAll-length : (before after fs : List Fact) → PutsAll before after fs → length after ≤ length before + length fs
-PutsAll-length before after [] p = omega (arith, ap length p)
-PutsAll-length before after (f ∷ fs) p =
-    let one = puts-length before p.0 f p.1 in
-    let all = PutsAll-length p.0 after fs p.2 in
+pub puts_facts-length : (before after : List ColumnPoints) (fs : List Fact) → PutsFacts before after fs → length (facts_of after) ≤ length (facts_of before) + length fs
+puts_facts-length before after [] p = omega (arith, ap (λ (cs : List ColumnPoints). length (facts_of cs)) p)
+puts_facts-length before after (f ∷ fs) p =
+    let one = puts-length (facts_of before) (facts_of p.0) f p.1.1 in
+    let all = puts_facts-length p.0 after fs p.2 in
     omega (arith, one, all)

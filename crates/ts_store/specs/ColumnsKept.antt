@@ -1,33 +1,39 @@
 -- The facts of columns, each with its points, and what becomes of points that were set aside. (Own rule.)
 use Rattle.std.specs.Prelude.{◌≡◌, ◌⊎◌, ℕ, ℤ, List, [], ◌∷◌, ◌++◌, ◌<◌, length, map, IsSome, Option, Some, None, slice_get, set, get_or}
 use Rattle.std.specs.FinMap as finmap
-use Rattle.ts_core.specs.Members.{Among}
+use Rattle.ts_core.specs.Members.{Among, AllDistinct}
 use Rattle.ts_core.specs.Facts.{Series, Column, Fact}
+use Rattle.ts_core.specs.StoreStates.{ColumnPoints, column_of, fact_at, facts_of}
 use Rattle.ts_raw.specs.Columns.{PointMap, ColumnState}
 use Rattle.ts_raw.specs.Indexed.{Indexed, IsSound}
-
-abbrev pub fact_at : Column → ℤ × ℤ → Fact
-fact_at c p = record { column = c; time = p.0; value = p.1 }
 
 abbrev pub facts_in : Column → PointMap → List Fact
 facts_in c points = map (fact_at c) (finmap.entries points)
 
--- the facts of all columns, in the order of making
-abbrev pub facts_of_columns : List Column → List PointMap → List Fact
-facts_of_columns [] maps = []
-facts_of_columns (c ∷ cs) [] = []
-facts_of_columns (c ∷ cs) (m ∷ ms) = facts_in c m ++ facts_of_columns cs ms
-
 abbrev pub points_of : List ColumnState → List PointMap
 points_of states = map (λ (s : ColumnState). s.points) states
+
+-- the columns with their points, in the order of making
+abbrev pub with_points : List Column → List PointMap → List ColumnPoints
+with_points [] maps = []
+with_points (c ∷ cs) [] = []
+with_points (c ∷ cs) (m ∷ ms) = record { column = c; points = finmap.entries m } ∷ with_points cs ms
+
+-- those of an index
+abbrev pub columns_in : Indexed → List ColumnState → List ColumnPoints
+columns_in index states = with_points index.columns (points_of states)
+
+-- the facts of all columns
+abbrev pub facts_of_columns : List Column → List PointMap → List Fact
+facts_of_columns cs ms = facts_of (with_points cs ms)
 
 abbrev pub no_column : ColumnState
 no_column = record { points = finmap.empty; aside = None }
 
--- this column is made behind the others, without points, or none is
+-- this column is there, or is made behind the others, without points
 abbrev pub MayGrow : Column → List Column → List ColumnState → List Column → List ColumnState → Type 0
 MayGrow c columns states columns' states' =
-    ((columns' ≡ columns) × (states' ≡ states)) ⊎ ((columns' ≡ columns ++ c ∷ []) × (states' ≡ states ++ no_column ∷ []))
+    (Among c columns × (columns' ≡ columns) × (states' ≡ states)) ⊎ ((Among c columns → ⊥) × (columns' ≡ columns ++ c ∷ []) × (states' ≡ states ++ no_column ∷ []))
 
 -- ---- points aside
 
@@ -62,14 +68,18 @@ AreAside columns states (n ∷ ns) (f ∷ fs) =
 
 -- ---- an index with the points of its columns
 
--- the registered series, the columns, and the facts of all columns
+-- the registered series, and the columns with their points
 pub record Held : Type 0 where
   pub series : List Series
-  pub columns : List Column
-  pub raw : List Fact
+  pub columns : List ColumnPoints
 
 abbrev pub held_of : Indexed → List ColumnState → Held
-held_of index states = record { series = index.series; columns = index.columns; raw = facts_of_columns index.columns (points_of states) }
+held_of index states = record { series = index.series; columns = columns_in index states }
+
+-- each column is there once, and its series is registered
+pub record AreKnown (held : Held) : Type 0 where
+  pub once : AllDistinct (map column_of held.columns)
+  pub registered : (c : Column) → Among c (map column_of held.columns) → Among c.series held.series
 
 -- each column of the index has its points
 pub record IsHeld (index : Indexed) (states : List ColumnState) : Type 0 where

@@ -1,4 +1,5 @@
 pub mod PointsRead
-pub mod Puts
 pub mod ColumnsKept
 pub mod Registered
+pub mod Refusals
+pub mod LinesPut

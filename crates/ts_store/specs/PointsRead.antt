@@ -1,15 +1,24 @@
 -- What is read from columns: how many points they have, and the points of one of them. (Own rule.)
-use Rattle.std.specs.Prelude.{◌&&◌, ℕ, ℤ, List, map, filter}
+use Rattle.std.specs.Prelude.{◌≡◌, ◌↔◌, ◌≤ℤ◌, ℕ, ℤ, true, List, filter}
 use Rattle.std.specs.List.{sum_by}
 use Rattle.std.specs.FinMap as finmap
-use Rattle.ts_core.specs.Facts.{Column, Fact, is_within}
-use Rattle.ts_core.specs.RawFacts.{same_column}
+use Rattle.ts_core.specs.Members.{Among}
+use Rattle.ts_core.specs.Facts.{Column, is_within}
+use Rattle.ts_core.specs.Settings.{Settings}
+use Rattle.ts_core.specs.History.{History, raw_mark}
+use Rattle.ts_core.specs.Latest.{latest_of}
+use Rattle.ts_core.specs.StoreStates.{fact_at}
 use Rattle.ts_raw.specs.Columns.{ColumnState}
 
 -- how many points there are in all columns
 abbrev pub number_of_points : List ColumnState → ℕ
 number_of_points states = sum_by (λ (s : ColumnState). finmap.len s.points) states
 
--- the points of one column among facts, from a on and before b
-abbrev pub column_points : Column → ℤ → ℤ → List Fact → List (ℤ × ℤ)
-column_points c a b facts = map (λ (f : Fact). (f.time, f.value)) (filter (λ (f : Fact). same_column f.column c && is_within a b f.time) facts)
+-- the points of a list from a on and before b
+abbrev pub points_between : ℤ → ℤ → List (ℤ × ℤ) → List (ℤ × ℤ)
+points_between a b ps = filter (λ (p : ℤ × ℤ). is_within a b p.0) ps
+
+-- these are the points of a column from a on and before b: from the raw mark on, just those of the latest facts
+abbrev pub AreLatestOf : Column → ℤ → ℤ → List (ℤ × ℤ) → Settings → History → Type 0
+AreLatestOf c a b ps opening h =
+    (p : ℤ × ℤ) → raw_mark opening h ≤ℤ p.0 → Among p ps ↔ (Among (fact_at c p) (latest_of h) × (is_within a b p.0 ≡ true))

@@ -1,23 +1,41 @@
--- Which series and columns there are after a write, and when a series is refused. (Own rule: 1,000,000 series at most.)
-use Rattle.std.specs.Prelude.{◌≡◌, ◌⊎◌, ℕ, ◌≤◌, ◌^◌, List, ◌++◌, length, map}
-use Rattle.ts_core.specs.Members.{Among}
+-- Which series and columns there are after a write: the line's series is registered, and its columns are made in the order in
+-- which its fields first stand. (Own rule.)
+use Rattle.std.specs.Prelude.{◌≡◌, ◌⊎◌, ℕ, ◌≤◌, ◌^◌, not, List, [], ◌++◌, length, map, filter}
+use Rattle.ts_core.specs.Times.{least_time}
 use Rattle.ts_core.specs.Facts.{Series, Column, Fact}
+use Rattle.ts_core.specs.Marks.{Marks}
+use Rattle.ts_core.specs.StoreStates.{ColumnPoints, column_of}
+use Rattle.ts_core.specs.RawFacts.{is_waiting}
 use Rattle.ts_raw.specs.Numbered.{Gains}
 
--- so many series are registered that another one is refused
-pub record IsTooMany (series : List Series) (s : Series) : Type 0 where
-  pub full : 1000000 ≤ length series
-  pub new : Among s series → ⊥
-
--- the series may have been registered where it isn't refused, and no other
+-- the series may have been registered, and no other
 abbrev pub MayGain : List Series → List Series → Series → Type 0
-MayGain before after s = (after ≡ before) ⊎ ((IsTooMany before s → ⊥) × Gains before after s)
+MayGain before after s = (after ≡ before) ⊎ Gains before after s
 
--- columns of these facts may have been made, behind those that there were
-abbrev pub MakesColumns : List Column → List Column → List Fact → Type 0
-MakesColumns before after facts = (made : List Column) × (after ≡ before ++ made) × ((c : Column) → Among c made → Among c (map (λ (f : Fact). f.column) facts))
+-- the columns of facts that aren't there yet, in the order of the facts
+abbrev pub new_columns : List Column → List Fact → List Column
+new_columns columns facts = filter (λ (c : Column). not (is_waiting columns c)) (map (λ (f : Fact). f.column) facts)
 
--- no more than 2^62 facts were accepted, and no more are kept
-pub record AreCounted (accepted : ℕ) (raw : List Fact) : Type 0 where
+abbrev pub without_points : Column → ColumnPoints
+without_points c = record { column = c; points = [] }
+
+-- these columns are made behind those that there were, without points
+abbrev pub with_columns : List ColumnPoints → List Column → List ColumnPoints
+with_columns before made = before ++ map without_points made
+
+-- each of these facts' new columns is made, and nothing else changes
+abbrev pub MakesAll : List ColumnPoints → List ColumnPoints → List Fact → Type 0
+MakesAll before after facts = after ≡ with_columns before (new_columns (map column_of before) facts)
+
+-- the first of these facts' new columns are made, and nothing else changes
+pub record MakesFirst (before after : List ColumnPoints) (facts : List Fact) : Type 0 where
+  pub made : List Column
+  pub others : List Column
+  pub order : made ++ others ≡ new_columns (map column_of before) facts
+  pub columns : after ≡ with_columns before made
+
+-- no run began, no more than 2^62 facts were accepted, and no more are kept
+pub record IsCounted (marks : Marks) (accepted : ℕ) (raw : List Fact) : Type 0 where
+  pub mark : marks.raw ≡ least_time
   pub few : accepted ≤ 2 ^ 62
   pub kept : length raw ≤ accepted

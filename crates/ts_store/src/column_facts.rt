@@ -1,17 +1,18 @@
 //! Facts in columns that are found through an index.
-ghost use Rattle.std.specs.Prelude.{◌≡◌, ◌≤◌, ◌<◌, ◌+◌, ◌*◌, ◌^◌, ◌↔◌, [], length, filter, OnOk, OnErr, IsTrue};
+ghost use Rattle.std.specs.Prelude.{◌≡◌, ◌≤◌, ◌<◌, ◌+◌, ◌*◌, ◌^◌, [], false, length, filter, map, OnOk, OnErr};
 ghost use Rattle.std.specs.List.{AllByRecursion};
 ghost use Rattle.ts_core.specs.Times.{least_time};
-ghost use Rattle.ts_core.specs.Facts.{Column, Fact, is_of, is_asked};
+ghost use Rattle.ts_core.specs.Facts.{is_of, is_asked};
 ghost use Rattle.ts_core.specs.History.{MayBeTaken};
-ghost use Rattle.ts_core.specs.Members.{Among, AllDistinct};
+ghost use Rattle.ts_core.specs.StoreStates.{ColumnPoints, column_of, facts_of as facts_in};
 ghost use Rattle.ts_core.specs.Texts.{lent_pairs, lent_series, IsTagSet};
 ghost use Rattle.ts_line.specs.Parts.{series_of, facts_of};
-ghost use Rattle.ts_raw.specs.Numbered.{IsAt, Gains, numbers_where};
+ghost use Rattle.ts_raw.specs.Numbered.{IsAt, numbers_where};
 ghost use Rattle.ts_raw.specs.PlainColumns.{IsRising};
-ghost use Rattle.ts_store.specs.Registered.{IsTooMany, MayGain, MakesColumns};
-ghost use Rattle.ts_store.specs.PointsRead.{column_points};
-ghost use Rattle.ts_store.specs.Puts.{PutsAll};
+ghost use Rattle.ts_store.specs.ColumnsKept.{AreKnown};
+ghost use Rattle.ts_store.specs.Refusals.{is_too_many};
+ghost use Rattle.ts_store.specs.PointsRead.{points_between};
+ghost use Rattle.ts_store.specs.LinesPut.{Puts, Grows};
 
 use crate::column_reads::{count_asked, held_points, raw_points, raw_range};
 use crate::columns::{commit_all, prepare_line};
@@ -43,7 +44,6 @@ impl<A: Allocator + Copy> ColumnFacts<A> {
     pub(crate) fn new(alloc: A) -> ColumnFacts<A>
         ensures series { result.series ≡ [] }
         ensures columns { result.columns ≡ [] }
-        ensures raw { result.raw ≡ [] }
     {
         ColumnFacts {
             index: Index::new(alloc),
@@ -52,14 +52,9 @@ impl<A: Allocator + Copy> ColumnFacts<A> {
         }
     }
 
-    /// The allocator.
-    pub(crate) fn allocator(&self) -> A {
-        *self.columns.allocator()
-    }
-
     /// Whether so many series are registered that this one is refused.
     pub(crate) fn refuses(&self, measurement: &str, tags: &[(&str, &str)]) -> bool
-        ensures { IsTrue result ↔ IsTooMany self.now.series (lent_series measurement.now tags.now) }
+        ensures { result ≡ is_too_many self.now.series (lent_series measurement.now tags.now) }
     {
         self.index.series_count() >= SERIES_LIMIT && self.index.lookup(measurement, tags).is_none()
     }
@@ -73,16 +68,11 @@ impl<A: Allocator + Copy> ColumnFacts<A> {
     ) -> Result<(), AllocError>
         requires set { IsTagSet (lent_pairs tags.now) }
         requires tags { lent_pairs tags.now ≡ (series_of line.now).tags }
-        requires few { IsTooMany self.old.series (series_of line.now) → ⊥ }
-        ensures ok { OnOk result (PutsAll self.old.raw self.new.raw (facts_of line.now)) }
-        ensures there { OnOk result ((f : Fact) → Among f (facts_of line.now) → Among f.column self.new.columns) }
+        requires few { is_too_many self.old.series (series_of line.now) ≡ false }
+        ensures ok { OnOk result (Puts self.old self.new line.now) }
+        ensures err { OnErr result (Grows self.old self.new line.now) }
         ensures taken { OnOk result (AllByRecursion (MayBeTaken least_time) (facts_of line.now)) }
-        ensures err { OnErr result (self.new.raw ≡ self.old.raw) }
-        ensures series { OnOk result (Gains self.old.series self.new.series (series_of line.now)) }
-        ensures may_gain { MayGain self.old.series self.new.series (series_of line.now) }
-        ensures made { MakesColumns self.old.columns self.new.columns (facts_of line.now) }
-        ensures columns_once { AllDistinct self.new.columns }
-        ensures registered { (c : Column) → Among c self.new.columns → Among c.series self.new.series }
+        ensures known { AreKnown self.new }
     {
         let series = match self.index.register(line.measurement().text(), tags) {
             Ok(series) => series,
@@ -103,8 +93,8 @@ impl<A: Allocator + Copy> ColumnFacts<A> {
 
     /// How many facts there are of a measurement and a field, from a time on and before another.
     pub(crate) fn count(&self, measurement: &str, field: &str, from: Time, to: Time) -> u64
-        requires { length self.now.raw ≤ 2 ^ 62 }
-        ensures { result ≡ length (filter (is_asked measurement.now field.now from to) self.now.raw) }
+        requires { length (facts_in self.now.columns) ≤ 2 ^ 62 }
+        ensures { result ≡ length (filter (is_asked measurement.now field.now from to) (facts_in self.now.columns)) }
     {
         let columns = self.columns.as_slice();
         count_asked(&self.index, columns, measurement, field, from, to)
@@ -112,24 +102,24 @@ impl<A: Allocator + Copy> ColumnFacts<A> {
 
     /// How many facts there are.
     pub(crate) fn raw_points(&self) -> u64
-        requires { length self.now.raw ≤ 2 ^ 62 }
-        ensures { result ≡ length self.now.raw }
+        requires { length (facts_in self.now.columns) ≤ 2 ^ 62 }
+        ensures { result ≡ length (facts_in self.now.columns) }
     {
         raw_points(self.columns.as_slice())
     }
 
     /// How many points are stored.
     pub(crate) fn held_points(&self) -> u64
-        requires { length self.now.raw ≤ 2 ^ 62 }
-        ensures all { length self.now.raw ≤ result }
-        ensures few_more { result ≤ length self.now.raw + 256 * length self.now.columns }
+        requires { length (facts_in self.now.columns) ≤ 2 ^ 62 }
+        ensures all { length (facts_in self.now.columns) ≤ result }
+        ensures few_more { result ≤ length (facts_in self.now.columns) + 256 * length self.now.columns }
     {
         held_points(self.columns.as_slice())
     }
 
     /// The columns of a measurement and a field, in the order of making.
     pub(crate) fn columns_of(&self, measurement: &str, field: &str) -> &[ColumnId]
-        ensures { result.now ≡ numbers_where (is_of measurement.now field.now) self.now.columns }
+        ensures { result.now ≡ numbers_where (is_of measurement.now field.now) (map column_of self.now.columns) }
     {
         self.index.columns_of(measurement, field)
     }
@@ -137,7 +127,7 @@ impl<A: Allocator + Copy> ColumnFacts<A> {
     /// The points of a column, from a time on and before another (nanoseconds).
     pub(crate) fn raw_range(&self, column: ColumnId, from: i64, to: i64) -> Points<'_>
         requires { column < length self.now.columns }
-        ensures points { (c : Column) → IsAt self.now.columns column c → result ≡ column_points c from to self.now.raw }
+        ensures points { (s : ColumnPoints) → IsAt self.now.columns column s → result ≡ points_between from to s.points }
         ensures rising { IsRising result }
     {
         raw_range(self.columns.as_slice(), column.number(), from, to)

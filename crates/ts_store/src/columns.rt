@@ -1,13 +1,13 @@
 //! What a line writes to columns that are found through an index: each of its columns is looked up once.
-ghost use Rattle.std.specs.Prelude.{◌≡◌, ◌<◌, [], length, OnOk, IfOk, set, get_or};
+ghost use Rattle.std.specs.Prelude.{◌≡◌, ◌<◌, [], length, OnOk, OnErr, IfOk, set, get_or};
 ghost use Rattle.std.specs.List.{AllByRecursion};
 ghost use Rattle.ts_core.specs.Times.{least_time};
 ghost use Rattle.ts_core.specs.History.{MayBeTaken};
 ghost use Rattle.ts_line.specs.Parts.{series_of, facts_of};
 ghost use Rattle.ts_raw.specs.Indexed.{IsSound, column_in};
 ghost use Rattle.ts_raw.specs.Numbered.{IsAt};
-ghost use Rattle.ts_store.specs.ColumnsKept.{no_column, points_of, facts_of_columns, with_point_aside, all_committed, AreReady, AreAside, MayGrow};
-ghost use Rattle.ts_store.specs.Registered.{MakesColumns};
+ghost use Rattle.ts_store.specs.ColumnsKept.{no_column, points_of, columns_in, with_point_aside, all_committed, AreReady, AreAside, MayGrow, IsHeld};
+ghost use Rattle.ts_store.specs.Registered.{MakesFirst, MakesAll};
 
 use std::alloc::{AllocError, Allocator};
 use std::marker::Model;
@@ -27,7 +27,8 @@ fn column_for<A: Allocator + Copy>(
     requires len { length columns.old.items ≡ length index.old.columns }
     requires series { series < length index.old.series }
     ensures number { IfOk result (λ id. IsAt index.new.columns id (column_in index.old series field.now)) }
-    ensures grown { MayGrow (column_in index.old series field.now) index.old.columns columns.old.items index.new.columns columns.new.items }
+    ensures grown { OnOk result (MayGrow (column_in index.old series field.now) index.old.columns columns.old.items index.new.columns columns.new.items) }
+    ensures err { OnErr result ((index.new.columns ≡ index.old.columns) × (columns.new.items ≡ columns.old.items)) }
     ensures series { index.new.series ≡ index.old.series }
     ensures sound { IsSound index.old → IsSound index.new }
 {
@@ -77,17 +78,15 @@ pub(crate) fn prepare_line<A: Allocator + Copy>(
     series: SeriesId,
     line: &Line<'_, A>,
 ) -> Result<(), AllocError>
-    requires len { length columns.old.items ≡ length index.old.columns }
-    requires sound { IsSound index.old }
+    requires held { IsHeld index.old columns.old.items }
     requires series { IsAt index.old.series series (series_of line.now) }
     requires none { touched.old.items ≡ [] }
     ensures aside { OnOk result (AreAside index.new.columns columns.new.items touched.new.items (facts_of line.now)) }
     ensures taken { OnOk result (AllByRecursion (MayBeTaken least_time) (facts_of line.now)) }
-    ensures made { MakesColumns index.old.columns index.new.columns (facts_of line.now) }
-    ensures len { length columns.new.items ≡ length index.new.columns }
-    ensures sound { IsSound index.new }
+    ensures all { OnOk result (MakesAll (columns_in index.old columns.old.items) (columns_in index.new columns.new.items) (facts_of line.now)) }
+    ensures made { MakesFirst (columns_in index.old columns.old.items) (columns_in index.new columns.new.items) (facts_of line.now) }
+    ensures held { IsHeld index.new columns.new.items }
     ensures series { index.new.series ≡ index.old.series }
-    ensures unchanged { facts_of_columns index.new.columns (points_of columns.new.items) ≡ facts_of_columns index.old.columns (points_of columns.old.items) }
 {
     for field in line.fields() {
         let before = touched.last().copied();

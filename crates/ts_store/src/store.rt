@@ -1,92 +1,122 @@
 //! The store.
-ghost use Rattle.std.specs.Prelude.{◌≡◌, ◌≢◌, ◌⊎◌, ◌+◌, ◌*◌, ◌<◌, ◌≤◌, ◌^◌, ◌↔◌, [], length, OnOk, OnErr, Err};
-ghost use Rattle.ts_core.specs.Facts.{Column, is_of};
-ghost use Rattle.ts_core.specs.History.{Line as LineEvent, History, accepted};
+ghost use Rattle.std.specs.Prelude.{◌≡◌, ◌⊎◌, ◌+◌, ◌*◌, ◌<◌, ◌≤◌, [], length, map, OnOk, IfOk, IfSome, IsNone, Ok, Err};
+ghost use Rattle.ts_core.specs.Facts.{is_of};
+ghost use Rattle.ts_core.specs.History.{accepted};
 ghost use Rattle.ts_core.specs.Latest.{count_of};
-ghost use Rattle.ts_core.specs.Settings.{Settings as SettingsValue};
-ghost use Rattle.ts_core.specs.Kept.{StandsFor, OfEachHistory, GoesOn, StaysFor, raw_facts};
-ghost use Rattle.ts_line.specs.Parts.{series_of, facts_of};
-ghost use Rattle.ts_raw.specs.Numbered.{IsAt, Gains, numbers_where};
+ghost use Rattle.ts_core.specs.RawFacts.{raw_facts};
+ghost use Rattle.ts_core.specs.StoreStates.{ColumnPoints, column_of, StandsFor, facts_of as facts_in};
+ghost use Rattle.ts_core.specs.StoreData.{state_of, new_data, OfEachHistory, ShowsEach};
+ghost use Rattle.ts_core.specs.Texts.{lent_pairs};
+ghost use Rattle.ts_line.specs.Parts.{series_of};
+ghost use Rattle.ts_raw.specs.Numbered.{IsAt, numbers_where};
 ghost use Rattle.ts_raw.specs.PlainColumns.{IsRising};
-ghost use Rattle.ts_store.specs.PointsRead.{column_points};
-ghost use Rattle.ts_store.specs.Registered.{IsTooMany, MayGain, MakesColumns};
+ghost use Rattle.ts_store.specs.PointsRead.{points_between, AreLatestOf};
+ghost use Rattle.ts_store.specs.Refusals.{write_fault};
+ghost use Rattle.ts_store.specs.LinesPut.{Accepts, Leaves};
 
 use crate::column_facts::ColumnFacts;
 use crate::fault::WriteFault;
-use std::alloc::Allocator;
+use std::alloc::{AllocError, Allocator};
 use std::marker::Model;
-use ts_core::{Settings, Time};
+use ts_core::{Marks, Settings, Time};
 use ts_line::Line;
 use ts_raw::{ColumnId, Points};
 
 /// How many facts are accepted at most, repeats counted: 2^62.
 const FACT_LIMIT: u64 = 4_611_686_018_427_387_904;
 
-/// Facts with their settings, seen by what they stand for.
+/// What a store keeps. It has no rules yet and no run begins, so none of its columns waits, and its raw mark is the least time.
 #[derive(Drop)]
 pub struct Store<A: Allocator> {
     settings: Settings<A>,
+    marks: Marks<A>,
     accepted: u64,
     facts: ColumnFacts<A>,
 }
 
 impl<A: Allocator> Model for Store<A> {
-    ghost use Rattle.ts_core.specs.Times.{least_time};
-    ghost use Rattle.ts_core.specs.Kept.{Kept};
-    ghost use Rattle.ts_store.specs.Registered.{AreCounted};
+    ghost use Rattle.std.specs.Prelude.{[], false};
+    ghost use Rattle.ts_core.specs.StoreStates.{facts_of};
+    ghost use Rattle.ts_core.specs.StoreData.{StoreData};
+    ghost use Rattle.ts_core.specs.StoreCodes.{coded_store_data};
+    ghost use Rattle.ts_store.specs.Registered.{IsCounted};
 
-    ghost Value = { Kept };
+    ghost Value = { StoreData };
 
-    ghost view = { λ s. record { settings = s.settings; mark = least_time; accepted = s.accepted; series = s.facts.series; columns = s.facts.columns; raw = s.facts.raw } };
+    ghost coded = { coded_store_data };
 
-    ghost invariant = { λ s. AreCounted s.accepted s.facts.raw };
+    ghost view = { λ s. record { settings = s.settings; marks = s.marks; running = false; waiting = []; series = s.facts.series; columns = s.facts.columns; accepted = s.accepted; cells = [] } };
+
+    ghost invariant = { λ s. IsCounted s.marks s.accepted (facts_of s.facts.columns) };
 }
 
 impl<A: Allocator + Copy> Store<A> {
-    /// An empty store.
-    pub fn new(alloc: A, settings: Settings<A>) -> Store<A>
-        ensures stands { StandsFor settings [] result }
-        ensures series { result.series ≡ [] }
+    /// An empty store, with room for the low indices of its rules. It has no rules yet: their cells come with retention.
+    pub fn new(alloc: A, settings: Settings<A>) -> Result<Store<A>, AllocError>
+        requires { settings.rules ≡ [] }
+        ensures value { IfOk result (λ s. s ≡ new_data settings) }
+        ensures stands { IfOk result (λ s. StandsFor settings [] (state_of s)) }
     {
-        Store {
+        let lows = Vec::with_capacity(alloc, settings.rules().len())?;
+        Ok(Store {
             settings,
+            marks: Marks::new(Time::least(), lows),
             accepted: 0,
             facts: ColumnFacts::new(alloc),
-        }
+        })
     }
 
-    /// Writes a line: its facts are accepted, each in place of an older one of its id. After a fault it
-    /// stands for what it stood for; where no memory was found, the line's series may be registered and
-    /// have columns of the line's fields without points. Columns keep their numbers.
+    /// Writes a line: its facts are accepted, each in place of an older one of its id, and it stands for one event more.
+    /// What it is refused by is found without memory, and changes nothing. Where no memory is found, it stands for what it
+    /// stood for; the line's series may be registered, and the first of its new columns made. Columns keep their numbers.
     pub fn write(&mut self, line: &Line<'_, A>) -> Result<(), WriteFault>
-        ensures ok { OnOk result (GoesOn self.old (LineEvent (facts_of line.now)) self.new) }
-        ensures err { OnErr result (StaysFor self.old self.new) }
-        ensures registers { OnOk result (Gains self.old.series self.new.series (series_of line.now)) }
-        ensures may_register { MayGain self.old.series self.new.series (series_of line.now) }
-        ensures columns { MakesColumns self.old.columns self.new.columns (facts_of line.now) }
-
-        // Where there is memory, each refusal comes exactly so; what was refused changes nothing.
-        ensures series { result ≢ Err WriteFault.OutOfMemory → ((result ≡ Err WriteFault.TooManySeries) ↔ IsTooMany self.old.series (series_of line.now)) }
-        ensures full { result ≢ Err WriteFault.OutOfMemory → ((result ≡ Err WriteFault.TooManyFacts) ↔ ((IsTooMany self.old.series (series_of line.now) → ⊥) × (2 ^ 62 < self.old.accepted + length (facts_of line.now)))) }
-        ensures unchanged { OnErr result ((result ≡ Err WriteFault.OutOfMemory) ⊎ (self.new ≡ self.old)) }
+        ensures ok { OnOk result (Accepts self.old self.new line.now) }
+        ensures refused { IfSome (write_fault self.old.series self.old.accepted line.now) (λ fault. (result ≡ Err fault) × (self.new ≡ self.old)) }
+        ensures taken { IsNone (write_fault self.old.series self.old.accepted line.now) → (result ≡ Ok tt) ⊎ ((result ≡ Err WriteFault.OutOfMemory) × Leaves self.old self.new line.now) }
     {
-        let tags = line.tags_by_key(self.facts.allocator())?;
-        if self.facts.refuses(line.measurement().text(), &tags) {
-            return Err(WriteFault::TooManySeries);
-        }
-        let count = line.fields().len() as u64;
-        if count > FACT_LIMIT - self.accepted {
-            return Err(WriteFault::TooManyFacts);
+        let tags = line.tags_by_key();
+        if let Some(fault) = self.refusal(line, &tags) {
+            return Err(fault);
         }
         self.facts.put_line(line, &tags)?;
-        self.accepted += count;
+        self.accepted += line.fields().len() as u64;
         Ok(())
+    }
+
+    /// What a line is refused by.
+    fn refusal(&self, line: &Line<'_, A>, tags: &[(&str, &str)]) -> Option<WriteFault>
+        requires { lent_pairs tags.now ≡ (series_of line.now).tags }
+        ensures { result ≡ write_fault self.now.series self.now.accepted line.now }
+    {
+        if self.facts.refuses(line.measurement().text(), tags) {
+            return Some(WriteFault::TooManySeries);
+        }
+        if line.fields().len() as u64 > FACT_LIMIT - self.accepted {
+            return Some(WriteFault::TooManyFacts);
+        }
+        None
+    }
+
+    /// The settings.
+    pub fn settings(&self) -> &Settings<A>
+        ensures value { result.now ≡ self.now.settings }
+        ensures shows { ShowsEach self.now }
+    {
+        &self.settings
+    }
+
+    /// From where on it still knows everything.
+    pub fn marks(&self) -> &Marks<A>
+        ensures value { result.now ≡ self.now.marks }
+        ensures shows { ShowsEach self.now }
+    {
+        &self.marks
     }
 
     /// How many facts were accepted, repeats counted.
     pub fn accepted(&self) -> u64
         ensures value { result ≡ self.now.accepted }
-        ensures facts { OfEachHistory self.now (λ h. result ≡ length (accepted h)) }
+        ensures facts { OfEachHistory self.now (λ opening h. result ≡ length (accepted h)) }
     {
         self.accepted
     }
@@ -94,30 +124,30 @@ impl<A: Allocator + Copy> Store<A> {
     /// How many facts there are of a measurement and a field, of each id the latest, from a time on and
     /// before another. It walks the columns of that measurement and that field.
     pub fn count(&self, measurement: &str, field: &str, from: Time, to: Time) -> u64
-        ensures { OfEachHistory self.now (λ h. result ≡ count_of h measurement.now field.now from to) }
+        ensures { OfEachHistory self.now (λ opening h. result ≡ count_of h measurement.now field.now from to) }
     {
         self.facts.count(measurement, field, from, to)
     }
 
     /// How many raw facts are kept: of each id the latest, from the raw mark on.
     pub fn raw_points(&self) -> u64
-        ensures value { result ≡ length self.now.raw }
-        ensures facts { (opening : SettingsValue) (h : History) → StandsFor opening h self.now → result ≡ length (raw_facts opening h) }
+        ensures value { result ≡ length (facts_in self.now.columns) }
+        ensures facts { OfEachHistory self.now (λ opening h. result ≡ length (raw_facts opening h)) }
     {
         self.facts.raw_points()
     }
 
     /// How many points are stored: the raw facts, and at most 256 more for each column.
     pub fn held_points(&self) -> u64
-        ensures all { length self.now.raw ≤ result }
-        ensures few_more { result ≤ length self.now.raw + 256 * length self.now.columns }
+        ensures all { length (facts_in self.now.columns) ≤ result }
+        ensures few_more { result ≤ length (facts_in self.now.columns) + 256 * length self.now.columns }
     {
         self.facts.held_points()
     }
 
     /// The columns of a measurement and a field, in the order of making.
     pub fn columns_of(&self, measurement: &str, field: &str) -> &[ColumnId]
-        ensures { result.now ≡ numbers_where (is_of measurement.now field.now) self.now.columns }
+        ensures { result.now ≡ numbers_where (is_of measurement.now field.now) (map column_of self.now.columns) }
     {
         self.facts.columns_of(measurement, field)
     }
@@ -125,7 +155,8 @@ impl<A: Allocator + Copy> Store<A> {
     /// The raw points of a column, from a time on and before another (nanoseconds), in the order of time.
     pub fn raw_range(&self, column: ColumnId, from: i64, to: i64) -> Points<'_>
         requires { column < length self.now.columns }
-        ensures points { (c : Column) → IsAt self.now.columns column c → result ≡ column_points c from to self.now.raw }
+        ensures points { (s : ColumnPoints) → IsAt self.now.columns column s → result ≡ points_between from to s.points }
+        ensures facts { (s : ColumnPoints) → IsAt self.now.columns column s → OfEachHistory self.now (AreLatestOf s.column from to result) }
         ensures rising { IsRising result }
     {
         self.facts.raw_range(column, from, to)

@@ -16,6 +16,7 @@ use Rattle.ts_core.specs.declared.read_ahead.ReadFault.{ReadFault}
 use Rattle.ts_core.specs.declared.read_ahead.ReadFault.TheVariants as read
 use Rattle.tsdb.specs.RunFaults.{fault_of_read, one_if_reader, one_if_writer}
 use Rattle.tsdb.specs.declared.run_fault.RunFault.{RunFault}
+use Rattle.tsdb.specs.declared.run_fault.RunFault.TheVariants.{OutOfMemory}
 use Rattle.tsdb.specs.declared.line_reader.Next.{Next}
 use Rattle.tsdb.specs.declared.line_reader.Next.TheVariants.{End}
 
@@ -101,6 +102,15 @@ some_answered (Some input) left old new m p = (
   (concat p.answers, [], sym (append-nil (concat p.answers)), p.written),
 )
 
+-- there was no memory to begin
+pub none_answered : (input contents : Option Text) → AnswersSome input contents contents
+none_answered None contents = tt
+none_answered (Some input) contents = (
+  [],
+  record { done = []; rest = lines_of input; lines_are = refl; answers = []; state = start; run = refl; output_is = refl },
+  ([], [], refl, Appends-nil contents),
+)
+
 -- the writer refused in an answer
 pub cut_short : (input left left' old mid new : Option Text) (m m' : Serving) (answer : Text) → Progress input left old mid m → Answers left left' m m' answer → AppendsFront mid new answer → AnswersSome input old new
 cut_short None left left' old mid new m m' answer p a w = tt
@@ -148,3 +158,8 @@ turns_told read.Turns r q e d t = d
 pub writer_silent : {T : Type 0} (r : Result T RunFault) (f : ReadFault) → r ≡ Err (fault_of_read f) → one_if_writer r ≡ 0
 writer_silent r read.Device e = rw e refl
 writer_silent r read.Turns e = rw e refl
+
+-- a reader's fault is no want of memory
+pub memory_silent : {T : Type 0} (r : Result T RunFault) (f : ReadFault) → r ≡ Err (fault_of_read f) → r ≡ Err OutOfMemory → ⊥
+memory_silent r read.Device e h = cc
+memory_silent r read.Turns e h = cc

@@ -3,10 +3,10 @@ use Rattle.std.specs.Prelude.{◌≡◌, ℤ, pos, ◌<◌, ◌≤◌, ◌^◌, 
 use Rattle.std.specs.Fmt.{decimal}
 use Rattle.std.specs.Str.{IsUtf8}
 use Rattle.ts_core.specs.Facts.{Text, Series}
-use Rattle.ts_core.specs.Kept.{raw_facts}
 use Rattle.ts_core.specs.Settings.{open_settings}
 use Rattle.ts_core.specs.History.{Line, History, accepted}
 use Rattle.ts_core.specs.Latest.{count_of}
+use Rattle.ts_core.specs.RawFacts.{raw_facts}
 use Rattle.ts_line.specs.Parts.{Parts, series_of, facts_of}
 use Rattle.ts_line.specs.Units.{unit_of}
 use Rattle.ts_line.specs.Lines.{line_of}
@@ -15,9 +15,11 @@ use Rattle.ts_line.specs.declared.fault.LineFault.{LineFault}
 use Rattle.ts_line.specs.declared.precision.Precision.{Precision}
 use Rattle.ts_line.specs.declared.precision.Precision.TheVariants.{Nanoseconds}
 use Rattle.ts_raw.specs.Numbered.{Gains}
-use Rattle.ts_store.specs.Registered.{IsTooMany}
+use Rattle.ts_store.specs.declared.fault.WriteFault.{WriteFault}
+use Rattle.ts_store.specs.Registered.{MayGain}
+use Rattle.ts_store.specs.Refusals.{write_fault}
 use Rattle.tsdb.specs.Commands.{Command, Nothing, At, SetPrecision, Write, Live, Count, CountFault, Unknown, command_of}
-use Rattle.tsdb.specs.Replies.{line}
+use Rattle.tsdb.specs.Replies.{line, write_fault_text}
 
 -- the moment that the script has set, in nanoseconds, the precision of its timestamps, the lines that were
 -- accepted so far, and the series that are registered
@@ -48,25 +50,29 @@ with_line parts series s = record { moment = s.moment; precision = s.precision; 
 abbrev pub line_in : State → Text → Result (Option Parts) LineFault
 line_in s text = line_of (unit_of s.precision) s.moment text
 
+-- what a line is refused by
+abbrev pub refusal_in : State → Parts → Option WriteFault
+refusal_in s parts = write_fault s.series (length (accepted s.history)) parts
+
+-- From `old` a line of these parts may print this and leave that.
+pub data Takes (old : State) (parts : Parts) : Text → State → Type 0 where
+  refused : (fault : WriteFault) → refusal_in old parts ≡ Some fault → Takes old parts (line (write_fault_text fault)) old
+  -- its series is registered where it wasn't, and its facts are accepted
+  accepted_whole : (series : List Series) → refusal_in old parts ≡ None → Gains old.series series (series_of parts) → Takes old parts (line (codes "ok")) (with_line parts series old)
+  -- there is no memory; its series may be registered
+  found_no_memory : (series : List Series) → refusal_in old parts ≡ None → MayGain old.series series (series_of parts) → Takes old parts (line (codes "fault memory")) (with_series series old)
+
 -- From `old` a command may print this and leave that.
 pub data Does (old : State) : Command → Text → State → Type 0 where
   skips : Does old Nothing [] old
   moves : (t : ℤ) → Does old (At t) [] (at_moment t old)
   sets : (p : Precision) → Does old (SetPrecision p) [] (in_precision p old)
-  -- the line's series is registered where it wasn't, and its facts are accepted
-  accepts : (text : Text) (parts : Parts) (series : List Series) → line_in old text ≡ Ok (Some parts) → (IsTooMany old.series (series_of parts) → ⊥) → Gains old.series series (series_of parts)
-      → length (accepted (with_line parts series old).history) ≤ 2 ^ 62 → Does old (Write text) (line (codes "ok")) (with_line parts series old)
-  refuses_series : (text : Text) (parts : Parts) → line_in old text ≡ Ok (Some parts) → IsTooMany old.series (series_of parts) → Does old (Write text) (line (codes "fault 41")) old
-  refuses_more : (text : Text) (parts : Parts) → line_in old text ≡ Ok (Some parts) → (IsTooMany old.series (series_of parts) → ⊥) → 2 ^ 62 < length (accepted (with_line parts old.series old).history)
-      → Does old (Write text) (line (codes "fault 52")) old
+  writes : (text answer : Text) (parts : Parts) (new : State) → line_in old text ≡ Ok (Some parts) → Takes old parts answer new → Does old (Write text) answer new
   -- a comment or a blank line
   passes_over : (text : Text) → line_in old text ≡ Ok None → Does old (Write text) (line (codes "none")) old
   refuses : (text : Text) (fault : LineFault) → line_in old text ≡ Err fault → Does old (Write text) (line (fault_text fault)) old
-  -- any write may want memory that isn't there, and no other command
-  finds_no_memory : (text : Text) → Does old (Write text) (line (codes "fault memory")) old
-  -- the line's series may be registered then, where it isn't refused
-  registers_alone : (text : Text) (parts : Parts) (series : List Series) → line_in old text ≡ Ok (Some parts) → (IsTooMany old.series (series_of parts) → ⊥) → Gains old.series series (series_of parts)
-      → Does old (Write text) (line (codes "fault memory")) (with_series series old)
+  -- to read a line may want memory that isn't there
+  reads_no_memory : (text : Text) → Does old (Write text) (line (codes "fault memory")) old
   -- how many of the latest facts have their raw points
   tells_live : Does old Live (line (decimal (length (raw_facts open_settings old.history)))) old
   -- of all facts ever accepted, of each id the latest

@@ -24,6 +24,12 @@ text_of TooManySeries = line (codes "fault 41")
 text_of TooManyFacts = line (codes "fault 52")
 text_of OutOfMemory = line (codes "fault memory")
 
+-- the text of a write that was not done
+abbrev pub write_fault_text : WriteFault → Text
+write_fault_text write.TooManySeries = codes "fault 41"
+write_fault_text write.TooManyFacts = codes "fault 52"
+write_fault_text write.OutOfMemory = codes "fault memory"
+
 -- how a refused write is told
 abbrev pub refusal_of : WriteFault → Reply
 refusal_of write.TooManySeries = TooManySeries

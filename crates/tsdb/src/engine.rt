@@ -48,7 +48,7 @@ pub fn run<R: Read, W: Write, A: Allocator + Copy>(
     ensures within { source.new.turns ≤ source.old.turns + 2 ^ 32 }
     ensures limit { result ≡ Err RunFault.Turns → (source.new.turns ≡ source.old.turns + 2 ^ 32) × (source.new.ends ≡ source.old.ends) }
 {
-    let mut machine = Machine::new(alloc);
+    let mut machine = Machine::new(alloc)?;
     let mut lines = LineReader::new(alloc)?;
     let mut text = String::with_capacity(alloc, TEXT_ROOM)?;
     loop {

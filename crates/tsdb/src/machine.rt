@@ -1,15 +1,14 @@
 //! The machine that a script runs.
-ghost use Rattle.std.specs.Prelude.{◌≡◌, ◌≤◌, ◌^◌, length, Ok, Some};
-ghost use Rattle.ts_core.specs.Facts.{Text};
+ghost use Rattle.std.specs.Prelude.{◌≡◌, ◌≤◌, ◌^◌, length, IfOk};
 ghost use Rattle.tsdb.specs.CommandParts.{command_view};
-ghost use Rattle.tsdb.specs.Machine.{State, start, line_in};
+ghost use Rattle.tsdb.specs.Machine.{State, start};
 ghost use Rattle.tsdb.specs.Commands.{Write as WriteCommand};
 ghost use Rattle.tsdb.specs.Replies.{text_of, refusal_of};
-ghost use Rattle.tsdb.specs.Serving.{IsIn, Did, Stepped};
+ghost use Rattle.tsdb.specs.Serving.{IsIn, Took, Did, Stepped};
 
 use crate::command::Command;
 use crate::reply::Reply;
-use std::alloc::Allocator;
+use std::alloc::{AllocError, Allocator};
 use std::marker::Model;
 use std::str;
 use ts_core::{Settings, Time};
@@ -26,24 +25,26 @@ pub struct Machine<A: Allocator> {
 }
 
 impl<A: Allocator> Model for Machine<A> {
-    ghost use Rattle.tsdb.specs.Serving.{Serving};
+    ghost use Rattle.tsdb.specs.Serving.{Serving, coded_serving};
 
     ghost Value = { Serving };
+
+    ghost coded = { coded_serving };
 
     ghost view = { λ m. record { moment = m.moment; precision = m.precision; kept = m.store } };
 }
 
 impl<A: Allocator + Copy> Machine<A> {
     /// A machine with an empty store, at the moment 0, with timestamps in nanoseconds.
-    pub fn new(alloc: A) -> Machine<A>
-        ensures { IsIn start result }
+    pub fn new(alloc: A) -> Result<Machine<A>, AllocError>
+        ensures { IfOk result (λ m. IsIn start m) }
     {
-        Machine {
+        Ok(Machine {
             alloc,
             moment: Time::new(0).unwrap(),
             precision: Precision::Nanoseconds,
-            store: Store::new(alloc, Settings::open(alloc)),
-        }
+            store: Store::new(alloc, Settings::open(alloc))?,
+        })
     }
 
     /// Answers a line of a script. Where no memory is found, no fact is accepted; the line's series may be
@@ -99,7 +100,7 @@ impl<A: Allocator + Copy> Machine<A> {
 
     /// Writes a line to the store.
     fn accept(&mut self, line: &Line<'_, A>) -> Reply
-        ensures { (s : State) (text : Text) → IsIn s self.old → line_in s text ≡ Ok (Some line.now) → Did (WriteCommand text) s (text_of result) self.new }
+        ensures { (s : State) → IsIn s self.old → Took line.now s (text_of result) self.new }
     {
         match self.store.write(line) {
             Ok(()) => Reply::Done,

@@ -28,7 +28,7 @@ const RANGES: [(&str, usize, i64, i64, &[(i64, i64)]); 7] = [
 ];
 
 fn written(alloc: Global) -> Result<Store<Global>, Fail> {
-    let mut store = Store::new(alloc, Settings::open(alloc));
+    let mut store = Store::new(alloc, Settings::open(alloc))?;
     for text in LINES {
         let line = read_line(alloc, text, Precision::Nanoseconds, Time::least())?;
         store.write(&line.ok_or("a line")?)?;

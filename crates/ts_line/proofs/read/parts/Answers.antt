@@ -8,8 +8,8 @@ use Rattle.ts_line.proofs.FieldLemmas.{read_fields}
 use Rattle.ts_line.proofs.LineLemmas.{parts_read, time_fails}
 use Rattle.ts_line.proofs.read.parts.Goals as goal
 
-pub new-requires : goal.new-requires
-new-requires g c = read_fields c.args.line.now c.after_spaces-start.result c.in_ok-fields.fields.items c.in_ok-fields.end c.in_ok-fields.ensures.value
+pub new-requires-clause-fields : goal.new-requires-clause-fields
+new-requires-clause-fields g c = read_fields c.args.line.now c.after_spaces-start.result c.in_ok-fields.fields.items c.in_ok-fields.end c.in_ok-fields.ensures.value
 
 pub returns : goal.returns
 returns g c =

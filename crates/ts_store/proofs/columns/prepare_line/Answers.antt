@@ -8,8 +8,8 @@ use Rattle.ts_core.specs.Members.{AllDistinct}
 use Rattle.ts_line.specs.Parts.{Piece, Parts, field_text, fact_of, series_of}
 use Rattle.ts_raw.specs.Columns.{ColumnState}
 use Rattle.ts_raw.specs.Indexed.{column_in}
-use Rattle.ts_store.specs.ColumnsKept.{no_column, with_point_aside, AreAside, MayGrow}
-use Rattle.ts_store.proofs.ColumnsAside.{grown_aside, made_next, next_aside, facts_next, column_is}
+use Rattle.ts_store.specs.ColumnsKept.{no_column, points_of, with_points, with_point_aside, AreAside, MayGrow}
+use Rattle.ts_store.proofs.ColumnsAside.{grown_aside, made_next, first_made, next_aside, facts_next, column_is}
 use Rattle.ts_store.proofs.Stands.{taken_more}
 use Rattle.ts_store.proofs.columns.prepare_line.Goals as goal
 
@@ -18,42 +18,56 @@ column_for-requires-clause-series g c =
     let w = slice_get_within c.args.index.now.series c.args.series (series_of c.args.line.now) c.requires.series in
     rw c.loop-field.invariant.series w
 
-pub returns-in_err-column-clause-len : goal.returns-in_err-column-clause-len
-returns-in_err-column-clause-len g c =
+pub returns-in_err-column-clause-made : goal.returns-in_err-column-clause-made
+returns-in_err-column-clause-made g c =
     let i = c.loop-field.invariant in
-    (grown_aside _ c.loop-field.index.columns c.column_for.new.index.columns c.loop-field.columns.items c.column_for.new.columns.items c.loop-field.touched.items _ i.len c.column_for.ensures.grown i.aside).1
+    let same = c.in_err-column.ensures.err in
+    first_made c.args.line.now _ _ c.fields-field-items.result.now c.loop-field.field-index c.fields-field-items.ensures.value ((λ j. with_points (same.0 j) (points_of (same.1 j))) ∙ i.made)
 
-pub returns-in_err-column-clause-unchanged : goal.returns-in_err-column-clause-unchanged
-returns-in_err-column-clause-unchanged g c =
+pub returns-in_err-column-clause-held : goal.returns-in_err-column-clause-held
+returns-in_err-column-clause-held g c =
     let i = c.loop-field.invariant in
-    (grown_aside _ c.loop-field.index.columns c.column_for.new.index.columns c.loop-field.columns.items c.column_for.new.columns.items c.loop-field.touched.items _ i.len c.column_for.ensures.grown i.aside).2 ∙ i.unchanged
+    let same = c.in_err-column.ensures.err in
+    record { sound = c.column_for.ensures.sound i.held.sound; each = ap length same.1 ∙ i.held.each ∙ sym (ap length same.0) }
 
 pub prepare_at-requires : goal.prepare_at-requires
 prepare_at-requires g c =
     let i = c.loop-field.invariant in
-    let len = (grown_aside _ c.loop-field.index.columns c.column_for.new.index.columns c.loop-field.columns.items c.column_for.new.columns.items c.loop-field.touched.items _ i.len c.column_for.ensures.grown i.aside).1 in
+    let len = (grown_aside _ c.loop-field.index.columns c.column_for.new.index.columns c.loop-field.columns.items c.column_for.new.columns.items c.loop-field.touched.items _ i.held.each c.in_ok-column.ensures.grown i.aside).1 in
     let w = slice_get_within c.column_for.new.index.columns c.in_ok-column.column _ c.in_ok-column.ensures.number in
     omega (arith, w, len, c.number.ensures)
 
-pub returns-in_err-prepare_at-clause-len : goal.returns-in_err-prepare_at-clause-len
-returns-in_err-prepare_at-clause-len g c =
+pub returns-in_err-prepare_at-clause-made : goal.returns-in_err-prepare_at-clause-made
+returns-in_err-prepare_at-clause-made g c =
     let i = c.loop-field.invariant in
-    c.prepare_at.ensures.len ∙ (grown_aside _ c.loop-field.index.columns c.column_for.new.index.columns c.loop-field.columns.items c.column_for.new.columns.items c.loop-field.touched.items _ i.len c.column_for.ensures.grown i.aside).1
+    let more = made_next c.args.line.now c.loop-field.index c.args.series c.text.result.now _ c.column_for.new.index.columns c.loop-field.columns.items c.column_for.new.columns.items c.fields-field-items.result.now c.loop-field.field-index
+    c.field-item.result c.in_ok-column.ensures.grown (ap (λ (xs : List Series). slice_get xs c.args.series) i.series ∙ c.requires.series) (c.text.ensures ∙ ap (λ (q : Piece). q.text) c.name.ensures)
+    c.fields-field-items.ensures.value c.fields-field-items.ensures.once c.loop-field-test.true c.field-item.is i.held.each i.made in
+    first_made c.args.line.now _ _ c.fields-field-items.result.now (c.loop-field.field-index + 1) c.fields-field-items.ensures.value (ap (with_points c.column_for.new.index.columns) c.prepare_at.ensures.unchanged ∙ more)
 
-pub returns-in_err-prepare_at-clause-unchanged : goal.returns-in_err-prepare_at-clause-unchanged
-returns-in_err-prepare_at-clause-unchanged g c =
+pub returns-in_err-prepare_at-clause-held : goal.returns-in_err-prepare_at-clause-held
+returns-in_err-prepare_at-clause-held g c =
     let i = c.loop-field.invariant in
-    rw c.prepare_at.ensures.unchanged ((grown_aside _ c.loop-field.index.columns c.column_for.new.index.columns c.loop-field.columns.items c.column_for.new.columns.items c.loop-field.touched.items _ i.len c.column_for.ensures.grown i.aside).2 ∙ i.unchanged)
+    record {
+      sound = c.column_for.ensures.sound i.held.sound;
+      each = c.prepare_at.ensures.len ∙ (grown_aside _ c.loop-field.index.columns c.column_for.new.index.columns c.loop-field.columns.items c.column_for.new.columns.items c.loop-field.touched.items _ i.held.each c.in_ok-column.ensures.grown i.aside).1;
+    }
 
-pub returns-in_err-push-clause-len : goal.returns-in_err-push-clause-len
-returns-in_err-push-clause-len g c =
+pub returns-in_err-push-clause-made : goal.returns-in_err-push-clause-made
+returns-in_err-push-clause-made g c =
     let i = c.loop-field.invariant in
-    c.prepare_at.ensures.len ∙ (grown_aside _ c.loop-field.index.columns c.column_for.new.index.columns c.loop-field.columns.items c.column_for.new.columns.items c.loop-field.touched.items _ i.len c.column_for.ensures.grown i.aside).1
+    let more = made_next c.args.line.now c.loop-field.index c.args.series c.text.result.now _ c.column_for.new.index.columns c.loop-field.columns.items c.column_for.new.columns.items c.fields-field-items.result.now c.loop-field.field-index
+    c.field-item.result c.in_ok-column.ensures.grown (ap (λ (xs : List Series). slice_get xs c.args.series) i.series ∙ c.requires.series) (c.text.ensures ∙ ap (λ (q : Piece). q.text) c.name.ensures)
+    c.fields-field-items.ensures.value c.fields-field-items.ensures.once c.loop-field-test.true c.field-item.is i.held.each i.made in
+    first_made c.args.line.now _ _ c.fields-field-items.result.now (c.loop-field.field-index + 1) c.fields-field-items.ensures.value (ap (with_points c.column_for.new.index.columns) c.prepare_at.ensures.unchanged ∙ more)
 
-pub returns-in_err-push-clause-unchanged : goal.returns-in_err-push-clause-unchanged
-returns-in_err-push-clause-unchanged g c =
+pub returns-in_err-push-clause-held : goal.returns-in_err-push-clause-held
+returns-in_err-push-clause-held g c =
     let i = c.loop-field.invariant in
-    rw c.prepare_at.ensures.unchanged ((grown_aside _ c.loop-field.index.columns c.column_for.new.index.columns c.loop-field.columns.items c.column_for.new.columns.items c.loop-field.touched.items _ i.len c.column_for.ensures.grown i.aside).2 ∙ i.unchanged)
+    record {
+      sound = c.column_for.ensures.sound i.held.sound;
+      each = c.prepare_at.ensures.len ∙ (grown_aside _ c.loop-field.index.columns c.column_for.new.index.columns c.loop-field.columns.items c.column_for.new.columns.items c.loop-field.touched.items _ i.held.each c.in_ok-column.ensures.grown i.aside).1;
+    }
 
 pub loop-field-preserved : goal.loop-field-preserved
 loop-field-preserved g c =
@@ -77,43 +91,23 @@ loop-field-preserved g c =
     let name : c.text.result.now ≡ x.0.text = c.text.ensures ∙ ap (λ (q : Piece). q.text) c.name.ensures in
     let named : column_in c.loop-field.index c.args.series c.text.result.now ≡ (fact_of p x).column = column_is p c.loop-field.index c.args.series c.text.result.now x there name in
     let at : slice_get cs' n ≡ Some (fact_of p x).column = c.in_ok-column.ensures.number ∙ ap Some named in
-    let grown : MayGrow (fact_of p x).column cs ss cs' ss' = subst (λ (d : Column). MayGrow d cs ss cs' ss') named c.column_for.ensures.grown in
+    let grown : MayGrow (fact_of p x).column cs ss cs' ss' = subst (λ (d : Column). MayGrow d cs ss cs' ss') named c.in_ok-column.ensures.grown in
     let fits : SFits w64 c.value.result = search rules in
     let value : to_z w64 (of_z w64 c.value.result) ≡ x.1 = to_z-of_z fits ∙ c.value.ensures in
     let time : IsTime c.time.result = search rules in
     let taken : MayBeTaken least_time (fact_of p x) = subst (λ (f : Fact). MayBeTaken least_time f) (λ j. record { column = (fact_of p x).column; time = c.time.ensures j; value = c.value.ensures j }) (record { valid = time; fits = search rules; raw = time.not_before }) in
     let set_is : ss'' ≡ set ss' n (with_point_aside (get_or ss' n no_column) p.time x.1) =
     c.in_ok-prepare_at.ensures.ok ∙ (λ j. set ss' (c.number.ensures j) (with_point_aside (get_or ss' (c.number.ensures j) no_column) (c.time.ensures j) (value j))) in
-    let next = next_aside p cs cs' ss ss' ss'' ns n k x i.len aside grown at within is once set_is in
+    let next = next_aside p cs cs' ss ss' ss'' ns n k x i.held.each aside grown at within is once set_is in
     record {
       aside = rw c.in_ok-push.ensures.items (subst (λ (fs : List (Piece × ℤ)). AreAside cs' ss'' (ns ++ n ∷ []) (map (fact_of p) (take (k + 1) fs))) (sym e) next.0);
       taken = subst (λ (fs : List (Piece × ℤ)). AllByRecursion (MayBeTaken least_time) (map (fact_of p) (take (k + 1) fs))) (sym e)
           (subst (AllByRecursion (MayBeTaken least_time)) (facts_next p k x within is) (taken_more least_time (map (fact_of p) (take k p.fields)) (fact_of p x)
           (subst (λ (fs : List (Piece × ℤ)). AllByRecursion (MayBeTaken least_time) (map (fact_of p) (take k fs))) e i.taken) taken));
-      made = made_next p c.loop-field.index c.args.series c.text.result.now c.args.index.now.columns cs' ss ss' _ k x c.column_for.ensures.grown there name e c.loop-field-test.true c.field-item.is i.made;
-      len = next.1;
-      sound = c.column_for.ensures.sound i.sound;
+      made = ap (with_points cs') c.prepare_at.ensures.unchanged ∙ made_next p c.loop-field.index c.args.series c.text.result.now _ cs' ss ss' c.fields-field-items.result.now k x c.in_ok-column.ensures.grown there name e c.fields-field-items.ensures.once c.loop-field-test.true c.field-item.is i.held.each i.made;
+      held = record { sound = c.column_for.ensures.sound i.held.sound; each = next.1 };
       series = c.column_for.ensures.series ∙ i.series;
-      unchanged = next.2 ∙ i.unchanged;
     }
 
-pub returns-in_err-column-clause-made : goal.returns-in_err-column-clause-made
-returns-in_err-column-clause-made g c =
-    let i = c.loop-field.invariant in
-    made_next c.args.line.now c.loop-field.index c.args.series c.text.result.now c.args.index.now.columns c.column_for.new.index.columns c.loop-field.columns.items c.column_for.new.columns.items _ c.loop-field.field-index
-    c.field-item.result c.column_for.ensures.grown (ap (λ (xs : List Series). slice_get xs c.args.series) i.series ∙ c.requires.series) (c.text.ensures ∙ ap (λ (q : Piece). q.text) c.name.ensures)
-    c.fields-field-items.ensures.value c.loop-field-test.true c.field-item.is i.made
-
-pub returns-in_err-prepare_at-clause-made : goal.returns-in_err-prepare_at-clause-made
-returns-in_err-prepare_at-clause-made g c =
-    let i = c.loop-field.invariant in
-    made_next c.args.line.now c.loop-field.index c.args.series c.text.result.now c.args.index.now.columns c.column_for.new.index.columns c.loop-field.columns.items c.column_for.new.columns.items _ c.loop-field.field-index
-    c.field-item.result c.column_for.ensures.grown (ap (λ (xs : List Series). slice_get xs c.args.series) i.series ∙ c.requires.series) (c.text.ensures ∙ ap (λ (q : Piece). q.text) c.name.ensures)
-    c.fields-field-items.ensures.value c.loop-field-test.true c.field-item.is i.made
-
-pub returns-in_err-push-clause-made : goal.returns-in_err-push-clause-made
-returns-in_err-push-clause-made g c =
-    let i = c.loop-field.invariant in
-    made_next c.args.line.now c.loop-field.index c.args.series c.text.result.now c.args.index.now.columns c.column_for.new.index.columns c.loop-field.columns.items c.column_for.new.columns.items _ c.loop-field.field-index
-    c.field-item.result c.column_for.ensures.grown (ap (λ (xs : List Series). slice_get xs c.args.series) i.series ∙ c.requires.series) (c.text.ensures ∙ ap (λ (q : Piece). q.text) c.name.ensures)
-    c.fields-field-items.ensures.value c.loop-field-test.true c.field-item.is i.made
+pub returns-clause-made : goal.returns-clause-made
+returns-clause-made g c = first_made c.args.line.now _ _ c.fields-field-items.result.now c.loop-field.field-index c.fields-field-items.ensures.value c.loop-field.invariant.made

@@ -4,14 +4,14 @@ use Rattle.ts_core.specs.ReadingAhead.{bit}
 use Rattle.ts_core.proofs.Results.{on_any_err}
 use Rattle.tsdb.specs.LineReading.{to_come}
 use Rattle.tsdb.specs.Replies.{text_of}
-use Rattle.tsdb.proofs.Progress.{begins, goes_on, some_answered, cut_short, answers_next, all_answered, nothing_left, reader_told, turns_told, writer_silent}
+use Rattle.tsdb.proofs.Progress.{begins, goes_on, some_answered, none_answered, memory_silent, cut_short, answers_next, all_answered, nothing_left, reader_told, turns_told, writer_silent}
 use Rattle.tsdb.proofs.engine.run.Goals as goal
 
 pub returns-in_err-lines-clause-begun : goal.returns-in_err-lines-clause-begun
-returns-in_err-lines-clause-begun g c = on_any_err c.from_residual.result (some_answered _ _ _ _ _ (begins c.args.source.now.remaining c.args.sink.now.contents [] c.new-machine.result refl c.new-machine.ensures))
+returns-in_err-lines-clause-begun g c = on_any_err c.from_residual-in_err-lines.result (some_answered _ _ _ _ _ (begins c.args.source.now.remaining c.args.sink.now.contents [] c.in_ok-machine.machine refl c.in_ok-machine.ensures))
 
 pub returns-in_err-text-clause-begun : goal.returns-in_err-text-clause-begun
-returns-in_err-text-clause-begun g c = on_any_err c.from_residual-in_err-text.result (some_answered _ _ _ _ _ (begins c.args.source.now.remaining c.args.sink.now.contents [] c.new-machine.result refl c.new-machine.ensures))
+returns-in_err-text-clause-begun g c = on_any_err c.from_residual-in_err-text.result (some_answered _ _ _ _ _ (begins c.args.source.now.remaining c.args.sink.now.contents [] c.in_ok-machine.machine refl c.in_ok-machine.ensures))
 
 pub send-requires : goal.send-requires
 send-requires g c = c.loop-text.invariant.room
@@ -20,7 +20,7 @@ pub loop-text-init : goal.loop-text-init
 loop-text-init g c =
     let e = c.in_ok-lines.ensures in
     record {
-      progress = begins c.args.source.now.remaining c.args.sink.now.contents c.in_ok-lines.lines.ahead.buffered c.new-machine.result e.buffered c.new-machine.ensures;
+      progress = begins c.args.source.now.remaining c.args.sink.now.contents c.in_ok-lines.lines.ahead.buffered c.in_ok-machine.machine e.buffered c.in_ok-machine.ensures;
       end = λ h. let x = e.ended in cc;
       turns = omega (arith, e.turns);
       within = omega (arith, e.turns);
@@ -98,3 +98,11 @@ returns-in_err-next-clause-limit g c = λ t.
     let told = turns_told c.in_err-next.field-0.0 c.from_residual-in_err-next.result c.next.result (p.1 ∙ ap Err p.2) c.in_err-next.was t in
     let at = c.next.ensures.limit told in
     (omega (arith, c.loop-text.invariant.turns, c.next.ensures.turns, at), omega (arith, c.loop-text.invariant.ends, c.next.ensures.ends, ap bit c.in_err-next.ensures.stays))
+
+pub returns-in_err-machine-clause-begun : goal.returns-in_err-machine-clause-begun
+returns-in_err-machine-clause-begun g c = on_any_err c.from_residual.result (none_answered c.args.source.now.remaining c.args.sink.now.contents)
+
+pub returns-in_err-next-clause-memory : goal.returns-in_err-next-clause-memory
+returns-in_err-next-clause-memory g c = λ e.
+    let p = err_from_is_err_and c.from_residual-in_err-next.result c.from_residual-in_err-next.ensures.1 in
+    absurd (memory_silent c.from_residual-in_err-next.result c.in_err-next.field-0.0 (p.1 ∙ ap Err p.2) e)

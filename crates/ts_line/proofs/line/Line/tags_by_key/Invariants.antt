@@ -1,11 +1,14 @@
-use Rattle.std.proofs.Common.{◌≡◌, map, length, []}
+use Rattle.std.proofs.Common.{◌≡◌, ◌≤◌, ◌+◌, map, length, []}
 use Rattle.ts_core.specs.Texts.{lent_pairs}
 use Rattle.ts_line.specs.Parts.{tag_texts}
 use Rattle.ts_line.proofs.SortingLemmas.{put_all}
 use Rattle.ts_line.proofs.line.Line.tags_by_key.Given as goal
 
 abbrev pub invariant-loop-left : goal.invariant-loop-left
-invariant-loop-left g l = put_all (map tag_texts l.left) (lent_pairs l.pairs.items) ≡ put_all (map tag_texts l.self.tags) []
+invariant-loop-left g l = record {
+  put : put_all (map tag_texts l.left) (lent_pairs l.pairs.items) ≡ put_all (map tag_texts l.self.tags) [];
+  few : length l.pairs.items + length l.left ≤ 64;
+}
 
 abbrev pub decreases-loop-left : goal.decreases-loop-left
 decreases-loop-left g l = length l.left

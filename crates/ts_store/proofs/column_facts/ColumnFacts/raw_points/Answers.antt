@@ -1,4 +1,5 @@
 use Rattle.std.proofs.Common.{◌≡◌, ◌∙◌, length, ap, sym, arith}
+use Rattle.ts_core.specs.StoreStates.{facts_of}
 use Rattle.ts_store.specs.ColumnsKept.{Held}
 use Rattle.ts_store.specs.PointsRead.{number_of_points}
 use Rattle.ts_store.proofs.ColumnsReads.{facts-length}
@@ -6,12 +7,12 @@ use Rattle.ts_store.proofs.column_facts.ColumnFacts.raw_points.Goals as goal
 
 pub raw_points-requires : goal.raw_points-requires
 raw_points-requires g c =
-    let e : length c.args.self.now.raw ≡ number_of_points c.self.inside.columns.items =
-    ap (λ (h : Held). length h.raw) (sym c.self.view_is) ∙ facts-length c.self.inside.index.columns c.self.inside.columns.items c.self.invariant.each in
+    let e : length (facts_of c.args.self.now.columns) ≡ number_of_points c.self.inside.columns.items =
+    ap (λ (h : Held). length (facts_of h.columns)) (sym c.self.view_is) ∙ facts-length c.self.inside.index.columns c.self.inside.columns.items c.self.invariant.each in
     rw c.as_slice.ensures.value (omega (arith, e, c.requires))
 
 pub returns : goal.returns
 returns g c =
-    let e : length c.args.self.now.raw ≡ number_of_points c.self.inside.columns.items =
-    ap (λ (h : Held). length h.raw) (sym c.self.view_is) ∙ facts-length c.self.inside.index.columns c.self.inside.columns.items c.self.invariant.each in
+    let e : length (facts_of c.args.self.now.columns) ≡ number_of_points c.self.inside.columns.items =
+    ap (λ (h : Held). length (facts_of h.columns)) (sym c.self.view_is) ∙ facts-length c.self.inside.index.columns c.self.inside.columns.items c.self.invariant.each in
     c.raw_points.ensures ∙ ap number_of_points c.as_slice.ensures.value ∙ sym e

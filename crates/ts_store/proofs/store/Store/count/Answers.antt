@@ -1,15 +1,16 @@
-use Rattle.std.proofs.Common.{◌≡◌, ◌≤ℤ◌, ◌∙◌, ap, length, filter, List, subst, rules, ℤ}
+use Rattle.std.proofs.Common.{◌≡◌, ◌≤ℤ◌, ◌∙◌, ap, length, filter, List, subst, rules, ℤ, sym}
 use Rattle.ts_core.specs.Times.{least_time}
 use Rattle.ts_core.specs.Facts.{Fact, is_asked}
-use Rattle.ts_core.specs.Kept.{Kept}
+use Rattle.ts_core.specs.StoreStates.{facts_of}
+use Rattle.ts_core.specs.StoreData.{StoreData}
 use Rattle.ts_store.proofs.Stands.{count_stands}
 use Rattle.ts_store.proofs.store.Store.count.Goals as goal
 
 pub returns : goal.returns
-returns g c = λ opening h s.
-    let kept : Kept = c.args.self.now in
-    let raw : c.self.inside.facts.raw ≡ kept.raw = ap (λ (k : Kept). k.raw) c.self.view_is in
-    let mark : least_time ≡ kept.mark = ap (λ (k : Kept). k.mark) c.self.view_is in
+returns g c = λ opening h st.
+    let k : StoreData = c.args.self.now in
+    let facts : facts_of c.self.inside.facts.columns ≡ facts_of k.columns = ap (λ (d : StoreData). facts_of d.columns) c.self.view_is in
+    let mark : least_time ≡ k.marks.raw = sym c.self.invariant.mark ∙ ap (λ (d : StoreData). d.marks.raw) c.self.view_is in
     let from : least_time ≤ℤ c.args.from = search rules in
-    c.count.ensures ∙ ap (λ (fs : List Fact). length (filter (is_asked c.args.measurement.now c.args.field.now c.args.from c.args.to) fs)) raw
-    ∙ count_stands opening h kept c.args.measurement.now c.args.field.now c.args.from c.args.to (subst (λ (m : ℤ). m ≤ℤ c.args.from) mark from) s
+    c.count.ensures ∙ ap (λ (fs : List Fact). length (filter (is_asked c.args.measurement.now c.args.field.now c.args.from c.args.to) fs)) facts
+    ∙ count_stands opening h k c.args.measurement.now c.args.field.now c.args.from c.args.to (subst (λ (m : ℤ). m ≤ℤ c.args.from) mark from) st

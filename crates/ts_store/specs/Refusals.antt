@@ -1,0 +1,22 @@
+-- When a write is refused, and by which number. (Own rules: 1,000,000 series at most, number 41; 2^62 accepted facts at most, number 52.)
+use Rattle.std.specs.Prelude.{ℕ, ◌+◌, ◌^◌, nat_le, Bool, not, ◌&&◌, List, length, Option, None}
+use Rattle.std.specs.List.{list_any}
+use Rattle.std.specs.Ordering.{eq_by_cmp}
+use Rattle.ts_core.specs.Facts.{Series, series_cmp}
+use Rattle.ts_core.specs.Faults.{unless}
+use Rattle.ts_line.specs.Parts.{Parts, series_of, facts_of}
+use Rattle.ts_store.specs.declared.fault.WriteFault.{WriteFault}
+use Rattle.ts_store.specs.declared.fault.WriteFault.TheVariants.{TooManySeries, TooManyFacts}
+
+abbrev pub is_registered : List Series → Series → Bool
+is_registered series s = list_any (eq_by_cmp series_cmp s) series
+
+-- so many series are registered that another one is refused
+abbrev pub is_too_many : List Series → Series → Bool
+is_too_many series s = nat_le 1000000 (length series) && not (is_registered series s)
+
+-- what a line is refused by, where so many series are registered and so many facts were accepted
+abbrev pub write_fault : List Series → ℕ → Parts → Option WriteFault
+write_fault series accepted p =
+    unless (not (is_too_many series (series_of p))) TooManySeries
+    (unless (nat_le (accepted + length (facts_of p)) (2 ^ 62)) TooManyFacts None)
