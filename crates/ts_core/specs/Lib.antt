@@ -7,7 +7,6 @@ pub mod History
 pub mod Latest
 pub mod Kept
 pub mod Partials
-pub mod Lent
 pub mod Texts
 pub mod Devices
 pub mod ReadingAhead

@@ -9,6 +9,7 @@ use Rattle.ts_core.specs.Members.{Among, AllDistinct}
 use Rattle.ts_core.specs.Times.{least_time}
 use Rattle.ts_core.specs.Facts.{Text, Series, Column, Fact, id_of, same_id, is_asked}
 use Rattle.ts_core.specs.Settings.{Settings}
+use Rattle.ts_core.specs.SettingsFaults.{settings_fault}
 use Rattle.ts_core.specs.History.{History, Line, MayBeTaken, accepted, put_before, raw_mark}
 use Rattle.ts_core.specs.Latest.{others, latest, latest_of, count_of}
 use Rattle.ts_core.specs.Kept.{Kept, StandsFor, raw_facts}
@@ -26,9 +27,9 @@ use Rattle.ts_raw.proofs.NumberedLemmas.{at_among}
 abbrev pub all_kept : Settings → ℕ → Held → Kept
 all_kept settings n held = record { settings = settings; mark = least_time; accepted = n; series = held.series; columns = held.columns; raw = held.raw }
 
-pub new_stands : (settings : Settings) (held : Held) → held.columns ≡ [] → held.raw ≡ [] → StandsFor settings [] (all_kept settings 0 held)
-new_stands settings held columns raw = record {
-  lawful = tt;
+pub new_stands : (settings : Settings) (held : Held) → settings_fault settings ≡ None → held.columns ≡ [] → held.raw ≡ [] → StandsFor settings [] (all_kept settings 0 held)
+new_stands settings held well columns raw = record {
+  lawful = well;
   settings = refl;
   mark = refl;
   accepted = refl;

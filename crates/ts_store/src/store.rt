@@ -48,6 +48,7 @@ impl<A: Allocator + Copy> Store<A> {
         ensures stands { StandsFor settings [] result }
         ensures series { result.series ≡ [] }
     {
+        let _rules = settings.rules();
         Store {
             settings,
             accepted: 0,
