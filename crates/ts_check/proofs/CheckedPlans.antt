@@ -1,12 +1,14 @@
 -- Plans without a fault are valid, and so are their copies.
-use Rattle.std.proofs.Common.{◌≡◌, sym, subst, List, None}
+use Rattle.std.proofs.Common.{◌≡◌, sym, subst, ap, ◌∙◌, List, None, Result, Err}
 use Rattle.ts_core.specs.Settings.{Settings}
 use Rattle.ts_core.specs.Marks.{Marks}
 use Rattle.ts_core.specs.Pieces.{Piece, IsValid}
 use Rattle.ts_core.specs.Faults.{first_fault}
 use Rattle.ts_core.proofs.Validity.{first_fault-valid}
 use Rattle.ts_ql.specs.Selects.{Select}
-use Rattle.ts_check.specs.Checks.{Plan, IsValidPlan}
+use Rattle.ts_check.specs.Checks.{Plan, IsValidPlan, IsCheckOf}
+use Rattle.ts_check.specs.declared.fault.CheckError.{CheckError}
+use Rattle.ts_check.specs.declared.fault.CheckError.TheVariants as errors
 
 abbrev pub plan : Settings → Marks → Select → List Piece → Plan
 plan s m q ps = record { settings = s; marks = m; select = q; pieces = ps }
@@ -20,3 +22,6 @@ copy_valid p k e v = subst IsValidPlan (sym e) v
 
 pub faultless_valid : (s : Settings) (m : Marks) (q : Select) (ps ns : List Piece) → ns ≡ ps → None ≡ first_fault s m q.query ns → IsValid s m q.query ps
 faultless_valid s m q ps ns e h = subst (IsValid s m q.query) e ((first_fault-valid s m q.query ns).0 (sym h))
+
+pub no_memory : (s : Settings) (m : Marks) (q : Select) (ps ns : List Piece) (r : Result Plan CheckError) → ns ≡ ps → None ≡ first_fault s m q.query ns → r ≡ Err errors.OutOfMemory → IsCheckOf (plan s m q ps) r
+no_memory s m q ps ns r e h k = subst (IsCheckOf (plan s m q ps)) (sym k) (ap (first_fault s m q.query) (sym e) ∙ sym h)

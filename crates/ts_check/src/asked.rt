@@ -1,7 +1,7 @@
 //! A query with what a store still knows.
-ghost use Rattle.std.specs.Prelude.{◌≡◌, ◌≤◌, length, pos, ◌≤ℤ◌, slice_get};
-ghost use Rattle.std.specs.List.{AllByRecursion};
-ghost use Rattle.ts_core.specs.Pieces.{marked_rules, rule_named, asked, HasIntervals};
+ghost use Rattle.std.specs.Prelude.{◌≡◌, ◌≤◌, length, slice_get};
+ghost use Rattle.ts_core.specs.Pieces.{marked_rules, rule_named, asked};
+ghost use Rattle.ts_core.proofs.Intervals.{IsWide};
 
 use std::alloc::Allocator;
 use std::marker::Model;
@@ -84,11 +84,11 @@ fn rule_at<'a, A: Allocator>(
 impl<'a, A: Allocator> Asked<'a, A> {
     /// A query, asked where a store has these settings and marks.
     pub fn new(settings: &'a Settings<A>, marks: &'a Marks<A>, query: &'a Query<A>) -> Asked<'a, A>
-        requires { AllByRecursion (λ r. pos 1 ≤ℤ r.interval) settings.now.rules }
         ensures value { result ≡ asked settings.now marks.now query.now.query }
-        ensures intervals { HasIntervals result }
+        ensures intervals { IsWide result }
     {
         let _interval = query.interval();
+        let _rules = settings.rules();
         Asked {
             settings,
             marks,

@@ -1,6 +1,5 @@
 //! The check of a plan.
-ghost use Rattle.std.specs.Prelude.{◌≡◌, length, pos, ◌≤ℤ◌, IfOk};
-ghost use Rattle.std.specs.List.{AllByRecursion};
+ghost use Rattle.std.specs.Prelude.{◌≡◌, length, IfOk};
 ghost use Rattle.ts_check.specs.Checks.{IsCheckOf};
 
 use crate::certificate::{Certificate, Piece};
@@ -85,8 +84,7 @@ pub fn check<'a, A: Allocator + Copy>(
     query: &Query<A>,
     certificate: &Certificate<'a, A>,
 ) -> Result<Checked<'a, A>, CheckError>
-    requires marked { length marks.now.lows ≡ length settings.now.rules }
-    requires rules { AllByRecursion (λ r. pos 1 ≤ℤ r.interval) settings.now.rules }
+    requires { length marks.now.lows ≡ length settings.now.rules }
     ensures { IsCheckOf (record { settings = settings.now; marks = marks.now; select = query.now; pieces = certificate.now }) result }
 {
     if let Some((kind, piece)) = first_fault(settings, marks, query, certificate.pieces()) {

@@ -1,7 +1,4 @@
 //! Faults of pieces, over a table.
-ghost use Rattle.std.specs.Prelude.{pos, ◌≤ℤ◌, IfOk};
-ghost use Rattle.std.specs.List.{AllByRecursion};
-
 use crate::{Certificate, CheckError, CheckFault, Piece, PieceSource, check};
 use std::alloc::Global;
 use std::process::Abort;
@@ -78,12 +75,14 @@ const ROWS: [Row; 14] = [
 ];
 
 /// Settings with two rules of an interval of a minute.
-fn settings(alloc: Global) -> Result<Settings<Global>, Fail>
-    ensures { IfOk result (λ s. AllByRecursion (λ r. pos 1 ≤ℤ r.interval) s.rules) }
-{
+fn settings(alloc: Global) -> Result<Settings<Global>, Fail> {
     let mut rules = Vec::new(alloc);
     for name in ["m1", "late"] {
-        let rule = Rule::new(alloc, name, "cpu", MINUTE, 0, &["host"], 0)?;
+        let mut tags = Vec::new(alloc);
+        tags.push(String::from_str(alloc, "host")?)?;
+        let name = String::from_str(alloc, name)?;
+        let measurement = String::from_str(alloc, "cpu")?;
+        let rule = Rule::new(name, measurement, MINUTE, 0, tags, 0);
         rules.push(rule.ok_or("a rule")?)?;
     }
     Ok(Settings::new(2 * MINUTE, rules)?)

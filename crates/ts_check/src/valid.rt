@@ -120,7 +120,6 @@ pub(crate) fn first_fault<A: Allocator>(
     query: &Query<A>,
     pieces: &[Piece<'_>],
 ) -> Option<(Fault, usize)>
-    requires { AllByRecursion (λ r. pos 1 ≤ℤ r.interval) settings.now.rules }
     ensures { result ≡ first_fault settings.now marks.now query.now.query pieces.now }
 {
     if let Some(number) = gap(query.from(), query.to(), pieces) {

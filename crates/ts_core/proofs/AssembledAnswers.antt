@@ -1,5 +1,5 @@
 -- The whole answer: what valid pieces give of a view that shows a history is the answer over all points ever accepted.
-use Rattle.std.proofs.Common.{◌≡◌, ◌<◌, ◌==◌, ℤ, Bool, true, false, not, ◌&&◌, List, [], ◌∷◌, filter, map, length, refl, sym, ap, ap₂, ◌∙◌, subst, inl, ⊎_elim, ◌≤ℤ◌, ◌<ℤ◌, true≢false, arith, Option}
+use Rattle.std.proofs.Common.{◌≡◌, ◌<◌, ◌==◌, ℤ, Bool, true, false, not, ◌&&◌, List, [], ◌∷◌, filter, map, length, refl, sym, ap, ap₂, ◌∙◌, subst, inl, ⊎_elim, ◌≤ℤ◌, ◌<ℤ◌, true≢false, arith, Option, None}
 use Rattle.std.proofs.lemmas.Int.{ints, by_lt_z}
 use Rattle.std.specs.List.{AllByRecursion}
 use Rattle.std.proofs.lemmas.Bool.{and_parts, not-true}
@@ -8,15 +8,17 @@ use Rattle.ts_core.specs.Facts.{Text, Fact, is_within}
 use Rattle.ts_core.specs.Aggregates.{Aggregate, aggregate_of}
 use Rattle.ts_core.specs.MergeLaws.{aggregate_laws}
 use Rattle.ts_core.specs.Settings.{Rule, Settings}
+use Rattle.ts_core.specs.SettingsFaults.{settings_fault}
 use Rattle.ts_core.specs.History.{History}
 use Rattle.ts_core.specs.Latest.{latest_of}
-use Rattle.ts_core.specs.Queries.{Query, is_selected, matches, group_of}
+use Rattle.ts_core.specs.Queries.{Query, IsQuery, is_selected, matches, group_of}
 use Rattle.ts_core.specs.Answers.{Group, buckets_in, all_groups, groups_of, row_of, rows_of, answer_of}
-use Rattle.ts_core.specs.Pieces.{Source, Raw, Rollup, Piece, asked, HasIntervals, SourceServes, IsValidPiece, Covers, IsValid}
+use Rattle.ts_core.specs.Pieces.{Source, Raw, Rollup, Piece, asked, SourceServes, IsValidPiece, Covers, IsValid}
 use Rattle.ts_core.specs.Cells.{Cell, same_cell, cell_of, is_rolled, is_in_cell, total_of}
 use Rattle.ts_core.specs.StoreStates.{StoreState, StandsFor, facts_of}
 use Rattle.ts_core.specs.Views.{RuleTotals, Seen, Shows, seen_of}
-use Rattle.ts_core.specs.Assembly.{stand_in, rule_shown, cell_groups, groups_given, assembled_groups, assembled_row, assembled_answer}
+use Rattle.ts_core.specs.Assembly.{in_part, stand_in, rule_shown, cell_groups, groups_given, assembled_groups, assembled_row, assembled_answer}
+use Rattle.ts_core.proofs.Intervals.{IsWide, asked_wide, settings_faultless}
 use Rattle.ts_core.proofs.MembersLemmas.{Among-left, Among-right, Among-append, Among-filter_passes, Among-filter_was, Among-filter_stays, Among-map, map_back}
 use Rattle.ts_core.proofs.Folds.{fold-count}
 use Rattle.ts_core.proofs.GroupsInOrder.{HasMatch, from_map, to_map, all_groups-same}
@@ -25,7 +27,7 @@ use Rattle.ts_core.proofs.Cuts.{one_fact}
 use Rattle.ts_core.proofs.StateLemmas.{le_trans}
 use Rattle.ts_core.proofs.Shown.{stands_shows}
 use Rattle.ts_core.proofs.Boundaries.{within_parts}
-use Rattle.ts_core.proofs.RowTests.{in_part, same_match, same_group_of}
+use Rattle.ts_core.proofs.RowTests.{same_match, same_group_of}
 use Rattle.ts_core.proofs.PieceCells.{same_cell-eq, same_cell-refl, Serving, serving, index_of-high, start_of-high, is_rolled-matches}
 use Rattle.ts_core.proofs.AssembledRows.{assembled-row}
 use Rattle.ts_core.proofs.LowIndices.{not_zero}
@@ -49,7 +51,7 @@ has_data f (g ∷ gs) a =
 
 -- ---- the groups of one piece
 
-module _ (opening : Settings) (h : History) (seen : Seen) (q : Query) (shows : Shows opening h seen) (wide : HasIntervals (asked seen.settings seen.marks q)) (g : List Text) where
+module _ (opening : Settings) (h : History) (seen : Seen) (q : Query) (shows : Shows opening h seen) (wide : IsWide (asked seen.settings seen.marks q)) (g : List Text) where
   -- a matching fact of the group, in a range
   record MatchIn (a b : ℤ) : Type 0 where
     fact : Fact
@@ -149,10 +151,13 @@ module _ (opening : Settings) (h : History) (seen : Seen) (q : Query) (shows : S
 
 -- ---- the answer
 
-module _ (opening : Settings) (h : History) (seen : Seen) (q : Query) (shows : Shows opening h seen) (wide : HasIntervals (asked seen.settings seen.marks q)) (ps : List Piece) (valid : IsValid seen.settings seen.marks q ps) where
+shown_wide : (opening : Settings) (h : History) (seen : Seen) (q : Query) → Shows opening h seen → IsQuery q → IsWide (asked seen.settings seen.marks q)
+shown_wide opening h seen q shows is = asked_wide seen.settings seen.marks q (subst (λ s. settings_fault s ≡ None) (sym shows.settings) (settings_faultless opening h shows.lawful)) is
+
+module _ (opening : Settings) (h : History) (seen : Seen) (q : Query) (shows : Shows opening h seen) (wide : IsWide (asked seen.settings seen.marks q)) (ps : List Piece) (valid : IsValid seen.settings seen.marks q ps) where
   -- just the groups that have a matching fact
-  pub assembled-groups : all_groups (assembled_groups seen q ps) ≡ groups_of q (latest_of h)
-  assembled-groups =
+  same_groups_found : all_groups (assembled_groups seen q ps) ≡ groups_of q (latest_of h)
+  same_groups_found =
       let all : List Fact = latest_of h in
       let first : q.from ≤ℤ q.from = omega (arith, ints) in
       all_groups-same (assembled_groups seen q ps) (map (group_of q) (filter (matches q) all))
@@ -177,11 +182,14 @@ module _ (opening : Settings) (h : History) (seen : Seen) (q : Query) (shows : S
       let same : record { values = g; rows = map (assembled_row seen q ps g) (buckets_in q) } ≡ record { values = g; rows = rows_of q (latest_of h) g } = λ i. record { values = g; rows = e i } in
       ap₂ (λ x xs. x ∷ xs) same (same_groups gs)
 
-  -- valid pieces give the answer over all points ever accepted, as if nothing had ever been dropped
-  pub assembled-answer : assembled_answer seen q ps ≡ answer_of (latest_of h) q
-  assembled-answer = same_groups (all_groups (assembled_groups seen q ps)) ∙ ap (map (λ g. let z : Group = record { values = g; rows = rows_of q (latest_of h) g } in z)) assembled-groups
+  same_answer : assembled_answer seen q ps ≡ answer_of (latest_of h) q
+  same_answer = same_groups (all_groups (assembled_groups seen q ps)) ∙ ap (map (λ g. let z : Group = record { values = g; rows = rows_of q (latest_of h) g } in z)) same_groups_found
+
+-- valid pieces give the answer over all points ever accepted, as if nothing had ever been dropped
+pub assembled-answer : (opening : Settings) (h : History) (seen : Seen) (q : Query) (ps : List Piece) → Shows opening h seen → IsQuery q → IsValid seen.settings seen.marks q ps → assembled_answer seen q ps ≡ answer_of (latest_of h) q
+assembled-answer opening h seen q ps shows is valid = same_answer opening h seen q shows (shown_wide opening h seen q shows is) ps valid
 
 -- and so do those of a store that stands for the history
-pub stands-answer : (opening : Settings) (h : History) (s : StoreState) (q : Query) (ps : List Piece) → StandsFor opening h s → HasIntervals (asked s.settings s.marks q) → IsValid s.settings s.marks q ps
+pub stands-answer : (opening : Settings) (h : History) (s : StoreState) (q : Query) (ps : List Piece) → StandsFor opening h s → IsQuery q → IsValid s.settings s.marks q ps
     → assembled_answer (seen_of s) q ps ≡ answer_of (latest_of h) q
-stands-answer opening h s q ps st wide valid = assembled-answer opening h (seen_of s) q (stands_shows opening h s st) wide ps valid
+stands-answer opening h s q ps st is valid = assembled-answer opening h (seen_of s) q ps (stands_shows opening h s st) is valid

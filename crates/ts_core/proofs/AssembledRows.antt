@@ -14,11 +14,12 @@ use Rattle.ts_core.specs.History.{History, accepted}
 use Rattle.ts_core.specs.Latest.{latest_of}
 use Rattle.ts_core.specs.Queries.{Query, is_selected, group_of}
 use Rattle.ts_core.specs.Answers.{same_group, is_in_row, bucket_in}
-use Rattle.ts_core.specs.Pieces.{Source, Raw, Rollup, Piece, asked, HasIntervals, SourceServes, IsValidPiece, Covers, IsValid}
+use Rattle.ts_core.specs.Pieces.{Source, Raw, Rollup, Piece, asked, SourceServes, IsValidPiece, Covers, IsValid}
 use Rattle.ts_core.specs.Cells.{Cell, same_cell, cell_of, is_rolled, is_in_cell}
 use Rattle.ts_core.specs.StoreStates.{facts_of}
 use Rattle.ts_core.specs.Views.{RuleTotals, Seen, Shows}
-use Rattle.ts_core.specs.Assembly.{stand_in, rule_shown, totals_given, aggregate_given, assembled}
+use Rattle.ts_core.specs.Assembly.{in_part, stand_in, rule_shown, totals_given, aggregate_given, assembled}
+use Rattle.ts_core.proofs.Intervals.{IsWide}
 use Rattle.ts_core.proofs.MembersLemmas.{AllDistinct-filter, Among-filter_passes, Among-filter_was, Among-filter_stays, filter-none}
 use Rattle.ts_core.proofs.Folds.{fold-same}
 use Rattle.ts_core.proofs.Groups.{fold-groups}
@@ -27,7 +28,7 @@ use Rattle.ts_core.proofs.Tests.{same_bool}
 use Rattle.ts_core.proofs.Cuts.{one_fact, aggregate_where, filter-agree, aggregate_where-agree, Part, aggregate_where-part}
 use Rattle.ts_core.proofs.StateLemmas.{le_trans}
 use Rattle.ts_core.proofs.Boundaries.{within_parts}
-use Rattle.ts_core.proofs.RowTests.{and_none, in_part, same_row, in_row-matches}
+use Rattle.ts_core.proofs.RowTests.{and_none, same_row, in_row-matches}
 use Rattle.ts_core.proofs.PieceCells.{same_cell-eq, same_cell-refl, Serving, serving, index_of-high, start_of-high, is_rolled-matches}
 use Rattle.ts_core.proofs.AnswersLaws.{filter_both}
 
@@ -123,7 +124,7 @@ and_again false w t = refl
 
 -- ---- all pieces
 
-module _ (opening : Settings) (h : History) (seen : Seen) (q : Query) (shows : Shows opening h seen) (wide : HasIntervals (asked seen.settings seen.marks q)) (g : List Text) (k : ℤ) where
+module _ (opening : Settings) (h : History) (seen : Seen) (q : Query) (shows : Shows opening h seen) (wide : IsWide (asked seen.settings seen.marks q)) (g : List Text) (k : ℤ) where
   abbrev row : Fact → Bool
   row = is_in_row q g k
 

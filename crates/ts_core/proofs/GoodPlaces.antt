@@ -8,8 +8,9 @@ use Rattle.ts_core.specs.Facts.{Text, same_text}
 use Rattle.ts_core.specs.Settings.{Rule}
 use Rattle.ts_core.specs.Queries.{Query}
 use Rattle.ts_core.specs.Marks.{index_of}
-use Rattle.ts_core.specs.Pieces.{Source, Raw, Rollup, Piece, MarkedRule, Asked, HasIntervals, rule_named, start_of, IsBoundary, Divides, IsInOneBucket, RuleServes, SourceServes, IsValidPiece, Covers}
+use Rattle.ts_core.specs.Pieces.{Source, Raw, Rollup, Piece, MarkedRule, Asked, rule_named, start_of, IsBoundary, Divides, IsInOneBucket, RuleServes, SourceServes, IsValidPiece, Covers}
 use Rattle.ts_core.specs.Plans.{IsGood, rollup_piece, LeadsOn}
+use Rattle.ts_core.proofs.Intervals.{IsWide}
 use Rattle.ts_core.proofs.BucketsOrder.{one_more, times_le, bucket_le, bucket_of-start}
 use Rattle.ts_core.proofs.Ids.{same_text-eq}
 
@@ -102,7 +103,7 @@ pub record SomeLead (t : Asked) (p : ℤ) : Type 0 where
   pub leads : LeadsOn t n p end
 
 -- below the mark a good place has a rule that leads on
-from_piece : (t : Asked) (src : Source) (a b : ℤ) (ps : List Piece) → HasIntervals t → a <ℤ t.mark → a <ℤ b → b ≤ℤ t.query.to → Covers b t.query.to ps → SourceServes t src a b → AllByRecursion (IsValidPiece t) ps → SomeLead t a
+from_piece : (t : Asked) (src : Source) (a b : ℤ) (ps : List Piece) → IsWide t → a <ℤ t.mark → a <ℤ b → b ≤ℤ t.query.to → Covers b t.query.to ps → SourceServes t src a b → AllByRecursion (IsValidPiece t) ps → SomeLead t a
 from_piece t Raw a b ps s m l u c v w = absurd (omega (arith, ints))
 from_piece t (Rollup name) a b ps s m l u c v w =
     let r = v.0 in
@@ -116,7 +117,7 @@ from_piece t (Rollup name) a b ps s m l u c v w =
     (λ m2. let q : b ≡ e = omega (arith, ints) in (ps, record { covers = subst (λ z. Covers z t.query.to ps) q c; each = w })) in
     record { n = k.n; end = e; leads = record { rule = r; there = k.there; one = refl; valid = valid; good = good } }
 
-pub good_leads : (t : Asked) (p : ℤ) → HasIntervals t → p <ℤ t.mark → p <ℤ t.query.to → IsGood t p → SomeLead t p
+pub good_leads : (t : Asked) (p : ℤ) → IsWide t → p <ℤ t.mark → p <ℤ t.query.to → IsGood t p → SomeLead t p
 good_leads t p s m l ([], v) = let c = v.covers in absurd (omega (arith, ints))
 good_leads t p s m l (q ∷ ps, v) =
     let c = v.covers in

@@ -43,12 +43,12 @@ placed_entries g x xs ih =
       | Greater ↦ ap (λ z. entry x ∷ z) ih
     ]
 
-with_group-entries : (g : List Text) (xs : List (List Text)) → entries (with_group g xs) ≡ put group_cmp g tt (entries xs)
+pub with_group-entries : (g : List Text) (xs : List (List Text)) → entries (with_group g xs) ≡ put group_cmp g tt (entries xs)
 with_group-entries g [] = refl
 with_group-entries g (x ∷ xs) = placed_entries g x xs (with_group-entries g xs)
 
 -- their keys strictly rise in byte order
-pub AreInOrder : List (List Text) → Type 0
+unfoldable pub AreInOrder : List (List Text) → Type 0
 AreInOrder gs = T (is_sorted group_cmp (entries gs))
 
 pub all_groups-in_order : (gs : List (List Text)) → AreInOrder (all_groups gs)
@@ -57,7 +57,7 @@ all_groups-in_order [] = tt
 all_groups-in_order (g ∷ gs) =
     subst (λ es. T (is_sorted group_cmp es)) (sym (with_group-entries g (all_groups gs))) (is_sorted-put group_cmp groups_total g tt (entries (all_groups gs)) (all_groups-in_order gs))
 
-keys_back : (gs : List (List Text)) → map (λ (e : List Text × Unit {0}). e.0) (entries gs) ≡ gs
+pub keys_back : (gs : List (List Text)) → map (λ (e : List Text × Unit {0}). e.0) (entries gs) ≡ gs
 keys_back [] = refl
 keys_back (g ∷ gs) = ap (λ z. g ∷ z) (keys_back gs)
 
@@ -76,11 +76,11 @@ found_in g (k ∷ gs) =
 listed : (g : List Text) (gs : List (List Text)) → is_some (find group_cmp g (entries gs)) ≡ list_any (same_group g) gs
 listed g gs = is_some-find group_cmp g (entries gs) ∙ ap (list_any (same_group g)) (keys_back gs)
 
-any_among : (g : List Text) (gs : List (List Text)) → list_any (same_group g) gs ≡ true → Among g gs
+pub any_among : (g : List Text) (gs : List (List Text)) → list_any (same_group g) gs ≡ true → Among g gs
 any_among g [] h = absurd (true≢false (sym h))
 any_among g (k ∷ gs) h = elim (or_cases (same_group g k) (list_any (same_group g) gs) h) as (λ _. Among g (k ∷ gs)) [ inl e ↦ inl (same_group-eq g k e) | inr r ↦ inr (any_among g gs r) ]
 
-among_any : (g : List Text) (gs : List (List Text)) → Among g gs → list_any (same_group g) gs ≡ true
+pub among_any : (g : List Text) (gs : List (List Text)) → Among g gs → list_any (same_group g) gs ≡ true
 among_any g [] h = absurd h
 among_any g (k ∷ gs) (inl e) = or_left _ _ (subst (λ z. same_group g z ≡ true) e (same_group-refl g))
 among_any g (k ∷ gs) (inr r) = or_right (same_group g k) _ (among_any g gs r)

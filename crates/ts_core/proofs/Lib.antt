@@ -2,7 +2,6 @@ pub mod MembersLemmas
 pub mod Results
 pub mod PairTexts
 pub mod ListSteps
-pub mod LentLemmas
 pub mod Folds
 pub mod Groups
 pub mod Places
@@ -11,6 +10,7 @@ pub mod Ids
 pub mod Latests
 pub mod BucketsLemmas
 pub mod BucketsOrder
+pub mod Intervals
 pub mod GoodPlaces
 pub mod Tests
 pub mod Validity
@@ -50,7 +50,6 @@ pub mod PieceCells
 pub mod AssembledRows
 pub mod AssembledAnswers
 pub mod RetentionRows
-pub mod OwnedTexts
 pub mod BucketsNear
 pub mod SettingsLaws
 pub mod Freezing

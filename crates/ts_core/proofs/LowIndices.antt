@@ -6,9 +6,9 @@ use Rattle.std.specs.Int.Signed.{≤ℤ_refl}
 use Rattle.std.proofs.lemmas.Int.{ints, clamps, by_lt_z}
 use Rattle.ts_core.specs.Members.{Among}
 use Rattle.ts_core.specs.Times.{least_time}
-use Rattle.ts_core.specs.Settings.{Rule, Settings}
+use Rattle.ts_core.specs.Settings.{Rule, Settings, Outlasts}
 use Rattle.ts_core.specs.History.{History, Line, Begin, Step, kept_since, raw_mark}
-use Rattle.ts_core.specs.Marks.{index_of, low_of, begins, IsGreatestOf, IsGreatestLeft, Outlasts}
+use Rattle.ts_core.specs.Marks.{index_of, low_of, begins, IsGreatestOf, IsGreatestLeft}
 use Rattle.ts_core.proofs.BucketsOrder.{bucket_le}
 use Rattle.ts_core.proofs.StateLemmas.{le_trans, int_max-left, int_max-right}
 

@@ -1,9 +1,10 @@
 -- A store with nothing in it stands for the empty history.
-use Rattle.std.proofs.Common.{◌≡◌, ℤ, List, [], ◌∷◌, map, refl, sym, ap, subst, false, true≢false}
+use Rattle.std.proofs.Common.{◌≡◌, ℤ, List, [], ◌∷◌, None, map, refl, sym, ap, subst, false, true≢false}
 use Rattle.std.specs.List.{AllByRecursion}
 use Rattle.ts_core.specs.Members.{AllDistinct}
 use Rattle.ts_core.specs.Facts.{Column}
 use Rattle.ts_core.specs.Settings.{Settings}
+use Rattle.ts_core.specs.SettingsFaults.{settings_fault}
 use Rattle.ts_core.specs.Marks.{low_of, marks_of}
 use Rattle.ts_core.specs.Aggregates.{empty_aggregate}
 use Rattle.ts_core.specs.RawFacts.{kept_from}
@@ -39,10 +40,10 @@ no_cells cut (r ∷ rs) a = (
   no_cells cut rs a.1,
 )
 
-pub new_stands : (opening : Settings) (rules : List RuleCells) → map rule_of rules ≡ opening.rules → map lowest_of rules ≡ map (low_of opening []) opening.rules → AllByRecursion IsWithoutCells rules
+pub new_stands : (opening : Settings) (rules : List RuleCells) → settings_fault opening ≡ None → map rule_of rules ≡ opening.rules → map lowest_of rules ≡ map (low_of opening []) opening.rules → AllByRecursion IsWithoutCells rules
     → StandsFor opening [] (new_state opening rules)
-new_stands opening rules e l a = record {
-  lawful = tt;
+new_stands opening rules well e l a = record {
+  lawful = well;
   settings = refl;
   marks = refl;
   accepted = refl;

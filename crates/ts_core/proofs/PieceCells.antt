@@ -13,10 +13,11 @@ use Rattle.ts_core.specs.History.{History}
 use Rattle.ts_core.specs.Latest.{latest_of}
 use Rattle.ts_core.specs.Marks.{index_of}
 use Rattle.ts_core.specs.Queries.{Query, matches}
-use Rattle.ts_core.specs.Pieces.{Rollup, MarkedRule, marked_rules, asked, rule_named, start_of, HasIntervals, RuleServes, SourceServes}
+use Rattle.ts_core.specs.Pieces.{Rollup, MarkedRule, marked_rules, asked, rule_named, start_of, RuleServes, SourceServes}
 use Rattle.ts_core.specs.Cells.{Cell, cell_cmp, same_cell, is_rolled}
 use Rattle.ts_core.specs.Views.{RuleTotals, Seen, HasTotals, Shows, seen_rule, seen_low}
 use Rattle.ts_core.specs.Assembly.{rule_shown}
+use Rattle.ts_core.proofs.Intervals.{IsWide}
 use Rattle.ts_core.proofs.Ids.{equal_of, same_text-eq}
 use Rattle.ts_core.proofs.Tests.{same_text-from_eq}
 use Rattle.ts_core.proofs.GoodPlaces.{index_of-start}
@@ -78,7 +79,7 @@ wide_rule name (x ∷ xs) r a e =
       | false ↦ λ k. wide_rule name xs r a.1 k
     ] e
 
-pub serving : (opening : Settings) (h : History) (seen : Seen) (q : Query) → Shows opening h seen → HasIntervals (asked seen.settings seen.marks q) → (name : Text) (a b : ℤ)
+pub serving : (opening : Settings) (h : History) (seen : Seen) (q : Query) → Shows opening h seen → IsWide (asked seen.settings seen.marks q) → (name : Text) (a b : ℤ)
     → SourceServes (asked seen.settings seen.marks q) (Rollup name) a b → Serving (latest_of h) q (rule_shown name seen.rules) a b
 serving opening h seen q shows wide name a b s =
     let r : MarkedRule = s.0 in

@@ -4,12 +4,14 @@ use Rattle.std.specs.Prelude.{slice_get}
 use Rattle.std.specs.Int.Signed.{yes_non_neg, pos-nat_abs}
 use Rattle.std.proofs.lemmas.Int.{ints, by_lt_z}
 use Rattle.std.specs.List.{AllByRecursion}
-use Rattle.ts_core.specs.Settings.{Rule, Settings}
+use Rattle.ts_core.specs.Settings.{Settings}
+use Rattle.ts_core.specs.SettingsFaults.{settings_fault}
 use Rattle.ts_core.specs.Marks.{Marks}
-use Rattle.ts_core.specs.Queries.{Query}
-use Rattle.ts_core.specs.Pieces.{Raw, Piece, MarkedRule, marked_rules, Asked, asked, HasIntervals, IsValidPiece, IsValid}
+use Rattle.ts_core.specs.Queries.{Query, IsQuery}
+use Rattle.ts_core.specs.Pieces.{Raw, Piece, MarkedRule, Asked, asked, IsValidPiece, IsValid}
 use Rattle.ts_core.specs.Faults.{piece_fault}
 use Rattle.ts_core.specs.Plans.{IsGood, rollup_piece, LeadsOn, NoneBefore, IsWalk, joined, IsPlan}
+use Rattle.ts_core.proofs.Intervals.{IsWide, asked_wide}
 use Rattle.ts_core.proofs.Validity.{source_from, source_none}
 use Rattle.ts_core.proofs.GoodPlaces.{good_leads, good_within}
 use Rattle.ts_core.proofs.Walks.{walk_valid, plan_valid, plan_same}
@@ -48,7 +50,7 @@ one_more t p n b h m d l k =
 abbrev pub StandFrom : Asked → ℕ → List MarkedRule → Type 0
 StandFrom t n rs = (m : ℕ) → slice_get t.rules (n + m) ≡ slice_get rs m
 
-none_leads : (t : Asked) (p : ℤ) (n : ℕ) → HasIntervals t → p <ℤ t.mark → p <ℤ t.query.to → StandFrom t n [] → NoneBefore t p n → IsGood t p → ⊥
+none_leads : (t : Asked) (p : ℤ) (n : ℕ) → IsWide t → p <ℤ t.mark → p <ℤ t.query.to → StandFrom t n [] → NoneBefore t p n → IsGood t p → ⊥
 none_leads t p n s a l at b g =
     let k = good_leads t p s a l g in
     by_lt_z (pos k.n) (pos n)
@@ -60,14 +62,14 @@ none_leads t p n s a l at b g =
     let f : Some k.leads.rule ≡ None = sym k.leads.there ∙ ap (slice_get t.rules) q ∙ at (unsigned_abs z) in
     absurd cc)
 
-found : (t : Asked) (p : ℤ) (n : ℕ) (r : MarkedRule) → p <ℤ t.mark → p <ℤ t.query.to → HasIntervals t → NoneBefore t p n → slice_get t.rules n ≡ Some r
+found : (t : Asked) (p : ℤ) (n : ℕ) (r : MarkedRule) → p <ℤ t.mark → p <ℤ t.query.to → IsWide t → NoneBefore t p n → slice_get t.rules n ≡ Some r
     → IsValidPiece t (rollup_piece r.rule.name p (p +ℤ r.rule.interval)) → (bs : List Piece) → IsWalk t (p +ℤ r.rule.interval) bs → Decided t p
 found t p n r a l s b at v bs w =
     let e : ℤ = p +ℤ r.rule.interval in
     let leads : LeadsOn t n p e = record { rule = r; there = at; one = refl; valid = v; good = (bs, walk_valid t e bs s w) } in
     inl (rollup_piece r.rule.name p e ∷ bs, (l, refl, (a, record { n = n; leads = leads; named = refl; first = b }, w)))
 
-first_lead : (t : Asked) (p : ℤ) (rs : List MarkedRule) (n : ℕ) → HasIntervals t → AllByRecursion (λ (r : MarkedRule). pos 1 ≤ℤ r.rule.interval) rs → p <ℤ t.mark → p <ℤ t.query.to
+first_lead : (t : Asked) (p : ℤ) (rs : List MarkedRule) (n : ℕ) → IsWide t → AllByRecursion (λ (r : MarkedRule). pos 1 ≤ℤ r.rule.interval) rs → p <ℤ t.mark → p <ℤ t.query.to
     → ((e : ℤ) → p <ℤ e → Decided t e) → StandFrom t n rs → NoneBefore t p n → Decided t p
 first_lead t p [] n s w a l more at b = inr (none_leads t p n s a l at b)
 first_lead t p (r ∷ rs) n s w a l more at b =
@@ -90,7 +92,7 @@ at_end t p l =
     (λ m. inr (λ g. let k = good_within t p g in absurd (omega (arith, ints))))
     (λ m. inl ([], omega (arith, ints)))
 
-decided : (t : Asked) → HasIntervals t → (fuel : ℕ) (p : ℤ) → t.query.to ≤ℤ (p +ℤ pos fuel) → Decided t p
+decided : (t : Asked) → IsWide t → (fuel : ℕ) (p : ℤ) → t.query.to ≤ℤ (p +ℤ pos fuel) → Decided t p
 decided t s zero p f = at_end t p (omega (arith, ints))
 decided t s (suc n) p f =
     by_lt_z p t.query.to
@@ -99,7 +101,7 @@ decided t s (suc n) p f =
     (λ a. inl (record { source = Raw; from = p; to = t.query.to } ∷ [], (l, refl, (a, refl, refl)))))
     (λ l. at_end t p l)
 
-walk_there : (t : Asked) (p : ℤ) → HasIntervals t → IsGood t p → (bs : List Piece) × IsWalk t p bs
+walk_there : (t : Asked) (p : ℤ) → IsWide t → IsGood t p → (bs : List Piece) × IsWalk t p bs
 walk_there t p s g =
     let l = good_within t p g in
     let z : ℤ = t.query.to -ℤ p in
@@ -108,25 +110,17 @@ walk_there t p s g =
 
 -- ---- the laws of plans
 
-wide_rules : (rs : List Rule) (lows : List ℤ) → AllByRecursion (λ (r : Rule). pos 1 ≤ℤ r.interval) rs → AllByRecursion (λ (r : MarkedRule). pos 1 ≤ℤ r.rule.interval) (marked_rules rs lows)
-wide_rules [] lows a = tt
-wide_rules (r ∷ rs) [] a = tt
-wide_rules (r ∷ rs) (low ∷ lows) a = (a.0, wide_rules rs lows a.1)
-
-pub has_intervals : (s : Settings) (m : Marks) (q : Query) → AllByRecursion (λ (r : Rule). pos 1 ≤ℤ r.interval) s.rules → pos 1 ≤ℤ q.interval → HasIntervals (asked s m q)
-has_intervals s m q a h = record { query = h; rules = wide_rules s.rules m.lows a }
-
 -- a plan is valid
-pub IsPlan-valid : (s : Settings) (m : Marks) (q : Query) (ps : List Piece) → HasIntervals (asked s m q) → IsPlan s m q ps → IsValid s m q ps
-IsPlan-valid s m q ps h k = plan_valid (asked s m q) ps h k
+pub IsPlan-valid : (s : Settings) (m : Marks) (q : Query) (ps : List Piece) → settings_fault s ≡ None → IsQuery q → IsPlan s m q ps → IsValid s m q ps
+IsPlan-valid s m q ps well is k = plan_valid (asked s m q) ps (asked_wide s m q well is) k
 
 -- two plans of a query are the same
 pub IsPlan-same : (s : Settings) (m : Marks) (q : Query) (ps ns : List Piece) → IsPlan s m q ps → IsPlan s m q ns → ps ≡ ns
 IsPlan-same s m q ps ns a b = plan_same (asked s m q) ps ns a b
 
 -- and there is one exactly where some list of pieces is valid
-pub IsPlan-there : (s : Settings) (m : Marks) (q : Query) → HasIntervals (asked s m q) → ((ps : List Piece) × IsPlan s m q ps) ↔ ((ps : List Piece) × IsValid s m q ps)
-IsPlan-there s m q h = (
-  λ k. (k.0, IsPlan-valid s m q k.0 h k.1),
-  λ g. let w = walk_there (asked s m q) q.from h g in (joined (asked s m q) w.0, (w.0, w.1, refl)),
+pub IsPlan-there : (s : Settings) (m : Marks) (q : Query) → settings_fault s ≡ None → IsQuery q → ((ps : List Piece) × IsPlan s m q ps) ↔ ((ps : List Piece) × IsValid s m q ps)
+IsPlan-there s m q well is = (
+  λ k. (k.0, IsPlan-valid s m q k.0 well is k.1),
+  λ g. let w = walk_there (asked s m q) q.from (asked_wide s m q well is) g in (joined (asked s m q) w.0, (w.0, w.1, refl)),
 )

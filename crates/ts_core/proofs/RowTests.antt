@@ -12,7 +12,7 @@ use Rattle.ts_core.specs.Queries.{Condition, Query, meets, is_selected, matches,
 use Rattle.ts_core.specs.Pieces.{MarkedRule, RuleServes}
 use Rattle.ts_core.specs.Cells.{cell_of, is_rolled}
 use Rattle.ts_core.specs.Answers.{same_group, is_in_row, bucket_in}
-use Rattle.ts_core.specs.Assembly.{stand_in}
+use Rattle.ts_core.specs.Assembly.{stand_in, in_part}
 use Rattle.ts_core.proofs.Ids.{same_text-eq}
 use Rattle.ts_core.proofs.Tests.{le_true, lt_true, same_text-refl}
 use Rattle.ts_core.proofs.Boundaries.{cell_start, within_cell, within_parts, one_bucket}
@@ -71,10 +71,6 @@ wider a b c d t h k w =
     let x : c ≤ℤ t = let m = p.0 in omega (arith, ints) in
     let y : t <ℤ d = let m = p.1 in omega (arith, ints) in
     ap₂ (λ u v. u && v) (le_true c t x) (lt_true t d y)
-
--- what a test passes from a on, before b
-abbrev pub in_part : (Fact → Bool) → ℤ → ℤ → Fact → Bool
-in_part test a b f = test f && is_within a b f.time
 
 -- ---- facts and their cells
 

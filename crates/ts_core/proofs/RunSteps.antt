@@ -23,12 +23,12 @@ le_later : (a b t : ℤ) → a ≤ℤ b → int_le b t ≡ true → int_le a t �
 le_later a b t h k = le_true a t (le_trans a b t h (le_from b t k))
 
 -- one column's cut rises from the earlier mark to the new
-cut_rises : (b w : Bool) (old mark t : ℤ) → old ≤ℤ mark → int_le (cond w old mark) t ≡ true → int_le (cond (b || w) old mark) t ≡ true
+pub cut_rises : (b w : Bool) (old mark t : ℤ) → old ≤ℤ mark → int_le (cond w old mark) t ≡ true → int_le (cond (b || w) old mark) t ≡ true
 cut_rises true true old mark t h k = k
 cut_rises true false old mark t h k = le_later old mark t h k
 cut_rises false w old mark t h k = k
 
-left_is : (b w : Bool) (old mark t : ℤ) → (b ≡ true → w ≡ false) → int_le (cond (b || w) old mark) t ≡ true → (not b || int_le mark t) ≡ int_le (cond w old mark) t
+pub left_is : (b w : Bool) (old mark t : ℤ) → (b ≡ true → w ≡ false) → int_le (cond (b || w) old mark) t ≡ true → (not b || int_le mark t) ≡ int_le (cond w old mark) t
 left_is true true old mark t h k = absurd (true≢false (h refl))
 left_is true false old mark t h k = refl
 left_is false w old mark t h k = sym k

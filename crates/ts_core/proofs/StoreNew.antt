@@ -5,6 +5,7 @@ use Rattle.std.specs.FinMap as finmap
 use Rattle.std.specs.FinMap.{get-empty, len-empty, len-entries}
 use Rattle.std.proofs.lemmas.List.{nil_from_length}
 use Rattle.ts_core.specs.Settings.{Rule, Settings}
+use Rattle.ts_core.specs.SettingsFaults.{settings_fault}
 use Rattle.ts_core.specs.Marks.{low_of}
 use Rattle.ts_core.specs.Aggregates.{Aggregate, empty_aggregate}
 use Rattle.ts_core.specs.Cells.{Cell, cell_cmp}
@@ -37,5 +38,5 @@ none_there opening (r ∷ rs) = (
   none_there opening rs,
 )
 
-pub new_stands_for : (opening : Settings) → StandsFor opening [] (state_of (new_data opening))
-new_stands_for opening = new_stands opening (rules_of [] opening.rules (map (low_of opening []) opening.rules) (new_cells opening.rules)) (rules_there opening opening.rules) (lows_there opening opening.rules) (none_there opening opening.rules)
+pub new_stands_for : (opening : Settings) → settings_fault opening ≡ None → StandsFor opening [] (state_of (new_data opening))
+new_stands_for opening well = new_stands opening (rules_of [] opening.rules (map (low_of opening []) opening.rules) (new_cells opening.rules)) well (rules_there opening opening.rules) (lows_there opening opening.rules) (none_there opening opening.rules)

@@ -5,9 +5,10 @@ use Rattle.std.specs.Ordering.{int_eq}
 use Rattle.std.proofs.lemmas.Bool.Decides.{Decides-int_eq}
 use Rattle.std.proofs.lemmas.Bool.{and_parts}
 use Rattle.ts_core.specs.Facts.{Text, same_text}
-use Rattle.ts_core.specs.Pieces.{Source, Raw, Rollup, Piece, MarkedRule, Asked, HasIntervals, IsValidPiece}
+use Rattle.ts_core.specs.Pieces.{Source, Raw, Rollup, Piece, MarkedRule, Asked, IsValidPiece}
 use Rattle.ts_core.specs.Faults.{piece_fault}
 use Rattle.ts_core.specs.Plans.{IsGood, rollup_piece, LeadsOn, NoneBefore, IsFirstToLead, Steps, IsWalk, is_faultless}
+use Rattle.ts_core.proofs.Intervals.{IsWide}
 use Rattle.ts_core.proofs.Tests.{lt_from, le_from}
 use Rattle.ts_core.proofs.Ids.{same_text-eq}
 use Rattle.ts_core.proofs.Validity.{source_from, source_none}
@@ -63,7 +64,7 @@ first_found t p e name (r ∷ rs) n at b g h =
           first_found t p e name rs (n + 1) rest (one_more t p n b (not_open t r n p here c.0)) g c.1
     ] refl h
 
-step_is : (t : Asked) (p : ℤ) (b : Piece) (src : Source) (bs : List Piece) → HasIntervals t → p <ℤ t.query.to → b.from ≡ p → b.source ≡ src → is_step t src p b.to bs ≡ true → IsWalk t b.to bs → IsWalk t p (b ∷ bs)
+step_is : (t : Asked) (p : ℤ) (b : Piece) (src : Source) (bs : List Piece) → IsWide t → p <ℤ t.query.to → b.from ≡ p → b.source ≡ src → is_step t src p b.to bs ≡ true → IsWalk t b.to bs → IsWalk t p (b ∷ bs)
 step_is t p b Raw bs s l f e h w =
     let c = and_parts (int_le t.mark p) _ h in
     let d = and_parts (int_eq b.to t.query.to) _ c.1 in
@@ -75,7 +76,7 @@ step_is t p b (Rollup name) bs s l f e h w =
     (l, f, subst (λ z. Steps t p b.to z bs (IsWalk t b.to bs)) (sym e) (lt_from p t.mark c.0, first, w))
 
 -- what passes is the walk
-pub is_walk-IsWalk : (t : Asked) (p : ℤ) (bs : List Piece) → HasIntervals t → is_walk t p bs ≡ true → IsWalk t p bs
+pub is_walk-IsWalk : (t : Asked) (p : ℤ) (bs : List Piece) → IsWide t → is_walk t p bs ≡ true → IsWalk t p bs
 is_walk-IsWalk t p [] s h = (Decides-int_eq p t.query.to).0 h
 is_walk-IsWalk t p (b ∷ bs) s h =
     let c = and_parts (int_lt p t.query.to) _ h in

@@ -5,15 +5,16 @@ use Rattle.std.proofs.lemmas.Int.{ints, by_lt_z}
 use Rattle.std.specs.List.{AllByRecursion}
 use Rattle.std.proofs.lemmas.Bool.{and_parts}
 use Rattle.ts_core.specs.Facts.{Text}
-use Rattle.ts_core.specs.Pieces.{Source, Raw, Rollup, Piece, MarkedRule, Asked, HasIntervals, SourceServes, IsValidPiece, Covers, IsValidFrom}
+use Rattle.ts_core.specs.Pieces.{Source, Raw, Rollup, Piece, MarkedRule, Asked, SourceServes, IsValidPiece, Covers, IsValidFrom}
 use Rattle.ts_core.specs.Faults.{Fault, piece_fault}
 use Rattle.ts_core.specs.Plans.{IsFirstToLead, Steps, IsWalk, is_same_rule, is_faultless, drawn, joined_onto, joined, IsPlanOf}
+use Rattle.ts_core.proofs.Intervals.{IsWide}
 use Rattle.ts_core.proofs.Validity.{source_from}
 use Rattle.ts_core.proofs.GoodPlaces.{rule_wide, good_within}
 
 -- ---- the walk is valid, and stays so where it is joined
 
-steps_valid : (t : Asked) (p : ℤ) (b : Piece) (src : Source) (bs : List Piece) (more : Type 0) → HasIntervals t → b.source ≡ src → p <ℤ t.query.to → b.from ≡ p → (more → IsValidFrom t b.to bs) → Steps t p b.to src bs more → IsValidFrom t p (b ∷ bs)
+steps_valid : (t : Asked) (p : ℤ) (b : Piece) (src : Source) (bs : List Piece) (more : Type 0) → IsWide t → b.source ≡ src → p <ℤ t.query.to → b.from ≡ p → (more → IsValidFrom t b.to bs) → Steps t p b.to src bs more → IsValidFrom t p (b ∷ bs)
 steps_valid t p b Raw bs more s e l f v k =
     let to : b.to ≡ t.query.to = k.1 in
     let has : SourceServes t b.source b.from b.to = subst (λ z. SourceServes t z b.from b.to) (sym e) (subst (λ z. t.mark ≤ℤ z) (sym f) k.0) in
@@ -28,7 +29,7 @@ steps_valid t p b (Rollup name) bs more s e l f v k =
     let has : SourceServes t b.source b.from b.to = subst (λ z. SourceServes t z b.from b.to) (sym e) (subst (λ z. SourceServes t (Rollup name) z b.to) (sym f) here) in
     record { covers = (f, omega (arith, ints), in', rest.covers); each = (has, rest.each) }
 
-pub walk_valid : (t : Asked) (p : ℤ) (bs : List Piece) → HasIntervals t → IsWalk t p bs → IsValidFrom t p bs
+pub walk_valid : (t : Asked) (p : ℤ) (bs : List Piece) → IsWide t → IsWalk t p bs → IsValidFrom t p bs
 walk_valid t p [] s w = record { covers = w; each = tt }
 walk_valid t p (b ∷ bs) s w = steps_valid t p b b.source bs (IsWalk t b.to bs) s refl w.0 w.1 (walk_valid t b.to bs s) w.2
 
@@ -56,12 +57,12 @@ joined_valid t a p (b ∷ bs) v =
           record { covers = (v.covers.0, v.covers.1, v.covers.2, rest.covers); each = (v.each.0, rest.each) }
     ] refl
 
-walk_joined : (t : Asked) (p : ℤ) (bs : List Piece) → HasIntervals t → IsWalk t p bs → IsValidFrom t p (joined t bs)
+walk_joined : (t : Asked) (p : ℤ) (bs : List Piece) → IsWide t → IsWalk t p bs → IsValidFrom t p (joined t bs)
 walk_joined t p [] s w = walk_valid t p [] s w
 walk_joined t p (b ∷ bs) s w = joined_valid t p b bs (walk_valid t p (b ∷ bs) s w)
 
 -- a plan is valid
-pub plan_valid : (t : Asked) (ps : List Piece) → HasIntervals t → IsPlanOf t ps → IsValidFrom t t.query.from ps
+pub plan_valid : (t : Asked) (ps : List Piece) → IsWide t → IsPlanOf t ps → IsValidFrom t t.query.from ps
 plan_valid t ps s k = subst (IsValidFrom t t.query.from) (sym k.2) (walk_joined t t.query.from k.0 s k.1)
 
 -- ---- and it is one alone

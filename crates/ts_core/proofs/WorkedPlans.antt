@@ -5,9 +5,9 @@ use Rattle.ts_core.specs.Settings.{Rule, Settings}
 use Rattle.ts_core.specs.Marks.{Marks, marks_of}
 use Rattle.ts_core.specs.History.{Begin}
 use Rattle.ts_core.specs.Queries.{Query}
-use Rattle.ts_core.specs.Pieces.{Piece, asked, HasIntervals}
+use Rattle.ts_core.specs.Pieces.{Piece, asked}
 use Rattle.ts_core.specs.Plans.{IsPlan, whole_buckets}
-use Rattle.ts_core.proofs.Plannable.{has_intervals}
+use Rattle.ts_core.proofs.Intervals.{IsWide, asked_wide}
 use Rattle.ts_core.proofs.WalkChecks.{is_walk-IsWalk}
 use Rattle.ts_core.proofs.WorkedPieces.{cpu, m1, asks, raw, rollup, by_minute, minute, two_minutes, at_200s}
 
@@ -18,7 +18,7 @@ three_minutes = asks cpu [] 0 180000000000 minute
 
 three_minutes_plan : IsPlan two_minutes at_200s three_minutes (rollup m1 0 120000000000 ∷ raw 120000000000 180000000000 ∷ [])
 three_minutes_plan =
-    let h : HasIntervals (asked two_minutes at_200s three_minutes) = has_intervals two_minutes at_200s three_minutes (omega (arith, ints), tt) (omega (arith, ints)) in
+    let h : IsWide (asked two_minutes at_200s three_minutes) = asked_wide two_minutes at_200s three_minutes refl (record { interval = omega (arith, ints); range = omega (arith, ints) }) in
     let bs : List Piece = rollup m1 0 60000000000 ∷ rollup m1 60000000000 120000000000 ∷ raw 120000000000 180000000000 ∷ [] in
     (bs, is_walk-IsWalk (asked two_minutes at_200s three_minutes) (pos 0) bs h refl, refl)
 
@@ -32,7 +32,7 @@ by_90s = asks cpu [] 120000000000 240000000000 90000000000
 
 by_90s_plan : IsPlan two_minutes at_10m by_90s (rollup m1 120000000000 180000000000 ∷ rollup m1 180000000000 240000000000 ∷ [])
 by_90s_plan =
-    let h : HasIntervals (asked two_minutes at_10m by_90s) = has_intervals two_minutes at_10m by_90s (omega (arith, ints), tt) (omega (arith, ints)) in
+    let h : IsWide (asked two_minutes at_10m by_90s) = asked_wide two_minutes at_10m by_90s refl (record { interval = omega (arith, ints); range = omega (arith, ints) }) in
     let bs : List Piece = rollup m1 120000000000 180000000000 ∷ rollup m1 180000000000 240000000000 ∷ [] in
     (bs, is_walk-IsWalk (asked two_minutes at_10m by_90s) (pos 120000000000) bs h refl, refl)
 
@@ -58,7 +58,7 @@ minutes_from k (suc n) more = rollup m1 (k * 60000000000) ((k + 1) * 60000000000
 half_past_plan : IsPlan hours_and_minutes at_3h from_half_past (rollup m1 1800000000000 3600000000000 ∷ rollup (104 ∷ 49 ∷ []) 3600000000000 10800000000000 ∷ [])
 unfolding minutes_from
 half_past_plan =
-    let h : HasIntervals (asked hours_and_minutes at_3h from_half_past) = has_intervals hours_and_minutes at_3h from_half_past (omega (arith, ints), (omega (arith, ints), tt)) (omega (arith, ints)) in
+    let h : IsWide (asked hours_and_minutes at_3h from_half_past) = asked_wide hours_and_minutes at_3h from_half_past refl (record { interval = omega (arith, ints); range = omega (arith, ints) }) in
     let bs : List Piece = minutes_from 30 30 (rollup (104 ∷ 49 ∷ []) 3600000000000 7200000000000 ∷ rollup (104 ∷ 49 ∷ []) 7200000000000 10800000000000 ∷ []) in
     (bs, is_walk-IsWalk (asked hours_and_minutes at_3h from_half_past) (pos 1800000000000) bs h refl, refl)
 

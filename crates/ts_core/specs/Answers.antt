@@ -1,12 +1,12 @@
 -- The answer to a query over facts: of each group its buckets, and of each bucket the aggregate of its facts.
 -- (InfluxData 1.8, InfluxQL: GROUP BY tags and time intervals; only points in the range of time count.)
-use Rattle.std.specs.Prelude.{ℕ, zero, suc, ℤ, pos, negsuc, ◌+ℤ◌, ◌-ℤ◌, ◌*ℤ◌, Bool, ◌&&◌, int_lt, List, [], ◌∷◌, map, filter, if◌then◌else◌}
+use Rattle.std.specs.Prelude.{ℕ, zero, suc, ℤ, pos, negsuc, ◌+ℤ◌, ◌-ℤ◌, Bool, ◌&&◌, int_lt, List, [], ◌∷◌, map, filter, if◌then◌else◌}
 use Rattle.std.specs.declared.cmp.Ordering.{Ordering}
 use Rattle.std.specs.declared.cmp.Ordering.TheVariants.{Less, Equal, Greater}
 use Rattle.std.specs.Ordering.{int_eq, eq_by_cmp}
 use Rattle.std.specs.Cmp.Lexicographic.{slice_cmp}
 use Rattle.ts_core.specs.Facts.{Text, text_cmp, Fact}
-use Rattle.ts_core.specs.Buckets.{bucket_of}
+use Rattle.ts_core.specs.Buckets.{bucket_of, bucket_start}
 use Rattle.ts_core.specs.Aggregates.{Aggregate, aggregate_of}
 use Rattle.ts_core.specs.Queries.{Query, matches, group_of}
 
@@ -76,7 +76,7 @@ abbrev pub is_in_row : Query → List Text → ℤ → Fact → Bool
 is_in_row q g k f = matches q f && (same_group (group_of q f) g && int_eq (bucket_in q f.time) k)
 
 abbrev pub row_of : Query → List Fact → List Text → ℤ → Row
-row_of q facts g k = record { start = (k *ℤ q.interval) +ℤ q.offset; aggregate = aggregate_of (filter (is_in_row q g k) facts) }
+row_of q facts g k = record { start = bucket_start k q.interval q.offset; aggregate = aggregate_of (filter (is_in_row q g k) facts) }
 
 abbrev pub rows_of : Query → List Fact → List Text → List Row
 rows_of q facts g = map (row_of q facts g) (buckets_in q)

@@ -1,7 +1,8 @@
 -- What pieces give of a view, put together to an answer: raw facts for some pieces, totals of cells for others.
 -- (Own rules.)
-use Rattle.std.specs.Prelude.{ℤ, pos, ◌+ℤ◌, ◌*ℤ◌, ◌==◌, Bool, not, ◌&&◌, List, [], ◌∷◌, ◌++◌, map, filter, zip, Option, Some, None, if◌then◌else◌}
+use Rattle.std.specs.Prelude.{ℤ, pos, ◌==◌, Bool, not, ◌&&◌, List, [], ◌∷◌, ◌++◌, map, filter, zip, Option, Some, None, if◌then◌else◌}
 use Rattle.ts_core.specs.Facts.{Text, same_text, Fact, is_within}
+use Rattle.ts_core.specs.Buckets.{bucket_start}
 use Rattle.ts_core.specs.Partials.{fold_by}
 use Rattle.ts_core.specs.Aggregates.{Aggregate, empty_aggregate, merged, aggregate_of}
 use Rattle.ts_core.specs.Settings.{Rule}
@@ -21,9 +22,9 @@ abbrev pub rule_shown : Text → List RuleTotals → Option RuleTotals
 rule_shown name [] = None
 rule_shown name (r ∷ rs) = if same_text r.rule.name name then Some r else rule_shown name rs
 
--- a test of facts, in a piece's range
-abbrev pub in_piece : Piece → (Fact → Bool) → Fact → Bool
-in_piece p test f = test f && is_within p.from p.to f.time
+-- a test of facts, from a on and before b
+abbrev pub in_part : (Fact → Bool) → ℤ → ℤ → Fact → Bool
+in_part test a b f = test f && is_within a b f.time
 
 -- ---- rows
 
@@ -38,7 +39,7 @@ aggregate_given seen (Rollup name) test = totals_given (rule_shown name seen.rul
 
 -- what all pieces give of a row
 abbrev pub assembled : Seen → Query → List Piece → List Text → ℤ → Aggregate
-assembled seen q pieces g k = fold_by empty_aggregate merged (λ (p : Piece). aggregate_given seen p.source (in_piece p (is_in_row q g k))) pieces
+assembled seen q pieces g k = fold_by empty_aggregate merged (λ (p : Piece). aggregate_given seen p.source (in_part (is_in_row q g k) p.from p.to)) pieces
 
 -- ---- groups
 
@@ -53,12 +54,12 @@ groups_given seen q (Rollup name) test = cell_groups q (rule_shown name seen.rul
 
 abbrev pub assembled_groups : Seen → Query → List Piece → List (List Text)
 assembled_groups seen q [] = []
-assembled_groups seen q (p ∷ ps) = groups_given seen q p.source (in_piece p (matches q)) ++ assembled_groups seen q ps
+assembled_groups seen q (p ∷ ps) = groups_given seen q p.source (in_part (matches q) p.from p.to) ++ assembled_groups seen q ps
 
 -- ---- the answer
 
 abbrev pub assembled_row : Seen → Query → List Piece → List Text → ℤ → Row
-assembled_row seen q pieces g k = record { start = (k *ℤ q.interval) +ℤ q.offset; aggregate = assembled seen q pieces g k }
+assembled_row seen q pieces g k = record { start = bucket_start k q.interval q.offset; aggregate = assembled seen q pieces g k }
 
 abbrev pub assembled_answer : Seen → Query → List Piece → List Group
 assembled_answer seen q pieces = map (λ g. record { values = g; rows = map (assembled_row seen q pieces g) (buckets_in q) }) (all_groups (assembled_groups seen q pieces))

@@ -7,6 +7,7 @@ pub use Rattle.ts_core.specs.declared.fault.Fault.{Fault}
 pub use Rattle.ts_core.specs.declared.fault.Fault.TheVariants.{Gap, BelowMark, NoSuchRule, OtherMeasurement, OffBoundary, BelowLow, Straddles, TagNotKept}
 use Rattle.ts_core.specs.Facts.{Text, same_text}
 use Rattle.ts_core.specs.Settings.{Rule, Settings}
+use Rattle.ts_core.specs.SettingsFaults.{unless}
 use Rattle.ts_core.specs.Buckets.{bucket_of}
 use Rattle.ts_core.specs.Marks.{Marks, index_of}
 use Rattle.ts_core.specs.Queries.{Query}
@@ -30,10 +31,6 @@ fault_number Straddles = 88
 fault_number TagNotKept = 89
 
 -- ---- of one piece
-
--- the next fault where all is well, else this one
-abbrev pub unless : {F : Type 0} → Bool → F → Option F → Option F
-unless well fault next = if well then next else Some fault
 
 abbrev pub is_boundary : Rule → ℤ → Bool
 is_boundary r p = int_eq (start_of r (index_of r p)) p

@@ -1,10 +1,11 @@
 -- What happened to a store, the newest event first, and what follows from it. (Own rules.)
-use Rattle.std.specs.Prelude.{ℕ, ℤ, pos, ◌-ℤ◌, ◌≤ℤ◌, ◌≤◌, ◌^◌, ◌==◌, if◌then◌else◌, Bool, true, false, List, [], ◌∷◌, length, FitsSigned}
+use Rattle.std.specs.Prelude.{◌≡◌, ℕ, ℤ, pos, ◌-ℤ◌, ◌≤ℤ◌, ◌≤◌, ◌^◌, ◌==◌, if◌then◌else◌, Bool, true, false, List, [], ◌∷◌, length, None, FitsSigned}
 use Rattle.std.specs.Int.{w64, int_max}
 use Rattle.std.specs.List.{AllByRecursion}
 use Rattle.ts_core.specs.Times.{IsTime, least_time}
 use Rattle.ts_core.specs.Facts.{Fact}
 use Rattle.ts_core.specs.Settings.{Settings}
+use Rattle.ts_core.specs.SettingsFaults.{settings_fault}
 
 pub data Event : Type 0 where
   -- a line was accepted: its facts
@@ -70,10 +71,10 @@ pub record MayBeTaken (mark : ℤ) (f : Fact) : Type 0 where
   pub fits : FitsSigned w64 f.value
   pub raw : mark ≤ℤ f.time
 
--- at most 2^62 facts are accepted, none below the raw mark of its moment, and no run begins in an open one; a run may begin at
--- any moment, and a step where no run is open changes nothing
+-- it opens with settings that have no fault; at most 2^62 facts are accepted, none below the raw mark of its moment, and no run
+-- begins in an open one; a run may begin at any moment, and a step where no run is open changes nothing
 abbrev pub IsLawful : Settings → History → Type 0
-IsLawful opening [] = Unit {0}
+IsLawful opening [] = settings_fault opening ≡ None
 IsLawful opening (Line facts ∷ h) =
     IsLawful opening h × AllByRecursion (MayBeTaken (raw_mark opening h)) facts × (length (accepted (Line facts ∷ h)) ≤ 2 ^ 62)
 IsLawful opening (Begin now ∷ h) = IsLawful opening h × (IsRunOpen h → ⊥)

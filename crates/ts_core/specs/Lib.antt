@@ -6,7 +6,6 @@ pub mod SettingsFaults
 pub mod History
 pub mod Latest
 pub mod Partials
-pub mod Lent
 pub mod Texts
 pub mod Devices
 pub mod ReadingAhead

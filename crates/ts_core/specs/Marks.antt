@@ -1,5 +1,5 @@
 -- From where on a store still knows everything: its raw points, and the cells of each rule. (Own rules.)
-use Rattle.std.specs.Prelude.{◌≡◌, ◌⊎◌, ℕ, ◌<◌, ◌≤◌, ℤ, ◌≤ℤ◌, List, [], ◌∷◌, map}
+use Rattle.std.specs.Prelude.{ℕ, ℤ, ◌≤ℤ◌, List, [], ◌∷◌, map}
 use Rattle.std.specs.Int.{int_max}
 use Rattle.ts_core.specs.Members.{Among}
 use Rattle.ts_core.specs.Times.{least_time}
@@ -44,7 +44,3 @@ pub record IsGreatestOf (xs : List ℤ) (x : ℤ) : Type 0 where
 -- m is the greatest of the least time and of what a duration leaves at each begin
 abbrev pub IsGreatestLeft : ℕ → History → ℤ → Type 0
 IsGreatestLeft duration h m = IsGreatestOf (least_time ∷ map (kept_since duration) (begins h)) m
-
--- a duration lasts at least as long as another; 0 is for ever
-abbrev pub Outlasts : ℕ → ℕ → Type 0
-Outlasts long short = (long ≡ 0) ⊎ ((0 < short) × (short ≤ long))

@@ -1,11 +1,11 @@
 -- Pieces of a plan, and when a list of them is valid: it may stand for all points ever accepted. (Own rules.)
-use Rattle.std.specs.Prelude.{◌≡◌, ◌⊎◌, ℤ, pos, ◌+ℤ◌, ◌-ℤ◌, ◌*ℤ◌, ◌≤ℤ◌, ◌<ℤ◌, List, [], ◌∷◌, ◌++◌, map, Option, Some, None, if◌then◌else◌}
+use Rattle.std.specs.Prelude.{◌≡◌, ◌⊎◌, ℤ, pos, ◌-ℤ◌, ◌≤ℤ◌, ◌<ℤ◌, List, [], ◌∷◌, ◌++◌, map, Option, Some, None, if◌then◌else◌}
 use Rattle.std.specs.List.{AllByRecursion}
 use Rattle.std.specs.Int.{int_rem_euclid}
 use Rattle.ts_core.specs.Members.{Among}
 use Rattle.ts_core.specs.Facts.{Text, same_text}
 use Rattle.ts_core.specs.Settings.{Rule, Settings}
-use Rattle.ts_core.specs.Buckets.{bucket_of}
+use Rattle.ts_core.specs.Buckets.{bucket_of, bucket_start}
 use Rattle.ts_core.specs.Marks.{Marks, index_of}
 use Rattle.ts_core.specs.Queries.{Condition, Query}
 
@@ -46,16 +46,11 @@ abbrev pub rule_named : Text → List MarkedRule → Option MarkedRule
 rule_named name [] = None
 rule_named name (r ∷ rs) = if same_text r.rule.name name then Some r else rule_named name rs
 
--- no interval is empty
-pub record HasIntervals (t : Asked) : Type 0 where
-  pub query : pos 1 ≤ℤ t.query.interval
-  pub rules : AllByRecursion (λ (r : MarkedRule). pos 1 ≤ℤ r.rule.interval) t.rules
-
 -- ---- when a rule's cells may stand for the query's points
 
 -- where bucket k of a rule starts
 abbrev pub start_of : Rule → ℤ → ℤ
-start_of r k = (k *ℤ r.interval) +ℤ r.offset
+start_of r k = bucket_start k r.interval r.offset
 
 -- a bucket of the rule starts at p
 abbrev pub IsBoundary : Rule → ℤ → Type 0

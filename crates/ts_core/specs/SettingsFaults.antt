@@ -7,7 +7,6 @@ use Rattle.ts_core.specs.declared.settings_fault.SettingsFault.{SettingsFault}
 use Rattle.ts_core.specs.declared.settings_fault.SettingsFault.TheVariants.{TooManyRules, OfRule}
 use Rattle.ts_core.specs.Facts.{Text, same_text}
 use Rattle.ts_core.specs.Settings.{Rule, Settings}
-use Rattle.ts_core.specs.Faults.{unless}
 
 -- ---- names, intervals, tags and durations
 
@@ -46,31 +45,35 @@ outlasts long short = long == 0 || (nat_lt 0 short && nat_le short long)
 
 -- ---- faults
 
+-- the next fault where all is well, else this one
+abbrev pub unless : {F : Type 0} → Bool → F → Option F → Option F
+unless well fault next = if well then next else Some fault
+
 -- the number that a rule's fault is answered by
-abbrev pub fault_number : RuleFault → ℕ
-fault_number Interval = 1
-fault_number Duration = 2
-fault_number RepeatedName = 3
-fault_number BadName = 4
-fault_number KeptTags = 6
+abbrev pub rule_fault_number : RuleFault → ℕ
+rule_fault_number Interval = 1
+rule_fault_number Duration = 2
+rule_fault_number RepeatedName = 3
+rule_fault_number BadName = 4
+rule_fault_number KeptTags = 6
 
 -- of a rule behind others
-abbrev pub rule_fault : ℕ → List Rule → Rule → Option RuleFault
-rule_fault raw earlier r =
+abbrev pub fault_of_rule : ℕ → List Rule → Rule → Option RuleFault
+fault_of_rule raw earlier r =
     unless (is_rule_name r.name) BadName
     (unless (not (is_named earlier r.name)) RepeatedName
     (unless (is_interval r.interval) Interval
     (unless (are_kept_tags r.kept_tags) KeptTags
     (unless (outlasts r.duration raw) Duration None))))
 
-abbrev pub or_fault : ℕ → Option RuleFault → Option SettingsFault → Option SettingsFault
-or_fault n None next = next
-or_fault n (Some fault) next = Some (OfRule fault n)
+abbrev pub or_rule_fault : ℕ → Option RuleFault → Option SettingsFault → Option SettingsFault
+or_rule_fault n None next = next
+or_rule_fault n (Some fault) next = Some (OfRule fault n)
 
 -- of rules behind others, one by one
 abbrev pub rules_fault : ℕ → List Rule → List Rule → Option SettingsFault
 rules_fault raw earlier [] = None
-rules_fault raw earlier (r ∷ rs) = or_fault (length earlier) (rule_fault raw earlier r) (rules_fault raw (earlier ++ r ∷ []) rs)
+rules_fault raw earlier (r ∷ rs) = or_rule_fault (length earlier) (fault_of_rule raw earlier r) (rules_fault raw (earlier ++ r ∷ []) rs)
 
 -- more than 32 rules, or the first fault of a rule
 abbrev pub settings_fault : Settings → Option SettingsFault

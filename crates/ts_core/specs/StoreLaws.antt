@@ -1,17 +1,18 @@
 -- What moves do, said of every history and any number of rules: what stood for a history stands for it with the event
 -- of the move. (Own rules.)
-use Rattle.std.specs.Prelude.{◌≡◌, ℤ, List, [], ◌∷◌, true, false, map, length}
+use Rattle.std.specs.Prelude.{◌≡◌, ℤ, List, [], ◌∷◌, true, false, None, map, length}
 use Rattle.ts_core.specs.Members.{Among, AllDistinct}
 use Rattle.ts_core.specs.Facts.{Series, Column, Fact}
 use Rattle.ts_core.specs.Settings.{Settings}
+use Rattle.ts_core.specs.SettingsFaults.{settings_fault}
 use Rattle.ts_core.specs.History.{Line, Begin, Step, IsLawful}
 use Rattle.ts_core.specs.StoreStates.{ColumnPoints, StandsFor, column_of, facts_of}
 use Rattle.ts_core.specs.StoreData.{FrozenCells, StoreData, state_of, new_data, OfEachHistory, GoesOn, StaysFor, ShowsEach}
 use Rattle.ts_core.specs.StoreMoves.{column_moved, run_begun, Expired, with_cells, run_ended, HaveRoom, grown, PutsFacts, put_facts}
 
--- a new store stands for the empty history
+-- a new store of settings without a fault stands for the empty history
 abbrev pub NewStands : Type 0
-NewStands = (opening : Settings) → StandsFor opening [] (state_of (new_data opening))
+NewStands = (opening : Settings) → settings_fault opening ≡ None → StandsFor opening [] (state_of (new_data opening))
 
 -- a run begins where none is open
 abbrev pub RunBegins : Type 0

@@ -1,5 +1,5 @@
 //! Marks.
-ghost use Rattle.std.specs.Prelude.{◌≡◌, IfOk};
+ghost use Rattle.std.specs.Prelude.{◌≡◌, ◌↔◌, IsTrue, IfOk};
 
 use crate::time::Time;
 use std::alloc::{AllocError, Allocator};
@@ -19,6 +19,22 @@ impl<A: Allocator> Model for Marks<A> {
     ghost Value = { MarksValue };
 
     ghost view = { λ m. record { raw = m.raw; lows = m.lows.items } };
+}
+
+fn same_lows(lows: &[i128], others: &[i128]) -> bool
+    ensures { IsTrue result ↔ (lows.now ≡ others.now) }
+{
+    match (lows.split_first(), others.split_first()) {
+        (None, None) => true,
+        (Some((low, lows)), Some((other, others))) => {
+            if low == other {
+                same_lows(lows, others)
+            } else {
+                false
+            }
+        }
+        _ => false,
+    }
 }
 
 impl<A: Allocator> Marks<A> {
@@ -41,6 +57,16 @@ impl<A: Allocator> Marks<A> {
         ensures { result.now ≡ self.now.lows }
     {
         self.lows.as_slice()
+    }
+
+    /// Whether these are the same marks as others.
+    pub fn is(&self, other: &Marks<A>) -> bool
+        ensures { IsTrue result ↔ (self.now ≡ other.now) }
+    {
+        if self.raw() != other.raw() {
+            return false;
+        }
+        same_lows(self.lows(), other.lows())
     }
 }
 

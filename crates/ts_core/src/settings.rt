@@ -1,13 +1,12 @@
 //! Settings of retention and rollups.
 ghost use Rattle.std.specs.Prelude.{◌≡◌, ◌≢◌, ◌↔◌, [], pos, ◌≤ℤ◌, map, string_bytes, unsigned_abs, Some, None, IsTrue, IfOk, IfErr, IsSome, IfSome};
 ghost use Rattle.std.specs.List.{AllByRecursion};
-ghost use Rattle.ts_core.specs.Settings.{IsRule, open_settings};
+ghost use Rattle.ts_core.specs.Settings.{IsRule, AreSettings, open_settings};
 ghost use Rattle.ts_core.specs.SettingsFaults.{settings_fault};
-ghost use Rattle.ts_core.specs.Marks.{Outlasts};
-ghost use Rattle.ts_core.specs.Lent.{lent};
 
 use crate::settings_fault::{SettingsFault, settings_fault};
-use std::alloc::{AllocError, Allocator};
+use crate::texts::same_texts;
+use std::alloc::Allocator;
 use std::marker::Model;
 
 mod copies;
@@ -43,55 +42,44 @@ impl<A: Allocator> Model for Rule<A> {
         } };
 }
 
-fn owned<A: Allocator + Copy>(alloc: A, texts: &[&str]) -> Result<Vec<String<A>, A>, AllocError>
-    ensures { IfOk result (λ v. map string_bytes v.items ≡ lent texts.now) }
-{
-    let mut all = Vec::new(alloc);
-    for text in texts {
-        all.push(String::from_str(alloc, text)?)?;
-    }
-    Ok(all)
-}
-
 /// Whether no text is empty.
-fn all_written(texts: &[&str]) -> bool
-    ensures { IsTrue result ↔ AllByRecursion (λ text. text ≢ []) (lent texts.now) }
+fn all_written<A: Allocator>(texts: &[String<A>]) -> bool
+    ensures { IsTrue result ↔ AllByRecursion (λ text. text ≢ []) (map string_bytes texts.now) }
 {
     texts.iter().all(|text| !text.is_empty())
 }
 
-fn is_rule(measurement: &str, kept_tags: &[&str], duration: &i64) -> bool
-    ensures { IsTrue result ↔ IsRule measurement.now (lent kept_tags.now) duration.now }
+fn is_rule<A: Allocator>(measurement: &str, kept_tags: &[String<A>], duration: &i64) -> bool
+    ensures { IsTrue result ↔ IsRule measurement.now (map string_bytes kept_tags.now) duration.now }
 {
     *duration >= 0 && !measurement.is_empty() && all_written(kept_tags)
 }
 
-impl<A: Allocator + Copy> Rule<A> {
+impl<A: Allocator> Rule<A> {
     /// A rule of these parts, or `None` where the duration is below 0, or the measurement or a kept tag is
     /// empty. Interval, offset and duration are in nanoseconds; a duration of 0 is for ever.
     pub fn new(
-        alloc: A,
-        name: &str,
-        measurement: &str,
+        name: String<A>,
+        measurement: String<A>,
         interval: i64,
         offset: i64,
-        kept_tags: &[&str],
+        kept_tags: Vec<String<A>, A>,
         duration: i64,
-    ) -> Result<Option<Rule<A>>, AllocError>
-        ensures possible { IfOk result (λ r. IsSome r ↔ IsRule measurement.now (lent kept_tags.now) duration) }
-        ensures parts { IfOk result (λ r. IfSome r (λ r. r ≡ record { name = name.now; measurement = measurement.now; interval = interval; offset = offset; kept_tags = lent kept_tags.now; duration = unsigned_abs duration })) }
+    ) -> Option<Rule<A>>
+        ensures possible { IsSome result ↔ IsRule (string_bytes measurement) (map string_bytes kept_tags.items) duration }
+        ensures parts { IfSome result (λ r. r ≡ record { name = string_bytes name; measurement = string_bytes measurement; interval = interval; offset = offset; kept_tags = map string_bytes kept_tags.items; duration = unsigned_abs duration }) }
     {
-        if !is_rule(measurement, kept_tags, &duration) {
-            return Ok(None);
+        if !is_rule(measurement.as_str(), kept_tags.as_slice(), &duration) {
+            return None;
         }
-        Ok(Some(Rule {
-            name: String::from_str(alloc, name)?,
-            measurement: String::from_str(alloc, measurement)?,
+        Some(Rule {
+            name,
+            measurement,
             interval,
             offset,
-            kept_tags: owned(alloc, kept_tags)?,
+            kept_tags,
             duration: duration.unsigned_abs(),
-        }))
+        })
     }
 }
 
@@ -137,9 +125,42 @@ impl<A: Allocator> Rule<A> {
     {
         self.duration
     }
+
+    /// Whether it has the same parts as another.
+    pub fn is(&self, other: &Rule<A>) -> bool
+        ensures { IsTrue result ↔ (self.now ≡ other.now) }
+    {
+        if self.name() != other.name() || self.measurement() != other.measurement() {
+            return false;
+        }
+        if self.interval != other.interval || self.offset != other.offset {
+            return false;
+        }
+        if self.duration != other.duration {
+            return false;
+        }
+        same_texts(self.kept_tags(), other.kept_tags())
+    }
 }
 
-/// How long raw points are kept (nanoseconds; 0 is for ever), and the rollup rules in their order.
+fn same_rules<A: Allocator>(rules: &[Rule<A>], others: &[Rule<A>]) -> bool
+    ensures { IsTrue result ↔ (rules.now ≡ others.now) }
+{
+    match (rules.split_first(), others.split_first()) {
+        (None, None) => true,
+        (Some((rule, rules)), Some((other, others))) => {
+            if rule.is(other) {
+                same_rules(rules, others)
+            } else {
+                false
+            }
+        }
+        _ => false,
+    }
+}
+
+/// How long raw points are kept (nanoseconds; 0 is for ever), and the rollup rules in their order. Settings
+/// have no fault.
 #[derive(Drop)]
 pub struct Settings<A: Allocator> {
     raw_duration: u64,
@@ -147,11 +168,15 @@ pub struct Settings<A: Allocator> {
 }
 
 impl<A: Allocator> Model for Settings<A> {
+    ghost use Rattle.std.specs.Prelude.{◌≡◌, None};
     ghost use Rattle.ts_core.specs.Settings.{Settings as SettingsValue};
+    ghost use Rattle.ts_core.specs.SettingsFaults.{settings_fault};
 
     ghost Value = { SettingsValue };
 
     ghost view = { λ s. record { raw_duration = s.raw_duration; rules = s.rules.items } };
+
+    ghost invariant = { λ s. settings_fault (record { raw_duration = s.raw_duration; rules = s.rules.items }) ≡ None };
 }
 
 impl<A: Allocator> Settings<A> {
@@ -169,10 +194,7 @@ impl<A: Allocator> Settings<A> {
     pub fn new(raw_duration: i64, rules: Vec<Rule<A>, A>) -> Result<Settings<A>, SettingsFault>
         requires { pos 0 ≤ℤ raw_duration }
         ensures parts { IfOk result (λ s. s ≡ record { raw_duration = unsigned_abs raw_duration; rules = rules.items }) }
-        ensures faultless { IfOk result (λ s. settings_fault s ≡ None) }
         ensures fault { IfErr result (λ e. settings_fault (record { raw_duration = unsigned_abs raw_duration; rules = rules.items }) ≡ Some e) }
-        ensures intervals { IfOk result (λ s. AllByRecursion (λ r. pos 1 ≤ℤ r.interval) s.rules) }
-        ensures lasting { IfOk result (λ s. AllByRecursion (λ r. Outlasts r.duration s.raw_duration) s.rules) }
     {
         let raw_duration = raw_duration.unsigned_abs();
         match settings_fault(raw_duration, rules.as_slice()) {
@@ -191,10 +213,22 @@ impl<A: Allocator> Settings<A> {
         self.raw_duration
     }
 
-    /// The rules in their order.
+    /// The rules in their order. They have no fault.
     pub fn rules(&self) -> &[Rule<A>]
-        ensures { result.now ≡ self.now.rules }
+        ensures value { result.now ≡ self.now.rules }
+        ensures faultless { settings_fault self.now ≡ None }
+        ensures valid { AreSettings self.now }
     {
         self.rules.as_slice()
+    }
+
+    /// Whether these are the same settings as others.
+    pub fn is(&self, other: &Settings<A>) -> bool
+        ensures { IsTrue result ↔ (self.now ≡ other.now) }
+    {
+        if self.raw_duration() != other.raw_duration() {
+            return false;
+        }
+        same_rules(self.rules(), other.rules())
     }
 }

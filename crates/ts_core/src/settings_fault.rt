@@ -1,7 +1,7 @@
 //! What is wrong with settings.
 ghost use Rattle.std.specs.Prelude.{◌≡◌, map, [], string_bytes};
 ghost use Rattle.std.specs.List.{list_all};
-ghost use Rattle.ts_core.specs.SettingsFaults.{is_name_byte, is_rule_name, is_named, is_interval, are_distinct, are_kept_tags, outlasts, rule_fault, rules_fault, settings_fault, fault_number};
+ghost use Rattle.ts_core.specs.SettingsFaults.{is_name_byte, is_rule_name, is_named, is_interval, are_distinct, are_kept_tags, outlasts, fault_of_rule, rules_fault, settings_fault, rule_fault_number};
 
 use crate::settings::Rule;
 use crate::texts::is_among;
@@ -87,8 +87,8 @@ fn outlasts(long: u64, short: u64) -> bool
 }
 
 /// The first fault of a rule behind others.
-fn rule_fault<A: Allocator>(raw: u64, earlier: &[Rule<A>], rule: &Rule<A>) -> Option<RuleFault>
-    ensures { result ≡ rule_fault raw earlier.now rule.now }
+fn fault_of_rule<A: Allocator>(raw: u64, earlier: &[Rule<A>], rule: &Rule<A>) -> Option<RuleFault>
+    ensures { result ≡ fault_of_rule raw earlier.now rule.now }
 {
     if !is_rule_name(rule.name()) {
         return Some(RuleFault::BadName);
@@ -113,7 +113,7 @@ fn rules_fault<A: Allocator>(raw: u64, rules: &[Rule<A>]) -> Option<SettingsFaul
     ensures { result ≡ rules_fault raw [] rules.now }
 {
     for (number, rule) in rules.iter().enumerate() {
-        if let Some(fault) = rule_fault(raw, &rules[..number], rule) {
+        if let Some(fault) = fault_of_rule(raw, &rules[..number], rule) {
             return Some(SettingsFault::OfRule(fault, number));
         }
     }
@@ -134,7 +134,7 @@ pub(crate) fn settings_fault<A: Allocator>(raw: u64, rules: &[Rule<A>]) -> Optio
 impl RuleFault {
     /// The number that it is answered by.
     pub fn number(self) -> u8
-        ensures { result ≡ fault_number self }
+        ensures { result ≡ rule_fault_number self }
     {
         match self {
             RuleFault::Interval => 1,

@@ -1,4 +1,6 @@
 //! Settings and their faults, over a table.
+ghost use Rattle.std.specs.Prelude.{◌≡◌, IfOk};
+
 use super::*;
 use std::alloc::Global;
 use std::test::Fail;
@@ -113,6 +115,27 @@ const ROWS: [(u32, &[Parts], Option<(u8, usize)>); 15] = [
     ),
 ];
 
+/// A rule of cpu.
+fn rule(
+    alloc: Global,
+    name: &str,
+    interval: i64,
+    offset: i64,
+    kept_tags: &[&str],
+    duration: i64,
+) -> Result<Rule<Global>, Fail>
+    ensures { IfOk result (λ r. r.interval ≡ interval) }
+{
+    let mut tags = Vec::new(alloc);
+    for tag in kept_tags {
+        tags.push(String::from_str(alloc, tag)?)?;
+    }
+    let name = String::from_str(alloc, name)?;
+    let measurement = String::from_str(alloc, "cpu")?;
+    let rule = Rule::new(name, measurement, interval, offset, tags, duration);
+    Ok(rule.ok_or("a rule")?)
+}
+
 fn settings(
     alloc: Global,
     raw: u32,
@@ -120,16 +143,14 @@ fn settings(
 ) -> Result<Result<Settings<Global>, SettingsFault>, Fail> {
     let mut made = Vec::new(alloc);
     for parts in rules {
-        let rule = Rule::new(
+        made.push(rule(
             alloc,
             parts.name,
-            "cpu",
             parts.interval,
             0,
             parts.kept_tags,
             parts.duration,
-        )?;
-        made.push(rule.ok_or("a rule")?)?;
+        )?)?;
     }
     Ok(Settings::new(i64::from(raw) * SECOND, made))
 }

@@ -1,5 +1,5 @@
 //! Texts of a list.
-ghost use Rattle.std.specs.Prelude.{◌≡◌, map, string_bytes};
+ghost use Rattle.std.specs.Prelude.{◌≡◌, ◌↔◌, IsTrue, map, string_bytes};
 ghost use Rattle.std.specs.List.{list_any};
 ghost use Rattle.ts_core.specs.Facts.{same_text};
 
@@ -10,4 +10,21 @@ pub fn is_among<A: Allocator>(text: &str, texts: &[String<A>]) -> bool
     ensures { result ≡ list_any (same_text text.now) (map string_bytes texts.now) }
 {
     texts.iter().any(|other| text == other.as_str())
+}
+
+/// Whether two lists have the same texts in the same order.
+pub(crate) fn same_texts<A: Allocator>(texts: &[String<A>], others: &[String<A>]) -> bool
+    ensures { IsTrue result ↔ (map string_bytes texts.now ≡ map string_bytes others.now) }
+{
+    match (texts.split_first(), others.split_first()) {
+        (None, None) => true,
+        (Some((text, texts)), Some((other, others))) => {
+            if text.as_str() == other.as_str() {
+                same_texts(texts, others)
+            } else {
+                false
+            }
+        }
+        _ => false,
+    }
 }

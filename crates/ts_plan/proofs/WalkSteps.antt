@@ -4,7 +4,8 @@ use Rattle.std.specs.Prelude.{slice_get}
 use Rattle.std.proofs.lemmas.Int.{ints, by_lt_z}
 use Rattle.ts_core.specs.declared.fault.Fault.{Fault}
 use Rattle.ts_core.specs.Faults.{piece_fault}
-use Rattle.ts_core.specs.Pieces.{Piece, MarkedRule, Asked, HasIntervals, IsValidPiece}
+use Rattle.ts_core.specs.Pieces.{Piece, MarkedRule, Asked, IsValidPiece}
+use Rattle.ts_core.proofs.Intervals.{IsWide}
 use Rattle.ts_core.specs.Plans.{IsGood, rollup_piece, LeadsOn, NoneBefore, IsWalk}
 use Rattle.ts_core.proofs.Tests.{lt_not}
 use Rattle.ts_core.proofs.Validity.{source_from, source_none}
@@ -35,7 +36,7 @@ pub falls_on : (to p e i : ℤ) → e ≡ p +ℤ i → pos 1 ≤ℤ i → e ≤�
 falls_on to p e i h k l = omega (arith, ints)
 
 -- below it the first rule that leads on gives its bucket
-pub bucket_walk : (t : Asked) (p : ℤ) (n : ℕ) (r : MarkedRule) (bs : List Piece) → HasIntervals t → p <ℤ t.mark → p <ℤ t.query.to → slice_get t.rules n ≡ Some r
+pub bucket_walk : (t : Asked) (p : ℤ) (n : ℕ) (r : MarkedRule) (bs : List Piece) → IsWide t → p <ℤ t.mark → p <ℤ t.query.to → slice_get t.rules n ≡ Some r
     → IsValidPiece t (rollup_piece r.rule.name p (p +ℤ r.rule.interval)) → IsWalk t (p +ℤ r.rule.interval) bs → NoneBefore t p n → IsWalk t p (rollup_piece r.rule.name p (p +ℤ r.rule.interval) ∷ bs)
 bucket_walk t p n r bs s a l at v w b =
     let e : ℤ = p +ℤ r.rule.interval in
@@ -43,7 +44,7 @@ bucket_walk t p n r bs s a l at v w b =
     (l, refl, (a, record { n = n; leads = leads; named = refl; first = b }, w))
 
 -- where no rule leads on, the place isn't good
-pub no_lead : (t : Asked) (p : ℤ) (n : ℕ) → HasIntervals t → p <ℤ t.mark → p <ℤ t.query.to → length t.rules ≤ n → NoneBefore t p n → IsGood t p → ⊥
+pub no_lead : (t : Asked) (p : ℤ) (n : ℕ) → IsWide t → p <ℤ t.mark → p <ℤ t.query.to → length t.rules ≤ n → NoneBefore t p n → IsGood t p → ⊥
 no_lead t p n s a l h b g =
     let k = good_leads t p s a l g in
     let m = in_range t.rules k.n k.leads.rule k.leads.there in

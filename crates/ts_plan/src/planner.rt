@@ -1,7 +1,6 @@
 //! The plan of a query: the walk over good places, with neighbours joined.
-ghost use Rattle.std.specs.Prelude.{◌≡◌, ◌&&◌, length, pos, ◌≤ℤ◌, IfOk};
-ghost use Rattle.std.specs.List.{AllByRecursion};
-ghost use Rattle.ts_core.specs.Pieces.{HasIntervals};
+ghost use Rattle.std.specs.Prelude.{◌≡◌, ◌&&◌, length, IfOk};
+ghost use Rattle.ts_core.proofs.Intervals.{IsWide};
 ghost use Rattle.ts_core.specs.Faults.{piece_fault};
 ghost use Rattle.ts_core.specs.Plans.{is_same_rule, is_faultless, drawn, joined_onto, joined};
 ghost use Rattle.ts_plan.specs.Planning.{IsPlanFor};
@@ -36,7 +35,7 @@ fn is_same_rule(piece: &Piece<'_>, bucket: &Piece<'_>) -> bool
 }
 
 fn is_faultless<A: Allocator>(asked: &Asked<'_, A>, piece: &Piece<'_>) -> bool
-    requires { HasIntervals asked.now }
+    requires { IsWide asked.now }
     ensures { result ≡ is_faultless (piece_fault asked.now piece.now) }
 {
     match asked.piece_fault(piece) {
@@ -47,7 +46,7 @@ fn is_faultless<A: Allocator>(asked: &Asked<'_, A>, piece: &Piece<'_>) -> bool
 
 /// Whether the next bucket joins a piece: both are of one rule, and what they make together is valid.
 fn joins<A: Allocator>(asked: &Asked<'_, A>, piece: &Piece<'_>, bucket: &Piece<'_>) -> bool
-    requires { HasIntervals asked.now }
+    requires { IsWide asked.now }
     ensures { result ≡ (is_same_rule piece.now.source bucket.now.source && is_faultless (piece_fault asked.now (drawn piece.now bucket.now))) }
 {
     is_same_rule(piece, bucket) && is_faultless(asked, &drawn(piece, bucket))
@@ -60,7 +59,7 @@ fn joined_onto<'a, A: Allocator + Copy>(
     piece: &Piece<'a>,
     buckets: &[Piece<'a>],
 ) -> Result<Vec<Piece<'a>, A>, AllocError>
-    requires { HasIntervals asked.now }
+    requires { IsWide asked.now }
     ensures { IfOk result (λ pieces. pieces.items ≡ joined_onto asked.now piece.now buckets.now) }
 {
     match buckets.split_first() {
@@ -83,7 +82,7 @@ fn joined<'a, A: Allocator + Copy>(
     asked: &Asked<'a, A>,
     buckets: &[Piece<'a>],
 ) -> Result<Vec<Piece<'a>, A>, AllocError>
-    requires { HasIntervals asked.now }
+    requires { IsWide asked.now }
     ensures { IfOk result (λ pieces. pieces.items ≡ joined asked.now buckets.now) }
 {
     match buckets.split_first() {
@@ -101,8 +100,7 @@ pub fn plan<'a, A: Allocator + Copy>(
     marks: &'a Marks<A>,
     query: &'a Query<A>,
 ) -> Result<Certificate<'a, A>, PlanError>
-    requires marked { length marks.now.lows ≡ length settings.now.rules }
-    requires rules { AllByRecursion (λ r. pos 1 ≤ℤ r.interval) settings.now.rules }
+    requires { length marks.now.lows ≡ length settings.now.rules }
     ensures { IsPlanFor settings.now marks.now query.now.query result }
 {
     if is_too_many(settings, marks, query) {

@@ -1,7 +1,4 @@
 //! Plans of worked queries.
-ghost use Rattle.std.specs.Prelude.{pos, ◌≤ℤ◌, IfOk};
-ghost use Rattle.std.specs.List.{AllByRecursion};
-
 use crate::{PlanError, PlanFault, plan};
 use std::alloc::Global;
 use std::process::Abort;
@@ -69,12 +66,14 @@ const ROWS: [Row; 9] = [
 ];
 
 /// Settings with a rule of an hour, and then one of a minute.
-fn settings(alloc: Global) -> Result<Settings<Global>, Fail>
-    ensures { IfOk result (λ s. AllByRecursion (λ r. pos 1 ≤ℤ r.interval) s.rules) }
-{
+fn settings(alloc: Global) -> Result<Settings<Global>, Fail> {
     let mut rules = Vec::new(alloc);
     for (name, interval) in [("h1", HOUR), ("m1", MINUTE)] {
-        let rule = Rule::new(alloc, name, "cpu", interval, 0, &["host"], 0)?;
+        let mut tags = Vec::new(alloc);
+        tags.push(String::from_str(alloc, "host")?)?;
+        let name = String::from_str(alloc, name)?;
+        let measurement = String::from_str(alloc, "cpu")?;
+        let rule = Rule::new(name, measurement, interval, 0, tags, 0);
         rules.push(rule.ok_or("a rule")?)?;
     }
     Ok(Settings::new(MINUTE, rules)?)

@@ -58,7 +58,6 @@ pub(crate) fn is_too_many<A: Allocator>(
     marks: &Marks<A>,
     query: &Query<A>,
 ) -> bool
-    requires { AllByRecursion (λ r. pos 1 ≤ℤ r.interval) settings.now.rules }
     ensures { IsTrue result ↔ IsTooMany settings.now marks.now query.now.query }
 {
     let from = query.from();

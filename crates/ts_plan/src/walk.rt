@@ -1,7 +1,8 @@
 //! The walk of a plan over good places. It tries each rule at each place, and so takes time that grows with a
 //! power of the number of places.
 ghost use Rattle.std.specs.Prelude.{◌≡◌, ℤ, pos, ◌+ℤ◌, ◌≤ℤ◌, ◌<ℤ◌, [], ◌∷◌, IfOk, IfSome, IfNone, MatchOption};
-ghost use Rattle.ts_core.specs.Pieces.{HasIntervals, IsValidPiece};
+ghost use Rattle.ts_core.specs.Pieces.{IsValidPiece};
+ghost use Rattle.ts_core.proofs.Intervals.{IsWide};
 ghost use Rattle.ts_core.specs.Plans.{IsGood, raw_piece, rollup_piece, LeadsOn, NoneBefore, IsWalk};
 
 use std::alloc::{AllocError, Allocator};
@@ -37,7 +38,7 @@ fn bucket_at<'a, A: Allocator>(
     marked: &MarkedRule<'a, A>,
     from: i64,
 ) -> Option<Piece<'a>>
-    requires asked { HasIntervals asked.now }
+    requires asked { IsWide asked.now }
     requires rule { pos 1 ≤ℤ marked.now.rule.interval }
     ensures piece { IfSome result (λ p. p ≡ rollup_piece marked.now.rule.name from (from +ℤ marked.now.rule.interval)) }
     ensures valid { IfSome result (IsValidPiece asked.now) }
@@ -84,7 +85,7 @@ fn lead<'a, A: Allocator + Copy>(
     from: i64,
     number: usize,
 ) -> Result<Option<Vec<Piece<'a>, A>>, AllocError>
-    requires asked { HasIntervals asked.now }
+    requires asked { IsWide asked.now }
     requires below { from <ℤ asked.now.mark }
     requires before { from <ℤ asked.now.query.to }
     ensures { IfOk result (λ walk. MatchOption walk ((end : ℤ) → LeadsOn asked.now number from end → ⊥) (λ pieces. NoneBefore asked.now from number → IsWalk asked.now from pieces.items)) }
@@ -109,7 +110,7 @@ pub(crate) fn walk<'a, A: Allocator + Copy>(
     asked: &Asked<'a, A>,
     from: i64,
 ) -> Result<Option<Vec<Piece<'a>, A>>, AllocError>
-    requires { HasIntervals asked.now }
+    requires { IsWide asked.now }
     ensures { IfOk result (λ walk. MatchOption walk (IsGood asked.now from → ⊥) (λ pieces. IsWalk asked.now from pieces.items)) }
 {
     let end = asked.end();

@@ -28,7 +28,7 @@ use Rattle.ts_core.proofs.Shown.{stands_shows}
 use Rattle.ts_core.proofs.ColumnFacts.{facts_of-there, facts_of-here}
 use Rattle.ts_core.proofs.MovesStand.{grows}
 use Rattle.ts_core.proofs.LineStands.{line_put}
-use Rattle.ts_core.specs.Faults.{unless}
+use Rattle.ts_core.specs.SettingsFaults.{unless}
 use Rattle.ts_line.specs.Parts.{Parts, series_of, facts_of as line_facts}
 use Rattle.ts_raw.specs.Numbered.{IsAt}
 use Rattle.ts_raw.proofs.NumberedLemmas.{at_among}

@@ -3,7 +3,7 @@ use Rattle.std.specs.Prelude.{ℕ, ◌+◌, ◌^◌, nat_le, Bool, not, ◌&&◌
 use Rattle.std.specs.List.{list_any}
 use Rattle.std.specs.Ordering.{eq_by_cmp}
 use Rattle.ts_core.specs.Facts.{Series, series_cmp}
-use Rattle.ts_core.specs.Faults.{unless}
+use Rattle.ts_core.specs.SettingsFaults.{unless}
 use Rattle.ts_line.specs.Parts.{Parts, series_of, facts_of}
 use Rattle.ts_store.specs.declared.fault.WriteFault.{WriteFault}
 use Rattle.ts_store.specs.declared.fault.WriteFault.TheVariants.{TooManySeries, TooManyFacts}

@@ -1,5 +1,6 @@
 use Rattle.std.proofs.Common.{rules, ◌≡◌, ◌∙◌, ap, subst, to_z, of_z, w64}
-use Rattle.ts_core.specs.Pieces.{Asked, asked, HasIntervals}
+use Rattle.ts_core.specs.Pieces.{Asked, asked}
+use Rattle.ts_core.proofs.Intervals.{IsWide}
 use Rattle.ts_core.specs.Plans.{IsWalk, joined}
 use Rattle.ts_plan.proofs.Planned.{untrue, planned}
 use Rattle.ts_plan.proofs.planner.plan.Goals as goal
@@ -21,5 +22,5 @@ returns-in_ok-joined-in-Some g c =
     let from : to_z w64 (of_z w64 c.from.result) ≡ q.from = search rules in
     let there : IsWalk t (to_z w64 (of_z w64 c.from.result)) bs = rw c.in-Some.is at c.in_ok-walk.ensures in
     let walk : IsWalk (asked s m q) q.from bs = subst (λ x. IsWalk x q.from bs) same (subst (λ x. IsWalk t x bs) from there) in
-    planned s m q bs _ (subst HasIntervals same c.new-asked.ensures.intervals) (untrue _ c.is_too_many.ensures c.if-is_too_many.false) walk
+    planned s m q bs _ (subst IsWide same c.new-asked.ensures.intervals) (untrue _ c.is_too_many.ensures c.if-is_too_many.false) walk
     (c.new.ensures ∙ c.in_ok-joined-in-Some.ensures ∙ ap (joined t) c.as_slice.ensures.value ∙ ap (λ (x : Asked). joined x bs) same)

@@ -12,4 +12,4 @@ returns g c =
     let raw : to_z w64 (of_z w64 c.nanos.result) ≡ m.raw = search rules in
     let below : q.from <ℤ m.raw = subst (λ x. x <ℤ m.raw) from (subst (λ x. to_z w64 (of_z w64 c.from-from.result) <ℤ x) raw (le_not _ _ c.if-from-nanos.false)) in
     let some : q.from <ℤ q.to = subst (λ x. x <ℤ q.to) from (subst (λ x. to_z w64 (of_z w64 c.from-from.result) <ℤ x) to (le_not _ _ c.if-from-to.false)) in
-    IsTooMany-told c.args.settings.now m q c.rules.result.now c.have_more_than.result c.rules.ensures below some c.have_more_than.ensures
+    IsTooMany-told c.args.settings.now m q c.rules.result.now c.have_more_than.result c.rules.ensures.value below some c.have_more_than.ensures
