@@ -4,7 +4,7 @@ use Rattle.std.proofs.lemmas.Bool.{ltb-false}
 use Rattle.ts_core.specs.Facts.{Text}
 use Rattle.ts_ql.specs.declared.fault.ParseError.{ParseError}
 use Rattle.ts_ql.specs.declared.fault.ParseError.TheVariants as errors
-use Rattle.ts_ql.specs.Faults.{Fault, Syntax, told, Gives}
+use Rattle.ts_ql.specs.QueryFaults.{Fault, Syntax, as_fault, Gives}
 use Rattle.ts_ql.specs.Laws.{Says, SaysUnless, IsFaultIf, TextSays, TextFault, Tells}
 use Rattle.ts_ql.specs.Reading.{queries_of}
 use Rattle.ts_ql.specs.Selects.{Select}
@@ -49,8 +49,8 @@ fault_text_by now text f false is w = runs_err now text f (short (length text) i
 
 pub tells : {X : Type 0} (view : X → List Select) (now : ℤ) (text : Text) (r : Result X ParseError) → Gives view r (queries_of now text) → Tells view now text r
 tells {X} view now text (Ok x) e = text_says now text (view x) e
-tells {X} view now text (Err errors.Memory) e = tt
-tells {X} view now text (Err (errors.Fault f)) e = text_fault now text (told f) e
+tells {X} view now text (Err errors.OutOfMemory) e = tt
+tells {X} view now text (Err (errors.Fault f)) e = text_fault now text (as_fault f) e
 
 pub says_text : {X : Type 0} (view : X → List Select) (now : ℤ) (text : Text) (r : Result X ParseError) (queries : List Select)
     → Gives view r (queries_of now text) → TextSays now text queries → Gives view r (Ok queries)

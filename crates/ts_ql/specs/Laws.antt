@@ -4,11 +4,11 @@ use Rattle.std.specs.Prelude.{◌≡◌, ◌⊎◌, ℤ, List, [], ◌∷◌, �
 use Rattle.ts_core.specs.Facts.{Text}
 use Rattle.ts_ql.specs.declared.fault.ParseError.{ParseError}
 use Rattle.ts_ql.specs.declared.fault.ParseError.TheVariants as errors
-use Rattle.ts_ql.specs.Faults.{Fault, Syntax, told, unexpected}
+use Rattle.ts_ql.specs.QueryFaults.{Fault, Syntax, as_fault, unexpected}
 use Rattle.ts_ql.specs.Grammar.{Item, Any, This, Examine, Is, Script}
 use Rattle.ts_ql.specs.Meanings.{sayings}
 use Rattle.ts_ql.specs.Selects.{Select}
-use Rattle.ts_ql.specs.Spelling.{spell}
+use Rattle.ts_ql.specs.Productions.{spell}
 use Rattle.ts_ql.specs.Tokenizing.{tokens_of}
 use Rattle.ts_ql.specs.Tokens.{Lexeme}
 
@@ -84,8 +84,8 @@ abbrev pub TextFault : ℤ → Text → Fault → Type 0
 TextFault now text fault = IsFaultIf (nat_lt 65536 (length text)) now text fault
 
 abbrev pub Explained : ℤ → Text → ParseError → Type 0
-Explained now text errors.Memory = ⊤
-Explained now text (errors.Fault fault) = TextFault now text (told fault)
+Explained now text errors.OutOfMemory = ⊤
+Explained now text (errors.Fault fault) = TextFault now text (as_fault fault)
 
 -- what was returned, seen by `view`, is what the text says or its first fault, unless memory ran out
 abbrev pub Tells : {X : Type 0} → (X → List Select) → ℤ → Text → Result X ParseError → Type 0

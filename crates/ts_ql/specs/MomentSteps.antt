@@ -11,8 +11,9 @@ use Rattle.ts_ql.specs.declared.place.Place.TheVariants as places
 use Rattle.ts_ql.specs.declared.token.Kind.{Kind}
 use Rattle.ts_ql.specs.declared.token.Kind.TheVariants as kinds
 use Rattle.ts_ql.specs.Dates.{moment_told}
-use Rattle.ts_ql.specs.Faults.{Fault, OutOfRange, unexpected}
+use Rattle.ts_ql.specs.QueryFaults.{Fault, OutOfRange, unexpected}
 use Rattle.ts_ql.specs.Literals.{is_word, literal}
+use Rattle.ts_ql.specs.Ranges.{bounded}
 use Rattle.ts_ql.specs.Tokens.{Lexeme}
 
 abbrev pub Timing : Type 0
@@ -68,41 +69,14 @@ moment_at now place kind t m = Err (unexpected t)
 unfoldable pub moment_step : ℤ → Place → Lexeme → Moment → Timing
 moment_step now place t m = moment_at now place t.kind t m
 
--- ---- the range
-
-abbrev pub greater : ℤ → Option ℤ → ℤ
-greater x None = x
-greater x (Some y) = if int_le x y then y else x
-
-abbrev pub lesser : ℤ → Option ℤ → ℤ
-lesser x None = x
-lesser x (Some y) = if int_le y x then y else x
-
--- from this time on
-abbrev pub from_on : ℤ → Range → Range
-from_on x r = record r { lower = Some (greater x r.lower) }
-
--- before this one
-abbrev pub before : ℤ → Range → Range
-before x r = record r { upper = Some (lesser x r.upper) }
-
--- the range where time stands so to the moment x
-unfoldable pub bounded : Comparison → ℤ → Range → Range
-bounded comparisons.Equal x r = before (x +ℤ pos 1) (from_on x r)
-bounded comparisons.Less x r = before x r
-bounded comparisons.LessOrEqual x r = before (x +ℤ pos 1) r
-bounded comparisons.Greater x r = from_on (x +ℤ pos 1) r
-bounded comparisons.GreaterOrEqual x r = from_on x r
+-- ---- the end of a moment
 
 abbrev pub no_moment : Moment
 no_moment = record { comparison = comparisons.Equal; first = 0; total = pos 0 }
 
-abbrev pub unbounded : Range
-unbounded = record { lower = None; upper = None }
-
 -- a moment that has been read whole is a valid time
-abbrev pub time_of : Moment → Result ℤ Fault
-time_of m = if int_le least_time m.total && int_le m.total greatest_time then Ok m.total else Err (OutOfRange m.first)
+abbrev pub moment_time : Moment → Result ℤ Fault
+moment_time m = if int_le least_time m.total && int_le m.total greatest_time then Ok m.total else Err (OutOfRange m.first)
 
 abbrev pub bounded_by : Comparison → Range → Result ℤ Fault → Result Range Fault
 bounded_by c r (Ok time) = Ok (bounded c time r)
@@ -110,4 +84,4 @@ bounded_by c r (Err fault) = Err fault
 
 -- the range once a moment has been read whole
 unfoldable pub settled : Moment → Range → Result Range Fault
-settled m r = bounded_by m.comparison r (time_of m)
+settled m r = bounded_by m.comparison r (moment_time m)

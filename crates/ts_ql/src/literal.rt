@@ -3,15 +3,15 @@ ghost use Rattle.std.specs.Prelude.{◌≡◌, ◌+◌, ◌*◌, ◌-◌, ◌<�
 ghost use Rattle.std.specs.Char.{is_ascii_digit};
 ghost use Rattle.std.specs.Option.{SomeIff};
 ghost use Rattle.std.specs.Str.{str_eq_ignore_ascii_case};
-ghost use Rattle.ts_ql.specs.Literals.{unit_of, magnitude, within, literal, escape, unescaped};
+ghost use Rattle.ts_ql.specs.Literals.{nanos_of_unit, magnitude, within, literal, escape, text_spelled};
 
 use crate::bytes::byte_at;
 use std::alloc::{AllocError, Allocator};
 
 /// How many nanoseconds the unit has that begins with the byte before that one, or 1.
-#[tactic(auto, unfolding(crate::specs::Literals::unit_of))]
-fn unit_of(byte: u8, next: u8) -> u64
-    ensures value { result ≡ unit_of byte next }
+#[tactic(auto, unfolding(crate::specs::Literals::nanos_of_unit))]
+fn nanos_of_unit(byte: u8, next: u8) -> u64
+    ensures value { result ≡ nanos_of_unit byte next }
     ensures some { 1 ≤ result }
 {
     match byte {
@@ -55,7 +55,7 @@ pub(crate) fn magnitude(text: &str) -> Option<u64>
         if byte.is_ascii_digit() {
             number = with_digit(number, byte - b'0')?;
         } else {
-            total = with_units(total, number, unit_of(byte, byte_at(text, at + 1)))?;
+            total = with_units(total, number, nanos_of_unit(byte, byte_at(text, at + 1)))?;
             number = 0;
         }
         at += 1;
@@ -84,9 +84,12 @@ fn escape(c: char) -> char
 }
 
 /// The text that a text with its escapes spells.
-#[tactic(auto, unfolding(crate::specs::Literals::unescaped))]
-pub(crate) fn unescaped<A: Allocator + Copy>(alloc: A, text: &str) -> Result<String<A>, AllocError>
-    ensures { IfOk result (λ s. string_bytes s ≡ unescaped text.now) }
+#[tactic(auto, unfolding(crate::specs::Literals::text_spelled))]
+pub(crate) fn text_spelled<A: Allocator + Copy>(
+    alloc: A,
+    text: &str,
+) -> Result<String<A>, AllocError>
+    ensures { IfOk result (λ s. string_bytes s ≡ text_spelled text.now) }
 {
     let mut spelled = String::new(alloc);
     let mut escaped = false;
