@@ -25,6 +25,9 @@ pub mod ReadingLemmas
 pub mod MagnitudeLaws
 pub mod LiteralLemmas
 pub mod DateLemmas
+-- No sum of moments leaves 128 bits.
+pub mod SumBounds
+pub mod DateBounds
 -- Tokens, clauses, statements, and the texts of faults.
 pub mod LexingLemmas
 pub mod GroupLemmas

@@ -3,6 +3,7 @@ use Rattle.std.proofs.Common.{◌≡◌, ℕ, ◌+◌, ◌*◌, ◌-◌, ◌<◌
 use Rattle.std.proofs.lemmas.Bool.Decides.{nat_tests}
 use Rattle.std.specs.Char.{is_ascii_digit}
 use Rattle.ts_core.specs.Facts.{Text}
+use Rattle.ts_ql.specs.Laws.{LiteralsCount}
 use Rattle.ts_ql.specs.Literals.{nanos_of_unit, added_up, magnitude, Unit, Nanosecond, Microsecond, Micro, Millisecond, Second, Minute, Hour, Day, Week, unit_text, unit_nanos, number_written, AreDigits, Part, AreParts, written, counted}
 
 -- digits before a text
@@ -43,10 +44,13 @@ parts_added total (p ∷ ps) w =
     digits_added total 0 p.digits (unit_text p.unit ++ written ps) w.0 ∙ unit_added total (number_written 0 p.digits) p.unit (written ps) (no_s_first ps w.2)
     ∙ parts_added (total + number_written 0 p.digits * unit_nanos p.unit) ps w.2 ∙ omega arith
 
-pub duration_counts : (ps : List Part) → AreParts ps → magnitude (written ps) ≡ counted ps
+duration_counts : (ps : List Part) → AreParts ps → magnitude (written ps) ≡ counted ps
 unfolding magnitude
 duration_counts ps w = parts_added 0 ps w ∙ omega arith
 
-pub integer_counts : (ds : Text) → AreDigits ds → magnitude ds ≡ number_written 0 ds
+integer_counts : (ds : Text) → AreDigits ds → magnitude ds ≡ number_written 0 ds
 unfolding magnitude
 integer_counts ds w = ap (added_up 0 0) (sym (append-nil ds)) ∙ digits_added 0 0 ds [] w ∙ omega arith
+
+pub literals_count : LiteralsCount
+literals_count = record { durations = duration_counts; integers = integer_counts }

@@ -17,10 +17,10 @@ use Rattle.ts_ql.specs.Grammar.{Item, Examine, Measure, Count, Duration, Base, N
 use Rattle.ts_ql.specs.Laws.{Reach, At, Reads}
 use Rattle.ts_ql.specs.Literals.{is_word, literal}
 use Rattle.ts_ql.specs.Meanings.{changed_by, changed}
-use Rattle.ts_ql.specs.MomentSteps.{Timing, moment_at, based, is_sum, later_by, earlier_by, moment_time, bounded_by, settled}
+use Rattle.ts_ql.specs.MomentSteps.{Timing, moment_at, based, later_by, earlier_by, moment_time, bounded_by, settled}
 use Rattle.ts_ql.specs.Ranges.{bounded}
 use Rattle.ts_ql.specs.Reading.{Progress, Advance, with_draft, in_moment}
-use Rattle.ts_ql.specs.Productions.{literal_fault, change_fault_of, change_fault, time_fault, kind_of_measure, kind_of_comparison}
+use Rattle.ts_ql.specs.Productions.{literal_fault, change_fault, time_fault, kind_of_measure, kind_of_comparison}
 use Rattle.ts_ql.specs.Tokens.{Lexeme}
 use Rattle.ts_ql.proofs.Completions.{closing_of, closing_levels}
 use Rattle.ts_ql.proofs.Rests.{Rest, Closing, levels, left_at, left_changes, left_change, left_instant, said_changes, said_change, SuitsAt}
@@ -49,15 +49,11 @@ sum_of : (s : Progress) (less : Bool) (t : Lexeme) (n : ℤ) → literal false t
     → changed_by less s.draft.moment.total n ≡ changed s.draft.moment.total (by_value less t)
 sum_of s less t n v = ap (λ (o : Option ℤ). changed_by less s.draft.moment.total (unwrap_or o (pos 0))) (sym v)
 
-sum_examined : (s : Progress) (less : Bool) (t : Lexeme) (n : ℤ) (b : Bool) → literal false t.text ≡ Some n → is_sum (changed_by less s.draft.moment.total n) ≡ b
-    → change_fault s.draft.moment.first s.draft.moment.total (by_value less t) ≡ (if b then None else Some (OutOfRange s.draft.moment.first))
-sum_examined s less t n b v is =
-    ap (λ (o : Option ℤ). change_fault_of s.draft.moment.first (changed_by less s.draft.moment.total (unwrap_or o (pos 0))) t.start o) v
-    ∙ ap (λ (x : Bool). if x then None else Some (OutOfRange s.draft.moment.first)) is
+valued : (less : Bool) (t : Lexeme) (n : ℤ) → literal false t.text ≡ Some n → change_fault (by_value less t) ≡ None
+valued less t n v = ap (literal_fault t.start) v
 
-unvalued : (s : Progress) (less : Bool) (t : Lexeme) → literal false t.text ≡ None
-    → change_fault s.draft.moment.first s.draft.moment.total (by_value less t) ≡ Some (OutOfRange t.start)
-unvalued s less t v = ap (λ (o : Option ℤ). change_fault_of s.draft.moment.first (changed_by less s.draft.moment.total (unwrap_or o (pos 0))) t.start o) v
+unvalued : (less : Bool) (t : Lexeme) → literal false t.text ≡ None → change_fault (by_value less t) ≡ Some (OutOfRange t.start)
+unvalued less t v = ap (literal_fault t.start) v
 
 -- ---- from the machine
 
@@ -141,16 +137,16 @@ now_or : (now : ℤ) (s : Progress) (t : Lexeme) → t.kind ≡ kinds.Word → (
 now_or now s t e true is = (tt, λ r suits. ((record { base = Now t; changes = r.0 }, r.1), suits, (λ ts reach w. (refl, (e, is), w)), refl))
 now_or now s t e false is = inr refl
 
--- a change whose sum has 128 bits, read and said
+-- a change, read and said
 summed_reads : (now : ℤ) (s : Progress) (less : Bool) (t : Lexeme) (n : ℤ) (r : List Change × Closing) → literal false t.text ≡ Some n
-    → is_sum (changed_by less s.draft.moment.total n) ≡ true → t.kind ≡ kinds.Duration → (ts : List Lexeme) (reach : Reach)
+    → t.kind ≡ kinds.Duration → (ts : List Lexeme) (reach : Reach)
     → Reads (left_changes now s s.draft.moment.first (changed_by less s.draft.moment.total n) r) ts reach
     → Reads (left_change now s less (t, r)) (t ∷ ts) reach
-summed_reads now s less t n r v is e ts reach w = (
+summed_reads now s less t n r v e ts reach w = (
   refl,
   e,
-  passes (change_fault s.draft.moment.first s.draft.moment.total (by_value less t)) (left_changes now s s.draft.moment.first (changed s.draft.moment.total (by_value less t)) r) ts reach
-      (sum_examined s less t n true v is)
+  passes (change_fault (by_value less t)) (left_changes now s s.draft.moment.first (changed s.draft.moment.total (by_value less t)) r) ts reach
+      (valued less t n v)
       (carried (λ (x : ℤ). left_changes now s s.draft.moment.first x r) ts reach (changed_by less s.draft.moment.total n) (changed s.draft.moment.total (by_value less t)) (sum_of s less t n v) w),
 )
 
@@ -159,39 +155,23 @@ summed_says : (now : ℤ) (s : Progress) (less : Bool) (t : Lexeme) (n : ℤ) (r
 summed_says now s less t n r v = ap (λ (x : ℤ). map Ok s.queries ++ said_changes now s x r) (sym (sum_of s less t n v))
 
 change_fails : (now : ℤ) (s : Progress) (less : Bool) (t : Lexeme) (r : List Change × Closing) (f : Fault) → t.kind ≡ kinds.Duration
-    → change_fault s.draft.moment.first s.draft.moment.total (by_value less t) ≡ Some f → Reads (left_change now s less (t, r)) (t ∷ []) (At f)
+    → change_fault (by_value less t) ≡ Some f → Reads (left_change now s less (t, r)) (t ∷ []) (At f)
 change_fails now s less t r f e is =
-    (refl, e, fails (change_fault s.draft.moment.first s.draft.moment.total (by_value less t)) (left_changes now s s.draft.moment.first (changed s.draft.moment.total (by_value less t)) r) f is)
-
-plus_sum : (now : ℤ) (s : Progress) (t : Lexeme) → t.kind ≡ kinds.Duration → (n : ℤ) → literal false t.text ≡ Some n
-    → (b : Bool) → is_sum (s.draft.moment.total +ℤ n) ≡ b
-    → Answer now (at places.MomentPlus s) t (timing s places.MomentPlus (if b then Ok (places.AfterMoment, record (s.draft.moment) { total = s.draft.moment.total +ℤ n }) else Err (OutOfRange s.draft.moment.first)))
-plus_sum now s t e n v true is = (tt, λ r suits. ((t, r), suits, summed_reads now s false t n r v is e, summed_says now s false t n r v))
-plus_sum now s t e n v false is =
-    let c = closings s.draft.filter.depth in
-    inl ((t, ([], c.0)), c.1, inr (change_fails now s false t ([], c.0) (OutOfRange s.draft.moment.first) e (sum_examined s false t n false v is)))
+    (refl, e, fails (change_fault (by_value less t)) (left_changes now s s.draft.moment.first (changed s.draft.moment.total (by_value less t)) r) f is)
 
 plus : (now : ℤ) (s : Progress) (t : Lexeme) → t.kind ≡ kinds.Duration → (o : Option ℤ) → literal false t.text ≡ o
     → Answer now (at places.MomentPlus s) t (timing s places.MomentPlus (later_by t s.draft.moment o))
-plus now s t e (Some n) v = plus_sum now s t e n v (is_sum (s.draft.moment.total +ℤ n)) refl
+plus now s t e (Some n) v = (tt, λ r suits. ((t, r), suits, summed_reads now s false t n r v e, summed_says now s false t n r v))
 plus now s t e None v =
     let c = closings s.draft.filter.depth in
-    inl ((t, ([], c.0)), c.1, inr (change_fails now s false t ([], c.0) (OutOfRange t.start) e (unvalued s false t v)))
-
-less_sum : (now : ℤ) (s : Progress) (t : Lexeme) → t.kind ≡ kinds.Duration → (n : ℤ) → literal false t.text ≡ Some n
-    → (b : Bool) → is_sum (s.draft.moment.total -ℤ n) ≡ b
-    → Answer now (at places.MomentLess s) t (timing s places.MomentLess (if b then Ok (places.AfterMoment, record (s.draft.moment) { total = s.draft.moment.total -ℤ n }) else Err (OutOfRange s.draft.moment.first)))
-less_sum now s t e n v true is = (tt, λ r suits. ((t, r), suits, summed_reads now s true t n r v is e, summed_says now s true t n r v))
-less_sum now s t e n v false is =
-    let c = closings s.draft.filter.depth in
-    inl ((t, ([], c.0)), c.1, inr (change_fails now s true t ([], c.0) (OutOfRange s.draft.moment.first) e (sum_examined s true t n false v is)))
+    inl ((t, ([], c.0)), c.1, inr (change_fails now s false t ([], c.0) (OutOfRange t.start) e (unvalued false t v)))
 
 minus : (now : ℤ) (s : Progress) (t : Lexeme) → t.kind ≡ kinds.Duration → (o : Option ℤ) → literal false t.text ≡ o
     → Answer now (at places.MomentLess s) t (timing s places.MomentLess (earlier_by t s.draft.moment o))
-minus now s t e (Some n) v = less_sum now s t e n v (is_sum (s.draft.moment.total -ℤ n)) refl
+minus now s t e (Some n) v = (tt, λ r suits. ((t, r), suits, summed_reads now s true t n r v e, summed_says now s true t n r v))
 minus now s t e None v =
     let c = closings s.draft.filter.depth in
-    inl ((t, ([], c.0)), c.1, inr (change_fails now s true t ([], c.0) (OutOfRange t.start) e (unvalued s true t v)))
+    inl ((t, ([], c.0)), c.1, inr (change_fails now s true t ([], c.0) (OutOfRange t.start) e (unvalued true t v)))
 
 pub moment_answers : (now : ℤ) (s : Progress) (p : Place) (k : Kind) (t : Lexeme) → t.kind ≡ k
     → Answer now (at p s) t (timing s p (moment_at now p k t s.draft.moment))
@@ -366,34 +346,26 @@ change_leads now s c cs closing t ts reach suits w = change_leads_at now s c.les
 -- what is examined of a change, and what stands behind it
 abbrev pub examined_change : ℤ → Progress → Bool → Lexeme → List Change × Closing → List Item
 examined_change now s less t r =
-    Examine (change_fault s.draft.moment.first s.draft.moment.total (by_value less t)) ∷ left_changes now s s.draft.moment.first (changed s.draft.moment.total (by_value less t)) r
+    Examine (change_fault (by_value less t)) ∷ left_changes now s s.draft.moment.first (changed s.draft.moment.total (by_value less t)) r
 
 summed_on : (now : ℤ) (s : Progress) (less : Bool) (t : Lexeme) (n : ℤ) (r : List Change × Closing) (ts : List Lexeme) (reach : Reach) → literal false t.text ≡ Some n
-    → is_sum (changed_by less s.draft.moment.total n) ≡ true → Reads (examined_change now s less t r) ts reach
+    → Reads (examined_change now s less t r) ts reach
     → Reads (left_changes now s s.draft.moment.first (changed_by less s.draft.moment.total n) r) ts reach
-summed_on now s less t n r ts reach v is w =
+summed_on now s less t n r ts reach v w =
     carried (λ (x : ℤ). left_changes now s s.draft.moment.first x r) ts reach (changed s.draft.moment.total (by_value less t)) (changed_by less s.draft.moment.total n) (sym (sum_of s less t n v))
-    (passed (change_fault s.draft.moment.first s.draft.moment.total (by_value less t)) (left_changes now s s.draft.moment.first (changed s.draft.moment.total (by_value less t)) r) ts reach
-    (sum_examined s less t n true v is) w)
+    (passed (change_fault (by_value less t)) (left_changes now s s.draft.moment.first (changed s.draft.moment.total (by_value less t)) r) ts reach
+    (valued less t n v) w)
 
 change_failed : (now : ℤ) (s : Progress) (less : Bool) (t : Lexeme) (r : List Change × Closing) (ts : List Lexeme) (reach : Reach) (f : Fault)
-    → change_fault s.draft.moment.first s.draft.moment.total (by_value less t) ≡ Some f → Reads (examined_change now s less t r) ts reach → (ts ≡ []) × (reach ≡ At f)
+    → change_fault (by_value less t) ≡ Some f → Reads (examined_change now s less t r) ts reach → (ts ≡ []) × (reach ≡ At f)
 change_failed now s less t r ts reach f is w =
-    failed (change_fault s.draft.moment.first s.draft.moment.total (by_value less t)) (left_changes now s s.draft.moment.first (changed s.draft.moment.total (by_value less t)) r) ts reach f is w
-
-plus_sum_leads : (now : ℤ) (s : Progress) (t : Lexeme) (r : List Change × Closing) (ts : List Lexeme) (reach : Reach) → s.draft.filter.depth ≡ levels r.1
-    → (n : ℤ) → literal false t.text ≡ Some n → (b : Bool) → is_sum (s.draft.moment.total +ℤ n) ≡ b → Reads (examined_change now s false t r) ts reach
-    → Leads now (at places.MomentPlus s) (t, r) ts reach
-    (timing s places.MomentPlus (if b then Ok (places.AfterMoment, record (s.draft.moment) { total = s.draft.moment.total +ℤ n }) else Err (OutOfRange s.draft.moment.first)))
-plus_sum_leads now s t r ts reach suits n v true is w = (r, suits, summed_on now s false t n r ts reach v is w, summed_says now s false t n r v)
-plus_sum_leads now s t r ts reach suits n v false is w =
-    change_failed now s false t r ts reach (OutOfRange s.draft.moment.first) (sum_examined s false t n false v is) w
+    failed (change_fault (by_value less t)) (left_changes now s s.draft.moment.first (changed s.draft.moment.total (by_value less t)) r) ts reach f is w
 
 plus_leads_at : (now : ℤ) (s : Progress) (t : Lexeme) (r : List Change × Closing) (ts : List Lexeme) (reach : Reach) → s.draft.filter.depth ≡ levels r.1
     → (o : Option ℤ) → literal false t.text ≡ o → Reads (examined_change now s false t r) ts reach
     → Leads now (at places.MomentPlus s) (t, r) ts reach (timing s places.MomentPlus (later_by t s.draft.moment o))
-plus_leads_at now s t r ts reach suits (Some n) v w = plus_sum_leads now s t r ts reach suits n v (is_sum (s.draft.moment.total +ℤ n)) refl w
-plus_leads_at now s t r ts reach suits None v w = change_failed now s false t r ts reach (OutOfRange t.start) (unvalued s false t v) w
+plus_leads_at now s t r ts reach suits (Some n) v w = (r, suits, summed_on now s false t n r ts reach v w, summed_says now s false t n r v)
+plus_leads_at now s t r ts reach suits None v w = change_failed now s false t r ts reach (OutOfRange t.start) (unvalued false t v) w
 
 pub moment_plus_leads : (now : ℤ) (s : Progress) (q : Rest places.MomentPlus) (t : Lexeme) (ts : List Lexeme) (reach : Reach)
     → SuitsAt places.MomentPlus (at places.MomentPlus s) q → Reads (left_at places.MomentPlus now (at places.MomentPlus s) q) (t ∷ ts) reach
@@ -404,19 +376,11 @@ moment_plus_leads now s q t ts reach suits w =
     (λ u. subst (λ (k : Kind). Leads now (at places.MomentPlus s) (t, q.1) ts reach (moment_steps now s places.MomentPlus t k)) (sym u.1)
     (plus_leads_at now s t q.1 ts reach suits (literal false t.text) refl u.2)) w
 
-less_sum_leads : (now : ℤ) (s : Progress) (t : Lexeme) (r : List Change × Closing) (ts : List Lexeme) (reach : Reach) → s.draft.filter.depth ≡ levels r.1
-    → (n : ℤ) → literal false t.text ≡ Some n → (b : Bool) → is_sum (s.draft.moment.total -ℤ n) ≡ b → Reads (examined_change now s true t r) ts reach
-    → Leads now (at places.MomentLess s) (t, r) ts reach
-    (timing s places.MomentLess (if b then Ok (places.AfterMoment, record (s.draft.moment) { total = s.draft.moment.total -ℤ n }) else Err (OutOfRange s.draft.moment.first)))
-less_sum_leads now s t r ts reach suits n v true is w = (r, suits, summed_on now s true t n r ts reach v is w, summed_says now s true t n r v)
-less_sum_leads now s t r ts reach suits n v false is w =
-    change_failed now s true t r ts reach (OutOfRange s.draft.moment.first) (sum_examined s true t n false v is) w
-
 less_leads_at : (now : ℤ) (s : Progress) (t : Lexeme) (r : List Change × Closing) (ts : List Lexeme) (reach : Reach) → s.draft.filter.depth ≡ levels r.1
     → (o : Option ℤ) → literal false t.text ≡ o → Reads (examined_change now s true t r) ts reach
     → Leads now (at places.MomentLess s) (t, r) ts reach (timing s places.MomentLess (earlier_by t s.draft.moment o))
-less_leads_at now s t r ts reach suits (Some n) v w = less_sum_leads now s t r ts reach suits n v (is_sum (s.draft.moment.total -ℤ n)) refl w
-less_leads_at now s t r ts reach suits None v w = change_failed now s true t r ts reach (OutOfRange t.start) (unvalued s true t v) w
+less_leads_at now s t r ts reach suits (Some n) v w = (r, suits, summed_on now s true t n r ts reach v w, summed_says now s true t n r v)
+less_leads_at now s t r ts reach suits None v w = change_failed now s true t r ts reach (OutOfRange t.start) (unvalued true t v) w
 
 pub moment_less_leads : (now : ℤ) (s : Progress) (q : Rest places.MomentLess) (t : Lexeme) (ts : List Lexeme) (reach : Reach)
     → SuitsAt places.MomentLess (at places.MomentLess s) q → Reads (left_at places.MomentLess now (at places.MomentLess s) q) (t ∷ ts) reach

@@ -199,7 +199,7 @@ left_changes now s first total tail =
 
 abbrev pub left_change : ℤ → Progress → Bool → Lexeme × (List Change × Closing) → List Item
 left_change now s less tail =
-    This (Of kinds.Duration) tail.0 ∷ Examine (change_fault s.draft.moment.first s.draft.moment.total (record { less = less; by = tail.0 }))
+    This (Of kinds.Duration) tail.0 ∷ Examine (change_fault (record { less = less; by = tail.0 }))
     ∷ left_changes now s s.draft.moment.first (changed s.draft.moment.total (record { less = less; by = tail.0 })) tail.1
 
 abbrev pub left_instant : ℤ → Progress → Comparison → Instant × Closing → List Item

@@ -16,7 +16,7 @@ use Rattle.ts_ql.specs.QueryFaults.{Fault, unexpected, left_out, TooManyStatemen
 use Rattle.ts_ql.specs.GroupSteps.{Grouped, group_at, group_step, item_at, time_item, with_interval, with_offset, fill_at, fill_step, with_number, chosen}
 use Rattle.ts_ql.specs.Drafts.{Drafted, meaning}
 use Rattle.ts_ql.specs.Literals.{is_word, literal, text_spelled}
-use Rattle.ts_ql.specs.MomentSteps.{moment_at, moment_step, based, is_sum, summed, later_by, earlier_by}
+use Rattle.ts_ql.specs.MomentSteps.{moment_at, moment_step, based, later_by, earlier_by}
 use Rattle.ts_ql.specs.declared.place.Clause.{Clause}
 use Rattle.ts_ql.specs.declared.place.Clause.TheVariants as clauses
 use Rattle.ts_ql.specs.Reading.{Drafting, settle_step, in_selection, in_filter, in_moment, in_groups, in_filling, clause_of, draft_at, draft_step, group_alone, fill_alone, clause_at, next_clause, is_end, may_end, Progress, Advance, begun_at, begun, after_end, ended_with, ended, with_draft, clause_or, continued, placed_at, after_settling, step, is_done}
@@ -97,16 +97,13 @@ based_moves : (k : Kind) (first : ℕ) (m : Moment) (o : Option ℤ) → is_end_
 based_moves k first m None other = tt
 based_moves k first m (Some value) other = sym other
 
-summed_moves : (m : Moment) (total : ℤ) → Moves kinds.Duration (summed m total)
-summed_moves m total = moves_if kinds.Duration (is_sum total) (Ok (places.AfterMoment, record m { total = total })) (Err (OutOfRange m.first)) refl tt
-
 later_moves : (t : Lexeme) (m : Moment) (o : Option ℤ) → Moves kinds.Duration (later_by t m o)
 later_moves t m None = tt
-later_moves t m (Some value) = summed_moves m (m.total +ℤ value)
+later_moves t m (Some value) = refl
 
 earlier_moves : (t : Lexeme) (m : Moment) (o : Option ℤ) → Moves kinds.Duration (earlier_by t m o)
 earlier_moves t m None = tt
-earlier_moves t m (Some value) = summed_moves m (m.total -ℤ value)
+earlier_moves t m (Some value) = refl
 
 moment_moves : (now : ℤ) (p : Place) (k : Kind) (t : Lexeme) (m : Moment) → Moves k (moment_at now p k t m)
 moment_moves now places.TimeSign kinds.Equals t m = refl

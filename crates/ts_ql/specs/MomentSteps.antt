@@ -1,6 +1,6 @@
 -- What each token means in a comparison with time, and the range that comes of it.
 -- (InfluxData 1.8, InfluxQL: time syntax, absolute and relative time. Own rule: sums are exact.)
-use Rattle.std.specs.Prelude.{ℕ, ℤ, pos, negsuc, ◌+ℤ◌, ◌-ℤ◌, int_le, Bool, ◌&&◌, true, false, Option, Some, None, Result, Ok, Err, if◌then◌else◌, codes}
+use Rattle.std.specs.Prelude.{ℕ, ℤ, pos, ◌+◌, ◌≤◌, ◌^◌, unsigned_abs, ◌+ℤ◌, ◌-ℤ◌, int_le, Bool, ◌&&◌, true, false, Option, Some, None, Result, Ok, Err, if◌then◌else◌, codes}
 use Rattle.ts_core.specs.Times.{least_time, greatest_time}
 use Rattle.ts_ql.specs.declared.moment.Comparison.{Comparison}
 use Rattle.ts_ql.specs.declared.moment.Comparison.TheVariants as comparisons
@@ -24,22 +24,19 @@ abbrev pub based : ℕ → Moment → Option ℤ → Timing
 based first m None = Err (OutOfRange first)
 based first m (Some value) = Ok (places.AfterMoment, record m { first = first; total = value })
 
--- a sum stays within 128 bits (no text of 65,536 bytes can have another; that isn't proved)
-abbrev pub is_sum : ℤ → Bool
-is_sum z = int_le (negsuc 170141183460469231731687303715884105727) z && int_le z (pos 170141183460469231731687303715884105727)
-
-abbrev pub summed : Moment → ℤ → Timing
-summed m total = if is_sum total then Ok (places.AfterMoment, record m { total = total }) else Err (OutOfRange m.first)
+-- the sum has room for a duration more in 128 bits
+abbrev pub HasRoom : ℤ → Moment → Type 0
+HasRoom now m = unsigned_abs m.total ≤ 2 ^ 126 + unsigned_abs now
 
 -- a moment with a duration more
 abbrev pub later_by : Lexeme → Moment → Option ℤ → Timing
 later_by t m None = Err (OutOfRange t.start)
-later_by t m (Some value) = summed m (m.total +ℤ value)
+later_by t m (Some value) = Ok (places.AfterMoment, record m { total = m.total +ℤ value })
 
 -- a moment with a duration less
 abbrev pub earlier_by : Lexeme → Moment → Option ℤ → Timing
 earlier_by t m None = Err (OutOfRange t.start)
-earlier_by t m (Some value) = summed m (m.total -ℤ value)
+earlier_by t m (Some value) = Ok (places.AfterMoment, record m { total = m.total -ℤ value })
 
 abbrev pub compared : Comparison → Moment → Timing
 compared c m = Ok (places.Moment, record m { comparison = c })

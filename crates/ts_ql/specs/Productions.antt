@@ -13,7 +13,6 @@ use Rattle.ts_ql.specs.QueryFaults.{Fault, OutOfRange, TooManyStatements, left_o
 use Rattle.ts_ql.specs.Grammar.{Keyword, Word, Name, Tag, Time, Of, Item, Any, This, Examine, FieldType, Field, Integer, Call, FromClause, Measurement, Subquery, Measure, Count, Duration, Base, Number, Negative, Quoted, Now, Change, Instant, Cond, Compare, Match, Group, And, Signed, Dimension, Every, ByTag, GroupBy, FillOption, NullOption, NoneOption, PreviousOption, NumberOption, Statement, Ending, Stop, Close, Next, Script}
 use Rattle.ts_ql.specs.Literals.{literal}
 use Rattle.ts_ql.specs.Meanings.{no_meaning, base_start, base_value, changed, after_call, after_calls, after_from, after_filter, after_dimension, meaning_of, signed_start, signed_value}
-use Rattle.ts_ql.specs.MomentSteps.{is_sum}
 use Rattle.ts_ql.specs.Selects.{Select, Buckets}
 use Rattle.ts_ql.specs.Statements.{Meaning, statement_said}
 use Rattle.ts_ql.specs.Tokens.{Lexeme}
@@ -43,16 +42,9 @@ abbrev pub literal_fault : ℕ → Option ℤ → Option Fault
 literal_fault first None = Some (OutOfRange first)
 literal_fault first (Some value) = None
 
--- a sum stays within 128 bits (no text of 65,536 bytes can have another; that isn't proved)
-abbrev pub sum_fault : ℕ → ℤ → Option Fault
-sum_fault first total = if is_sum total then None else Some (OutOfRange first)
-
-abbrev pub change_fault_of : ℕ → ℤ → ℕ → Option ℤ → Option Fault
-change_fault_of first total at None = Some (OutOfRange at)
-change_fault_of first total at (Some value) = sum_fault first total
-
-abbrev pub change_fault : ℕ → ℤ → Change → Option Fault
-change_fault first total c = change_fault_of first (changed total c) c.by.start (literal false c.by.text)
+-- what is added or taken away has 64 bits
+abbrev pub change_fault : Change → Option Fault
+change_fault c = literal_fault c.by.start (literal false c.by.text)
 
 -- a moment is a valid time
 abbrev pub time_fault : ℕ → ℤ → Option Fault
@@ -132,7 +124,7 @@ sign_of false = kinds.Plus
 abbrev pub spell_changes : ℕ → ℤ → List Change → List Item → List Item
 spell_changes first total [] rest = Examine (time_fault first total) ∷ rest
 spell_changes first total (c ∷ cs) rest =
-    Any (Of (sign_of c.less)) ∷ This (Of kinds.Duration) c.by ∷ Examine (change_fault first total c) ∷ spell_changes first (changed total c) cs rest
+    Any (Of (sign_of c.less)) ∷ This (Of kinds.Duration) c.by ∷ Examine (change_fault c) ∷ spell_changes first (changed total c) cs rest
 
 abbrev pub spell_instant : ℤ → Instant → List Item → List Item
 spell_instant now i rest = spell_base now i.base (spell_changes (base_start i.base) (unwrap_or (base_value now i.base) (pos 0)) i.changes rest)

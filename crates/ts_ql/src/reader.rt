@@ -1,11 +1,9 @@
 //! Texts of statements.
-ghost use Rattle.std.specs.Prelude.{◌≡◌, ◌&&◌, List, Ok, Err};
-ghost use Rattle.ts_ql.specs.QueryFaults.{Fault, Gives};
-ghost use Rattle.ts_core.specs.Facts.{Text};
-ghost use Rattle.ts_ql.specs.Literals.{magnitude, number_written, AreDigits, Part, AreParts, written, counted};
-ghost use Rattle.ts_ql.specs.Laws.{TextSays, TextFault, Tells};
+ghost use Rattle.std.specs.Prelude.{◌≡◌, ◌&&◌};
+ghost use Rattle.ts_ql.specs.QueryFaults.{Gives};
+ghost use Rattle.ts_ql.specs.Laws.{ReadsText, IsDecided, LiteralsCount};
+ghost use Rattle.ts_ql.specs.MomentSteps.{HasRoom};
 ghost use Rattle.ts_ql.specs.Reading.{next_clause, may_end, is_end, progress, start_progress, Leaves, begun, ended, step, queries_of};
-ghost use Rattle.ts_ql.specs.Selects.{Select};
 ghost use Rattle.ts_ql.specs.Tokens.{lexeme};
 
 use crate::fault::{ParseError, QlFaultKind};
@@ -127,6 +125,7 @@ impl<A: Allocator + Copy> Reader<A> {
     /// Takes the next token.
     #[tactic(auto, unfolding(crate::specs::Reading::step))]
     fn take<'a>(&mut self, alloc: A, now: Time, token: &Token<'a>) -> Result<(), ParseError<'a>>
+        requires { HasRoom now self.old.draft.moment }
         ensures { Leaves result (progress self.new) (step now (lexeme token.now) (progress self.old)) }
     {
         self.place = self.draft.settle(self.place, token.kind)?;
@@ -175,11 +174,9 @@ pub fn parse<A: Allocator + Copy>(
     text: &str,
     now: Time,
 ) -> Result<Vec<Query<A>, A>, ParseError<'_>>
-    ensures tells { Tells (λ v. v.items) now text.now result }
-    ensures queries { (queries : List Select) → TextSays now text.now queries → Gives (λ v. v.items) result (Ok queries) }
-    ensures fault { (fault : Fault) → TextFault now text.now fault → Gives (λ v. v.items) result (Err fault) }
-    ensures durations { (ps : List Part) → AreParts ps → magnitude (written ps) ≡ counted ps }
-    ensures integers { (digits : Text) → AreDigits digits → magnitude digits ≡ number_written 0 digits }
+    ensures reading { ReadsText (λ v. v.items) now text.now result }
+    ensures decided { IsDecided now text.now }
+    ensures literals { LiteralsCount }
 {
     read(alloc, text, now)
 }

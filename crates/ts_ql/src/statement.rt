@@ -3,6 +3,7 @@ ghost use Rattle.std.specs.Prelude.{◌≡◌, ◌≤ℤ◌, ◌≤◌, ◌^◌,
 ghost use Rattle.ts_core.specs.Buckets.{bucket_of};
 ghost use Rattle.ts_core.specs.Times.{least_time};
 ghost use Rattle.ts_ql.specs.QueryFaults.{Gives, GivesWith, option_as_fault};
+ghost use Rattle.ts_ql.specs.MomentSteps.{HasRoom};
 ghost use Rattle.ts_ql.specs.Reading.{settle_step, draft_step};
 ghost use Rattle.ts_ql.specs.Tokens.{lexeme};
 ghost use Rattle.ts_ql.specs.Statements.{repeats, first_start, buckets_between, span_from, span_fault, query_of, statement_said};
@@ -180,7 +181,8 @@ impl<A: Allocator + Copy> Draft<A> {
     /// Ends a moment, where the token doesn't go on with it.
     #[tactic(auto, unfolding(crate::specs::Reading::settle_step))]
     pub(crate) fn settle<'a>(&mut self, place: Place, kind: Kind) -> Result<Place, ParseError<'a>>
-        ensures { GivesWith result (drafted self.new) (settle_step place kind (drafted self.old)) }
+        ensures value { GivesWith result (drafted self.new) (settle_step place kind (drafted self.old)) }
+        ensures moment { self.new.moment ≡ self.old.moment }
     {
         match (place, kind) {
             (Place::AfterMoment, Kind::Plus | Kind::Minus) => Ok(place),
@@ -201,6 +203,7 @@ impl<A: Allocator + Copy> Draft<A> {
         place: Place,
         token: &Token<'a>,
     ) -> Result<Place, ParseError<'a>>
+        requires { HasRoom now self.old.moment }
         ensures { GivesWith result (drafted self.new) (draft_step now place (lexeme token.now) (drafted self.old)) }
     {
         match place.clause() {

@@ -7,13 +7,18 @@ use Rattle.ts_ql.specs.Reading.{Advance, step, progress}
 use Rattle.ts_ql.specs.Selects.{Select}
 use Rattle.ts_ql.specs.Tokens.{Lexeme}
 use Rattle.ts_ql.proofs.ReadingLemmas.{read_failed, read_done, read_more, read_out, read_start, short_text, long_text}
+use Rattle.ts_ql.proofs.SumBounds.{starts, follows_on, has_room}
 use Rattle.ts_ql.proofs.reader.read.Goals as goal
 
 pub loop-turn-init : goal.loop-turn-init
 loop-turn-init g c = (
   IsCharBoundary-start c.args.text.now c.utf8.text,
   read_start (length c.args.text.now + 1) c.args.now c.args.text.now (progress c.new-reader.result) c.new-reader.ensures,
+  starts c.args.now (progress c.new-reader.result) c.new-reader.ensures,
 )
+
+pub take-requires : goal.take-requires
+take-requires g c = has_room c.args.now (progress c.loop-turn.reader) c.loop-turn._turn (omega arith) c.loop-turn.invariant.2
 
 pub returns-in_err-take : goal.returns-in_err-take
 returns-in_err-take g c =
@@ -41,6 +46,7 @@ loop-turn-preserved g c =
     let end : c.at-token.result.end ≡ (token_at c.args.text.now c.loop-turn.at).end = ap (λ (l : Lexeme). l.end) c.at-token.ensures.value in (
       c.at-token.ensures.boundary,
       rw end (read_more (length c.args.text.now + 1) c.loop-turn._turn c.args.now c.args.text.now (progress c.loop-turn.reader) c.loop-turn.at (progress c.take.new.self) _ lt c.loop-turn.invariant.1 (sym same ∙ c.in_ok-take.ensures) c.in_default.not-Done),
+      follows_on c.args.now (token_at c.args.text.now c.loop-turn.at) (progress c.loop-turn.reader) (progress c.take.new.self) c.loop-turn._turn (sym same ∙ c.in_ok-take.ensures) c.loop-turn.invariant.2,
     )
 
 pub returns : goal.returns
