@@ -1,12 +1,12 @@
 -- What a text in quotes tells, and what a literal counts, is small beside 128 bits.
 use Rattle.std.proofs.Common.{◌≡◌, ℕ, zero, suc, ◌+◌, ◌-◌, ◌*◌, ◌<◌, ◌≤◌, ◌^◌, ℤ, pos, neg_ℤ, ◌+ℤ◌, ◌-ℤ◌, ◌*ℤ◌, unsigned_abs, Bool, true, false, ◌&&◌, ◌||◌, Option, Some, None, arith, refl, length}
-use Rattle.std.specs.Prelude.{⊤, if◌then◌else◌, nat_lt, nat_le, ◌==◌, option_and_then, option_map, drop, take, slice_range, slice_index}
+use Rattle.std.specs.Prelude.{⊤, if◌then◌else◌, nat_lt, nat_le, ◌==◌, option_and_then, drop, take, slice_range, slice_index}
 use Rattle.std.proofs.lemmas.Bool.{leb-true, ltb-true}
 use Rattle.std.proofs.lemmas.Int.{ints, unsigned_abs-mul}
-use Rattle.jiff_core.specs.Calendar.{is_leap_year, days_in_year, days_in_month, days_of_years, days_of_months, day_count, days_from_civil}
+use Rattle.jiff_core.specs.Calendar.{is_leap_year, days_in_month, days_of_years, days_of_months, day_count, days_from_civil}
 use Rattle.ts_core.specs.Facts.{Text}
-use Rattle.ts_ql.specs.Dates.{digits, is_date, midnight, date_of, fraction, place_value, clock_nanos, time_of_day, without_zone, later, moment_told}
-use Rattle.ts_ql.specs.Literals.{within, signed, magnitude, literal}
+use Rattle.ts_ql.specs.Dates.{digits, midnight, date_of, fraction, place_value, clock_nanos, time_of_day, without_zone, later, moment_told}
+use Rattle.ts_ql.specs.Literals.{within, magnitude, literal}
 
 -- what holds of a value, if there is one
 abbrev pub Holds : {A : Type 0} → (A → Type 0) → Option A → Type 0

@@ -11,7 +11,8 @@ use Rattle.std.proofs.lemmas.Bool.Decides.{nat_tests}
 use Rattle.ts_core.specs.Facts.{Text}
 use Rattle.ts_ql.specs.declared.bytes.Class.{Class}
 use Rattle.ts_ql.specs.declared.bytes.Class.TheVariants.{Space, Name, Digit}
-use Rattle.ts_ql.specs.Lexing.{is_in, run_end, is_escape_byte, closing, unit_len, parts_end}
+use Rattle.ts_ql.specs.Lexing.{is_in, run_end, is_escape_byte, closing, parts_end}
+use Rattle.ts_ql.specs.DurationUnits.{unit_len}
 
 pub run_end_step : (class : Class) (at : ℕ) (text : Text) (i : ℕ) → i < length text
     → run_end class at (drop i text) ≡ cond (is_in class (get_or text i 0)) (run_end class (at + 1) (drop (i + 1) text)) at

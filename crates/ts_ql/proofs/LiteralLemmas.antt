@@ -10,7 +10,8 @@ use Rattle.std.proofs.Math.Nat.{mul-le-mul_left}
 use Rattle.std.proofs.lemmas.Bool.Decides.{nat_tests}
 use Rattle.ts_core.specs.Facts.{Text}
 use Rattle.ts_ql.proofs.LexingLemmas.{next_byte}
-use Rattle.ts_ql.specs.Literals.{nanos_of_unit, added_up, within, escape, spelled}
+use Rattle.ts_ql.specs.Literals.{added_up, within, escape, spelled}
+use Rattle.ts_ql.specs.DurationUnits.{nanos_of_unit}
 
 -- ---- numbers
 

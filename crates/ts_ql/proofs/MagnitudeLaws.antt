@@ -4,7 +4,8 @@ use Rattle.std.proofs.lemmas.Bool.Decides.{nat_tests}
 use Rattle.std.specs.Char.{is_ascii_digit}
 use Rattle.ts_core.specs.Facts.{Text}
 use Rattle.ts_ql.specs.Laws.{LiteralsCount}
-use Rattle.ts_ql.specs.Literals.{nanos_of_unit, added_up, magnitude, Unit, Nanosecond, Microsecond, Micro, Millisecond, Second, Minute, Hour, Day, Week, unit_text, unit_nanos, number_written, AreDigits, Part, AreParts, written, counted}
+use Rattle.ts_ql.specs.Literals.{added_up, magnitude, number_written, AreDigits, Part, AreParts, written, counted}
+use Rattle.ts_ql.specs.DurationUnits.{nanos_of_unit, Unit, Nanosecond, Microsecond, Micro, Millisecond, Second, Minute, Hour, Day, Week, unit_text, unit_nanos}
 
 -- digits before a text
 digits_added : (total n : ℕ) (ds rest : Text) → AreDigits ds → added_up total n (ds ++ rest) ≡ added_up total (number_written n ds) rest

@@ -2,7 +2,6 @@
 use Rattle.std.proofs.Common.{◌≡◌, ℕ, ◌+◌, ◌*◌, ◌≤◌, ◌^◌, ℤ, pos, ◌+ℤ◌, ◌-ℤ◌, unsigned_abs, Bool, true, false, ◌&&◌, Option, Some, None, Result, Ok, Err, arith, refl, subst}
 use Rattle.std.specs.Prelude.{⊤, if◌then◌else◌, nat_le, ◌==◌, codes}
 use Rattle.std.proofs.lemmas.Int.{ints}
-use Rattle.ts_ql.specs.declared.filling.Filling.{Filling}
 use Rattle.ts_ql.specs.declared.moment.Moment.{Moment}
 use Rattle.ts_ql.specs.declared.moment.Range.{Range}
 use Rattle.ts_ql.specs.declared.place.Clause.{Clause}
@@ -17,7 +16,7 @@ use Rattle.ts_ql.specs.GroupSteps.{Grouping, FillStep, group_step, fill_step}
 use Rattle.ts_ql.specs.Literals.{is_word, literal}
 use Rattle.ts_ql.specs.MomentSteps.{Timing, HasRoom, based, later_by, earlier_by, moment_at, moment_step, settled}
 use Rattle.ts_ql.specs.QueryFaults.{Fault, TooManyStatements, unexpected}
-use Rattle.ts_ql.specs.Reading.{Progress, Advance, Drafting, start_progress, settled_in, settle_at, settle_step, in_selection, in_filter, in_moment, in_groups, in_filling, clause_of, draft_at, draft_step, begun_at, begun, ended_with, ended, with_draft, clause_or, next_clause, is_end, may_end, continued, placed_at, after_settling, step}
+use Rattle.ts_ql.specs.Reading.{Progress, Advance, Drafting, start_progress, settled_in, settle_at, settle_step, in_selection, in_filter, in_moment, in_groups, in_filling, clause_of, draft_at, draft_step, begun_at, begun, ended_with, ended, with_draft, clause_or, next_clause, is_end, may_end, placed_at, after_settling, step}
 use Rattle.ts_ql.specs.Selects.{Select}
 use Rattle.ts_ql.specs.SelectSteps.{Selecting, select_step}
 use Rattle.ts_ql.specs.Statements.{statement_said}

@@ -1,6 +1,6 @@
 -- What each token means in GROUP BY and FILL.
 -- (InfluxData 1.8, InfluxQL: the GROUP BY clause, GROUP BY time intervals, the offset interval, fill().)
-use Rattle.std.specs.Prelude.{ℕ, ℤ, pos, int_le, List, [], ◌∷◌, true, false, Option, Some, None, Result, Ok, Err, if◌then◌else◌, codes}
+use Rattle.std.specs.Prelude.{ℕ, ℤ, pos, int_le, List, [], true, false, Option, Some, None, Result, Ok, Err, if◌then◌else◌, codes}
 use Rattle.ts_core.specs.Facts.{Text}
 use Rattle.ts_core.specs.declared.fill.Fill.{Fill}
 use Rattle.ts_core.specs.declared.fill.Fill.TheVariants as fills

@@ -7,6 +7,7 @@ use Rattle.ts_ql.specs.declared.bytes.Class.{Class}
 use Rattle.ts_ql.specs.declared.bytes.Class.TheVariants.{Space, Name, Digit}
 use Rattle.ts_ql.specs.declared.token.Kind.{Kind}
 use Rattle.ts_ql.specs.declared.token.Kind.TheVariants as kinds
+use Rattle.ts_ql.specs.DurationUnits.{unit_len}
 use Rattle.ts_ql.specs.Tokens.{Lexeme}
 use Rattle.ts_ql.specs.Words.{is_keyword}
 
@@ -42,15 +43,6 @@ unfoldable pub closing_quote : ℕ → Text → ℕ → Option ℕ
 closing_quote quote text from = closing quote false from (drop from text)
 
 -- ---- durations
-
--- how many bytes the unit has that begins with this byte before that one; 0 where none begins
--- (ns, u, µ, ms, s, m, h, d, w)
-unfoldable pub unit_len : ℕ → ℕ → ℕ
-unit_len byte next =
-    if byte == 110 then (if next == 115 then 2 else 0)
-    else if byte == 194 then (if next == 181 then 2 else 0)
-    else if byte == 109 then (if next == 115 then 2 else 1)
-    else if byte == 117 || byte == 115 || byte == 104 || byte == 100 || byte == 119 then 1 else 0
 
 -- the end of the last number with its unit, of which the last so far ends at `last`; these bytes stand from `at` on,
 -- and `counting` tells that digits stand directly before them

@@ -1,5 +1,6 @@
 -- What the public contracts and the laws cite: tokens, the grammar, what its trees spell and mean, and what a text says.
 pub mod Tokens
+pub mod DurationUnits
 pub mod Lexing
 pub mod Tokenizing
 pub mod Literals

@@ -4,18 +4,9 @@ use Rattle.std.specs.Prelude.{◌≡◌, ◌<◌, ◌++◌, length, codes, ⊤, 
 use Rattle.std.specs.Char.{is_ascii_digit}
 use Rattle.std.specs.Str.{chars, str_eq_ignore_ascii_case}
 use Rattle.ts_core.specs.Facts.{Text}
+use Rattle.ts_ql.specs.DurationUnits.{Unit, unit_text, unit_nanos, nanos_of_unit}
 
 -- ---- numbers
-
--- how many nanoseconds the unit has that begins with this byte before that one; the nanosecond where none begins
-unfoldable pub nanos_of_unit : ℕ → ℕ → ℕ
-nanos_of_unit byte next =
-    if byte == 194 || byte == 117 then 1000
-    else if byte == 109 then (if next == 115 then 1000000 else 60000000000)
-    else if byte == 115 then 1000000000
-    else if byte == 104 then 3600000000000
-    else if byte == 100 then 86400000000000
-    else if byte == 119 then 604800000000000 else 1
 
 -- the numbers with their units added up, after a total and a number so far; a number without a unit counts as it is.
 -- (The second byte of a unit has no number before it, and adds nothing.)
@@ -30,41 +21,6 @@ unfoldable pub magnitude : Text → ℕ
 magnitude text = added_up 0 0 text
 
 -- ---- the same as it is written: numbers with their units
-
-pub data Unit : Type 0 where
-  Nanosecond : Unit
-  -- written `u`, and `µ`
-  Microsecond : Unit
-  Micro : Unit
-  Millisecond : Unit
-  Second : Unit
-  Minute : Unit
-  Hour : Unit
-  Day : Unit
-  Week : Unit
-
-abbrev pub unit_text : Unit → Text
-unit_text Nanosecond = codes "ns"
-unit_text Microsecond = codes "u"
-unit_text Micro = 194 ∷ 181 ∷ []
-unit_text Millisecond = codes "ms"
-unit_text Second = codes "s"
-unit_text Minute = codes "m"
-unit_text Hour = codes "h"
-unit_text Day = codes "d"
-unit_text Week = codes "w"
-
--- in nanoseconds
-abbrev pub unit_nanos : Unit → ℕ
-unit_nanos Nanosecond = 1
-unit_nanos Microsecond = 1000
-unit_nanos Micro = 1000
-unit_nanos Millisecond = 1000000
-unit_nanos Second = 1000000000
-unit_nanos Minute = 60000000000
-unit_nanos Hour = 3600000000000
-unit_nanos Day = 86400000000000
-unit_nanos Week = 604800000000000
 
 -- the number that digits write behind those of `n`
 abbrev pub number_written : ℕ → Text → ℕ

@@ -1,6 +1,6 @@
 -- What each token means in a comparison with time, and the range that comes of it.
 -- (InfluxData 1.8, InfluxQL: time syntax, absolute and relative time. Own rule: sums are exact.)
-use Rattle.std.specs.Prelude.{ℕ, ℤ, pos, ◌+◌, ◌≤◌, ◌^◌, unsigned_abs, ◌+ℤ◌, ◌-ℤ◌, int_le, Bool, ◌&&◌, true, false, Option, Some, None, Result, Ok, Err, if◌then◌else◌, codes}
+use Rattle.std.specs.Prelude.{ℕ, ℤ, pos, ◌+◌, ◌≤◌, ◌^◌, unsigned_abs, ◌+ℤ◌, ◌-ℤ◌, int_le, ◌&&◌, true, false, Option, Some, None, Result, Ok, Err, if◌then◌else◌, codes}
 use Rattle.ts_core.specs.Times.{least_time, greatest_time}
 use Rattle.ts_ql.specs.declared.moment.Comparison.{Comparison}
 use Rattle.ts_ql.specs.declared.moment.Comparison.TheVariants as comparisons

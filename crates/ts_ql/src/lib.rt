@@ -20,6 +20,7 @@ mod selection;
 mod shape;
 mod statement;
 mod token;
+mod unit;
 mod words;
 
 pub use fault::{ParseError, QlFault, QlFaultKind};

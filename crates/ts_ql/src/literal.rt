@@ -3,28 +3,12 @@ ghost use Rattle.std.specs.Prelude.{◌≡◌, ◌+◌, ◌*◌, ◌-◌, ◌<�
 ghost use Rattle.std.specs.Char.{is_ascii_digit};
 ghost use Rattle.std.specs.Option.{SomeIff};
 ghost use Rattle.std.specs.Str.{str_eq_ignore_ascii_case};
-ghost use Rattle.ts_ql.specs.Literals.{nanos_of_unit, magnitude, within, literal, escape, text_spelled};
+ghost use Rattle.ts_ql.specs.Literals.{magnitude, within, literal, escape, text_spelled};
+ghost use Rattle.ts_ql.specs.DurationUnits.{nanos_of_unit};
 
 use crate::bytes::byte_at;
+use crate::unit::nanos_of_unit;
 use std::alloc::{AllocError, Allocator};
-
-/// How many nanoseconds the unit has that begins with the byte before that one, or 1.
-#[tactic(auto, unfolding(crate::specs::Literals::nanos_of_unit))]
-fn nanos_of_unit(byte: u8, next: u8) -> u64
-    ensures value { result ≡ nanos_of_unit byte next }
-    ensures some { 1 ≤ result }
-{
-    match byte {
-        0xc2 | b'u' => 1_000,
-        b'm' if next == b's' => 1_000_000,
-        b'm' => 60_000_000_000,
-        b's' => 1_000_000_000,
-        b'h' => 3_600_000_000_000,
-        b'd' => 86_400_000_000_000,
-        b'w' => 604_800_000_000_000,
-        _ => 1,
-    }
-}
 
 /// A total and so many units more.
 fn with_units(total: u64, number: u64, unit: u64) -> Option<u64>

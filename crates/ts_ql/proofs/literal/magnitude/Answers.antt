@@ -1,6 +1,6 @@
 use Rattle.std.proofs.Common.{◌≡◌, ◌+◌, get_or, true, false, rules}
 use Rattle.std.specs.Char.{is_ascii_digit}
-use Rattle.ts_ql.specs.Literals.{nanos_of_unit}
+use Rattle.ts_ql.specs.DurationUnits.{nanos_of_unit}
 use Rattle.ts_ql.proofs.LiteralLemmas.{digit_past, unit_past}
 use Rattle.ts_ql.proofs.literal.magnitude.Goals as goal
 
