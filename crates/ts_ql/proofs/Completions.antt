@@ -7,10 +7,10 @@ use Rattle.ts_ql.specs.declared.place.Place.{Place}
 use Rattle.ts_ql.specs.declared.place.Place.TheVariants as places
 use Rattle.ts_ql.specs.declared.token.Kind.{Kind}
 use Rattle.ts_ql.specs.declared.token.Kind.TheVariants as kinds
-use Rattle.ts_ql.specs.Grammar.{Of, Is, Field, Aggregate, Source, Measurement, Count, Number, Instant, Match, ByTag, NullOption, Statement, Stop}
+use Rattle.ts_ql.specs.Grammar.{Of, Is, Field, Call, FromClause, Measurement, Count, Number, Instant, Match, ByTag, NullOption, Statement, Stop}
 use Rattle.ts_ql.specs.Laws.{CanBeWritten, Within, Reads}
-use Rattle.ts_ql.specs.Reading.{State, is_done}
-use Rattle.ts_ql.specs.Statements.{Parts}
+use Rattle.ts_ql.specs.Reading.{Progress, is_done}
+use Rattle.ts_ql.specs.Statements.{Meaning}
 use Rattle.ts_ql.specs.Tokens.{Lexeme}
 use Rattle.ts_ql.specs.Words.{is_time}
 use Rattle.ts_ql.proofs.Rests.{Rest, FillTail, DimensionTail, FilterTail, SelectTail, Closing, Outside, Inside, levels, left_closing, left_at, left, SuitsAt, Suits}
@@ -40,7 +40,7 @@ dimension_tail = ([], fill_tail)
 abbrev pub filter_tail : FilterTail
 filter_tail = (None, (None, fill_tail))
 
-abbrev pub source_tail : Source × FilterTail
+abbrev pub source_tail : FromClause × FilterTail
 source_tail = (Measurement name, filter_tail)
 
 abbrev pub select_tail : SelectTail
@@ -54,7 +54,7 @@ pub closing_levels : (n : ℕ) → n ≡ levels (closing_of n)
 closing_levels zero = refl
 closing_levels (suc n) = let less : n ≡ levels (closing_of n) = closing_levels n in omega (arith, less)
 
-abbrev pub aggregate : Aggregate
+abbrev pub aggregate : Call
 aggregate = record { function = token kinds.Word (codes "count"); field = name; cast = None; alias = None }
 
 abbrev pub statement : Statement
@@ -71,18 +71,18 @@ IsMark kind = (t : Lexeme) × Is (Of kind) t
 marked : (kind : Kind) → IsMark kind
 marked kind = (mark kind, refl)
 
-closing_written : (n : ℕ) (now : ℤ) (s : State) (p : Parts) → CanBeWritten (left_closing now s p (closing_of n))
+closing_written : (n : ℕ) (now : ℤ) (s : Progress) (p : Meaning) → CanBeWritten (left_closing now s p (closing_of n))
 closing_written zero now s p = (marked kinds.End, tt)
 closing_written (suc n) now s p = (marked kinds.Close, closing_written n now s p)
 
-closing_reads : (n : ℕ) (now : ℤ) (s : State) (p : Parts) → Reads (left_closing now s p (closing_of n)) [] Within
+closing_reads : (n : ℕ) (now : ℤ) (s : Progress) (p : Meaning) → Reads (left_closing now s p (closing_of n)) [] Within
 closing_reads zero now s p = (refl, (marked kinds.End, tt))
 closing_reads (suc n) now s p = (refl, (marked kinds.Close, closing_written n now s p))
 
-abbrev pub Completed : Place → ℤ → State → Type 0
+abbrev pub Completed : Place → ℤ → Progress → Type 0
 Completed p now s = (q : Rest p) × SuitsAt p s q × Reads (left_at p now s q) [] Within
 
-completes_at : (p : Place) (now : ℤ) (s : State) → is_done p ≡ false → Completed p now s
+completes_at : (p : Place) (now : ℤ) (s : Progress) → is_done p ≡ false → Completed p now s
 unfolding is_time
 completes_at places.Statement now s e = (Some (statement, Stop), tt, (refl, ((refl, refl), (refl, (marked kinds.Open, (refl, (marked kinds.Close, ((key (codes "from"), (refl, refl)), (refl, (marked kinds.End, tt))))))))))
 completes_at places.Function now s e = ((aggregate, select_tail), tt, (refl, (refl, (marked kinds.Open, (refl, (marked kinds.Close, ((key (codes "from"), (refl, refl)), (refl, (marked kinds.End, tt)))))))))
@@ -129,5 +129,5 @@ completes_at places.FillClose now s e = (Stop, tt, (refl, (marked kinds.Close, (
 completes_at places.AfterFill now s e = (Stop, tt, (refl, (marked kinds.End, tt)))
 completes_at places.Done now s e = absurd cc
 
-pub completes : (now : ℤ) (s : State) → is_done s.place ≡ false → (q : Rest s.place) × Suits s q × Reads (left now s q) [] Within
+pub completes : (now : ℤ) (s : Progress) → is_done s.place ≡ false → (q : Rest s.place) × Suits s q × Reads (left now s q) [] Within
 completes now s e = completes_at s.place now s e

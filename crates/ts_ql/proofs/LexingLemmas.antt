@@ -11,7 +11,8 @@ use Rattle.std.proofs.lemmas.Bool.Decides.{nat_tests}
 use Rattle.ts_core.specs.Facts.{Text}
 use Rattle.ts_ql.specs.declared.bytes.Class.{Class}
 use Rattle.ts_ql.specs.declared.bytes.Class.TheVariants.{Space, Name, Digit}
-use Rattle.ts_ql.specs.Lexing.{is_in, run_end, is_escapable, closing, unit_len, parts_end}
+use Rattle.ts_ql.specs.Lexing.{is_in, run_end, is_escape_byte, closing, parts_end}
+use Rattle.ts_ql.specs.DurationUnits.{unit_len}
 
 pub run_end_step : (class : Class) (at : ℕ) (text : Text) (i : ℕ) → i < length text
     → run_end class at (drop i text) ≡ cond (is_in class (get_or text i 0)) (run_end class (at + 1) (drop (i + 1) text)) at
@@ -36,7 +37,7 @@ in_ascii Digit byte e = digit_ascii byte e
 
 -- what the byte at hand makes of the walk to a closing quote
 abbrev pub closing_at : ℕ → Bool → ℕ → ℕ → Text → Option ℕ
-closing_at quote true at b bs = cond (is_escapable b) (closing quote false (at + 1) bs) None
+closing_at quote true at b bs = cond (is_escape_byte b) (closing quote false (at + 1) bs) None
 closing_at quote false at b bs = cond (eqb b quote) (Some at) (closing quote (eqb b 92) (at + 1) bs)
 
 pub closing_step : (quote : ℕ) (escaped : Bool) (at : ℕ) (text : Text) (i : ℕ) → i < length text

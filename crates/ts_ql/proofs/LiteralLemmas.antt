@@ -10,18 +10,19 @@ use Rattle.std.proofs.Math.Nat.{mul-le-mul_left}
 use Rattle.std.proofs.lemmas.Bool.Decides.{nat_tests}
 use Rattle.ts_core.specs.Facts.{Text}
 use Rattle.ts_ql.proofs.LexingLemmas.{next_byte}
-use Rattle.ts_ql.specs.Literals.{unit_of, added_up, within, escape, spelled}
+use Rattle.ts_ql.specs.Literals.{added_up, within, escape, spelled}
+use Rattle.ts_ql.specs.DurationUnits.{nanos_of_unit}
 
 -- ---- numbers
 
 pub added_up_step : (total number : ℕ) (text : Text) (i : ℕ) → i < length text
     → added_up total number (drop i text) ≡ cond (is_ascii_digit (get_or text i 0))
     (added_up total (number * 10 + (get_or text i 0 - 48)) (drop (i + 1) text))
-    (added_up (total + number * unit_of (get_or text i 0) (get_or text (i + 1) 0)) 0 (drop (i + 1) text))
+    (added_up (total + number * nanos_of_unit (get_or text i 0) (get_or text (i + 1) 0)) 0 (drop (i + 1) text))
 added_up_step total number text i lt = at_drop_more (added_up total number) text i 0 lt ∙ rw (next_byte text i) refl
 
-unit_some : (byte next : ℕ) → 1 ≤ unit_of byte next
-unfolding unit_of
+unit_some : (byte next : ℕ) → 1 ≤ nanos_of_unit byte next
+unfolding nanos_of_unit
 unit_some byte next = grind (arith, nat_tests)
 
 least_by : (b : Bool) (n x y : ℕ) → n ≤ x → n ≤ y → n ≤ cond b x y
@@ -33,9 +34,9 @@ pub at_least : (total number : ℕ) (text : Text) → total + number ≤ added_u
 at_least total number [] = omega arith
 at_least total number (b ∷ bs) =
     let digit = at_least total (number * 10 + (b - 48)) bs in
-    let other = at_least (total + number * unit_of b (get_or bs 0 0)) 0 bs in
+    let other = at_least (total + number * nanos_of_unit b (get_or bs 0 0)) 0 bs in
     let some = mul-le-mul_left number (unit_some b (get_or bs 0 0)) in
-    least_by (is_ascii_digit b) (total + number) (added_up total (number * 10 + (b - 48)) bs) (added_up (total + number * unit_of b (get_or bs 0 0)) 0 bs) (omega arith) (omega arith)
+    least_by (is_ascii_digit b) (total + number) (added_up total (number * 10 + (b - 48)) bs) (added_up (total + number * nanos_of_unit b (get_or bs 0 0)) 0 bs) (omega arith) (omega arith)
 
 pub none_within : (limit n : ℕ) → limit ≤ n → None ≡ within limit n
 none_within limit n le = rw (le-ltb n limit le) refl
@@ -51,11 +52,11 @@ digit_past total number limit text i whole lt is digit past =
 
 -- past the limit with one number more
 pub unit_past : (total number limit : ℕ) (text : Text) (i whole : ℕ) → i < length text → added_up total number (drop i text) ≡ whole
-    → is_ascii_digit (get_or text i 0) ≡ false → (total + number * unit_of (get_or text i 0) (get_or text (i + 1) 0) < limit → ⊥) → None ≡ within limit whole
+    → is_ascii_digit (get_or text i 0) ≡ false → (total + number * nanos_of_unit (get_or text i 0) (get_or text (i + 1) 0) < limit → ⊥) → None ≡ within limit whole
 unit_past total number limit text i whole lt is digit past =
     let step = added_up_step total number text i lt in
     let here = rw digit at step in
-    let low = at_least (total + number * unit_of (get_or text i 0) (get_or text (i + 1) 0)) 0 (drop (i + 1) text) in
+    let low = at_least (total + number * nanos_of_unit (get_or text i 0) (get_or text (i + 1) 0)) 0 (drop (i + 1) text) in
     none_within limit whole (omega arith)
 
 -- ---- texts

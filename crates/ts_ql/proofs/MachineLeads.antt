@@ -5,15 +5,16 @@ use Rattle.std.specs.Prelude.{⊤, ◌==◌}
 use Rattle.ts_ql.specs.declared.place.Place.{Place}
 use Rattle.ts_ql.specs.declared.place.Place.TheVariants as places
 use Rattle.ts_ql.specs.declared.token.Kind.{Kind}
-use Rattle.ts_ql.specs.Faults.{Fault}
+use Rattle.ts_ql.specs.QueryFaults.{Fault}
 use Rattle.ts_ql.specs.Grammar.{Change, GroupBy, FillOption, Ending, Stop, Close, Next}
 use Rattle.ts_ql.specs.GroupSteps.{group_step, fill_step}
 use Rattle.ts_ql.specs.Laws.{Reach, Reads}
 use Rattle.ts_ql.specs.MomentSteps.{moment_step, settled}
-use Rattle.ts_ql.specs.Reading.{State, Step, Drafting, settle_at, settle_step, settled_in, draft_step, next_clause, begun, placed_at, after_settling, step}
+use Rattle.ts_ql.specs.Reading.{Progress, Advance, Drafting, settle_at, settle_step, settled_in, draft_step, next_clause, begun, placed_at, after_settling, step}
 use Rattle.ts_ql.specs.SelectSteps.{select_step}
-use Rattle.ts_ql.specs.Spelling.{sign_of}
-use Rattle.ts_ql.specs.Statements.{Parts, parts}
+use Rattle.ts_ql.specs.Productions.{sign_of}
+use Rattle.ts_ql.specs.Statements.{Meaning}
+use Rattle.ts_ql.specs.Drafts.{meaning}
 use Rattle.ts_ql.specs.Tokens.{Lexeme}
 use Rattle.ts_ql.specs.WhereSteps.{where_step}
 use Rattle.ts_ql.proofs.Rests.{Closing, Outside, Inside, levels, left_ending, left_group, left_closing, left, all_said, left_at, Rest, Sound, SoundAt, Suits, SuitsAt}
@@ -34,7 +35,7 @@ CountedAt places.Done count = ⊤
 CountedAt p count = 0 < count
 
 -- inside of parentheses
-nested_leads : (now : ℤ) (s : State) (q : Closing) (t : Lexeme) (ts : List Lexeme) (reach : Reach) → 0 < s.draft.filter.depth → s.draft.filter.depth ≡ levels q
+nested_leads : (now : ℤ) (s : Progress) (q : Closing) (t : Lexeme) (ts : List Lexeme) (reach : Reach) → 0 < s.draft.filter.depth → s.draft.filter.depth ≡ levels q
     → Reads (left_at places.NestedTerm now (at places.NestedTerm s) q) (t ∷ ts) reach → Leads now (at places.NestedTerm s) q ts reach (placed_at places.NestedTerm now t (at places.NestedTerm s))
 unfolding draft_step next_clause where_step
 nested_leads now s (Outside cs tail) t ts reach sound suits v = absurd (omega (arith, sound, suits))
@@ -47,7 +48,7 @@ abbrev IsMomentAt : Place → Bool
 IsMomentAt places.AfterMoment = true
 IsMomentAt p = false
 
-placed_leads : (p : Place) (now : ℤ) (s : State) (q : Rest p) (t : Lexeme) (ts : List Lexeme) (reach : Reach) → IsMomentAt p ≡ false → SoundAt p (at p s) → SuitsAt p (at p s) q → CountedAt p s.count
+placed_leads : (p : Place) (now : ℤ) (s : Progress) (q : Rest p) (t : Lexeme) (ts : List Lexeme) (reach : Reach) → IsMomentAt p ≡ false → SoundAt p (at p s) → SuitsAt p (at p s) q → CountedAt p s.count
     → Reads (left_at p now (at p s) q) (t ∷ ts) reach → Leads now (at p s) q ts reach (placed_at p now t (at p s))
 unfolding begun draft_step next_clause select_step where_step moment_step group_step fill_step
 placed_leads places.Statement now s q t ts reach early sound suits some v = begun_leads now s q t ts reach sound suits v
@@ -98,23 +99,23 @@ placed_leads places.Done now s q t ts reach early sound suits some v = absurd v
 -- ---- the end of a moment
 
 -- a moment ends before a token that is neither plus nor minus
-EndsMoment : State → Kind → Type 0
+EndsMoment : Progress → Kind → Type 0
 EndsMoment s k = settle_at places.AfterMoment k s.draft ≡ settled_in s.draft (settled s.draft.moment s.draft.range)
 
-ending_ends : (now : ℤ) (s : State) (p : Parts) (e : Ending) (t : Lexeme) (ts : List Lexeme) (reach : Reach) → Reads (left_ending now s p e) (t ∷ ts) reach → EndsMoment s t.kind
+ending_ends : (now : ℤ) (s : Progress) (p : Meaning) (e : Ending) (t : Lexeme) (ts : List Lexeme) (reach : Reach) → Reads (left_ending now s p e) (t ∷ ts) reach → EndsMoment s t.kind
 unfolding EndsMoment
 ending_ends now s p Stop t ts reach v = subst (EndsMoment s) (sym v.0) refl
 ending_ends now s p Close t ts reach v = subst (EndsMoment s) (sym v.0) refl
 ending_ends now s p (Next st e) t ts reach v = subst (EndsMoment s) (sym v.0) refl
 
-group_ends : (now : ℤ) (s : State) (p : Parts) (g : Option GroupBy) (o : Option FillOption) (e : Ending) (t : Lexeme) (ts : List Lexeme) (reach : Reach)
+group_ends : (now : ℤ) (s : Progress) (p : Meaning) (g : Option GroupBy) (o : Option FillOption) (e : Ending) (t : Lexeme) (ts : List Lexeme) (reach : Reach)
     → Reads (left_group now s p (g, (o, e))) (t ∷ ts) reach → EndsMoment s t.kind
 unfolding EndsMoment
 group_ends now s p (Some g) o e t ts reach v = subst (EndsMoment s) (sym v.0.0) refl
 group_ends now s p None (Some o) e t ts reach v = subst (EndsMoment s) (sym v.0.0) refl
 group_ends now s p None None e t ts reach v = ending_ends now s p e t ts reach v
 
-closing_ends : (now : ℤ) (s : State) (p : Parts) (q : Closing) (t : Lexeme) (ts : List Lexeme) (reach : Reach) → Reads (left_closing now s p q) (t ∷ ts) reach → EndsMoment s t.kind
+closing_ends : (now : ℤ) (s : Progress) (p : Meaning) (q : Closing) (t : Lexeme) (ts : List Lexeme) (reach : Reach) → Reads (left_closing now s p q) (t ∷ ts) reach → EndsMoment s t.kind
 unfolding EndsMoment
 closing_ends now s p (Outside (c ∷ cs) tail) t ts reach v = subst (EndsMoment s) (sym v.0.0) refl
 closing_ends now s p (Outside [] tail) t ts reach v = group_ends now s p tail.0 tail.1.0 tail.1.1 t ts reach v
@@ -122,14 +123,14 @@ closing_ends now s p (Inside (c ∷ cs) closing) t ts reach v = subst (EndsMomen
 closing_ends now s p (Inside [] closing) t ts reach v = subst (EndsMoment s) (sym v.0) refl
 
 -- what follows the moment's end follows the moment
-unsettle_leads : (now : ℤ) (s : State) (q : Closing) (ts : List Lexeme) (reach : Reach) (b : Bool) (r : Step) (w : (c : Closing) → Rest (behind_term b))
+unsettle_leads : (now : ℤ) (s : Progress) (q : Closing) (ts : List Lexeme) (reach : Reach) (b : Bool) (r : Advance) (w : (c : Closing) → Rest (behind_term b))
     → Leads now (at (behind_term b) (settled_state s)) (w q) ts reach r → all_said now (at (behind_term b) (settled_state s)) (w q) ≡ all_said now (at places.AfterMoment s) ([], q)
     → Leads now (at places.AfterMoment s) ([], q) ts reach r
 unsettle_leads now s q ts reach b (Ok n) w leads same = (leads.0, leads.1, leads.2, sym same ∙ leads.3)
 unsettle_leads now s q ts reach b (Err f) w leads same = leads
 
-behind_leads : (now : ℤ) (s : State) (q : Closing) (t : Lexeme) (ts : List Lexeme) (reach : Reach) → s.draft.filter.depth ≡ levels q → 0 < s.count
-    → Reads (left_closing now (settled_state s) (parts (bounding s)) q) (t ∷ ts) reach → (b : Bool) → (s.draft.filter.depth == 0) ≡ b
+behind_leads : (now : ℤ) (s : Progress) (q : Closing) (t : Lexeme) (ts : List Lexeme) (reach : Reach) → s.draft.filter.depth ≡ levels q → 0 < s.count
+    → Reads (left_closing now (settled_state s) (meaning (bounding s)) q) (t ∷ ts) reach → (b : Bool) → (s.draft.filter.depth == 0) ≡ b
     → Leads now (at places.AfterMoment s) ([], q) ts reach (placed_at (behind_term b) now t (at (behind_term b) (settled_state s)))
 behind_leads now s q t ts reach suits some v true e =
     unsettle_leads now s q ts reach true (placed_at places.AfterTerm now t (at places.AfterTerm (settled_state s))) (λ c. c)
@@ -139,27 +140,27 @@ behind_leads now s q t ts reach suits some v false e =
     unsettle_leads now s q ts reach false (placed_at places.NestedTerm now t (at places.NestedTerm (settled_state s))) (λ c. c)
     (placed_leads places.NestedTerm now (settled_state s) q t ts reach refl (omega (arith, other)) suits some v) refl
 
-abbrev moment_steps_on : ℤ → State → Lexeme → Drafting → Step
+abbrev moment_steps_on : ℤ → Progress → Lexeme → Drafting → Advance
 moment_steps_on now s t r = after_settling now t (at places.AfterMoment s) r
 
-moment_end_leads : (now : ℤ) (s : State) (q : Closing) (t : Lexeme) (ts : List Lexeme) (reach : Reach) (o : Option Fault) → moment_fault s ≡ o → s.draft.filter.depth ≡ levels q → 0 < s.count
+moment_end_leads : (now : ℤ) (s : Progress) (q : Closing) (t : Lexeme) (ts : List Lexeme) (reach : Reach) (o : Option Fault) → moment_fault s ≡ o → s.draft.filter.depth ≡ levels q → 0 < s.count
     → Reads (left_at places.AfterMoment now (at places.AfterMoment s) ([], q)) (t ∷ ts) reach
     → Leads now (at places.AfterMoment s) ([], q) ts reach (moment_steps_on now s t (settle_at places.AfterMoment t.kind s.draft))
 unfolding EndsMoment
 moment_end_leads now s q t ts reach (Some f) invalid suits some v =
     let none : t ∷ ts ≡ [] = (failed (moment_fault s) _ (t ∷ ts) reach f invalid v).0 in absurd cc
 moment_end_leads now s q t ts reach None valid suits some v =
-    let rest : Reads (left_closing now (settled_state s) (parts (bounding s)) q) (t ∷ ts) reach = passed (moment_fault s) _ (t ∷ ts) reach valid v in
-    let ends : EndsMoment s t.kind = closing_ends now s (parts (bounding s)) q t ts reach rest in
+    let rest : Reads (left_closing now (settled_state s) (meaning (bounding s)) q) (t ∷ ts) reach = passed (moment_fault s) _ (t ∷ ts) reach valid v in
+    let ends : EndsMoment s t.kind = closing_ends now s (meaning (bounding s)) q t ts reach rest in
     subst (λ (r : Drafting). Leads now (at places.AfterMoment s) ([], q) ts reach (moment_steps_on now s t r)) (sym (ends ∙ ap (settled_in s.draft) (settles_back s valid)))
     (behind_leads now s q t ts reach suits some rest (s.draft.filter.depth == 0) refl)
 
 -- a moment goes on with plus and minus
-goes_on : (s : State) (t : Lexeme) (b : Bool) → t.kind ≡ sign_of b → settle_at places.AfterMoment t.kind s.draft ≡ Ok (places.AfterMoment, s.draft)
+goes_on : (s : Progress) (t : Lexeme) (b : Bool) → t.kind ≡ sign_of b → settle_at places.AfterMoment t.kind s.draft ≡ Ok (places.AfterMoment, s.draft)
 goes_on s t true e = subst (λ (k : Kind). settle_at places.AfterMoment k s.draft ≡ Ok (places.AfterMoment, s.draft)) (sym e) refl
 goes_on s t false e = subst (λ (k : Kind). settle_at places.AfterMoment k s.draft ≡ Ok (places.AfterMoment, s.draft)) (sym e) refl
 
-moment_leads_on : (now : ℤ) (s : State) (cs : List Change) (q : Closing) (t : Lexeme) (ts : List Lexeme) (reach : Reach) → s.draft.filter.depth ≡ levels q → 0 < s.count
+moment_leads_on : (now : ℤ) (s : Progress) (cs : List Change) (q : Closing) (t : Lexeme) (ts : List Lexeme) (reach : Reach) → s.draft.filter.depth ≡ levels q → 0 < s.count
     → Reads (left_at places.AfterMoment now (at places.AfterMoment s) (cs, q)) (t ∷ ts) reach
     → Leads now (at places.AfterMoment s) (cs, q) ts reach (moment_steps_on now s t (settle_at places.AfterMoment t.kind s.draft))
 unfolding draft_step next_clause moment_step
@@ -170,12 +171,12 @@ moment_leads_on now s (c ∷ cs) q t ts reach suits some v =
 
 -- ---- each place
 
-leads_at : (p : Place) (now : ℤ) (s : State) (q : Rest p) (t : Lexeme) (ts : List Lexeme) (reach : Reach) → SoundAt p (at p s) → SuitsAt p (at p s) q → CountedAt p s.count
+leads_at : (p : Place) (now : ℤ) (s : Progress) (q : Rest p) (t : Lexeme) (ts : List Lexeme) (reach : Reach) → SoundAt p (at p s) → SuitsAt p (at p s) q → CountedAt p s.count
     → Reads (left_at p now (at p s) q) (t ∷ ts) reach → Leads now (at p s) q ts reach (after_settling now t (at p s) (settle_at p t.kind s.draft))
 leads_at places.AfterMoment now s q t ts reach sound suits some v = moment_leads_on now s q.0 q.1 t ts reach suits some v
 leads_at p now s q t ts reach sound suits some v = placed_leads p now s q t ts reach refl sound suits some v
 
-pub leads : (now : ℤ) (s : State) (q : Rest s.place) (t : Lexeme) (ts : List Lexeme) (reach : Reach) → Sound s → Suits s q → CountedAt s.place s.count
+pub leads : (now : ℤ) (s : Progress) (q : Rest s.place) (t : Lexeme) (ts : List Lexeme) (reach : Reach) → Sound s → Suits s q → CountedAt s.place s.count
     → Reads (left now s q) (t ∷ ts) reach → Leads now s q ts reach (step now t s)
 unfolding step settle_step
 leads now s q t ts reach sound suits some v = leads_at s.place now s q t ts reach sound suits some v

@@ -1,6 +1,6 @@
 -- Comparisons with time: what each token leads to, and what each rest spells; and the end of a moment.
-use Rattle.std.proofs.Common.{◌≡◌, inl, inr, ℕ, ℤ, pos, List, [], ◌∷◌, ◌++◌, Bool, true, false, Option, Some, None, Result, Ok, Err, map, refl, sym, ap, ◌∙◌, subst}
-use Rattle.std.specs.Prelude.{codes, ◌+ℤ◌, ◌-ℤ◌, int_le, ◌&&◌, if◌then◌else◌}
+use Rattle.std.proofs.Common.{◌≡◌, inl, inr, ℕ, ℤ, pos, List, [], ◌∷◌, ◌++◌, Bool, true, false, Option, Some, None, Result, Ok, Err, map, refl, sym, ap, subst}
+use Rattle.std.specs.Prelude.{codes, int_le, ◌&&◌, if◌then◌else◌}
 use Rattle.std.specs.Option.{unwrap_or}
 use Rattle.ts_core.specs.Times.{least_time, greatest_time}
 use Rattle.ts_ql.specs.declared.moment.Comparison.{Comparison}
@@ -12,24 +12,25 @@ use Rattle.ts_ql.specs.declared.place.Place.TheVariants as places
 use Rattle.ts_ql.specs.declared.token.Kind.{Kind}
 use Rattle.ts_ql.specs.declared.token.Kind.TheVariants as kinds
 use Rattle.ts_ql.specs.Dates.{moment_told}
-use Rattle.ts_ql.specs.Faults.{Fault, unexpected, OutOfRange}
+use Rattle.ts_ql.specs.QueryFaults.{Fault, unexpected, OutOfRange}
 use Rattle.ts_ql.specs.Grammar.{Item, Examine, Measure, Count, Duration, Base, Number, Negative, Quoted, Now, Change, Instant}
 use Rattle.ts_ql.specs.Laws.{Reach, At, Reads}
 use Rattle.ts_ql.specs.Literals.{is_word, literal}
 use Rattle.ts_ql.specs.Meanings.{changed_by, changed}
-use Rattle.ts_ql.specs.MomentSteps.{Timing, moment_at, based, is_sum, later_by, earlier_by, bounded, time_of, bounded_by, settled}
-use Rattle.ts_ql.specs.Reading.{State, Step, with_draft, in_moment}
-use Rattle.ts_ql.specs.Spelling.{literal_fault, change_fault_of, change_fault, time_fault, kind_of_measure, kind_of_comparison}
+use Rattle.ts_ql.specs.MomentSteps.{Timing, moment_at, based, later_by, earlier_by, moment_time, bounded_by, settled}
+use Rattle.ts_ql.specs.Ranges.{bounded}
+use Rattle.ts_ql.specs.Reading.{Progress, Advance, with_draft, in_moment}
+use Rattle.ts_ql.specs.Productions.{literal_fault, change_fault, time_fault, kind_of_measure, kind_of_comparison}
 use Rattle.ts_ql.specs.Tokens.{Lexeme}
 use Rattle.ts_ql.proofs.Completions.{closing_of, closing_levels}
 use Rattle.ts_ql.proofs.Rests.{Rest, Closing, levels, left_at, left_changes, left_change, left_instant, said_changes, said_change, SuitsAt}
 use Rattle.ts_ql.proofs.Steps.{at, Answer, Leads, passes, fails, passed, failed, carried}
 
-abbrev pub timing : State → Place → Timing → Step
+abbrev pub timing : Progress → Place → Timing → Advance
 timing s p step = with_draft (at p s) (in_moment s.draft step)
 
 -- the step with a token of that kind
-abbrev pub moment_steps : ℤ → State → Place → Lexeme → Kind → Step
+abbrev pub moment_steps : ℤ → Progress → Place → Lexeme → Kind → Advance
 moment_steps now s p t k = timing s p (moment_at now p k t s.draft.moment)
 
 -- ---- parentheses
@@ -44,23 +45,19 @@ closings n = (closing_of n, closing_levels n)
 abbrev pub by_value : Bool → Lexeme → Change
 by_value less t = record { less = less; by = t }
 
-sum_of : (s : State) (less : Bool) (t : Lexeme) (n : ℤ) → literal false t.text ≡ Some n
+sum_of : (s : Progress) (less : Bool) (t : Lexeme) (n : ℤ) → literal false t.text ≡ Some n
     → changed_by less s.draft.moment.total n ≡ changed s.draft.moment.total (by_value less t)
 sum_of s less t n v = ap (λ (o : Option ℤ). changed_by less s.draft.moment.total (unwrap_or o (pos 0))) (sym v)
 
-sum_examined : (s : State) (less : Bool) (t : Lexeme) (n : ℤ) (b : Bool) → literal false t.text ≡ Some n → is_sum (changed_by less s.draft.moment.total n) ≡ b
-    → change_fault s.draft.moment.first s.draft.moment.total (by_value less t) ≡ (if b then None else Some (OutOfRange s.draft.moment.first))
-sum_examined s less t n b v is =
-    ap (λ (o : Option ℤ). change_fault_of s.draft.moment.first (changed_by less s.draft.moment.total (unwrap_or o (pos 0))) t.start o) v
-    ∙ ap (λ (x : Bool). if x then None else Some (OutOfRange s.draft.moment.first)) is
+valued : (less : Bool) (t : Lexeme) (n : ℤ) → literal false t.text ≡ Some n → change_fault (by_value less t) ≡ None
+valued less t n v = ap (literal_fault t.start) v
 
-unvalued : (s : State) (less : Bool) (t : Lexeme) → literal false t.text ≡ None
-    → change_fault s.draft.moment.first s.draft.moment.total (by_value less t) ≡ Some (OutOfRange t.start)
-unvalued s less t v = ap (λ (o : Option ℤ). change_fault_of s.draft.moment.first (changed_by less s.draft.moment.total (unwrap_or o (pos 0))) t.start o) v
+unvalued : (less : Bool) (t : Lexeme) → literal false t.text ≡ None → change_fault (by_value less t) ≡ Some (OutOfRange t.start)
+unvalued less t v = ap (literal_fault t.start) v
 
 -- ---- from the machine
 
-number : (now : ℤ) (s : State) (t : Lexeme) (m : Measure) → t.kind ≡ kind_of_measure m → (o : Option ℤ) → literal false t.text ≡ o
+number : (now : ℤ) (s : Progress) (t : Lexeme) (m : Measure) → t.kind ≡ kind_of_measure m → (o : Option ℤ) → literal false t.text ≡ o
     → Answer now (at places.Moment s) t (timing s places.Moment (based t.start s.draft.moment o))
 number now s t m e (Some n) v =
     let value : n ≡ unwrap_or (literal false t.text) (pos 0) = sym (ap (λ (o : Option ℤ). unwrap_or o (pos 0)) v) in (
@@ -85,7 +82,7 @@ number now s t m e None v =
       inr (refl, e, fails (literal_fault t.start (literal false t.text)) (left_changes now s t.start (unwrap_or (literal false t.text) (pos 0)) ([], c.0)) (OutOfRange t.start) (ap (literal_fault t.start) v)),
     )
 
-quoted : (now : ℤ) (s : State) (t : Lexeme) → t.kind ≡ kinds.Literal → (o : Option ℤ) → moment_told t.text ≡ o
+quoted : (now : ℤ) (s : Progress) (t : Lexeme) → t.kind ≡ kinds.Literal → (o : Option ℤ) → moment_told t.text ≡ o
     → Answer now (at places.Moment s) t (timing s places.Moment (based t.start s.draft.moment o))
 quoted now s t e (Some n) v =
     let value : n ≡ unwrap_or (moment_told t.text) (pos 0) = sym (ap (λ (o : Option ℤ). unwrap_or o (pos 0)) v) in (
@@ -110,7 +107,7 @@ quoted now s t e None v =
       inr (refl, e, fails (literal_fault t.start (moment_told t.text)) (left_changes now s t.start (unwrap_or (moment_told t.text) (pos 0)) ([], c.0)) (OutOfRange t.start) (ap (literal_fault t.start) v)),
     )
 
-negative : (now : ℤ) (s : State) (t : Lexeme) (m : Measure) → t.kind ≡ kind_of_measure m → (o : Option ℤ) → literal true t.text ≡ o
+negative : (now : ℤ) (s : Progress) (t : Lexeme) (m : Measure) → t.kind ≡ kind_of_measure m → (o : Option ℤ) → literal true t.text ≡ o
     → Answer now (at places.MomentMinus s) t (timing s places.MomentMinus (based s.draft.moment.first s.draft.moment o))
 negative now s t m e (Some n) v =
     let value : n ≡ unwrap_or (literal true t.text) (pos 0) = sym (ap (λ (o : Option ℤ). unwrap_or o (pos 0)) v) in (
@@ -135,64 +132,48 @@ negative now s t m e None v =
       inr (refl, e, fails (literal_fault s.draft.moment.first (literal true t.text)) (left_changes now s s.draft.moment.first (unwrap_or (literal true t.text) (pos 0)) ([], c.0)) (OutOfRange s.draft.moment.first) (ap (literal_fault s.draft.moment.first) v)),
     )
 
-now_or : (now : ℤ) (s : State) (t : Lexeme) → t.kind ≡ kinds.Word → (b : Bool) → is_word (codes "now") t.text ≡ b
+now_or : (now : ℤ) (s : Progress) (t : Lexeme) → t.kind ≡ kinds.Word → (b : Bool) → is_word (codes "now") t.text ≡ b
     → Answer now (at places.Moment s) t (timing s places.Moment (if b then Ok (places.NowOpen, record (s.draft.moment) { first = t.start }) else Err (unexpected t)))
 now_or now s t e true is = (tt, λ r suits. ((record { base = Now t; changes = r.0 }, r.1), suits, (λ ts reach w. (refl, (e, is), w)), refl))
 now_or now s t e false is = inr refl
 
--- a change whose sum has 128 bits, read and said
-summed_reads : (now : ℤ) (s : State) (less : Bool) (t : Lexeme) (n : ℤ) (r : List Change × Closing) → literal false t.text ≡ Some n
-    → is_sum (changed_by less s.draft.moment.total n) ≡ true → t.kind ≡ kinds.Duration → (ts : List Lexeme) (reach : Reach)
+-- a change, read and said
+summed_reads : (now : ℤ) (s : Progress) (less : Bool) (t : Lexeme) (n : ℤ) (r : List Change × Closing) → literal false t.text ≡ Some n
+    → t.kind ≡ kinds.Duration → (ts : List Lexeme) (reach : Reach)
     → Reads (left_changes now s s.draft.moment.first (changed_by less s.draft.moment.total n) r) ts reach
     → Reads (left_change now s less (t, r)) (t ∷ ts) reach
-summed_reads now s less t n r v is e ts reach w = (
+summed_reads now s less t n r v e ts reach w = (
   refl,
   e,
-  passes (change_fault s.draft.moment.first s.draft.moment.total (by_value less t)) (left_changes now s s.draft.moment.first (changed s.draft.moment.total (by_value less t)) r) ts reach
-      (sum_examined s less t n true v is)
+  passes (change_fault (by_value less t)) (left_changes now s s.draft.moment.first (changed s.draft.moment.total (by_value less t)) r) ts reach
+      (valued less t n v)
       (carried (λ (x : ℤ). left_changes now s s.draft.moment.first x r) ts reach (changed_by less s.draft.moment.total n) (changed s.draft.moment.total (by_value less t)) (sum_of s less t n v) w),
 )
 
-summed_says : (now : ℤ) (s : State) (less : Bool) (t : Lexeme) (n : ℤ) (r : List Change × Closing) → literal false t.text ≡ Some n
+summed_says : (now : ℤ) (s : Progress) (less : Bool) (t : Lexeme) (n : ℤ) (r : List Change × Closing) → literal false t.text ≡ Some n
     → map Ok s.queries ++ said_change now s less (t, r) ≡ map Ok s.queries ++ said_changes now s (changed_by less s.draft.moment.total n) r
 summed_says now s less t n r v = ap (λ (x : ℤ). map Ok s.queries ++ said_changes now s x r) (sym (sum_of s less t n v))
 
-change_fails : (now : ℤ) (s : State) (less : Bool) (t : Lexeme) (r : List Change × Closing) (f : Fault) → t.kind ≡ kinds.Duration
-    → change_fault s.draft.moment.first s.draft.moment.total (by_value less t) ≡ Some f → Reads (left_change now s less (t, r)) (t ∷ []) (At f)
+change_fails : (now : ℤ) (s : Progress) (less : Bool) (t : Lexeme) (r : List Change × Closing) (f : Fault) → t.kind ≡ kinds.Duration
+    → change_fault (by_value less t) ≡ Some f → Reads (left_change now s less (t, r)) (t ∷ []) (At f)
 change_fails now s less t r f e is =
-    (refl, e, fails (change_fault s.draft.moment.first s.draft.moment.total (by_value less t)) (left_changes now s s.draft.moment.first (changed s.draft.moment.total (by_value less t)) r) f is)
+    (refl, e, fails (change_fault (by_value less t)) (left_changes now s s.draft.moment.first (changed s.draft.moment.total (by_value less t)) r) f is)
 
-plus_sum : (now : ℤ) (s : State) (t : Lexeme) → t.kind ≡ kinds.Duration → (n : ℤ) → literal false t.text ≡ Some n
-    → (b : Bool) → is_sum (s.draft.moment.total +ℤ n) ≡ b
-    → Answer now (at places.MomentPlus s) t (timing s places.MomentPlus (if b then Ok (places.AfterMoment, record (s.draft.moment) { total = s.draft.moment.total +ℤ n }) else Err (OutOfRange s.draft.moment.first)))
-plus_sum now s t e n v true is = (tt, λ r suits. ((t, r), suits, summed_reads now s false t n r v is e, summed_says now s false t n r v))
-plus_sum now s t e n v false is =
-    let c = closings s.draft.filter.depth in
-    inl ((t, ([], c.0)), c.1, inr (change_fails now s false t ([], c.0) (OutOfRange s.draft.moment.first) e (sum_examined s false t n false v is)))
-
-plus : (now : ℤ) (s : State) (t : Lexeme) → t.kind ≡ kinds.Duration → (o : Option ℤ) → literal false t.text ≡ o
+plus : (now : ℤ) (s : Progress) (t : Lexeme) → t.kind ≡ kinds.Duration → (o : Option ℤ) → literal false t.text ≡ o
     → Answer now (at places.MomentPlus s) t (timing s places.MomentPlus (later_by t s.draft.moment o))
-plus now s t e (Some n) v = plus_sum now s t e n v (is_sum (s.draft.moment.total +ℤ n)) refl
+plus now s t e (Some n) v = (tt, λ r suits. ((t, r), suits, summed_reads now s false t n r v e, summed_says now s false t n r v))
 plus now s t e None v =
     let c = closings s.draft.filter.depth in
-    inl ((t, ([], c.0)), c.1, inr (change_fails now s false t ([], c.0) (OutOfRange t.start) e (unvalued s false t v)))
+    inl ((t, ([], c.0)), c.1, inr (change_fails now s false t ([], c.0) (OutOfRange t.start) e (unvalued false t v)))
 
-less_sum : (now : ℤ) (s : State) (t : Lexeme) → t.kind ≡ kinds.Duration → (n : ℤ) → literal false t.text ≡ Some n
-    → (b : Bool) → is_sum (s.draft.moment.total -ℤ n) ≡ b
-    → Answer now (at places.MomentLess s) t (timing s places.MomentLess (if b then Ok (places.AfterMoment, record (s.draft.moment) { total = s.draft.moment.total -ℤ n }) else Err (OutOfRange s.draft.moment.first)))
-less_sum now s t e n v true is = (tt, λ r suits. ((t, r), suits, summed_reads now s true t n r v is e, summed_says now s true t n r v))
-less_sum now s t e n v false is =
-    let c = closings s.draft.filter.depth in
-    inl ((t, ([], c.0)), c.1, inr (change_fails now s true t ([], c.0) (OutOfRange s.draft.moment.first) e (sum_examined s true t n false v is)))
-
-minus : (now : ℤ) (s : State) (t : Lexeme) → t.kind ≡ kinds.Duration → (o : Option ℤ) → literal false t.text ≡ o
+minus : (now : ℤ) (s : Progress) (t : Lexeme) → t.kind ≡ kinds.Duration → (o : Option ℤ) → literal false t.text ≡ o
     → Answer now (at places.MomentLess s) t (timing s places.MomentLess (earlier_by t s.draft.moment o))
-minus now s t e (Some n) v = less_sum now s t e n v (is_sum (s.draft.moment.total -ℤ n)) refl
+minus now s t e (Some n) v = (tt, λ r suits. ((t, r), suits, summed_reads now s true t n r v e, summed_says now s true t n r v))
 minus now s t e None v =
     let c = closings s.draft.filter.depth in
-    inl ((t, ([], c.0)), c.1, inr (change_fails now s true t ([], c.0) (OutOfRange t.start) e (unvalued s true t v)))
+    inl ((t, ([], c.0)), c.1, inr (change_fails now s true t ([], c.0) (OutOfRange t.start) e (unvalued true t v)))
 
-pub moment_answers : (now : ℤ) (s : State) (p : Place) (k : Kind) (t : Lexeme) → t.kind ≡ k
+pub moment_answers : (now : ℤ) (s : Progress) (p : Place) (k : Kind) (t : Lexeme) → t.kind ≡ k
     → Answer now (at p s) t (timing s p (moment_at now p k t s.draft.moment))
 moment_answers now s places.TimeSign kinds.Equals t e = (tt, λ r suits. ((comparisons.Equal, r), suits, (λ ts reach w. (e, w)), refl))
 moment_answers now s places.TimeSign kinds.Less t e = (tt, λ r suits. ((comparisons.Less, r), suits, (λ ts reach w. (e, w)), refl))
@@ -219,7 +200,7 @@ moment_answers now s p k t e = inr refl
 
 -- ---- from trees
 
-time_sign_leads_at : (now : ℤ) (s : State) (c : Comparison) (r : Instant × Closing) (t : Lexeme) (ts : List Lexeme) (reach : Reach)
+time_sign_leads_at : (now : ℤ) (s : Progress) (c : Comparison) (r : Instant × Closing) (t : Lexeme) (ts : List Lexeme) (reach : Reach)
     → s.draft.filter.depth ≡ levels r.1 → t.kind ≡ kind_of_comparison c → Reads (left_instant now s c r) ts reach
     → Leads now (at places.TimeSign s) (c, r) ts reach (moment_steps now s places.TimeSign t (kind_of_comparison c))
 time_sign_leads_at now s comparisons.Equal r t ts reach suits e w = (r, suits, w, refl)
@@ -228,7 +209,7 @@ time_sign_leads_at now s comparisons.LessOrEqual r t ts reach suits e w = (r, su
 time_sign_leads_at now s comparisons.Greater r t ts reach suits e w = (r, suits, w, refl)
 time_sign_leads_at now s comparisons.GreaterOrEqual r t ts reach suits e w = (r, suits, w, refl)
 
-pub time_sign_leads : (now : ℤ) (s : State) (q : Rest places.TimeSign) (t : Lexeme) (ts : List Lexeme) (reach : Reach)
+pub time_sign_leads : (now : ℤ) (s : Progress) (q : Rest places.TimeSign) (t : Lexeme) (ts : List Lexeme) (reach : Reach)
     → SuitsAt places.TimeSign (at places.TimeSign s) q → Reads (left_at places.TimeSign now (at places.TimeSign s) q) (t ∷ ts) reach
     → Leads now (at places.TimeSign s) q ts reach (timing s places.TimeSign (moment_at now places.TimeSign t.kind t s.draft.moment))
 time_sign_leads now s q t ts reach suits w =
@@ -236,7 +217,7 @@ time_sign_leads now s q t ts reach suits w =
     (time_sign_leads_at now s q.0 q.1 t ts reach suits w.0 w.1)
 
 -- a number in its range leads on; another is at fault
-number_leads : (now : ℤ) (s : State) (t : Lexeme) (m : Measure) (r : List Change × Closing) (ts : List Lexeme) (reach : Reach) → s.draft.filter.depth ≡ levels r.1
+number_leads : (now : ℤ) (s : Progress) (t : Lexeme) (m : Measure) (r : List Change × Closing) (ts : List Lexeme) (reach : Reach) → s.draft.filter.depth ≡ levels r.1
     → (o : Option ℤ) → literal false t.text ≡ o
     → Reads (Examine (literal_fault t.start (literal false t.text)) ∷ left_changes now s t.start (unwrap_or (literal false t.text) (pos 0)) r) ts reach
     → Leads now (at places.Moment s) (record { base = Number m t; changes = r.0 }, r.1) ts reach (timing s places.Moment (based t.start s.draft.moment o))
@@ -251,7 +232,7 @@ number_leads now s t m r ts reach suits (Some n) v w =
 number_leads now s t m r ts reach suits None v w =
     failed (literal_fault t.start (literal false t.text)) (left_changes now s t.start (unwrap_or (literal false t.text) (pos 0)) r) ts reach (OutOfRange t.start) (ap (literal_fault t.start) v) w
 
-quoted_leads : (now : ℤ) (s : State) (t : Lexeme) (r : List Change × Closing) (ts : List Lexeme) (reach : Reach) → s.draft.filter.depth ≡ levels r.1
+quoted_leads : (now : ℤ) (s : Progress) (t : Lexeme) (r : List Change × Closing) (ts : List Lexeme) (reach : Reach) → s.draft.filter.depth ≡ levels r.1
     → (o : Option ℤ) → moment_told t.text ≡ o
     → Reads (Examine (literal_fault t.start (moment_told t.text)) ∷ left_changes now s t.start (unwrap_or (moment_told t.text) (pos 0)) r) ts reach
     → Leads now (at places.Moment s) (record { base = Quoted t; changes = r.0 }, r.1) ts reach (timing s places.Moment (based t.start s.draft.moment o))
@@ -266,7 +247,7 @@ quoted_leads now s t r ts reach suits (Some n) v w =
 quoted_leads now s t r ts reach suits None v w =
     failed (literal_fault t.start (moment_told t.text)) (left_changes now s t.start (unwrap_or (moment_told t.text) (pos 0)) r) ts reach (OutOfRange t.start) (ap (literal_fault t.start) v) w
 
-negative_leads : (now : ℤ) (s : State) (t : Lexeme) (m : Measure) (r : List Change × Closing) (ts : List Lexeme) (reach : Reach) → s.draft.filter.depth ≡ levels r.1
+negative_leads : (now : ℤ) (s : Progress) (t : Lexeme) (m : Measure) (r : List Change × Closing) (ts : List Lexeme) (reach : Reach) → s.draft.filter.depth ≡ levels r.1
     → (o : Option ℤ) → literal true t.text ≡ o
     → Reads (Examine (literal_fault s.draft.moment.first (literal true t.text)) ∷ left_changes now s s.draft.moment.first (unwrap_or (literal true t.text) (pos 0)) r) ts reach
     → Leads now (at places.MomentMinus s) (m, (t, r)) ts reach (timing s places.MomentMinus (based s.draft.moment.first s.draft.moment o))
@@ -282,17 +263,17 @@ negative_leads now s t m r ts reach suits None v w =
     failed (literal_fault s.draft.moment.first (literal true t.text)) (left_changes now s s.draft.moment.first (unwrap_or (literal true t.text) (pos 0)) r) ts reach (OutOfRange s.draft.moment.first) (ap (literal_fault s.draft.moment.first) v) w
 
 -- what a rest at `Moment` that begins so leads to
-abbrev pub MomentLeads : ℤ → State → Base → List Change × Closing → Lexeme → List Lexeme → Reach → Kind → Type 0
+abbrev pub MomentLeads : ℤ → Progress → Base → List Change × Closing → Lexeme → List Lexeme → Reach → Kind → Type 0
 MomentLeads now s base r t ts reach k = Leads now (at places.Moment s) (record { base = base; changes = r.0 }, r.1) ts reach (moment_steps now s places.Moment t k)
 
-measured_leads : (now : ℤ) (s : State) (t : Lexeme) (m : Measure) (r : List Change × Closing) (ts : List Lexeme) (reach : Reach) → s.draft.filter.depth ≡ levels r.1
+measured_leads : (now : ℤ) (s : Progress) (t : Lexeme) (m : Measure) (r : List Change × Closing) (ts : List Lexeme) (reach : Reach) → s.draft.filter.depth ≡ levels r.1
     → Reads (Examine (literal_fault t.start (literal false t.text)) ∷ left_changes now s t.start (unwrap_or (literal false t.text) (pos 0)) r) ts reach
     → MomentLeads now s (Number m t) r t ts reach (kind_of_measure m)
 measured_leads now s t Count r ts reach suits w = number_leads now s t Count r ts reach suits (literal false t.text) refl w
 measured_leads now s t Duration r ts reach suits w = number_leads now s t Duration r ts reach suits (literal false t.text) refl w
 
 -- the token is the one that the tree has
-moment_leads_at : (now : ℤ) (s : State) (base : Base) (r : List Change × Closing) (t : Lexeme) (ts : List Lexeme) (reach : Reach)
+moment_leads_at : (now : ℤ) (s : Progress) (base : Base) (r : List Change × Closing) (t : Lexeme) (ts : List Lexeme) (reach : Reach)
     → s.draft.filter.depth ≡ levels r.1 → Reads (left_at places.Moment now (at places.Moment s) (record { base = base; changes = r.0 }, r.1)) (t ∷ ts) reach
     → MomentLeads now s base r t ts reach t.kind
 moment_leads_at now s (Number m l) r t ts reach suits w =
@@ -315,18 +296,18 @@ moment_leads_at now s (Now l) r t ts reach suits w =
     (timing s places.Moment (if b then Ok (places.NowOpen, record (s.draft.moment) { first = t.start }) else Err (unexpected t)))) (sym u.1.1)
     (r, suits, u.2, refl))) w
 
-pub moment_leads : (now : ℤ) (s : State) (q : Rest places.Moment) (t : Lexeme) (ts : List Lexeme) (reach : Reach)
+pub moment_leads : (now : ℤ) (s : Progress) (q : Rest places.Moment) (t : Lexeme) (ts : List Lexeme) (reach : Reach)
     → SuitsAt places.Moment (at places.Moment s) q → Reads (left_at places.Moment now (at places.Moment s) q) (t ∷ ts) reach
     → Leads now (at places.Moment s) q ts reach (timing s places.Moment (moment_at now places.Moment t.kind t s.draft.moment))
 moment_leads now s q t ts reach suits w = moment_leads_at now s q.0.base (q.0.changes, q.1) t ts reach suits w
 
-moment_minus_leads_at : (now : ℤ) (s : State) (m : Measure) (r : List Change × Closing) (t : Lexeme) (ts : List Lexeme) (reach : Reach) → s.draft.filter.depth ≡ levels r.1
+moment_minus_leads_at : (now : ℤ) (s : Progress) (m : Measure) (r : List Change × Closing) (t : Lexeme) (ts : List Lexeme) (reach : Reach) → s.draft.filter.depth ≡ levels r.1
     → Reads (Examine (literal_fault s.draft.moment.first (literal true t.text)) ∷ left_changes now s s.draft.moment.first (unwrap_or (literal true t.text) (pos 0)) r) ts reach
     → Leads now (at places.MomentMinus s) (m, (t, r)) ts reach (moment_steps now s places.MomentMinus t (kind_of_measure m))
 moment_minus_leads_at now s Count r t ts reach suits w = negative_leads now s t Count r ts reach suits (literal true t.text) refl w
 moment_minus_leads_at now s Duration r t ts reach suits w = negative_leads now s t Duration r ts reach suits (literal true t.text) refl w
 
-pub moment_minus_leads : (now : ℤ) (s : State) (q : Rest places.MomentMinus) (t : Lexeme) (ts : List Lexeme) (reach : Reach)
+pub moment_minus_leads : (now : ℤ) (s : Progress) (q : Rest places.MomentMinus) (t : Lexeme) (ts : List Lexeme) (reach : Reach)
     → SuitsAt places.MomentMinus (at places.MomentMinus s) q → Reads (left_at places.MomentMinus now (at places.MomentMinus s) q) (t ∷ ts) reach
     → Leads now (at places.MomentMinus s) q ts reach (timing s places.MomentMinus (moment_at now places.MomentMinus t.kind t s.draft.moment))
 moment_minus_leads now s q t ts reach suits w =
@@ -335,19 +316,19 @@ moment_minus_leads now s q t ts reach suits w =
     (λ u. subst (λ (k : Kind). Leads now (at places.MomentMinus s) (q.0, (t, q.1.1)) ts reach (moment_steps now s places.MomentMinus t k)) (sym u.1)
     (moment_minus_leads_at now s q.0 q.1.1 t ts reach suits u.2)) w
 
-pub now_open_leads : (now : ℤ) (s : State) (q : Rest places.NowOpen) (t : Lexeme) (ts : List Lexeme) (reach : Reach)
+pub now_open_leads : (now : ℤ) (s : Progress) (q : Rest places.NowOpen) (t : Lexeme) (ts : List Lexeme) (reach : Reach)
     → SuitsAt places.NowOpen (at places.NowOpen s) q → Reads (left_at places.NowOpen now (at places.NowOpen s) q) (t ∷ ts) reach
     → Leads now (at places.NowOpen s) q ts reach (timing s places.NowOpen (moment_at now places.NowOpen t.kind t s.draft.moment))
 now_open_leads now s q t ts reach suits w =
     subst (λ (k : Kind). Leads now (at places.NowOpen s) q ts reach (moment_steps now s places.NowOpen t k)) (sym w.0) (q, suits, w.1, refl)
 
-pub now_close_leads : (now : ℤ) (s : State) (q : Rest places.NowClose) (t : Lexeme) (ts : List Lexeme) (reach : Reach)
+pub now_close_leads : (now : ℤ) (s : Progress) (q : Rest places.NowClose) (t : Lexeme) (ts : List Lexeme) (reach : Reach)
     → SuitsAt places.NowClose (at places.NowClose s) q → Reads (left_at places.NowClose now (at places.NowClose s) q) (t ∷ ts) reach
     → Leads now (at places.NowClose s) q ts reach (timing s places.NowClose (moment_at now places.NowClose t.kind t s.draft.moment))
 now_close_leads now s q t ts reach suits w =
     subst (λ (k : Kind). Leads now (at places.NowClose s) q ts reach (moment_steps now s places.NowClose t k)) (sym w.0) (q, suits, w.1, refl)
 
-change_leads_at : (now : ℤ) (s : State) (less : Bool) (l : Lexeme) (cs : List Change) (closing : Closing) (t : Lexeme) (ts : List Lexeme) (reach : Reach)
+change_leads_at : (now : ℤ) (s : Progress) (less : Bool) (l : Lexeme) (cs : List Change) (closing : Closing) (t : Lexeme) (ts : List Lexeme) (reach : Reach)
     → s.draft.filter.depth ≡ levels closing → Reads (left_at places.AfterMoment now (at places.AfterMoment s) (by_value less l ∷ cs, closing)) (t ∷ ts) reach
     → Leads now (at places.AfterMoment s) (by_value less l ∷ cs, closing) ts reach (moment_steps now s places.AfterMoment t t.kind)
 change_leads_at now s false l cs closing t ts reach suits w =
@@ -357,44 +338,36 @@ change_leads_at now s true l cs closing t ts reach suits w =
     subst (λ (k : Kind). Leads now (at places.AfterMoment s) (by_value true l ∷ cs, closing) ts reach (moment_steps now s places.AfterMoment t k)) (sym w.0)
     ((l, (cs, closing)), suits, w.1, refl)
 
-pub change_leads : (now : ℤ) (s : State) (c : Change) (cs : List Change) (closing : Closing) (t : Lexeme) (ts : List Lexeme) (reach : Reach)
+pub change_leads : (now : ℤ) (s : Progress) (c : Change) (cs : List Change) (closing : Closing) (t : Lexeme) (ts : List Lexeme) (reach : Reach)
     → SuitsAt places.AfterMoment (at places.AfterMoment s) (c ∷ cs, closing) → Reads (left_at places.AfterMoment now (at places.AfterMoment s) (c ∷ cs, closing)) (t ∷ ts) reach
     → Leads now (at places.AfterMoment s) (c ∷ cs, closing) ts reach (timing s places.AfterMoment (moment_at now places.AfterMoment t.kind t s.draft.moment))
 change_leads now s c cs closing t ts reach suits w = change_leads_at now s c.less c.by cs closing t ts reach suits w
 
 -- what is examined of a change, and what stands behind it
-abbrev pub examined_change : ℤ → State → Bool → Lexeme → List Change × Closing → List Item
+abbrev pub examined_change : ℤ → Progress → Bool → Lexeme → List Change × Closing → List Item
 examined_change now s less t r =
-    Examine (change_fault s.draft.moment.first s.draft.moment.total (by_value less t)) ∷ left_changes now s s.draft.moment.first (changed s.draft.moment.total (by_value less t)) r
+    Examine (change_fault (by_value less t)) ∷ left_changes now s s.draft.moment.first (changed s.draft.moment.total (by_value less t)) r
 
-summed_on : (now : ℤ) (s : State) (less : Bool) (t : Lexeme) (n : ℤ) (r : List Change × Closing) (ts : List Lexeme) (reach : Reach) → literal false t.text ≡ Some n
-    → is_sum (changed_by less s.draft.moment.total n) ≡ true → Reads (examined_change now s less t r) ts reach
+summed_on : (now : ℤ) (s : Progress) (less : Bool) (t : Lexeme) (n : ℤ) (r : List Change × Closing) (ts : List Lexeme) (reach : Reach) → literal false t.text ≡ Some n
+    → Reads (examined_change now s less t r) ts reach
     → Reads (left_changes now s s.draft.moment.first (changed_by less s.draft.moment.total n) r) ts reach
-summed_on now s less t n r ts reach v is w =
+summed_on now s less t n r ts reach v w =
     carried (λ (x : ℤ). left_changes now s s.draft.moment.first x r) ts reach (changed s.draft.moment.total (by_value less t)) (changed_by less s.draft.moment.total n) (sym (sum_of s less t n v))
-    (passed (change_fault s.draft.moment.first s.draft.moment.total (by_value less t)) (left_changes now s s.draft.moment.first (changed s.draft.moment.total (by_value less t)) r) ts reach
-    (sum_examined s less t n true v is) w)
+    (passed (change_fault (by_value less t)) (left_changes now s s.draft.moment.first (changed s.draft.moment.total (by_value less t)) r) ts reach
+    (valued less t n v) w)
 
-change_failed : (now : ℤ) (s : State) (less : Bool) (t : Lexeme) (r : List Change × Closing) (ts : List Lexeme) (reach : Reach) (f : Fault)
-    → change_fault s.draft.moment.first s.draft.moment.total (by_value less t) ≡ Some f → Reads (examined_change now s less t r) ts reach → (ts ≡ []) × (reach ≡ At f)
+change_failed : (now : ℤ) (s : Progress) (less : Bool) (t : Lexeme) (r : List Change × Closing) (ts : List Lexeme) (reach : Reach) (f : Fault)
+    → change_fault (by_value less t) ≡ Some f → Reads (examined_change now s less t r) ts reach → (ts ≡ []) × (reach ≡ At f)
 change_failed now s less t r ts reach f is w =
-    failed (change_fault s.draft.moment.first s.draft.moment.total (by_value less t)) (left_changes now s s.draft.moment.first (changed s.draft.moment.total (by_value less t)) r) ts reach f is w
+    failed (change_fault (by_value less t)) (left_changes now s s.draft.moment.first (changed s.draft.moment.total (by_value less t)) r) ts reach f is w
 
-plus_sum_leads : (now : ℤ) (s : State) (t : Lexeme) (r : List Change × Closing) (ts : List Lexeme) (reach : Reach) → s.draft.filter.depth ≡ levels r.1
-    → (n : ℤ) → literal false t.text ≡ Some n → (b : Bool) → is_sum (s.draft.moment.total +ℤ n) ≡ b → Reads (examined_change now s false t r) ts reach
-    → Leads now (at places.MomentPlus s) (t, r) ts reach
-    (timing s places.MomentPlus (if b then Ok (places.AfterMoment, record (s.draft.moment) { total = s.draft.moment.total +ℤ n }) else Err (OutOfRange s.draft.moment.first)))
-plus_sum_leads now s t r ts reach suits n v true is w = (r, suits, summed_on now s false t n r ts reach v is w, summed_says now s false t n r v)
-plus_sum_leads now s t r ts reach suits n v false is w =
-    change_failed now s false t r ts reach (OutOfRange s.draft.moment.first) (sum_examined s false t n false v is) w
-
-plus_leads_at : (now : ℤ) (s : State) (t : Lexeme) (r : List Change × Closing) (ts : List Lexeme) (reach : Reach) → s.draft.filter.depth ≡ levels r.1
+plus_leads_at : (now : ℤ) (s : Progress) (t : Lexeme) (r : List Change × Closing) (ts : List Lexeme) (reach : Reach) → s.draft.filter.depth ≡ levels r.1
     → (o : Option ℤ) → literal false t.text ≡ o → Reads (examined_change now s false t r) ts reach
     → Leads now (at places.MomentPlus s) (t, r) ts reach (timing s places.MomentPlus (later_by t s.draft.moment o))
-plus_leads_at now s t r ts reach suits (Some n) v w = plus_sum_leads now s t r ts reach suits n v (is_sum (s.draft.moment.total +ℤ n)) refl w
-plus_leads_at now s t r ts reach suits None v w = change_failed now s false t r ts reach (OutOfRange t.start) (unvalued s false t v) w
+plus_leads_at now s t r ts reach suits (Some n) v w = (r, suits, summed_on now s false t n r ts reach v w, summed_says now s false t n r v)
+plus_leads_at now s t r ts reach suits None v w = change_failed now s false t r ts reach (OutOfRange t.start) (unvalued false t v) w
 
-pub moment_plus_leads : (now : ℤ) (s : State) (q : Rest places.MomentPlus) (t : Lexeme) (ts : List Lexeme) (reach : Reach)
+pub moment_plus_leads : (now : ℤ) (s : Progress) (q : Rest places.MomentPlus) (t : Lexeme) (ts : List Lexeme) (reach : Reach)
     → SuitsAt places.MomentPlus (at places.MomentPlus s) q → Reads (left_at places.MomentPlus now (at places.MomentPlus s) q) (t ∷ ts) reach
     → Leads now (at places.MomentPlus s) q ts reach (timing s places.MomentPlus (moment_at now places.MomentPlus t.kind t s.draft.moment))
 moment_plus_leads now s q t ts reach suits w =
@@ -403,21 +376,13 @@ moment_plus_leads now s q t ts reach suits w =
     (λ u. subst (λ (k : Kind). Leads now (at places.MomentPlus s) (t, q.1) ts reach (moment_steps now s places.MomentPlus t k)) (sym u.1)
     (plus_leads_at now s t q.1 ts reach suits (literal false t.text) refl u.2)) w
 
-less_sum_leads : (now : ℤ) (s : State) (t : Lexeme) (r : List Change × Closing) (ts : List Lexeme) (reach : Reach) → s.draft.filter.depth ≡ levels r.1
-    → (n : ℤ) → literal false t.text ≡ Some n → (b : Bool) → is_sum (s.draft.moment.total -ℤ n) ≡ b → Reads (examined_change now s true t r) ts reach
-    → Leads now (at places.MomentLess s) (t, r) ts reach
-    (timing s places.MomentLess (if b then Ok (places.AfterMoment, record (s.draft.moment) { total = s.draft.moment.total -ℤ n }) else Err (OutOfRange s.draft.moment.first)))
-less_sum_leads now s t r ts reach suits n v true is w = (r, suits, summed_on now s true t n r ts reach v is w, summed_says now s true t n r v)
-less_sum_leads now s t r ts reach suits n v false is w =
-    change_failed now s true t r ts reach (OutOfRange s.draft.moment.first) (sum_examined s true t n false v is) w
-
-less_leads_at : (now : ℤ) (s : State) (t : Lexeme) (r : List Change × Closing) (ts : List Lexeme) (reach : Reach) → s.draft.filter.depth ≡ levels r.1
+less_leads_at : (now : ℤ) (s : Progress) (t : Lexeme) (r : List Change × Closing) (ts : List Lexeme) (reach : Reach) → s.draft.filter.depth ≡ levels r.1
     → (o : Option ℤ) → literal false t.text ≡ o → Reads (examined_change now s true t r) ts reach
     → Leads now (at places.MomentLess s) (t, r) ts reach (timing s places.MomentLess (earlier_by t s.draft.moment o))
-less_leads_at now s t r ts reach suits (Some n) v w = less_sum_leads now s t r ts reach suits n v (is_sum (s.draft.moment.total -ℤ n)) refl w
-less_leads_at now s t r ts reach suits None v w = change_failed now s true t r ts reach (OutOfRange t.start) (unvalued s true t v) w
+less_leads_at now s t r ts reach suits (Some n) v w = (r, suits, summed_on now s true t n r ts reach v w, summed_says now s true t n r v)
+less_leads_at now s t r ts reach suits None v w = change_failed now s true t r ts reach (OutOfRange t.start) (unvalued true t v) w
 
-pub moment_less_leads : (now : ℤ) (s : State) (q : Rest places.MomentLess) (t : Lexeme) (ts : List Lexeme) (reach : Reach)
+pub moment_less_leads : (now : ℤ) (s : Progress) (q : Rest places.MomentLess) (t : Lexeme) (ts : List Lexeme) (reach : Reach)
     → SuitsAt places.MomentLess (at places.MomentLess s) q → Reads (left_at places.MomentLess now (at places.MomentLess s) q) (t ∷ ts) reach
     → Leads now (at places.MomentLess s) q ts reach (timing s places.MomentLess (moment_at now places.MomentLess t.kind t s.draft.moment))
 moment_less_leads now s q t ts reach suits w =
@@ -447,12 +412,12 @@ unsettled_back_by : (m : Moment) (range : Range) (f : Fault) (b : Bool) → faul
 unsettled_back_by m range f true w = absurd (cc)
 unsettled_back_by m range f false w = let same : OutOfRange m.first ≡ f = cc in (ap Err same, ap Err same)
 
-pub settles_back : (s : State) → time_fault s.draft.moment.first s.draft.moment.total ≡ None
+pub settles_back : (s : Progress) → time_fault s.draft.moment.first s.draft.moment.total ≡ None
     → settled s.draft.moment s.draft.range ≡ Ok (bounded s.draft.moment.comparison s.draft.moment.total s.draft.range)
 unfolding settled
 settles_back s w = settles_back_by s.draft.moment s.draft.range (valid s.draft.moment) w
 
-pub unsettled_back : (s : State) (f : Fault) → time_fault s.draft.moment.first s.draft.moment.total ≡ Some f
-    → (settled s.draft.moment s.draft.range ≡ Err f) × (time_of s.draft.moment ≡ Err f)
+pub unsettled_back : (s : Progress) (f : Fault) → time_fault s.draft.moment.first s.draft.moment.total ≡ Some f
+    → (settled s.draft.moment s.draft.range ≡ Err f) × (moment_time s.draft.moment ≡ Err f)
 unfolding settled
 unsettled_back s f w = unsettled_back_by s.draft.moment s.draft.range f (valid s.draft.moment) w

@@ -8,37 +8,37 @@ use Rattle.ts_ql.specs.declared.place.Place.{Place}
 use Rattle.ts_ql.specs.declared.place.Place.TheVariants as places
 use Rattle.ts_ql.specs.declared.token.Kind.{Kind}
 use Rattle.ts_ql.specs.declared.token.Kind.TheVariants as kinds
-use Rattle.ts_ql.specs.Faults.{Fault, Syntax, unexpected, IsFailure}
+use Rattle.ts_ql.specs.QueryFaults.{Fault, Syntax, unexpected, IsFailure}
 use Rattle.ts_ql.specs.Lexing.{token_at}
-use Rattle.ts_ql.specs.Reading.{State, Step, start_state, begun_at, step, is_done, goes_on, read_on, queries_of}
+use Rattle.ts_ql.specs.Reading.{Progress, Advance, start_progress, begun_at, step, is_done, goes_on, read_on, queries_of}
 use Rattle.ts_ql.specs.Selects.{Select}
 use Rattle.ts_ql.specs.Tokens.{Lexeme}
 
 -- ---- the beginning of a statement
 
-pub begun_other : (k : Kind) (t : Lexeme) (s : State) → (k ≡ kinds.Keyword → ⊥) → (k ≡ kinds.End → ⊥) → begun_at k t s ≡ Err (unexpected t)
+pub begun_other : (k : Kind) (t : Lexeme) (s : Progress) → (k ≡ kinds.Keyword → ⊥) → (k ≡ kinds.End → ⊥) → begun_at k t s ≡ Err (unexpected t)
 begun_other kinds.Keyword t s h e = absurd (h refl)
 begun_other kinds.End t s h e = absurd (e refl)
 begun_other k t s h e = refl
 
-pub begun_last : (k : Kind) (t : Lexeme) (s : State) → k ≡ kinds.End → (s.count ≡ 0 → ⊥) → begun_at k t s ≡ Ok (record s { place = places.Done })
+pub begun_last : (k : Kind) (t : Lexeme) (s : Progress) → k ≡ kinds.End → (s.count ≡ 0 → ⊥) → begun_at k t s ≡ Ok (record s { place = places.Done })
 begun_last k t s e some = rw (e, ne_eqb s.count 0 some) refl
 
 -- ---- token by token
 
-read_on_step : (most i : ℕ) (now : ℤ) (text : Text) (s : State) (at : ℕ) → i < most
+read_on_step : (most i : ℕ) (now : ℤ) (text : Text) (s : Progress) (at : ℕ) → i < most
     → read_on (most - i) now text s at ≡ goes_on (read_on (most - (i + 1)) now text) (token_at text at) (step now (token_at text at) s)
 read_on_step most i now text s at lt = let more : most - i ≡ suc (most - (i + 1)) = omega arith in rw more refl
 
-abbrev with_rest : ℕ → ℕ → ℤ → Text → ℕ → Step → Result (List Select) Fault
+abbrev with_rest : ℕ → ℕ → ℤ → Text → ℕ → Advance → Result (List Select) Fault
 with_rest most i now text at after = goes_on (read_on (most - (i + 1)) now text) (token_at text at) after
 
-pub read_failed : (most i : ℕ) (now : ℤ) (text : Text) (s : State) (at : ℕ) (e : ParseError) (said : Result (List Select) Fault) → i < most
+pub read_failed : (most i : ℕ) (now : ℤ) (text : Text) (s : Progress) (at : ℕ) (e : ParseError) (said : Result (List Select) Fault) → i < most
     → read_on (most - i) now text s at ≡ said → IsFailure e (step now (token_at text at) s) → IsFailure e said
-read_failed most i now text s at errors.Memory said lt reads fails = tt
+read_failed most i now text s at errors.OutOfMemory said lt reads fails = tt
 read_failed most i now text s at (errors.Fault f) said lt reads fails = sym reads ∙ (read_on_step most i now text s at lt ∙ ap (with_rest most i now text at) fails)
 
-pub read_done : (most i : ℕ) (now : ℤ) (text : Text) (s : State) (at : ℕ) (after : State) (said : Result (List Select) Fault) → i < most
+pub read_done : (most i : ℕ) (now : ℤ) (text : Text) (s : Progress) (at : ℕ) (after : Progress) (said : Result (List Select) Fault) → i < most
     → read_on (most - i) now text s at ≡ said → step now (token_at text at) s ≡ Ok after → after.place ≡ places.Done → said ≡ Ok after.queries
 read_done most i now text s at after said lt reads stepped done =
     let ends : with_rest most i now text at (Ok after) ≡ Ok after.queries = rw done refl in
@@ -48,24 +48,24 @@ not_done : (p : Place) → (p ≡ places.Done → ⊥) → is_done p ≡ false
 not_done places.Done h = absurd (h refl)
 not_done p h = refl
 
-pub read_more : (most i : ℕ) (now : ℤ) (text : Text) (s : State) (at : ℕ) (after : State) (said : Result (List Select) Fault) → i < most
+pub read_more : (most i : ℕ) (now : ℤ) (text : Text) (s : Progress) (at : ℕ) (after : Progress) (said : Result (List Select) Fault) → i < most
     → read_on (most - i) now text s at ≡ said → step now (token_at text at) s ≡ Ok after → (after.place ≡ places.Done → ⊥)
     → read_on (most - (i + 1)) now text after (token_at text at).end ≡ said
 read_more most i now text s at after said lt reads stepped more =
     let goes : with_rest most i now text at (Ok after) ≡ read_on (most - (i + 1)) now text after (token_at text at).end = rw (not_done after.place more) refl in
     sym goes ∙ (sym (ap (with_rest most i now text at) stepped) ∙ (sym (read_on_step most i now text s at lt) ∙ reads))
 
-pub read_out : (most i : ℕ) (now : ℤ) (text : Text) (s : State) (at : ℕ) (said : Result (List Select) Fault) → most ≤ i
+pub read_out : (most i : ℕ) (now : ℤ) (text : Text) (s : Progress) (at : ℕ) (said : Result (List Select) Fault) → most ≤ i
     → read_on (most - i) now text s at ≡ said → said ≡ Err (Syntax (length text))
 read_out most i now text s at said le reads =
     let none : most - i ≡ 0 = omega arith in
     let out = rw none at reads in
     sym out
 
-pub read_start : (most : ℕ) (now : ℤ) (text : Text) (s : State) → s ≡ start_state → read_on (most - 0) now text s 0 ≡ read_on most now text start_state 0
+pub read_start : (most : ℕ) (now : ℤ) (text : Text) (s : Progress) → s ≡ start_progress → read_on (most - 0) now text s 0 ≡ read_on most now text start_progress 0
 read_start most now text s e = let all : most - 0 ≡ most = omega arith in rw (all, e) refl
 
-pub short_text : (now : ℤ) (text : Text) → length text ≤ 65536 → queries_of now text ≡ read_on (length text + 1) now text start_state 0
+pub short_text : (now : ℤ) (text : Text) → length text ≤ 65536 → queries_of now text ≡ read_on (length text + 1) now text start_progress 0
 unfolding queries_of
 short_text now text le = rw (le-ltb 65536 (length text) le) refl
 

@@ -9,16 +9,16 @@ use Rattle.ts_ql.specs.declared.moment.Comparison.{Comparison}
 use Rattle.ts_ql.specs.declared.place.Place.{Place}
 use Rattle.ts_ql.specs.declared.place.Place.TheVariants as places
 use Rattle.ts_ql.specs.declared.token.Kind.TheVariants as kinds
-use Rattle.ts_ql.specs.Faults.{Fault}
-use Rattle.ts_ql.specs.Grammar.{Keyword, Word, Name, Of, Item, Any, This, Examine, FieldType, Aggregate, Source, Measure, Duration, Change, Instant, Cond, Signed, Dimension, GroupBy, FillOption, Statement, Ending}
-use Rattle.ts_ql.specs.GroupSteps.{moved}
+use Rattle.ts_ql.specs.QueryFaults.{Fault}
+use Rattle.ts_ql.specs.Grammar.{Keyword, Word, Name, Of, Item, Any, This, Examine, FieldType, Call, FromClause, Measure, Duration, Change, Instant, Cond, Signed, Dimension, GroupBy, FillOption, Statement, Ending}
+use Rattle.ts_ql.specs.Drafts.{meaning, empty_draft}
+use Rattle.ts_ql.specs.Ranges.{bounded}
 use Rattle.ts_ql.specs.Literals.{literal}
-use Rattle.ts_ql.specs.Meanings.{field_after, column_of, after_aggregate, after_aggregates, after_source, changed, changed_all, told_by, after_cond, after_filter, buckets_of, offset_by, after_dimension, after_dimensions, after_group, fill_of, after_fill, parts_of, said_all}
-use Rattle.ts_ql.specs.MomentSteps.{bounded}
-use Rattle.ts_ql.specs.Reading.{State}
-use Rattle.ts_ql.specs.Selects.{Select, Buckets}
-use Rattle.ts_ql.specs.Spelling.{field_fault, literal_fault, interval_fault, change_fault, type_word, spell_type, spell_alias, spell_aggregate, spell_aggregates, spell_source, kind_of_measure, spell_changes, spell_instant, kind_of_comparison, spell_tag_type, equality, spell_cond, spell_filter, spell_signed, spell_offset, spell_dimension, spell_dimensions, spell_group, spell_option, spell_fill, spell_statement, spell_ending}
-use Rattle.ts_ql.specs.Statements.{Parts, parts, empty_draft}
+use Rattle.ts_ql.specs.Meanings.{field_after, projection_of, after_call, after_calls, after_from, changed, changed_all, told_by, after_cond, after_filter, buckets_of, offset_by, after_dimension, after_dimensions, after_group, fill_of, after_fill, meaning_of, said_all}
+use Rattle.ts_ql.specs.Reading.{Progress}
+use Rattle.ts_ql.specs.Selects.{Select, Buckets, moved}
+use Rattle.ts_ql.specs.Productions.{field_fault, literal_fault, interval_fault, change_fault, type_word, spell_type, spell_alias, spell_call, spell_calls, spell_from, kind_of_measure, spell_changes, spell_instant, kind_of_comparison, spell_tag_type, equality, spell_cond, spell_filter, spell_signed, spell_offset, spell_dimension, spell_dimensions, spell_group, spell_option, spell_fill, spell_statement, spell_ending}
+use Rattle.ts_ql.specs.Statements.{Meaning}
 use Rattle.ts_ql.specs.Tokens.{Lexeme}
 use Rattle.ts_ql.specs.Words.{named}
 
@@ -37,7 +37,7 @@ abbrev pub FilterTail : Type 0
 FilterTail = Option Cond × GroupTail
 
 abbrev pub SelectTail : Type 0
-SelectTail = List Aggregate × (Source × FilterTail)
+SelectTail = List Call × (FromClause × FilterTail)
 
 -- after a term: conditions in the same parentheses, and then those outside of them
 pub data Closing : Type 0 where
@@ -49,7 +49,7 @@ abbrev pub levels : Closing → ℕ
 levels (Outside cs tail) = 0
 levels (Inside cs closing) = levels closing + 1
 
-abbrev pub after_conds : ℤ → Parts → List Cond → Parts
+abbrev pub after_conds : ℤ → Meaning → List Cond → Meaning
 after_conds now p [] = p
 after_conds now p (c ∷ cs) = after_conds now (after_cond now p c) cs
 
@@ -59,53 +59,53 @@ spell_conds now depth (c ∷ cs) rest = Any (Keyword (codes "and")) ∷ spell_co
 
 -- ---- what the rests spell, of a statement that begins at `start` as the `n`th
 
-abbrev pub left_ending : ℤ → State → Parts → Ending → List Item
+abbrev pub left_ending : ℤ → Progress → Meaning → Ending → List Item
 left_ending now s p ending = spell_ending now s.count s.start p ending
 
-abbrev pub left_fill : ℤ → State → Parts → FillTail → List Item
+abbrev pub left_fill : ℤ → Progress → Meaning → FillTail → List Item
 left_fill now s p tail = spell_fill tail.0 (left_ending now s (after_fill p tail.0) tail.1)
 
-abbrev pub left_dimensions : ℤ → State → Parts → DimensionTail → List Item
+abbrev pub left_dimensions : ℤ → Progress → Meaning → DimensionTail → List Item
 left_dimensions now s p tail = spell_dimensions p tail.0 (left_fill now s (after_dimensions p tail.0) tail.1)
 
-abbrev pub left_group : ℤ → State → Parts → GroupTail → List Item
+abbrev pub left_group : ℤ → Progress → Meaning → GroupTail → List Item
 left_group now s p tail = spell_group p tail.0 (left_fill now s (after_group p tail.0) tail.1)
 
-abbrev pub left_filter : ℤ → State → Parts → FilterTail → List Item
+abbrev pub left_filter : ℤ → Progress → Meaning → FilterTail → List Item
 left_filter now s p tail = spell_filter now tail.0 (left_group now s (after_filter now p tail.0) tail.1)
 
-abbrev pub left_source : ℤ → State → Parts → Source × FilterTail → List Item
-left_source now s p tail = spell_source tail.0 (left_filter now s (after_source p tail.0) tail.1)
+abbrev pub left_source : ℤ → Progress → Meaning → FromClause × FilterTail → List Item
+left_source now s p tail = spell_from tail.0 (left_filter now s (after_from p tail.0) tail.1)
 
-abbrev pub left_select : ℤ → State → Parts → SelectTail → List Item
-left_select now s p tail = spell_aggregates p tail.0 (Any (Keyword (codes "from")) ∷ left_source now s (after_aggregates p tail.0) tail.1)
+abbrev pub left_select : ℤ → Progress → Meaning → SelectTail → List Item
+left_select now s p tail = spell_calls p tail.0 (Any (Keyword (codes "from")) ∷ left_source now s (after_calls p tail.0) tail.1)
 
-abbrev pub left_closing : ℤ → State → Parts → Closing → List Item
+abbrev pub left_closing : ℤ → Progress → Meaning → Closing → List Item
 left_closing now s p (Outside cs tail) = spell_conds now 0 cs (left_group now s (after_conds now p cs) tail)
 left_closing now s p (Inside cs closing) =
     spell_conds now (levels closing + 1) cs (Any (Of kinds.Close) ∷ left_closing now s (after_conds now p cs) closing)
 
 -- ---- what the statements of the rests say
 
-abbrev pub said_fill : ℤ → State → Parts → FillTail → List (Result Select Fault)
+abbrev pub said_fill : ℤ → Progress → Meaning → FillTail → List (Result Select Fault)
 said_fill now s p tail = said_all now s.start (after_fill p tail.0) tail.1
 
-abbrev pub said_dimensions : ℤ → State → Parts → DimensionTail → List (Result Select Fault)
+abbrev pub said_dimensions : ℤ → Progress → Meaning → DimensionTail → List (Result Select Fault)
 said_dimensions now s p tail = said_fill now s (after_dimensions p tail.0) tail.1
 
-abbrev pub said_group : ℤ → State → Parts → GroupTail → List (Result Select Fault)
+abbrev pub said_group : ℤ → Progress → Meaning → GroupTail → List (Result Select Fault)
 said_group now s p tail = said_fill now s (after_group p tail.0) tail.1
 
-abbrev pub said_filter : ℤ → State → Parts → FilterTail → List (Result Select Fault)
+abbrev pub said_filter : ℤ → Progress → Meaning → FilterTail → List (Result Select Fault)
 said_filter now s p tail = said_group now s (after_filter now p tail.0) tail.1
 
-abbrev pub said_source : ℤ → State → Parts → Source × FilterTail → List (Result Select Fault)
-said_source now s p tail = said_filter now s (after_source p tail.0) tail.1
+abbrev pub said_source : ℤ → Progress → Meaning → FromClause × FilterTail → List (Result Select Fault)
+said_source now s p tail = said_filter now s (after_from p tail.0) tail.1
 
-abbrev pub said_select : ℤ → State → Parts → SelectTail → List (Result Select Fault)
-said_select now s p tail = said_source now s (after_aggregates p tail.0) tail.1
+abbrev pub said_select : ℤ → Progress → Meaning → SelectTail → List (Result Select Fault)
+said_select now s p tail = said_source now s (after_calls p tail.0) tail.1
 
-abbrev pub said_closing : ℤ → State → Parts → Closing → List (Result Select Fault)
+abbrev pub said_closing : ℤ → Progress → Meaning → Closing → List (Result Select Fault)
 said_closing now s p (Outside cs tail) = said_group now s (after_conds now p cs) tail
 said_closing now s p (Inside cs closing) = said_closing now s (after_conds now p cs) closing
 
@@ -117,7 +117,7 @@ ClosedTail = Option Lexeme × SelectTail
 
 abbrev pub Rest : Place → Type 0
 Rest places.Statement = Option (Statement × Ending)
-Rest places.Function = Aggregate × SelectTail
+Rest places.Function = Call × SelectTail
 Rest places.FunctionOpen = Lexeme × (Option FieldType × ClosedTail)
 Rest places.Field = Lexeme × (Option FieldType × ClosedTail)
 Rest places.FieldEnd = Option FieldType × ClosedTail
@@ -126,7 +126,7 @@ Rest places.FieldClose = ClosedTail
 Rest places.AfterColumn = ClosedTail
 Rest places.Alias = Lexeme × SelectTail
 Rest places.AfterAlias = SelectTail
-Rest places.Measurement = Source × FilterTail
+Rest places.Measurement = FromClause × FilterTail
 Rest places.AfterMeasurement = FilterTail
 Rest places.Term = Cond × Closing
 Rest places.TagEnd = Bool × (Bool × (Lexeme × Closing))
@@ -163,90 +163,90 @@ Rest places.Done = ⊤
 
 -- ---- what has been said with the rest of a clause
 
-abbrev pub with_field : Parts → Lexeme → Parts
-with_field p l = record p { field = field_after p.field l }
+abbrev pub with_call_field : Meaning → Lexeme → Meaning
+with_call_field p l = record p { field = field_after p.field l }
 
-abbrev pub with_column : Parts → Function → Option Lexeme → Parts
-with_column p f alias = record p { columns = p.columns ++ column_of f alias ∷ [] }
+abbrev pub with_column : Meaning → Function → Option Lexeme → Meaning
+with_column p f alias = record p { columns = p.columns ++ projection_of f alias ∷ [] }
 
-abbrev pub with_match : Parts → Text → Bool → Lexeme → Parts
+abbrev pub with_match : Meaning → Text → Bool → Lexeme → Meaning
 with_match p tag differs value = record p { conditions = p.conditions ++ record { tag = tag; value = named value; differs = differs } ∷ [] }
 
-abbrev pub with_range : Parts → Comparison → ℤ → Parts
+abbrev pub with_range : Meaning → Comparison → ℤ → Meaning
 with_range p c total = record p { range = bounded c total p.range }
 
-abbrev pub with_buckets : Parts → Option Buckets → Parts
+abbrev pub with_buckets : Meaning → Option Buckets → Meaning
 with_buckets p b = record p { buckets = b }
 
-abbrev pub with_option : Parts → FillOption → Parts
+abbrev pub with_option : Meaning → FillOption → Meaning
 with_option p option = record p { fill = fill_of option }
 
 -- ---- what the rest at each place spells
 
-abbrev pub left_closed : ℤ → State → Parts → ClosedTail → List Item
+abbrev pub left_closed : ℤ → Progress → Meaning → ClosedTail → List Item
 left_closed now s p tail = spell_alias tail.0 (left_select now s (with_column p s.draft.selection.function tail.0) tail.1)
 
-abbrev pub left_typed : ℤ → State → Parts → Option FieldType × ClosedTail → List Item
+abbrev pub left_typed : ℤ → Progress → Meaning → Option FieldType × ClosedTail → List Item
 left_typed now s p tail = spell_type tail.0 (Any (Of kinds.Close) ∷ left_closed now s p tail.1)
 
-abbrev pub left_field : ℤ → State → Parts → Lexeme × (Option FieldType × ClosedTail) → List Item
-left_field now s p tail = This Name tail.0 ∷ Examine (field_fault p.field tail.0) ∷ left_typed now s (with_field p tail.0) tail.1
+abbrev pub left_field : ℤ → Progress → Meaning → Lexeme × (Option FieldType × ClosedTail) → List Item
+left_field now s p tail = This Name tail.0 ∷ Examine (field_fault p.field tail.0) ∷ left_typed now s (with_call_field p tail.0) tail.1
 
 -- the changes of a moment of that total
-abbrev pub left_changes : ℤ → State → ℕ → ℤ → List Change × Closing → List Item
+abbrev pub left_changes : ℤ → Progress → ℕ → ℤ → List Change × Closing → List Item
 left_changes now s first total tail =
-    spell_changes first total tail.0 (left_closing now s (with_range (parts s.draft) s.draft.moment.comparison (changed_all total tail.0)) tail.1)
+    spell_changes first total tail.0 (left_closing now s (with_range (meaning s.draft) s.draft.moment.comparison (changed_all total tail.0)) tail.1)
 
-abbrev pub left_change : ℤ → State → Bool → Lexeme × (List Change × Closing) → List Item
+abbrev pub left_change : ℤ → Progress → Bool → Lexeme × (List Change × Closing) → List Item
 left_change now s less tail =
-    This (Of kinds.Duration) tail.0 ∷ Examine (change_fault s.draft.moment.first s.draft.moment.total (record { less = less; by = tail.0 }))
+    This (Of kinds.Duration) tail.0 ∷ Examine (change_fault (record { less = less; by = tail.0 }))
     ∷ left_changes now s s.draft.moment.first (changed s.draft.moment.total (record { less = less; by = tail.0 })) tail.1
 
-abbrev pub left_instant : ℤ → State → Comparison → Instant × Closing → List Item
-left_instant now s c tail = spell_instant now tail.0 (left_closing now s (with_range (parts s.draft) c (told_by now tail.0)) tail.1)
+abbrev pub left_instant : ℤ → Progress → Comparison → Instant × Closing → List Item
+left_instant now s c tail = spell_instant now tail.0 (left_closing now s (with_range (meaning s.draft) c (told_by now tail.0)) tail.1)
 
-abbrev pub left_value : ℤ → State → Bool → Lexeme × Closing → List Item
+abbrev pub left_value : ℤ → Progress → Bool → Lexeme × Closing → List Item
 left_value now s differs tail =
-    This (Of kinds.Literal) tail.0 ∷ left_closing now s (with_match (parts s.draft) s.draft.filter.tag differs tail.0) tail.1
+    This (Of kinds.Literal) tail.0 ∷ left_closing now s (with_match (meaning s.draft) s.draft.filter.tag differs tail.0) tail.1
 
-abbrev pub left_sign : ℤ → State → Bool × (Lexeme × Closing) → List Item
+abbrev pub left_sign : ℤ → Progress → Bool × (Lexeme × Closing) → List Item
 left_sign now s tail = Any (Of (equality tail.0)) ∷ left_value now s tail.0 tail.1
 
-abbrev pub left_item : ℤ → State → Dimension × DimensionTail → List Item
-left_item now s tail = spell_dimension (parts s.draft) tail.0 (left_dimensions now s (after_dimension (parts s.draft) tail.0) tail.1)
+abbrev pub left_item : ℤ → Progress → Dimension × DimensionTail → List Item
+left_item now s tail = spell_dimension (meaning s.draft) tail.0 (left_dimensions now s (after_dimension (meaning s.draft) tail.0) tail.1)
 
-abbrev pub left_interval : ℤ → State → Lexeme × (Option Signed × DimensionTail) → List Item
+abbrev pub left_interval : ℤ → Progress → Lexeme × (Option Signed × DimensionTail) → List Item
 left_interval now s tail =
     This (Of kinds.Duration) tail.0 ∷ Examine (interval_fault tail.0)
-    ∷ spell_offset tail.1.0 (Any (Of kinds.Close) ∷ left_dimensions now s (with_buckets (parts s.draft) (offset_by (buckets_of (literal false tail.0.text)) tail.1.0)) tail.1.1)
+    ∷ spell_offset tail.1.0 (Any (Of kinds.Close) ∷ left_dimensions now s (with_buckets (meaning s.draft) (offset_by (buckets_of (literal false tail.0.text)) tail.1.0)) tail.1.1)
 
-abbrev pub left_option : ℤ → State → FillOption × Ending → List Item
-left_option now s tail = spell_option tail.0 (Any (Of kinds.Close) ∷ left_ending now s (with_option (parts s.draft) tail.0) tail.1)
+abbrev pub left_option : ℤ → Progress → FillOption × Ending → List Item
+left_option now s tail = spell_option tail.0 (Any (Of kinds.Close) ∷ left_ending now s (with_option (meaning s.draft) tail.0) tail.1)
 
-abbrev pub left_statement : ℤ → State → Option (Statement × Ending) → List Item
+abbrev pub left_statement : ℤ → Progress → Option (Statement × Ending) → List Item
 left_statement now s None = Any (Of kinds.End) ∷ []
-left_statement now s (Some p) = spell_statement now s.count p.0 (spell_ending now (s.count + 1) p.0.select.start (parts_of now p.0) p.1)
+left_statement now s (Some p) = spell_statement now s.count p.0 (spell_ending now (s.count + 1) p.0.select.start (meaning_of now p.0) p.1)
 
-abbrev pub left_at : (p : Place) → ℤ → State → Rest p → List Item
+abbrev pub left_at : (p : Place) → ℤ → Progress → Rest p → List Item
 left_at places.Statement now s r = left_statement now s r
-left_at places.Function now s r = spell_aggregate (parts s.draft).field r.0 (left_select now s (after_aggregate (parts s.draft) r.0) r.1)
-left_at places.FunctionOpen now s r = Any (Of kinds.Open) ∷ left_field now s (parts s.draft) r
-left_at places.Field now s r = left_field now s (parts s.draft) r
-left_at places.FieldEnd now s r = left_typed now s (parts s.draft) r
-left_at places.FieldType now s r = Any (Word (type_word r.0)) ∷ Any (Of kinds.Close) ∷ left_closed now s (parts s.draft) r.1
-left_at places.FieldClose now s r = Any (Of kinds.Close) ∷ left_closed now s (parts s.draft) r
-left_at places.AfterColumn now s r = left_closed now s (parts s.draft) r
-left_at places.Alias now s r = This Name r.0 ∷ left_select now s (with_column (parts s.draft) s.draft.selection.function (Some r.0)) r.1
-left_at places.AfterAlias now s r = left_select now s (parts s.draft) r
-left_at places.Measurement now s r = left_source now s (parts s.draft) r
-left_at places.AfterMeasurement now s r = left_filter now s (parts s.draft) r
-left_at places.Term now s r = spell_cond now (levels r.1) r.0 (left_closing now s (after_cond now (parts s.draft) r.0) r.1)
+left_at places.Function now s r = spell_call (meaning s.draft).field r.0 (left_select now s (after_call (meaning s.draft) r.0) r.1)
+left_at places.FunctionOpen now s r = Any (Of kinds.Open) ∷ left_field now s (meaning s.draft) r
+left_at places.Field now s r = left_field now s (meaning s.draft) r
+left_at places.FieldEnd now s r = left_typed now s (meaning s.draft) r
+left_at places.FieldType now s r = Any (Word (type_word r.0)) ∷ Any (Of kinds.Close) ∷ left_closed now s (meaning s.draft) r.1
+left_at places.FieldClose now s r = Any (Of kinds.Close) ∷ left_closed now s (meaning s.draft) r
+left_at places.AfterColumn now s r = left_closed now s (meaning s.draft) r
+left_at places.Alias now s r = This Name r.0 ∷ left_select now s (with_column (meaning s.draft) s.draft.selection.function (Some r.0)) r.1
+left_at places.AfterAlias now s r = left_select now s (meaning s.draft) r
+left_at places.Measurement now s r = left_source now s (meaning s.draft) r
+left_at places.AfterMeasurement now s r = left_filter now s (meaning s.draft) r
+left_at places.Term now s r = spell_cond now (levels r.1) r.0 (left_closing now s (after_cond now (meaning s.draft) r.0) r.1)
 left_at places.TagEnd now s r = spell_tag_type r.0 (left_sign now s r.1)
 left_at places.TagType now s r = Any (Word (codes "tag")) ∷ left_sign now s r
 left_at places.TagSign now s r = left_sign now s r
 left_at places.TagValue now s r = left_value now s s.draft.filter.differs r
-left_at places.AfterTerm now s r = left_closing now s (parts s.draft) r
-left_at places.NestedTerm now s r = left_closing now s (parts s.draft) r
+left_at places.AfterTerm now s r = left_closing now s (meaning s.draft) r
+left_at places.NestedTerm now s r = left_closing now s (meaning s.draft) r
 left_at places.TimeSign now s r = Any (Of (kind_of_comparison r.0)) ∷ left_instant now s r.0 r.1
 left_at places.Moment now s r = left_instant now s s.draft.moment.comparison r
 left_at places.MomentMinus now s r =
@@ -262,76 +262,76 @@ left_at places.Item now s r = left_item now s r
 left_at places.TimeOpen now s r = Any (Of kinds.Open) ∷ left_interval now s r
 left_at places.Interval now s r = left_interval now s r
 left_at places.IntervalEnd now s r =
-    spell_offset r.0 (Any (Of kinds.Close) ∷ left_dimensions now s (with_buckets (parts s.draft) (offset_by (parts s.draft).buckets r.0)) r.1)
+    spell_offset r.0 (Any (Of kinds.Close) ∷ left_dimensions now s (with_buckets (meaning s.draft) (offset_by (meaning s.draft).buckets r.0)) r.1)
 left_at places.Offset now s r =
-    spell_signed Duration r.0 (Any (Of kinds.Close) ∷ left_dimensions now s (with_buckets (parts s.draft) (offset_by (parts s.draft).buckets (Some r.0))) r.1)
+    spell_signed Duration r.0 (Any (Of kinds.Close) ∷ left_dimensions now s (with_buckets (meaning s.draft) (offset_by (meaning s.draft).buckets (Some r.0))) r.1)
 left_at places.OffsetMinus now s r =
     This (Of kinds.Duration) r.0 ∷ Examine (literal_fault s.draft.groups.first (literal true r.0.text))
-    ∷ Any (Of kinds.Close) ∷ left_dimensions now s (with_buckets (parts s.draft) (moved (unwrap_or (literal true r.0.text) (pos 0)) (parts s.draft).buckets)) r.1
-left_at places.OffsetEnd now s r = Any (Of kinds.Close) ∷ left_dimensions now s (parts s.draft) r
-left_at places.AfterTag now s r = spell_tag_type r.0 (left_dimensions now s (parts s.draft) r.1)
-left_at places.GroupTagType now s r = Any (Word (codes "tag")) ∷ left_dimensions now s (parts s.draft) r
-left_at places.AfterItem now s r = left_dimensions now s (parts s.draft) r
+    ∷ Any (Of kinds.Close) ∷ left_dimensions now s (with_buckets (meaning s.draft) (moved (unwrap_or (literal true r.0.text) (pos 0)) (meaning s.draft).buckets)) r.1
+left_at places.OffsetEnd now s r = Any (Of kinds.Close) ∷ left_dimensions now s (meaning s.draft) r
+left_at places.AfterTag now s r = spell_tag_type r.0 (left_dimensions now s (meaning s.draft) r.1)
+left_at places.GroupTagType now s r = Any (Word (codes "tag")) ∷ left_dimensions now s (meaning s.draft) r
+left_at places.AfterItem now s r = left_dimensions now s (meaning s.draft) r
 left_at places.FillOpen now s r = Any (Of kinds.Open) ∷ left_option now s r
 left_at places.FillOption now s r = left_option now s r
 left_at places.FillMinus now s r =
     This (Of kinds.Integer) r.0 ∷ Examine (literal_fault s.draft.filling.first (literal true r.0.text))
-    ∷ Any (Of kinds.Close) ∷ left_ending now s (record (parts s.draft) { fill = fills.Number (unwrap_or (literal true r.0.text) (pos 0)) }) r.1
-left_at places.FillClose now s r = Any (Of kinds.Close) ∷ left_ending now s (parts s.draft) r
-left_at places.AfterFill now s r = left_ending now s (parts s.draft) r
+    ∷ Any (Of kinds.Close) ∷ left_ending now s (record (meaning s.draft) { fill = fills.Number (unwrap_or (literal true r.0.text) (pos 0)) }) r.1
+left_at places.FillClose now s r = Any (Of kinds.Close) ∷ left_ending now s (meaning s.draft) r
+left_at places.AfterFill now s r = left_ending now s (meaning s.draft) r
 left_at places.Done now s r = []
 
 -- ---- what the statements say, with the rest at each place
 
-abbrev pub said_closed : ℤ → State → Parts → ClosedTail → List (Result Select Fault)
+abbrev pub said_closed : ℤ → Progress → Meaning → ClosedTail → List (Result Select Fault)
 said_closed now s p tail = said_select now s (with_column p s.draft.selection.function tail.0) tail.1
 
-abbrev pub said_changes : ℤ → State → ℤ → List Change × Closing → List (Result Select Fault)
-said_changes now s total tail = said_closing now s (with_range (parts s.draft) s.draft.moment.comparison (changed_all total tail.0)) tail.1
+abbrev pub said_changes : ℤ → Progress → ℤ → List Change × Closing → List (Result Select Fault)
+said_changes now s total tail = said_closing now s (with_range (meaning s.draft) s.draft.moment.comparison (changed_all total tail.0)) tail.1
 
-abbrev pub said_change : ℤ → State → Bool → Lexeme × (List Change × Closing) → List (Result Select Fault)
+abbrev pub said_change : ℤ → Progress → Bool → Lexeme × (List Change × Closing) → List (Result Select Fault)
 said_change now s less tail = said_changes now s (changed s.draft.moment.total (record { less = less; by = tail.0 })) tail.1
 
-abbrev pub said_instant : ℤ → State → Comparison → Instant × Closing → List (Result Select Fault)
-said_instant now s c tail = said_closing now s (with_range (parts s.draft) c (told_by now tail.0)) tail.1
+abbrev pub said_instant : ℤ → Progress → Comparison → Instant × Closing → List (Result Select Fault)
+said_instant now s c tail = said_closing now s (with_range (meaning s.draft) c (told_by now tail.0)) tail.1
 
-abbrev pub said_value : ℤ → State → Bool → Lexeme × Closing → List (Result Select Fault)
-said_value now s differs tail = said_closing now s (with_match (parts s.draft) s.draft.filter.tag differs tail.0) tail.1
+abbrev pub said_value : ℤ → Progress → Bool → Lexeme × Closing → List (Result Select Fault)
+said_value now s differs tail = said_closing now s (with_match (meaning s.draft) s.draft.filter.tag differs tail.0) tail.1
 
-abbrev pub said_item : ℤ → State → Dimension × DimensionTail → List (Result Select Fault)
-said_item now s tail = said_dimensions now s (after_dimension (parts s.draft) tail.0) tail.1
+abbrev pub said_item : ℤ → Progress → Dimension × DimensionTail → List (Result Select Fault)
+said_item now s tail = said_dimensions now s (after_dimension (meaning s.draft) tail.0) tail.1
 
-abbrev pub said_interval : ℤ → State → Lexeme × (Option Signed × DimensionTail) → List (Result Select Fault)
+abbrev pub said_interval : ℤ → Progress → Lexeme × (Option Signed × DimensionTail) → List (Result Select Fault)
 said_interval now s tail =
-    said_dimensions now s (with_buckets (parts s.draft) (offset_by (buckets_of (literal false tail.0.text)) tail.1.0)) tail.1.1
+    said_dimensions now s (with_buckets (meaning s.draft) (offset_by (buckets_of (literal false tail.0.text)) tail.1.0)) tail.1.1
 
-abbrev pub said_ending : ℤ → State → Parts → Ending → List (Result Select Fault)
+abbrev pub said_ending : ℤ → Progress → Meaning → Ending → List (Result Select Fault)
 said_ending now s p ending = said_all now s.start p ending
 
 abbrev pub said_statement : ℤ → Option (Statement × Ending) → List (Result Select Fault)
 said_statement now None = []
-said_statement now (Some p) = said_all now p.0.select.start (parts_of now p.0) p.1
+said_statement now (Some p) = said_all now p.0.select.start (meaning_of now p.0) p.1
 
-abbrev pub said_at : (p : Place) → ℤ → State → Rest p → List (Result Select Fault)
+abbrev pub said_at : (p : Place) → ℤ → Progress → Rest p → List (Result Select Fault)
 said_at places.Statement now s r = said_statement now r
-said_at places.Function now s r = said_select now s (after_aggregate (parts s.draft) r.0) r.1
-said_at places.FunctionOpen now s r = said_closed now s (with_field (parts s.draft) r.0) r.1.1
-said_at places.Field now s r = said_closed now s (with_field (parts s.draft) r.0) r.1.1
-said_at places.FieldEnd now s r = said_closed now s (parts s.draft) r.1
-said_at places.FieldType now s r = said_closed now s (parts s.draft) r.1
-said_at places.FieldClose now s r = said_closed now s (parts s.draft) r
-said_at places.AfterColumn now s r = said_closed now s (parts s.draft) r
-said_at places.Alias now s r = said_select now s (with_column (parts s.draft) s.draft.selection.function (Some r.0)) r.1
-said_at places.AfterAlias now s r = said_select now s (parts s.draft) r
-said_at places.Measurement now s r = said_source now s (parts s.draft) r
-said_at places.AfterMeasurement now s r = said_filter now s (parts s.draft) r
-said_at places.Term now s r = said_closing now s (after_cond now (parts s.draft) r.0) r.1
+said_at places.Function now s r = said_select now s (after_call (meaning s.draft) r.0) r.1
+said_at places.FunctionOpen now s r = said_closed now s (with_call_field (meaning s.draft) r.0) r.1.1
+said_at places.Field now s r = said_closed now s (with_call_field (meaning s.draft) r.0) r.1.1
+said_at places.FieldEnd now s r = said_closed now s (meaning s.draft) r.1
+said_at places.FieldType now s r = said_closed now s (meaning s.draft) r.1
+said_at places.FieldClose now s r = said_closed now s (meaning s.draft) r
+said_at places.AfterColumn now s r = said_closed now s (meaning s.draft) r
+said_at places.Alias now s r = said_select now s (with_column (meaning s.draft) s.draft.selection.function (Some r.0)) r.1
+said_at places.AfterAlias now s r = said_select now s (meaning s.draft) r
+said_at places.Measurement now s r = said_source now s (meaning s.draft) r
+said_at places.AfterMeasurement now s r = said_filter now s (meaning s.draft) r
+said_at places.Term now s r = said_closing now s (after_cond now (meaning s.draft) r.0) r.1
 said_at places.TagEnd now s r = said_value now s r.1.0 r.1.1
 said_at places.TagType now s r = said_value now s r.0 r.1
 said_at places.TagSign now s r = said_value now s r.0 r.1
 said_at places.TagValue now s r = said_value now s s.draft.filter.differs r
-said_at places.AfterTerm now s r = said_closing now s (parts s.draft) r
-said_at places.NestedTerm now s r = said_closing now s (parts s.draft) r
+said_at places.AfterTerm now s r = said_closing now s (meaning s.draft) r
+said_at places.NestedTerm now s r = said_closing now s (meaning s.draft) r
 said_at places.TimeSign now s r = said_instant now s r.0 r.1
 said_at places.Moment now s r = said_instant now s s.draft.moment.comparison r
 said_at places.MomentMinus now s r = said_changes now s (unwrap_or (literal true r.1.0.text) (pos 0)) r.1.1
@@ -344,32 +344,32 @@ said_at places.GroupBy now s r = said_item now s r
 said_at places.Item now s r = said_item now s r
 said_at places.TimeOpen now s r = said_interval now s r
 said_at places.Interval now s r = said_interval now s r
-said_at places.IntervalEnd now s r = said_dimensions now s (with_buckets (parts s.draft) (offset_by (parts s.draft).buckets r.0)) r.1
-said_at places.Offset now s r = said_dimensions now s (with_buckets (parts s.draft) (offset_by (parts s.draft).buckets (Some r.0))) r.1
+said_at places.IntervalEnd now s r = said_dimensions now s (with_buckets (meaning s.draft) (offset_by (meaning s.draft).buckets r.0)) r.1
+said_at places.Offset now s r = said_dimensions now s (with_buckets (meaning s.draft) (offset_by (meaning s.draft).buckets (Some r.0))) r.1
 said_at places.OffsetMinus now s r =
-    said_dimensions now s (with_buckets (parts s.draft) (moved (unwrap_or (literal true r.0.text) (pos 0)) (parts s.draft).buckets)) r.1
-said_at places.OffsetEnd now s r = said_dimensions now s (parts s.draft) r
-said_at places.AfterTag now s r = said_dimensions now s (parts s.draft) r.1
-said_at places.GroupTagType now s r = said_dimensions now s (parts s.draft) r
-said_at places.AfterItem now s r = said_dimensions now s (parts s.draft) r
-said_at places.FillOpen now s r = said_ending now s (with_option (parts s.draft) r.0) r.1
-said_at places.FillOption now s r = said_ending now s (with_option (parts s.draft) r.0) r.1
-said_at places.FillMinus now s r = said_ending now s (record (parts s.draft) { fill = fills.Number (unwrap_or (literal true r.0.text) (pos 0)) }) r.1
-said_at places.FillClose now s r = said_ending now s (parts s.draft) r
-said_at places.AfterFill now s r = said_ending now s (parts s.draft) r
+    said_dimensions now s (with_buckets (meaning s.draft) (moved (unwrap_or (literal true r.0.text) (pos 0)) (meaning s.draft).buckets)) r.1
+said_at places.OffsetEnd now s r = said_dimensions now s (meaning s.draft) r
+said_at places.AfterTag now s r = said_dimensions now s (meaning s.draft) r.1
+said_at places.GroupTagType now s r = said_dimensions now s (meaning s.draft) r
+said_at places.AfterItem now s r = said_dimensions now s (meaning s.draft) r
+said_at places.FillOpen now s r = said_ending now s (with_option (meaning s.draft) r.0) r.1
+said_at places.FillOption now s r = said_ending now s (with_option (meaning s.draft) r.0) r.1
+said_at places.FillMinus now s r = said_ending now s (record (meaning s.draft) { fill = fills.Number (unwrap_or (literal true r.0.text) (pos 0)) }) r.1
+said_at places.FillClose now s r = said_ending now s (meaning s.draft) r
+said_at places.AfterFill now s r = said_ending now s (meaning s.draft) r
 said_at places.Done now s r = []
 
 -- what is left at a state, and what all statements say with it
-abbrev pub left : ℤ → (s : State) → Rest s.place → List Item
+abbrev pub left : ℤ → (s : Progress) → Rest s.place → List Item
 left now s r = left_at s.place now s r
 
-abbrev pub all_said : ℤ → (s : State) → Rest s.place → List (Result Select Fault)
+abbrev pub all_said : ℤ → (s : Progress) → Rest s.place → List (Result Select Fault)
 all_said now s r = map Ok s.queries ++ said_at s.place now s r
 
 -- ---- what holds at each place
 
 -- no parenthesis is open before WHERE and after it; a statement begins with nothing read
-abbrev pub SoundAt : Place → State → Type 0
+abbrev pub SoundAt : Place → Progress → Type 0
 SoundAt places.Statement s = s.draft ≡ empty_draft
 SoundAt places.Function s = s.draft.filter.depth ≡ 0
 SoundAt places.FunctionOpen s = s.draft.filter.depth ≡ 0
@@ -386,7 +386,7 @@ SoundAt places.AfterTerm s = s.draft.filter.depth ≡ 0
 SoundAt places.NestedTerm s = 0 < s.draft.filter.depth
 SoundAt place s = ⊤
 
-abbrev pub Sound : State → Type 0
+abbrev pub Sound : Progress → Type 0
 Sound s = SoundAt s.place s
 
 -- the text has a statement
@@ -395,7 +395,7 @@ HasStatement count None = 0 < count
 HasStatement count (Some p) = ⊤
 
 -- the rest closes as many parentheses as are open
-abbrev pub SuitsAt : (p : Place) → State → Rest p → Type 0
+abbrev pub SuitsAt : (p : Place) → Progress → Rest p → Type 0
 SuitsAt places.Statement s r = HasStatement s.count r
 SuitsAt places.Term s r = s.draft.filter.depth ≡ levels r.1
 SuitsAt places.TagEnd s r = s.draft.filter.depth ≡ levels r.1.1.1
@@ -414,5 +414,5 @@ SuitsAt places.MomentPlus s r = s.draft.filter.depth ≡ levels r.1.1
 SuitsAt places.MomentLess s r = s.draft.filter.depth ≡ levels r.1.1
 SuitsAt place s r = ⊤
 
-abbrev pub Suits : (s : State) → Rest s.place → Type 0
+abbrev pub Suits : (s : Progress) → Rest s.place → Type 0
 Suits s r = SuitsAt s.place s r

@@ -2,9 +2,9 @@
 use Rattle.std.proofs.Common.{◌≡◌, ℕ, zero, suc, ℤ, ◌+◌, ◌<◌, ◌≤◌, Bool, true, false, List, [], ◌∷◌, ◌++◌, length, take, Result, Ok, Err, arith, refl, sym, ap, ◌∙◌, length-append}
 use Rattle.std.proofs.Math.Seq.{take-append_seam, take-append-add}
 use Rattle.ts_core.specs.Facts.{Text}
-use Rattle.ts_ql.specs.Faults.{Fault}
+use Rattle.ts_ql.specs.QueryFaults.{Fault}
 use Rattle.ts_ql.specs.Lexing.{token_at}
-use Rattle.ts_ql.specs.Reading.{State, Step, start_state, step, is_done, goes_on, read_on, queries_of}
+use Rattle.ts_ql.specs.Reading.{Progress, Advance, start_progress, step, is_done, goes_on, read_on, queries_of}
 use Rattle.ts_ql.specs.Selects.{Select}
 use Rattle.ts_ql.specs.Tokenizing.{is_end_of_text, tokens_after, tokens_from, tokens_of}
 use Rattle.ts_ql.specs.Tokens.{Lexeme}
@@ -12,40 +12,40 @@ use Rattle.ts_ql.proofs.ReadingLemmas.{short_text}
 use Rattle.ts_ql.proofs.StepLemmas.{step_done}
 use Rattle.ts_ql.proofs.TokenEnds.{token_within, token_after}
 
-abbrev pub run_then : (State → Step) → Step → Step
+abbrev pub run_then : (Progress → Advance) → Advance → Advance
 run_then rest (Ok s) = rest s
 run_then rest (Err fault) = Err fault
 
 -- the state after the tokens, or the first fault
-abbrev pub run : ℤ → State → List Lexeme → Step
+abbrev pub run : ℤ → Progress → List Lexeme → Advance
 run now s [] = Ok s
-run now s (t ∷ ts) = run_then (λ (m : State). run now m ts) (step now t s)
+run now s (t ∷ ts) = run_then (λ (m : Progress). run now m ts) (step now t s)
 
 -- ---- two lists of tokens
 
-append_then : (now : ℤ) (xs ys : List Lexeme) (after : Step) → ((m : State) → run now m (xs ++ ys) ≡ run_then (λ (n : State). run now n ys) (run now m xs))
-    → run_then (λ (m : State). run now m (xs ++ ys)) after ≡ run_then (λ (n : State). run now n ys) (run_then (λ (m : State). run now m xs) after)
+append_then : (now : ℤ) (xs ys : List Lexeme) (after : Advance) → ((m : Progress) → run now m (xs ++ ys) ≡ run_then (λ (n : Progress). run now n ys) (run now m xs))
+    → run_then (λ (m : Progress). run now m (xs ++ ys)) after ≡ run_then (λ (n : Progress). run now n ys) (run_then (λ (m : Progress). run now m xs) after)
 append_then now xs ys (Ok m) rest = rest m
 append_then now xs ys (Err fault) rest = refl
 
-pub run-append : (now : ℤ) (s : State) (xs ys : List Lexeme) → run now s (xs ++ ys) ≡ run_then (λ (n : State). run now n ys) (run now s xs)
+pub run-append : (now : ℤ) (s : Progress) (xs ys : List Lexeme) → run now s (xs ++ ys) ≡ run_then (λ (n : Progress). run now n ys) (run now s xs)
 run-append now s [] ys = refl
 run-append now s (t ∷ xs) ys = append_then now xs ys (step now t s) (λ m. run-append now m xs ys)
 
-pub run-append_ok : (now : ℤ) (s n : State) (xs ys : List Lexeme) → run now s xs ≡ Ok n → run now s (xs ++ ys) ≡ run now n ys
-run-append_ok now s n xs ys e = run-append now s xs ys ∙ ap (run_then (λ (m : State). run now m ys)) e
+pub run-append_ok : (now : ℤ) (s n : Progress) (xs ys : List Lexeme) → run now s xs ≡ Ok n → run now s (xs ++ ys) ≡ run now n ys
+run-append_ok now s n xs ys e = run-append now s xs ys ∙ ap (run_then (λ (m : Progress). run now m ys)) e
 
-pub run-append_err : (now : ℤ) (s : State) (xs ys : List Lexeme) (f : Fault) → run now s xs ≡ Err f → run now s (xs ++ ys) ≡ Err f
-run-append_err now s xs ys f e = run-append now s xs ys ∙ ap (run_then (λ (m : State). run now m ys)) e
+pub run-append_err : (now : ℤ) (s : Progress) (xs ys : List Lexeme) (f : Fault) → run now s xs ≡ Err f → run now s (xs ++ ys) ≡ Err f
+run-append_err now s xs ys f e = run-append now s xs ys ∙ ap (run_then (λ (m : Progress). run now m ys)) e
 
 -- ---- the token at fault
 
 -- the tokens up to one run, and it is refused
-pub record IsRefused (now : ℤ) (s : State) (ts : List Lexeme) (f : Fault) : Type 0 where
+pub record IsRefused (now : ℤ) (s : Progress) (ts : List Lexeme) (f : Fault) : Type 0 where
   pub front : List Lexeme
   pub token : Lexeme
   pub back : List Lexeme
-  pub before : State
+  pub before : Progress
   pub parts : ts ≡ front ++ token ∷ back
   pub runs : run now s front ≡ Ok before
   pub refused : step now token before ≡ Err f
@@ -53,7 +53,7 @@ pub record IsRefused (now : ℤ) (s : State) (ts : List Lexeme) (f : Fault) : Ty
   pub front_taken : take (length front) ts ≡ front
   pub token_taken : take (length front + 1) ts ≡ front ++ token ∷ []
 
-refused_at : (now : ℤ) (s : State) (ts : List Lexeme) (f : Fault) (front : List Lexeme) (token : Lexeme) (back : List Lexeme) (before : State)
+refused_at : (now : ℤ) (s : Progress) (ts : List Lexeme) (f : Fault) (front : List Lexeme) (token : Lexeme) (back : List Lexeme) (before : Progress)
     → ts ≡ front ++ token ∷ back → run now s front ≡ Ok before → step now token before ≡ Err f → IsRefused now s ts f
 refused_at now s ts f front token back before parts runs refused = record {
   front = front;
@@ -68,42 +68,42 @@ refused_at now s ts f front token back before parts runs refused = record {
   token_taken = rw parts (take-append-add front (token ∷ back) 1);
 }
 
-split_then : (now : ℤ) (s : State) (t : Lexeme) (ts : List Lexeme) (f : Fault) (after : Step) → step now t s ≡ after → run_then (λ (m : State). run now m ts) after ≡ Err f
-    → ((m : State) → run now m ts ≡ Err f → IsRefused now m ts f) → IsRefused now s (t ∷ ts) f
+split_then : (now : ℤ) (s : Progress) (t : Lexeme) (ts : List Lexeme) (f : Fault) (after : Advance) → step now t s ≡ after → run_then (λ (m : Progress). run now m ts) after ≡ Err f
+    → ((m : Progress) → run now m ts ≡ Err f → IsRefused now m ts f) → IsRefused now s (t ∷ ts) f
 split_then now s t ts f (Ok m) stepped e rest =
     let r : IsRefused now m ts f = rest m e in
-    refused_at now s (t ∷ ts) f (t ∷ r.front) r.token r.back r.before (ap (λ l. t ∷ l) r.parts) (ap (run_then (λ (n : State). run now n r.front)) stepped ∙ r.runs) r.refused
+    refused_at now s (t ∷ ts) f (t ∷ r.front) r.token r.back r.before (ap (λ l. t ∷ l) r.parts) (ap (run_then (λ (n : Progress). run now n r.front)) stepped ∙ r.runs) r.refused
 split_then now s t ts f (Err fault) stepped e rest = refused_at now s (t ∷ ts) f [] t ts s refl refl (stepped ∙ e)
 
-pub split : (now : ℤ) (s : State) (ts : List Lexeme) (f : Fault) → run now s ts ≡ Err f → IsRefused now s ts f
+pub split : (now : ℤ) (s : Progress) (ts : List Lexeme) (f : Fault) → run now s ts ≡ Err f → IsRefused now s ts f
 split now s [] f e = absurd (cc)
 split now s (t ∷ ts) f e = split_then now s t ts f (step now t s) refl e (λ m. split now m ts f)
 
 -- ---- the tokens of a text
 
-abbrev pub finished : Step → Result (List Select) Fault
+abbrev pub finished : Advance → Result (List Select) Fault
 finished (Ok s) = Ok s.queries
 finished (Err fault) = Err fault
 
 -- what runs through has read the text
-abbrev Finishes : Step → Type 0
+abbrev Finishes : Advance → Type 0
 Finishes (Ok s) = is_done s.place ≡ true
 Finishes (Err fault) = Unit {0}
 
 -- what is read and what runs are the same, and have read the text
-abbrev Agrees : Result (List Select) Fault → Step → Type 0
+abbrev Agrees : Result (List Select) Fault → Advance → Type 0
 Agrees said after = (said ≡ finished after) × Finishes after
 
-agrees_after : (rest : State → ℕ → Result (List Select) Fault) (more : ℕ → List Lexeme) (now : ℤ) (t : Lexeme) (last : Bool) (after : Step)
-    → ((m : State) → after ≡ Ok m → is_done m.place ≡ last)
-    → (last ≡ false → (m : State) → Agrees (rest m t.end) (run now m (more t.end)))
-    → Agrees (goes_on rest t after) (run_then (λ (m : State). run now m (tokens_after last more t.end)) after)
+agrees_after : (rest : Progress → ℕ → Result (List Select) Fault) (more : ℕ → List Lexeme) (now : ℤ) (t : Lexeme) (last : Bool) (after : Advance)
+    → ((m : Progress) → after ≡ Ok m → is_done m.place ≡ last)
+    → (last ≡ false → (m : Progress) → Agrees (rest m t.end) (run now m (more t.end)))
+    → Agrees (goes_on rest t after) (run_then (λ (m : Progress). run now m (tokens_after last more t.end)) after)
 agrees_after rest more now t last (Err fault) moves next = (refl, tt)
 agrees_after rest more now t true (Ok m) moves next = (rw (moves m refl) refl, moves m refl)
 agrees_after rest more now t false (Ok m) moves next = let later : Agrees (rest m t.end) (run now m (more t.end)) = next refl m in (rw (moves m refl) later.0, later.1)
 
 -- a text has no more tokens than bytes and one at its end
-agrees_on : (n : ℕ) (now : ℤ) (text : Text) (s : State) (at : ℕ) → at ≤ length text → length text < n + at → Agrees (read_on n now text s at) (run now s (tokens_from n text at))
+agrees_on : (n : ℕ) (now : ℤ) (text : Text) (s : Progress) (at : ℕ) → at ≤ length text → length text < n + at → Agrees (read_on n now text s at) (run now s (tokens_from n text at))
 agrees_on zero now text s at le lt = absurd (omega arith)
 agrees_on (suc n) now text s at le lt =
     agrees_after (read_on n now text) (tokens_from n text) now (token_at text at) (is_end_of_text (token_at text at).kind) (step now (token_at text at) s)
@@ -113,30 +113,30 @@ agrees_on (suc n) now text s at le lt =
     let later : at < (token_at text at).end = token_after text at le other in
     agrees_on n now text m (token_at text at).end within (omega arith))
 
-agrees : (now : ℤ) (text : Text) → Agrees (read_on (length text + 1) now text start_state 0) (run now start_state (tokens_of text))
+agrees : (now : ℤ) (text : Text) → Agrees (read_on (length text + 1) now text start_progress 0) (run now start_progress (tokens_of text))
 unfolding tokens_of
-agrees now text = agrees_on (length text + 1) now text start_state 0 (omega arith) (omega arith)
+agrees now text = agrees_on (length text + 1) now text start_progress 0 (omega arith) (omega arith)
 
-pub reads_tokens : (now : ℤ) (text : Text) → length text ≤ 65536 → queries_of now text ≡ finished (run now start_state (tokens_of text))
+pub reads_tokens : (now : ℤ) (text : Text) → length text ≤ 65536 → queries_of now text ≡ finished (run now start_progress (tokens_of text))
 reads_tokens now text le = short_text now text le ∙ (agrees now text).0
 
-finished_ok : (after : Step) (qs : List Select) → finished after ≡ Ok qs → Finishes after → (s : State) × (after ≡ Ok s) × (s.queries ≡ qs) × (is_done s.place ≡ true)
+finished_ok : (after : Advance) (qs : List Select) → finished after ≡ Ok qs → Finishes after → (s : Progress) × (after ≡ Ok s) × (s.queries ≡ qs) × (is_done s.place ≡ true)
 finished_ok (Ok s) qs e done = (s, refl, cc, done)
 finished_ok (Err fault) qs e done = absurd (cc)
 
-finished_err : (after : Step) (f : Fault) → finished after ≡ Err f → after ≡ Err f
+finished_err : (after : Advance) (f : Fault) → finished after ≡ Err f → after ≡ Err f
 finished_err (Ok s) f e = absurd (cc)
 finished_err (Err fault) f e = cc
 
 pub reads_ok : (now : ℤ) (text : Text) (qs : List Select) → length text ≤ 65536 → queries_of now text ≡ Ok qs
-    → (s : State) × (run now start_state (tokens_of text) ≡ Ok s) × (s.queries ≡ qs) × (is_done s.place ≡ true)
-reads_ok now text qs le e = finished_ok (run now start_state (tokens_of text)) qs (sym (reads_tokens now text le) ∙ e) (agrees now text).1
+    → (s : Progress) × (run now start_progress (tokens_of text) ≡ Ok s) × (s.queries ≡ qs) × (is_done s.place ≡ true)
+reads_ok now text qs le e = finished_ok (run now start_progress (tokens_of text)) qs (sym (reads_tokens now text le) ∙ e) (agrees now text).1
 
-pub reads_err : (now : ℤ) (text : Text) (f : Fault) → length text ≤ 65536 → queries_of now text ≡ Err f → run now start_state (tokens_of text) ≡ Err f
-reads_err now text f le e = finished_err (run now start_state (tokens_of text)) f (sym (reads_tokens now text le) ∙ e)
+pub reads_err : (now : ℤ) (text : Text) (f : Fault) → length text ≤ 65536 → queries_of now text ≡ Err f → run now start_progress (tokens_of text) ≡ Err f
+reads_err now text f le e = finished_err (run now start_progress (tokens_of text)) f (sym (reads_tokens now text le) ∙ e)
 
-pub runs_ok : (now : ℤ) (text : Text) (s : State) → length text ≤ 65536 → run now start_state (tokens_of text) ≡ Ok s → queries_of now text ≡ Ok s.queries
+pub runs_ok : (now : ℤ) (text : Text) (s : Progress) → length text ≤ 65536 → run now start_progress (tokens_of text) ≡ Ok s → queries_of now text ≡ Ok s.queries
 runs_ok now text s le e = reads_tokens now text le ∙ ap finished e
 
-pub runs_err : (now : ℤ) (text : Text) (f : Fault) → length text ≤ 65536 → run now start_state (tokens_of text) ≡ Err f → queries_of now text ≡ Err f
+pub runs_err : (now : ℤ) (text : Text) (f : Fault) → length text ≤ 65536 → run now start_progress (tokens_of text) ≡ Err f → queries_of now text ≡ Err f
 runs_err now text f le e = reads_tokens now text le ∙ ap finished e

@@ -9,44 +9,44 @@ use Rattle.ts_ql.specs.declared.place.Place.{Place}
 use Rattle.ts_ql.specs.declared.place.Place.TheVariants as places
 use Rattle.ts_ql.specs.declared.token.Kind.{Kind}
 use Rattle.ts_ql.specs.declared.token.Kind.TheVariants as kinds
-use Rattle.ts_ql.specs.Faults.{unexpected, left_out}
-use Rattle.ts_ql.specs.Grammar.{Examine, Aggregate, FieldType, Field, Integer, Source, Measurement, Subquery, Stop, is_name}
+use Rattle.ts_ql.specs.QueryFaults.{unexpected, left_out}
+use Rattle.ts_ql.specs.Grammar.{Examine, Call, FieldType, Field, Integer, FromClause, Measurement, Subquery, Stop, is_name}
 use Rattle.ts_ql.specs.Laws.{Reach, Reads}
 use Rattle.ts_ql.specs.Literals.{is_word}
-use Rattle.ts_ql.specs.Meanings.{function_of, field_after, after_source}
-use Rattle.ts_ql.specs.Reading.{State, Step, with_draft, in_selection}
+use Rattle.ts_ql.specs.Meanings.{function_of, field_after, after_from}
+use Rattle.ts_ql.specs.Reading.{Progress, Advance, with_draft, in_selection}
 use Rattle.ts_ql.specs.SelectSteps.{Selecting, select_at, with_function, with_default}
 use Rattle.ts_ql.specs.SelectSteps as steps
-use Rattle.ts_ql.specs.Spelling.{function_fault, function_fault_at, known_function, field_fault}
-use Rattle.ts_ql.specs.Statements.{parts}
+use Rattle.ts_ql.specs.Productions.{function_fault, function_fault_at, known_function, field_fault}
+use Rattle.ts_ql.specs.Drafts.{meaning}
 use Rattle.ts_ql.specs.Tokens.{Lexeme}
 use Rattle.ts_ql.specs.Words.{function_called, named}
 use Rattle.ts_ql.proofs.Rests.{Rest, SelectTail, ClosedTail, FilterTail, left_at, left_filter, said_at}
 use Rattle.ts_ql.proofs.Steps.{at, Answer, Leads, passes, fails, passed, failed, carried}
 use Rattle.ts_ql.proofs.WordLemmas.{another_word}
 
-abbrev pub selecting : State → Place → Selecting → Step
+abbrev pub selecting : Progress → Place → Selecting → Advance
 selecting s p step = with_draft (at p s) (in_selection s.draft step)
 
 -- the step with a token of that kind
-abbrev pub select_steps : State → Place → Lexeme → Kind → Step
+abbrev pub select_steps : Progress → Place → Lexeme → Kind → Advance
 select_steps s p t k = selecting s p (select_at p k t s.draft.selection)
 
 -- the same state with another function, or with another field
-abbrev pub called_with : State → Function → State
+abbrev pub called_with : Progress → Function → Progress
 called_with s f = record s { draft = record s.draft { selection = record s.draft.selection { function = f } } }
 
-abbrev pub fielded : State → Option Text → State
+abbrev pub fielded : Progress → Option Text → Progress
 fielded s o = record s { draft = record s.draft { selection = record s.draft.selection { field = o } } }
 
-abbrev pub with_alias : State → Lexeme → State
+abbrev pub with_alias : Progress → Lexeme → Progress
 with_alias s l = record s { draft = record s.draft { selection = steps.with_column (named l) s.draft.selection } }
 
-abbrev pub with_measurement : State → Lexeme → State
+abbrev pub with_measurement : Progress → Lexeme → Progress
 with_measurement s l = record s { draft = record s.draft { selection = record s.draft.selection { measurement = named l } } }
 
 -- some rest behind a fault
-abbrev pub any_source : Lexeme → Source × FilterTail
+abbrev pub any_source : Lexeme → FromClause × FilterTail
 any_source t = (Measurement t, (None, (None, (None, Stop))))
 
 abbrev pub any_closed : Lexeme → ClosedTail
@@ -55,19 +55,19 @@ any_closed t = (None, ([], any_source t))
 -- ---- from the machine
 
 -- the aggregate of a function and the rest behind it
-abbrev pub aggregate_of : Lexeme → Rest places.FunctionOpen → Aggregate
+abbrev pub aggregate_of : Lexeme → Rest places.FunctionOpen → Call
 aggregate_of t r = record { function = t; field = r.0; cast = r.1.0; alias = r.1.1.0 }
 
 -- the rest behind the function of an aggregate
-abbrev pub opened : Aggregate → SelectTail → Rest places.FunctionOpen
+abbrev pub opened : Call → SelectTail → Rest places.FunctionOpen
 opened a tail = (a.field, (a.cast, (a.alias, tail)))
 
-any_aggregate : (now : ℤ) (s : State) (t : Lexeme) → is_name t.kind ≡ true → function_fault t ≡ Some (left_out t)
+any_aggregate : (now : ℤ) (s : Progress) (t : Lexeme) → is_name t.kind ≡ true → function_fault t ≡ Some (left_out t)
     → Answer now (at places.Function s) t (Err (left_out t))
 any_aggregate now s t i v =
     inl ((record { function = t; field = t; cast = None; alias = None }, ([], any_source t)), tt, inr (refl, i, fails (function_fault t) _ (left_out t) v))
 
-called : (now : ℤ) (s : State) (t : Lexeme) → t.kind ≡ kinds.Word → s.draft.filter.depth ≡ 0 → (o : Option Function) → function_called t.text ≡ o
+called : (now : ℤ) (s : Progress) (t : Lexeme) → t.kind ≡ kinds.Word → s.draft.filter.depth ≡ 0 → (o : Option Function) → function_called t.text ≡ o
     → Answer now (at places.Function s) t (selecting s places.Function (with_function t s.draft.selection o))
 called now s t e z None v =
     any_aggregate now s t (ap is_name e) (ap (λ (k : Kind). function_fault_at k t) e ∙ ap (known_function t) v)
@@ -88,7 +88,7 @@ called now s t e z (Some f) v =
     )
 
 -- the field of the functions before it, or another
-same_field : (now : ℤ) (s : State) (t : Lexeme) → is_name t.kind ≡ true → s.draft.filter.depth ≡ 0 → (field : Text) (b : Bool) → bytes_eq field (named t) ≡ b
+same_field : (now : ℤ) (s : Progress) (t : Lexeme) → is_name t.kind ≡ true → s.draft.filter.depth ≡ 0 → (field : Text) (b : Bool) → bytes_eq field (named t) ≡ b
     → Answer now (at places.Field (fielded s (Some field))) t
     (selecting (fielded s (Some field)) places.Field (if b then Ok (places.FieldEnd, (fielded s (Some field)).draft.selection) else Err (left_out t)))
 same_field now s t i z field true v =
@@ -96,42 +96,42 @@ same_field now s t i z field true v =
 same_field now s t i z field false v =
     inl ((t, (None, any_closed t)), tt, inr (refl, i, fails (field_fault (Some field) t) _ (left_out t) (ap (λ (b : Bool). if b then None else Some (left_out t)) v)))
 
-field_answers : (now : ℤ) (s : State) (t : Lexeme) → is_name t.kind ≡ true → s.draft.filter.depth ≡ 0 → (o : Option Text)
-    → Answer now (at places.Field (fielded s o)) t (selecting (fielded s o) places.Field (steps.with_field t (fielded s o).draft.selection o))
+field_answers : (now : ℤ) (s : Progress) (t : Lexeme) → is_name t.kind ≡ true → s.draft.filter.depth ≡ 0 → (o : Option Text)
+    → Answer now (at places.Field (fielded s o)) t (selecting (fielded s o) places.Field (steps.with_call_field t (fielded s o).draft.selection o))
 field_answers now s t i z None = (z, λ r suits. ((t, r), tt, (λ ts reach w. (refl, i, w)), refl))
 field_answers now s t i z (Some field) = same_field now s t i z field (bytes_eq field (named t)) refl
 
 -- the type of a field
-integer_answers : (now : ℤ) (s : State) (t : Lexeme) → t.kind ≡ kinds.Word → s.draft.filter.depth ≡ 0 → (b : Bool) → is_word (codes "integer") t.text ≡ b
+integer_answers : (now : ℤ) (s : Progress) (t : Lexeme) → t.kind ≡ kinds.Word → s.draft.filter.depth ≡ 0 → (b : Bool) → is_word (codes "integer") t.text ≡ b
     → Answer now (at places.FieldType s) t (selecting s places.FieldType (if b then Ok (places.FieldClose, s.draft.selection) else Err (unexpected t)))
 integer_answers now s t e z true is = (z, λ r suits. ((Integer, r), tt, (λ ts reach w. ((e, is), w)), refl))
 integer_answers now s t e z false is = inr refl
 
-type_answers : (now : ℤ) (s : State) (t : Lexeme) → t.kind ≡ kinds.Word → s.draft.filter.depth ≡ 0 → (b : Bool) → is_word (codes "field") t.text ≡ b
+type_answers : (now : ℤ) (s : Progress) (t : Lexeme) → t.kind ≡ kinds.Word → s.draft.filter.depth ≡ 0 → (b : Bool) → is_word (codes "field") t.text ≡ b
     → Answer now (at places.FieldType s) t (selecting s places.FieldType
     (if b || is_word (codes "integer") t.text then Ok (places.FieldClose, s.draft.selection) else Err (unexpected t)))
 type_answers now s t e z true is = (z, λ r suits. ((Field, r), tt, (λ ts reach w. ((e, is), w)), refl))
 type_answers now s t e z false is = integer_answers now s t e z (is_word (codes "integer") t.text) refl
 
 -- FROM or AS
-as_answers : (now : ℤ) (s : State) (t : Lexeme) → t.kind ≡ kinds.Keyword → s.draft.filter.depth ≡ 0 → (b : Bool) → is_word (codes "as") t.text ≡ b
+as_answers : (now : ℤ) (s : Progress) (t : Lexeme) → t.kind ≡ kinds.Keyword → s.draft.filter.depth ≡ 0 → (b : Bool) → is_word (codes "as") t.text ≡ b
     → Answer now (at places.AfterColumn s) t (selecting s places.AfterColumn (if b then Ok (places.Alias, s.draft.selection) else Err (unexpected t)))
 as_answers now s t e z true is = (z, λ r suits. ((Some r.0, r.1), tt, (λ ts reach w. ((e, is), w)), refl))
 as_answers now s t e z false is = inr refl
 
-from_answers : (now : ℤ) (s : State) (t : Lexeme) → t.kind ≡ kinds.Keyword → s.draft.filter.depth ≡ 0 → (b : Bool) → is_word (codes "from") t.text ≡ b
+from_answers : (now : ℤ) (s : Progress) (t : Lexeme) → t.kind ≡ kinds.Keyword → s.draft.filter.depth ≡ 0 → (b : Bool) → is_word (codes "from") t.text ≡ b
     → Answer now (at places.AfterColumn s) t (selecting s places.AfterColumn (if b then Ok (places.Measurement, with_default s.draft.selection)
     else if is_word (codes "as") t.text then Ok (places.Alias, s.draft.selection) else Err (unexpected t)))
 from_answers now s t e z true is = (z, λ r suits. ((None, ([], r)), tt, (λ ts reach w. ((e, is), w)), refl))
 from_answers now s t e z false is = as_answers now s t e z (is_word (codes "as") t.text) refl
 
 -- FROM behind a name
-from_alone : (now : ℤ) (s : State) (t : Lexeme) → t.kind ≡ kinds.Keyword → s.draft.filter.depth ≡ 0 → (b : Bool) → is_word (codes "from") t.text ≡ b
+from_alone : (now : ℤ) (s : Progress) (t : Lexeme) → t.kind ≡ kinds.Keyword → s.draft.filter.depth ≡ 0 → (b : Bool) → is_word (codes "from") t.text ≡ b
     → Answer now (at places.AfterAlias s) t (selecting s places.AfterAlias (if b then Ok (places.Measurement, s.draft.selection) else Err (unexpected t)))
 from_alone now s t e z true is = (z, λ r suits. (([], r), tt, (λ ts reach w. ((e, is), w)), refl))
 from_alone now s t e z false is = inr refl
 
-pub select_answers : (now : ℤ) (s : State) (p : Place) (k : Kind) (t : Lexeme) → t.kind ≡ k → s.draft.filter.depth ≡ 0
+pub select_answers : (now : ℤ) (s : Progress) (p : Place) (k : Kind) (t : Lexeme) → t.kind ≡ k → s.draft.filter.depth ≡ 0
     → Answer now (at p s) t (selecting s p (select_at p k t s.draft.selection))
 select_answers now s places.Function kinds.Word t e z = called now s t e z (function_called t.text) refl
 select_answers now s places.Function kinds.QuotedName t e z = any_aggregate now s t (ap is_name e) (ap (λ (k : Kind). function_fault_at k t) e)
@@ -161,7 +161,7 @@ by_name P word quoted kinds.Word i = word
 by_name P word quoted kinds.QuotedName i = quoted
 by_name P word quoted k i = absurd cc
 
-function_leads_by : (now : ℤ) (s : State) (a : Aggregate) (tail : SelectTail) (ts : List Lexeme) (reach : Reach)
+function_leads_by : (now : ℤ) (s : Progress) (a : Call) (tail : SelectTail) (ts : List Lexeme) (reach : Reach)
     → a.function.kind ≡ kinds.Word → (o : Option Function) → function_called a.function.text ≡ o
     → Reads (Examine (function_fault a.function) ∷ left_at places.FunctionOpen now (called_with s (function_of a.function)) (opened a tail)) ts reach
     → Leads now (at places.Function s) (a, tail) ts reach (selecting s places.Function (with_function a.function s.draft.selection o))
@@ -176,7 +176,7 @@ function_leads_by now s a tail ts reach e (Some f) v w =
       ap (λ (g : Function). map Ok s.queries ++ said_at places.FunctionOpen now (called_with s g) (opened a tail)) same,
     )
 
-function_leads_at : (now : ℤ) (s : State) (a : Aggregate) (tail : SelectTail) (ts : List Lexeme) (reach : Reach) (k : Kind) → is_name k ≡ true → a.function.kind ≡ k
+function_leads_at : (now : ℤ) (s : Progress) (a : Call) (tail : SelectTail) (ts : List Lexeme) (reach : Reach) (k : Kind) → is_name k ≡ true → a.function.kind ≡ k
     → Reads (Examine (function_fault a.function) ∷ left_at places.FunctionOpen now (called_with s (function_of a.function)) (opened a tail)) ts reach
     → Leads now (at places.Function s) (a, tail) ts reach (select_steps s places.Function a.function k)
 function_leads_at now s a tail ts reach =
@@ -186,20 +186,20 @@ function_leads_at now s a tail ts reach =
     (λ e w. function_leads_by now s a tail ts reach e (function_called a.function.text) refl w)
     (λ e w. failed (function_fault a.function) _ ts reach (left_out a.function) (ap (λ (k : Kind). function_fault_at k a.function) e) w)
 
-pub Function_leads : (now : ℤ) (s : State) (q : Rest places.Function) (t : Lexeme) (ts : List Lexeme) (reach : Reach)
+pub Function_leads : (now : ℤ) (s : Progress) (q : Rest places.Function) (t : Lexeme) (ts : List Lexeme) (reach : Reach)
     → Reads (left_at places.Function now (at places.Function s) q) (t ∷ ts) reach
     → Leads now (at places.Function s) q ts reach (selecting s places.Function (select_at places.Function t.kind t s.draft.selection))
 Function_leads now s q t ts reach w =
     subst (λ (l : Lexeme). Leads now (at places.Function s) q ts reach (select_steps s places.Function l l.kind)) (sym w.0)
     (function_leads_at now s q.0 q.1 ts reach q.0.function.kind (subst (λ (l : Lexeme). is_name l.kind ≡ true) w.0 w.1) refl w.2)
 
-pub FunctionOpen_leads : (now : ℤ) (s : State) (q : Rest places.FunctionOpen) (t : Lexeme) (ts : List Lexeme) (reach : Reach)
+pub FunctionOpen_leads : (now : ℤ) (s : Progress) (q : Rest places.FunctionOpen) (t : Lexeme) (ts : List Lexeme) (reach : Reach)
     → Reads (left_at places.FunctionOpen now (at places.FunctionOpen s) q) (t ∷ ts) reach
     → Leads now (at places.FunctionOpen s) q ts reach (selecting s places.FunctionOpen (select_at places.FunctionOpen t.kind t s.draft.selection))
 FunctionOpen_leads now s q t ts reach w =
     subst (λ (k : Kind). Leads now (at places.FunctionOpen s) q ts reach (select_steps s places.FunctionOpen t k)) (sym w.0) (q, tt, w.1, refl)
 
-same_field_leads : (now : ℤ) (s : State) (l : Lexeme) (r : Rest places.FieldEnd) (ts : List Lexeme) (reach : Reach) (field : Text) (b : Bool) → bytes_eq field (named l) ≡ b
+same_field_leads : (now : ℤ) (s : Progress) (l : Lexeme) (r : Rest places.FieldEnd) (ts : List Lexeme) (reach : Reach) (field : Text) (b : Bool) → bytes_eq field (named l) ≡ b
     → Reads (Examine (field_fault (Some field) l) ∷ left_at places.FieldEnd now (fielded s (Some field)) r) ts reach
     → Leads now (at places.Field (fielded s (Some field))) (l, r) ts reach
     (selecting (fielded s (Some field)) places.Field (if b then Ok (places.FieldEnd, (fielded s (Some field)).draft.selection) else Err (left_out l)))
@@ -208,20 +208,20 @@ same_field_leads now s l r ts reach field true v w =
 same_field_leads now s l r ts reach field false v w =
     failed (field_fault (Some field) l) _ ts reach (left_out l) (ap (λ (b : Bool). if b then None else Some (left_out l)) v) w
 
-field_leads_by : (now : ℤ) (s : State) (l : Lexeme) (r : Rest places.FieldEnd) (ts : List Lexeme) (reach : Reach) (o : Option Text)
+field_leads_by : (now : ℤ) (s : Progress) (l : Lexeme) (r : Rest places.FieldEnd) (ts : List Lexeme) (reach : Reach) (o : Option Text)
     → Reads (Examine (field_fault o l) ∷ left_at places.FieldEnd now (fielded s (field_after o l)) r) ts reach
-    → Leads now (at places.Field (fielded s o)) (l, r) ts reach (selecting (fielded s o) places.Field (steps.with_field l (fielded s o).draft.selection o))
+    → Leads now (at places.Field (fielded s o)) (l, r) ts reach (selecting (fielded s o) places.Field (steps.with_call_field l (fielded s o).draft.selection o))
 field_leads_by now s l r ts reach None w = (r, tt, w, refl)
 field_leads_by now s l r ts reach (Some field) w = same_field_leads now s l r ts reach field (bytes_eq field (named l)) refl w
 
-field_leads_at : (now : ℤ) (s : State) (l : Lexeme) (r : Rest places.FieldEnd) (ts : List Lexeme) (reach : Reach)
+field_leads_at : (now : ℤ) (s : Progress) (l : Lexeme) (r : Rest places.FieldEnd) (ts : List Lexeme) (reach : Reach)
     → Reads (Examine (field_fault s.draft.selection.field l) ∷ left_at places.FieldEnd now (fielded s (field_after s.draft.selection.field l)) r) ts reach
     → (k : Kind) → is_name k ≡ true → Leads now (at places.Field s) (l, r) ts reach (select_steps s places.Field l k)
 field_leads_at now s l r ts reach w =
     by_name (λ (k : Kind). Leads now (at places.Field s) (l, r) ts reach (select_steps s places.Field l k))
     (field_leads_by now s l r ts reach s.draft.selection.field w) (field_leads_by now s l r ts reach s.draft.selection.field w)
 
-pub Field_leads : (now : ℤ) (s : State) (q : Rest places.Field) (t : Lexeme) (ts : List Lexeme) (reach : Reach)
+pub Field_leads : (now : ℤ) (s : Progress) (q : Rest places.Field) (t : Lexeme) (ts : List Lexeme) (reach : Reach)
     → Reads (left_at places.Field now (at places.Field s) q) (t ∷ ts) reach
     → Leads now (at places.Field s) q ts reach (selecting s places.Field (select_at places.Field t.kind t s.draft.selection))
 Field_leads now s q t ts reach w =
@@ -229,7 +229,7 @@ Field_leads now s q t ts reach w =
     (field_leads_at now s q.0 q.1 ts reach w.2 q.0.kind (subst (λ (l : Lexeme). is_name l.kind ≡ true) w.0 w.1))
 
 -- a field ends with a type or without
-field_end_leads : (now : ℤ) (s : State) (o : Option FieldType) (r : ClosedTail) (t : Lexeme) (ts : List Lexeme) (reach : Reach)
+field_end_leads : (now : ℤ) (s : Progress) (o : Option FieldType) (r : ClosedTail) (t : Lexeme) (ts : List Lexeme) (reach : Reach)
     → Reads (left_at places.FieldEnd now (at places.FieldEnd s) (o, r)) (t ∷ ts) reach
     → Leads now (at places.FieldEnd s) (o, r) ts reach (select_steps s places.FieldEnd t t.kind)
 field_end_leads now s None r t ts reach w =
@@ -237,16 +237,16 @@ field_end_leads now s None r t ts reach w =
 field_end_leads now s (Some type) r t ts reach w =
     subst (λ (k : Kind). Leads now (at places.FieldEnd s) (Some type, r) ts reach (select_steps s places.FieldEnd t k)) (sym w.0) ((type, r), tt, w.1, refl)
 
-pub FieldEnd_leads : (now : ℤ) (s : State) (q : Rest places.FieldEnd) (t : Lexeme) (ts : List Lexeme) (reach : Reach)
+pub FieldEnd_leads : (now : ℤ) (s : Progress) (q : Rest places.FieldEnd) (t : Lexeme) (ts : List Lexeme) (reach : Reach)
     → Reads (left_at places.FieldEnd now (at places.FieldEnd s) q) (t ∷ ts) reach
     → Leads now (at places.FieldEnd s) q ts reach (selecting s places.FieldEnd (select_at places.FieldEnd t.kind t s.draft.selection))
 FieldEnd_leads now s q t ts reach w = field_end_leads now s q.0 q.1 t ts reach w
 
 -- the step with a word that names the one type, or the other
-abbrev pub typed : State → Lexeme → Bool → Bool → Step
+abbrev pub typed : Progress → Lexeme → Bool → Bool → Advance
 typed s t field integer = selecting s places.FieldType (if field || integer then Ok (places.FieldClose, s.draft.selection) else Err (unexpected t))
 
-field_type_leads : (now : ℤ) (s : State) (type : FieldType) (r : ClosedTail) (t : Lexeme) (ts : List Lexeme) (reach : Reach)
+field_type_leads : (now : ℤ) (s : Progress) (type : FieldType) (r : ClosedTail) (t : Lexeme) (ts : List Lexeme) (reach : Reach)
     → Reads (left_at places.FieldType now (at places.FieldType s) (type, r)) (t ∷ ts) reach
     → Leads now (at places.FieldType s) (type, r) ts reach (select_steps s places.FieldType t t.kind)
 field_type_leads now s Field r t ts reach w =
@@ -258,23 +258,23 @@ field_type_leads now s Integer r t ts reach w =
     (subst (λ (b : Bool). Leads now (at places.FieldType s) (Integer, r) ts reach (typed s t b (is_word (codes "integer") t.text))) (sym other)
     (subst (λ (b : Bool). Leads now (at places.FieldType s) (Integer, r) ts reach (typed s t false b)) (sym w.0.1) (r, tt, w.1, refl)))
 
-pub FieldType_leads : (now : ℤ) (s : State) (q : Rest places.FieldType) (t : Lexeme) (ts : List Lexeme) (reach : Reach)
+pub FieldType_leads : (now : ℤ) (s : Progress) (q : Rest places.FieldType) (t : Lexeme) (ts : List Lexeme) (reach : Reach)
     → Reads (left_at places.FieldType now (at places.FieldType s) q) (t ∷ ts) reach
     → Leads now (at places.FieldType s) q ts reach (selecting s places.FieldType (select_at places.FieldType t.kind t s.draft.selection))
 FieldType_leads now s q t ts reach w = field_type_leads now s q.0 q.1 t ts reach w
 
-pub FieldClose_leads : (now : ℤ) (s : State) (q : Rest places.FieldClose) (t : Lexeme) (ts : List Lexeme) (reach : Reach)
+pub FieldClose_leads : (now : ℤ) (s : Progress) (q : Rest places.FieldClose) (t : Lexeme) (ts : List Lexeme) (reach : Reach)
     → Reads (left_at places.FieldClose now (at places.FieldClose s) q) (t ∷ ts) reach
     → Leads now (at places.FieldClose s) q ts reach (selecting s places.FieldClose (select_at places.FieldClose t.kind t s.draft.selection))
 FieldClose_leads now s q t ts reach w =
     subst (λ (k : Kind). Leads now (at places.FieldClose s) q ts reach (select_steps s places.FieldClose t k)) (sym w.0) (q, tt, w.1, refl)
 
 -- the step with a keyword behind a column
-abbrev pub behind_column : State → Lexeme → Bool → Bool → Step
+abbrev pub behind_column : Progress → Lexeme → Bool → Bool → Advance
 behind_column s t from named_as = selecting s places.AfterColumn (if from then Ok (places.Measurement, with_default s.draft.selection)
     else if named_as then Ok (places.Alias, s.draft.selection) else Err (unexpected t))
 
-after_column_leads : (now : ℤ) (s : State) (o : Option Lexeme) (more : List Aggregate) (r : Source × FilterTail) (t : Lexeme) (ts : List Lexeme) (reach : Reach)
+after_column_leads : (now : ℤ) (s : Progress) (o : Option Lexeme) (more : List Call) (r : FromClause × FilterTail) (t : Lexeme) (ts : List Lexeme) (reach : Reach)
     → Reads (left_at places.AfterColumn now (at places.AfterColumn s) (o, (more, r))) (t ∷ ts) reach
     → Leads now (at places.AfterColumn s) (o, (more, r)) ts reach (select_steps s places.AfterColumn t t.kind)
 after_column_leads now s None [] r t ts reach w =
@@ -289,25 +289,25 @@ after_column_leads now s (Some alias) more r t ts reach w =
     (subst (λ (b : Bool). Leads now (at places.AfterColumn s) (Some alias, (more, r)) ts reach (behind_column s t false b)) (sym w.0.1)
     ((alias, (more, r)), tt, w.1, refl)))
 
-pub AfterColumn_leads : (now : ℤ) (s : State) (q : Rest places.AfterColumn) (t : Lexeme) (ts : List Lexeme) (reach : Reach)
+pub AfterColumn_leads : (now : ℤ) (s : Progress) (q : Rest places.AfterColumn) (t : Lexeme) (ts : List Lexeme) (reach : Reach)
     → Reads (left_at places.AfterColumn now (at places.AfterColumn s) q) (t ∷ ts) reach
     → Leads now (at places.AfterColumn s) q ts reach (selecting s places.AfterColumn (select_at places.AfterColumn t.kind t s.draft.selection))
 AfterColumn_leads now s q t ts reach w = after_column_leads now s q.0 q.1.0 q.1.1 t ts reach w
 
-alias_leads_at : (now : ℤ) (s : State) (l : Lexeme) (r : SelectTail) (ts : List Lexeme) (reach : Reach)
+alias_leads_at : (now : ℤ) (s : Progress) (l : Lexeme) (r : SelectTail) (ts : List Lexeme) (reach : Reach)
     → Reads (left_at places.AfterAlias now (with_alias s l) r) ts reach
     → (k : Kind) → is_name k ≡ true → Leads now (at places.Alias s) (l, r) ts reach (select_steps s places.Alias l k)
 alias_leads_at now s l r ts reach w =
     by_name (λ (k : Kind). Leads now (at places.Alias s) (l, r) ts reach (select_steps s places.Alias l k)) (r, tt, w, refl) (r, tt, w, refl)
 
-pub Alias_leads : (now : ℤ) (s : State) (q : Rest places.Alias) (t : Lexeme) (ts : List Lexeme) (reach : Reach)
+pub Alias_leads : (now : ℤ) (s : Progress) (q : Rest places.Alias) (t : Lexeme) (ts : List Lexeme) (reach : Reach)
     → Reads (left_at places.Alias now (at places.Alias s) q) (t ∷ ts) reach
     → Leads now (at places.Alias s) q ts reach (selecting s places.Alias (select_at places.Alias t.kind t s.draft.selection))
 Alias_leads now s q t ts reach w =
     subst (λ (l : Lexeme). Leads now (at places.Alias s) q ts reach (select_steps s places.Alias l l.kind)) (sym w.0)
     (alias_leads_at now s q.0 q.1 ts reach w.2 q.0.kind (subst (λ (l : Lexeme). is_name l.kind ≡ true) w.0 w.1))
 
-after_alias_leads : (now : ℤ) (s : State) (more : List Aggregate) (r : Source × FilterTail) (t : Lexeme) (ts : List Lexeme) (reach : Reach)
+after_alias_leads : (now : ℤ) (s : Progress) (more : List Call) (r : FromClause × FilterTail) (t : Lexeme) (ts : List Lexeme) (reach : Reach)
     → Reads (left_at places.AfterAlias now (at places.AfterAlias s) (more, r)) (t ∷ ts) reach
     → Leads now (at places.AfterAlias s) (more, r) ts reach (select_steps s places.AfterAlias t t.kind)
 after_alias_leads now s [] r t ts reach w =
@@ -317,19 +317,19 @@ after_alias_leads now s [] r t ts reach w =
 after_alias_leads now s (a ∷ more) r t ts reach w =
     subst (λ (k : Kind). Leads now (at places.AfterAlias s) (a ∷ more, r) ts reach (select_steps s places.AfterAlias t k)) (sym w.0) ((a, (more, r)), tt, w.1, refl)
 
-pub AfterAlias_leads : (now : ℤ) (s : State) (q : Rest places.AfterAlias) (t : Lexeme) (ts : List Lexeme) (reach : Reach)
+pub AfterAlias_leads : (now : ℤ) (s : Progress) (q : Rest places.AfterAlias) (t : Lexeme) (ts : List Lexeme) (reach : Reach)
     → Reads (left_at places.AfterAlias now (at places.AfterAlias s) q) (t ∷ ts) reach
     → Leads now (at places.AfterAlias s) q ts reach (selecting s places.AfterAlias (select_at places.AfterAlias t.kind t s.draft.selection))
 AfterAlias_leads now s q t ts reach w = after_alias_leads now s q.0 q.1 t ts reach w
 
 -- a measurement leads on, and a subquery is left out
-source_leads_at : (now : ℤ) (s : State) (l : Lexeme) (r : FilterTail) (ts : List Lexeme) (reach : Reach)
+source_leads_at : (now : ℤ) (s : Progress) (l : Lexeme) (r : FilterTail) (ts : List Lexeme) (reach : Reach)
     → Reads (left_at places.AfterMeasurement now (with_measurement s l) r) ts reach
     → (k : Kind) → is_name k ≡ true → Leads now (at places.Measurement s) (Measurement l, r) ts reach (select_steps s places.Measurement l k)
 source_leads_at now s l r ts reach w =
     by_name (λ (k : Kind). Leads now (at places.Measurement s) (Measurement l, r) ts reach (select_steps s places.Measurement l k)) (r, tt, w, refl) (r, tt, w, refl)
 
-source_leads : (now : ℤ) (s : State) (source : Source) (r : FilterTail) (t : Lexeme) (ts : List Lexeme) (reach : Reach)
+source_leads : (now : ℤ) (s : Progress) (source : FromClause) (r : FilterTail) (t : Lexeme) (ts : List Lexeme) (reach : Reach)
     → Reads (left_at places.Measurement now (at places.Measurement s) (source, r)) (t ∷ ts) reach
     → Leads now (at places.Measurement s) (source, r) ts reach (select_steps s places.Measurement t t.kind)
 source_leads now s (Measurement l) r t ts reach w =
@@ -337,9 +337,9 @@ source_leads now s (Measurement l) r t ts reach w =
     (source_leads_at now s l r ts reach w.2 l.kind (subst (λ (x : Lexeme). is_name x.kind ≡ true) w.0 w.1))
 source_leads now s (Subquery l) r t ts reach w =
     subst (λ (k : Kind). Leads now (at places.Measurement s) (Subquery l, r) ts reach (select_steps s places.Measurement t k)) (sym w.1)
-    (failed (Some (left_out l)) (left_filter now s (after_source (parts s.draft) (Subquery l)) r) ts reach (left_out t) (ap (λ (x : Lexeme). Some (left_out x)) (sym w.0)) w.2)
+    (failed (Some (left_out l)) (left_filter now s (after_from (meaning s.draft) (Subquery l)) r) ts reach (left_out t) (ap (λ (x : Lexeme). Some (left_out x)) (sym w.0)) w.2)
 
-pub Measurement_leads : (now : ℤ) (s : State) (q : Rest places.Measurement) (t : Lexeme) (ts : List Lexeme) (reach : Reach)
+pub Measurement_leads : (now : ℤ) (s : Progress) (q : Rest places.Measurement) (t : Lexeme) (ts : List Lexeme) (reach : Reach)
     → Reads (left_at places.Measurement now (at places.Measurement s) q) (t ∷ ts) reach
     → Leads now (at places.Measurement s) q ts reach (selecting s places.Measurement (select_at places.Measurement t.kind t s.draft.selection))
 Measurement_leads now s q t ts reach w = source_leads now s q.0 q.1 t ts reach w

@@ -3,12 +3,13 @@ use Rattle.std.proofs.Common.{◌≡◌, ℕ, ℤ, List, [], ◌∷◌, Bool, tr
 use Rattle.std.specs.Prelude.{⊤}
 use Rattle.ts_ql.specs.declared.place.Place.{Place}
 use Rattle.ts_ql.specs.declared.place.Place.TheVariants as places
-use Rattle.ts_ql.specs.Faults.{Fault}
-use Rattle.ts_ql.specs.Grammar.{Item, Any, This, Examine, FieldType, Aggregate, Source, Measurement, Subquery, Measure, Base, Number, Negative, Quoted, Now, Change, Cond, Compare, Match, Group, And, Signed, Dimension, Every, ByTag, GroupBy, FillOption, NullOption, NoneOption, PreviousOption, NumberOption, Ending, Stop, Close, Next}
+use Rattle.ts_ql.specs.QueryFaults.{Fault}
+use Rattle.ts_ql.specs.Grammar.{Item, Any, This, Examine, FieldType, Call, FromClause, Measurement, Subquery, Measure, Base, Number, Negative, Quoted, Now, Change, Cond, Compare, Match, Group, And, Signed, Dimension, Every, ByTag, GroupBy, FillOption, NullOption, NoneOption, PreviousOption, NumberOption, Ending, Stop, Close, Next}
 use Rattle.ts_ql.specs.Laws.{Reach, Within, Reads}
-use Rattle.ts_ql.specs.Reading.{State}
-use Rattle.ts_ql.specs.Spelling.{spell_type, spell_alias, spell_source, spell_base, spell_tag_type, spell_cond, spell_number, spell_offset, spell_dimension, spell_option}
-use Rattle.ts_ql.specs.Statements.{Parts, parts}
+use Rattle.ts_ql.specs.Reading.{Progress}
+use Rattle.ts_ql.specs.Productions.{spell_type, spell_alias, spell_from, spell_base, spell_tag_type, spell_cond, spell_number, spell_offset, spell_dimension, spell_option}
+use Rattle.ts_ql.specs.Statements.{Meaning}
+use Rattle.ts_ql.specs.Drafts.{meaning}
 use Rattle.ts_ql.specs.Tokens.{Lexeme}
 use Rattle.ts_ql.proofs.Rests.{FillTail, GroupTail, FilterTail, Closing, Outside, Inside, left_ending, left_fill, left_dimensions, left_group, left_filter, left_select, left_closing, left_statement, Rest, left, left_at}
 use Rattle.ts_ql.proofs.Steps.{at, Stands, passed, failed}
@@ -37,7 +38,7 @@ alias_starts : (o : Option Lexeme) (rest : List Item) → Starts rest → Starts
 alias_starts None rest starts = starts
 alias_starts (Some l) rest starts = tt
 
-source_starts : (source : Source) (rest : List Item) → Starts (spell_source source rest)
+source_starts : (source : FromClause) (rest : List Item) → Starts (spell_from source rest)
 source_starts (Measurement l) rest = tt
 source_starts (Subquery l) rest = tt
 
@@ -65,7 +66,7 @@ offset_starts : (o : Option Signed) (rest : List Item) → Starts rest → Start
 offset_starts None rest starts = starts
 offset_starts (Some s) rest starts = tt
 
-dimension_starts : (p : Parts) (d : Dimension) (rest : List Item) → Starts (spell_dimension p d rest)
+dimension_starts : (p : Meaning) (d : Dimension) (rest : List Item) → Starts (spell_dimension p d rest)
 dimension_starts p (Every time interval offset) rest = tt
 dimension_starts p (ByTag tag cast) rest = tt
 
@@ -75,38 +76,38 @@ option_starts NoneOption rest = tt
 option_starts PreviousOption rest = tt
 option_starts (NumberOption s) rest = number_starts s.minus _ s.number _
 
-ending_starts : (now : ℤ) (s : State) (p : Parts) (e : Ending) → Starts (left_ending now s p e)
+ending_starts : (now : ℤ) (s : Progress) (p : Meaning) (e : Ending) → Starts (left_ending now s p e)
 ending_starts now s p Stop = tt
 ending_starts now s p Close = tt
 ending_starts now s p (Next st e) = tt
 
-fill_starts : (now : ℤ) (s : State) (p : Parts) (o : Option FillOption) (e : Ending) → Starts (left_fill now s p (o, e))
+fill_starts : (now : ℤ) (s : Progress) (p : Meaning) (o : Option FillOption) (e : Ending) → Starts (left_fill now s p (o, e))
 fill_starts now s p (Some o) e = tt
 fill_starts now s p None e = ending_starts now s p e
 
-dimensions_start : (now : ℤ) (s : State) (p : Parts) (ds : List Dimension) (tail : FillTail) → Starts (left_dimensions now s p (ds, tail))
+dimensions_start : (now : ℤ) (s : Progress) (p : Meaning) (ds : List Dimension) (tail : FillTail) → Starts (left_dimensions now s p (ds, tail))
 dimensions_start now s p (d ∷ ds) tail = tt
 dimensions_start now s p [] tail = fill_starts now s p tail.0 tail.1
 
-group_starts : (now : ℤ) (s : State) (p : Parts) (g : Option GroupBy) (tail : FillTail) → Starts (left_group now s p (g, tail))
+group_starts : (now : ℤ) (s : Progress) (p : Meaning) (g : Option GroupBy) (tail : FillTail) → Starts (left_group now s p (g, tail))
 group_starts now s p (Some g) tail = tt
 group_starts now s p None tail = fill_starts now s p tail.0 tail.1
 
-filter_starts : (now : ℤ) (s : State) (p : Parts) (f : Option Cond) (tail : GroupTail) → Starts (left_filter now s p (f, tail))
+filter_starts : (now : ℤ) (s : Progress) (p : Meaning) (f : Option Cond) (tail : GroupTail) → Starts (left_filter now s p (f, tail))
 filter_starts now s p (Some c) tail = tt
 filter_starts now s p None tail = group_starts now s p tail.0 tail.1
 
-select_starts : (now : ℤ) (s : State) (p : Parts) (more : List Aggregate) (tail : Source × FilterTail) → Starts (left_select now s p (more, tail))
+select_starts : (now : ℤ) (s : Progress) (p : Meaning) (more : List Call) (tail : FromClause × FilterTail) → Starts (left_select now s p (more, tail))
 select_starts now s p (a ∷ more) tail = tt
 select_starts now s p [] tail = tt
 
-closing_starts : (now : ℤ) (s : State) (p : Parts) (q : Closing) → Starts (left_closing now s p q)
+closing_starts : (now : ℤ) (s : Progress) (p : Meaning) (q : Closing) → Starts (left_closing now s p q)
 closing_starts now s p (Outside (c ∷ cs) tail) = tt
 closing_starts now s p (Outside [] tail) = group_starts now s p tail.0 tail.1
 closing_starts now s p (Inside (c ∷ cs) closing) = tt
 closing_starts now s p (Inside [] closing) = tt
 
-statement_starts : (now : ℤ) (s : State) (q : Rest places.Statement) → Starts (left_statement now s q)
+statement_starts : (now : ℤ) (s : Progress) (q : Rest places.Statement) → Starts (left_statement now s q)
 statement_starts now s None = tt
 statement_starts now s (Some r) = tt
 
@@ -115,7 +116,7 @@ IsOpen places.AfterMoment = false
 IsOpen places.Done = false
 IsOpen p = true
 
-starts_at : (p : Place) (now : ℤ) (s : State) (q : Rest p) → IsOpen p ≡ true → Starts (left_at p now (at p s) q)
+starts_at : (p : Place) (now : ℤ) (s : Progress) (q : Rest p) → IsOpen p ≡ true → Starts (left_at p now (at p s) q)
 starts_at places.Statement now s q is = statement_starts now s q
 starts_at places.Function now s q is = tt
 starts_at places.FunctionOpen now s q is = tt
@@ -143,7 +144,7 @@ starts_at places.NowClose now s q is = tt
 starts_at places.MomentPlus now s q is = tt
 starts_at places.MomentLess now s q is = tt
 starts_at places.GroupBy now s q is = tt
-starts_at places.Item now s q is = dimension_starts (parts s.draft) q.0 _
+starts_at places.Item now s q is = dimension_starts (meaning s.draft) q.0 _
 starts_at places.TimeOpen now s q is = tt
 starts_at places.Interval now s q is = tt
 starts_at places.IntervalEnd now s q is = offset_starts q.0 _ tt
@@ -163,25 +164,25 @@ starts_at places.Done now s q is = absurd cc
 
 -- ---- where the tokens end
 
-stands_by : (s : State) (reach : Reach) → reach ≡ Within → Stands reach s
+stands_by : (s : Progress) (reach : Reach) → reach ≡ Within → Stands reach s
 stands_by s reach e = subst (λ (r : Reach). Stands r s) (sym e) tt
 
-moment_stands_by : (now : ℤ) (s : State) (q : Closing) (reach : Reach) (o : Option Fault) → moment_fault s ≡ o
+moment_stands_by : (now : ℤ) (s : Progress) (q : Closing) (reach : Reach) (o : Option Fault) → moment_fault s ≡ o
     → Reads (left_at places.AfterMoment now (at places.AfterMoment s) ([], q)) [] reach → Stands reach (at places.AfterMoment s)
 moment_stands_by now s q reach None valid v =
-    stands_by (at places.AfterMoment s) reach (within (left_closing now s (parts (bounding s)) q) reach (closing_starts now s _ q) (passed (moment_fault s) _ [] reach valid v))
+    stands_by (at places.AfterMoment s) reach (within (left_closing now s (meaning (bounding s)) q) reach (closing_starts now s _ q) (passed (moment_fault s) _ [] reach valid v))
 moment_stands_by now s q reach (Some f) invalid v =
     subst (λ (r : Reach). Stands r (at places.AfterMoment s)) (sym ((failed (moment_fault s) _ [] reach f invalid v).1)) ((unsettled_back s f invalid).1)
 
-moment_stands : (now : ℤ) (s : State) (cs : List Change) (q : Closing) (reach : Reach)
+moment_stands : (now : ℤ) (s : Progress) (cs : List Change) (q : Closing) (reach : Reach)
     → Reads (left_at places.AfterMoment now (at places.AfterMoment s) (cs, q)) [] reach → Stands reach (at places.AfterMoment s)
 moment_stands now s [] q reach v = moment_stands_by now s q reach (moment_fault s) refl v
 moment_stands now s (c ∷ cs) q reach v = stands_by (at places.AfterMoment s) reach v.0
 
-stands_at : (p : Place) (now : ℤ) (s : State) (q : Rest p) (reach : Reach) → Reads (left_at p now (at p s) q) [] reach → Stands reach (at p s)
+stands_at : (p : Place) (now : ℤ) (s : Progress) (q : Rest p) (reach : Reach) → Reads (left_at p now (at p s) q) [] reach → Stands reach (at p s)
 stands_at places.AfterMoment now s q reach v = moment_stands now s q.0 q.1 reach v
 stands_at places.Done now s q reach v = subst (λ (r : Reach). Stands r (at places.Done s)) (sym v) refl
 stands_at p now s q reach v = stands_by (at p s) reach (within (left_at p now (at p s) q) reach (starts_at p now s q refl) v)
 
-pub stands : (now : ℤ) (s : State) (q : Rest s.place) (reach : Reach) → Reads (left now s q) [] reach → Stands reach s
+pub stands : (now : ℤ) (s : Progress) (q : Rest s.place) (reach : Reach) → Reads (left now s q) [] reach → Stands reach s
 stands now s q reach v = stands_at s.place now s q reach v

@@ -14,7 +14,7 @@ use Rattle.std.specs.declared.cmp.Ordering.TheVariants.{Less, Equal, Greater}
 use Rattle.ts_core.specs.Facts.{Text, text_cmp}
 use Rattle.ts_core.specs.Buckets.{IsBucketOf}
 use Rattle.ts_core.proofs.BucketsLemmas.{one_more_of}
-use Rattle.ts_ql.specs.Selects.{Column}
+use Rattle.ts_ql.specs.Selects.{Projection}
 use Rattle.ts_ql.specs.Statements.{has_column, repeats}
 
 -- ---- names
@@ -27,11 +27,11 @@ abbrev pub has_name : List (Bor Text) → Text → Bool
 has_name names text = list_any (λ (name : Bor Text). is_eq (text_cmp text name.now)) names
 
 -- some column has one of the names
-abbrev pub met : List (Bor Text) → List Column → Bool
-met names columns = list_any (λ (c : Column). has_name names c.name) columns
+abbrev pub met : List (Bor Text) → List Projection → Bool
+met names columns = list_any (λ (c : Projection). has_name names c.name) columns
 
 -- what is left to be told from this place on, after the names of the columns before it
-abbrev pub IsToldFrom : List (Bor Text) → List Column → ℕ → Type 0
+abbrev pub IsToldFrom : List (Bor Text) → List Projection → ℕ → Type 0
 IsToldFrom names columns i = (met names (drop i columns) || repeats (drop i columns)) ≡ repeats columns
 
 or_twice : (a b : Bool) → (a || b) ≡ (a || (a || b))
@@ -62,11 +62,11 @@ named : (names : List (Bor Text)) (name : Bor Text) (text : Text) → has_name (
 named [] name text = refl
 named (first ∷ rest) name text = named_by (name_cmp name first) text name first rest (insert_key name_cmp rest name) refl (named rest name text)
 
-met_none : (columns : List Column) → met [] columns ≡ false
+met_none : (columns : List Projection) → met [] columns ≡ false
 met_none [] = refl
 met_none (c ∷ cs) = met_none cs
 
-met_more : (names : List (Bor Text)) (name : Bor Text) (columns : List Column) → met (insert_key name_cmp names name) columns ≡ (has_column name.now columns || met names columns)
+met_more : (names : List (Bor Text)) (name : Bor Text) (columns : List Projection) → met (insert_key name_cmp names name) columns ≡ (has_column name.now columns || met names columns)
 met_more names name [] = refl
 met_more names name (c ∷ cs) =
     rw (named names name c.name, is_eq-slice_cmp c.name name.now, met_more names name cs)
@@ -77,16 +77,16 @@ or_shift true true c = refl
 or_shift true false c = refl
 or_shift false b c = refl
 
-pub told_first : (columns : List Column) → IsToldFrom [] columns 0
+pub told_first : (columns : List Projection) → IsToldFrom [] columns 0
 told_first columns = rw (met_none columns) refl
 
-told_here : (names : List (Bor Text)) (columns : List Column) (i : ℕ) (c : Column) → i < length columns → c ≡ get_or columns i c → IsToldFrom names columns i
+told_here : (names : List (Bor Text)) (columns : List Projection) (i : ℕ) (c : Projection) → i < length columns → c ≡ get_or columns i c → IsToldFrom names columns i
     → ((has_name names c.name || met names (drop (i + 1) columns)) || (bytes_eq c.name (codes "time") || has_column c.name (drop (i + 1) columns) || repeats (drop (i + 1) columns))) ≡ repeats columns
 told_here names columns i c lt is told =
-    let here : drop i columns ≡ get_or columns i c ∷ drop (i + 1) columns = at_drop_more (λ (l : List Column). l) columns i c lt in
+    let here : drop i columns ≡ get_or columns i c ∷ drop (i + 1) columns = at_drop_more (λ (l : List Projection). l) columns i c lt in
     rw (here, sym is) at told
 
-pub told_more : (names : List (Bor Text)) (columns : List Column) (i : ℕ) (c : Column) (name : Bor Text) → i < length columns → c ≡ get_or columns i c → IsToldFrom names columns i
+pub told_more : (names : List (Bor Text)) (columns : List Projection) (i : ℕ) (c : Projection) (name : Bor Text) → i < length columns → c ≡ get_or columns i c → IsToldFrom names columns i
     → bytes_eq c.name (codes "time") ≡ false → has_name names c.name ≡ false → name.now ≡ c.name → IsToldFrom (insert_key name_cmp names name) columns (i + 1)
 told_more names columns i c name lt is told other new e =
     let here = told_here names columns i c lt is told in

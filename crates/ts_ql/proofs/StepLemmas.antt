@@ -1,5 +1,5 @@
 -- A text has been read once a step takes its end.
-use Rattle.std.proofs.Common.{◌≡◌, ℕ, ◌+◌, ◌-◌, ℤ, pos, ◌+ℤ◌, ◌-ℤ◌, Bool, true, false, eqb, ◌&&◌, ◌||◌, codes, refl, sym, subst, Option, Some, None, Result, Ok, Err}
+use Rattle.std.proofs.Common.{◌≡◌, ℕ, ◌+◌, ◌-◌, ℤ, pos, Bool, true, false, eqb, ◌&&◌, ◌||◌, codes, refl, sym, subst, Option, Some, None, Result, Ok, Err}
 use Rattle.std.proofs.lemmas.Bool.{cond_both, and_parts}
 use Rattle.std.specs.Prelude.{if◌then◌else◌, nat_lt, nat_le, int_le, bytes_eq}
 use Rattle.ts_core.specs.Facts.{Text}
@@ -12,16 +12,17 @@ use Rattle.ts_core.specs.declared.value.Function.{Function}
 use Rattle.ts_ql.specs.declared.token.Kind.{Kind}
 use Rattle.ts_ql.specs.declared.token.Kind.TheVariants as kinds
 use Rattle.ts_ql.specs.Dates.{moment_told}
-use Rattle.ts_ql.specs.Faults.{Fault, unexpected, left_out, TooManyStatements, OutOfRange}
-use Rattle.ts_ql.specs.GroupSteps.{Grouped, group_at, group_step, item_at, time_item, with_text, of_interval, with_interval, with_offset, fill_at, fill_step, with_number, chosen}
-use Rattle.ts_ql.specs.Literals.{is_word, literal, unescaped}
-use Rattle.ts_ql.specs.MomentSteps.{moment_at, moment_step, based, is_sum, summed, later_by, earlier_by}
+use Rattle.ts_ql.specs.QueryFaults.{Fault, unexpected, left_out, TooManyStatements, OutOfRange}
+use Rattle.ts_ql.specs.GroupSteps.{Grouped, group_at, group_step, item_at, time_item, with_interval, with_offset, fill_at, fill_step, with_number, chosen}
+use Rattle.ts_ql.specs.Drafts.{Drafted, meaning}
+use Rattle.ts_ql.specs.Literals.{is_word, literal, text_spelled}
+use Rattle.ts_ql.specs.MomentSteps.{moment_at, moment_step, based, later_by, earlier_by}
 use Rattle.ts_ql.specs.declared.place.Clause.{Clause}
 use Rattle.ts_ql.specs.declared.place.Clause.TheVariants as clauses
-use Rattle.ts_ql.specs.Reading.{Drafting, settle_step, in_selection, in_filter, in_moment, in_groups, in_filling, clause_of, draft_at, draft_step, group_alone, fill_alone, clause_at, next_clause, is_end, may_end, State, Step, begun_at, begun, after_end, ended_with, ended, with_draft, clause_or, continued, placed_at, after_settling, step, is_done}
-use Rattle.ts_ql.specs.Selects.{Buckets, Select}
-use Rattle.ts_ql.specs.SelectSteps.{Selected, select_at, select_step, with_function, with_field, with_default}
-use Rattle.ts_ql.specs.Statements.{Drafted, parts, statement_said}
+use Rattle.ts_ql.specs.Reading.{Drafting, settle_step, in_selection, in_filter, in_moment, in_groups, in_filling, clause_of, draft_at, draft_step, group_alone, fill_alone, clause_at, next_clause, is_end, may_end, Progress, Advance, begun_at, begun, after_end, ended_with, ended, with_draft, clause_or, continued, placed_at, after_settling, step, is_done}
+use Rattle.ts_ql.specs.Selects.{Buckets, Select, with_text, of_interval}
+use Rattle.ts_ql.specs.SelectSteps.{Selected, select_at, select_step, with_function, with_call_field, with_default}
+use Rattle.ts_ql.specs.Statements.{statement_said}
 use Rattle.ts_ql.specs.Tokenizing.{is_end_of_text}
 use Rattle.ts_ql.specs.Tokens.{Lexeme}
 use Rattle.ts_ql.specs.WhereSteps.{Filtered, where_at, where_step, term_at, after_term}
@@ -42,7 +43,7 @@ function_moves : (t : Lexeme) (s : Selected) (o : Option Function) → Moves kin
 function_moves t s None = tt
 function_moves t s (Some f) = refl
 
-field_moves : (k : Kind) (t : Lexeme) (s : Selected) (o : Option Text) → is_end_of_text k ≡ false → Moves k (with_field t s o)
+field_moves : (k : Kind) (t : Lexeme) (s : Selected) (o : Option Text) → is_end_of_text k ≡ false → Moves k (with_call_field t s o)
 field_moves k t s None other = sym other
 field_moves k t s (Some field) other = moves_if k (bytes_eq field (named t)) (Ok (places.FieldEnd, s)) (Err (left_out t)) (sym other) tt
 
@@ -73,7 +74,7 @@ after_term_goes_on : (depth : ℕ) → is_done (after_term depth) ≡ false
 after_term_goes_on depth = cond_both (eqb depth 0) places.AfterTerm places.NestedTerm (λ p. is_done p ≡ false) (λ e. refl) (λ e. refl)
 
 term_moves : (k : Kind) (t : Lexeme) (f : Filtered) → is_end_of_text k ≡ false → Moves k (term_at t f)
-term_moves k t f other = moves_if k (is_time t.kind t.text) (Ok (places.TimeSign, f)) (Ok (places.TagEnd, record f { tag = unescaped t.text })) (sym other) (sym other)
+term_moves k t f other = moves_if k (is_time t.kind t.text) (Ok (places.TimeSign, f)) (Ok (places.TagEnd, record f { tag = text_spelled t.text })) (sym other) (sym other)
 
 where_moves : (p : Place) (k : Kind) (t : Lexeme) (f : Filtered) → Moves k (where_at p k t f)
 where_moves places.Term kinds.Open t f = moves_if kinds.Open (nat_lt f.depth 32) (Ok (places.Term, record f { depth = f.depth + 1 })) (Err (left_out t)) refl tt
@@ -96,16 +97,13 @@ based_moves : (k : Kind) (first : ℕ) (m : Moment) (o : Option ℤ) → is_end_
 based_moves k first m None other = tt
 based_moves k first m (Some value) other = sym other
 
-summed_moves : (m : Moment) (total : ℤ) → Moves kinds.Duration (summed m total)
-summed_moves m total = moves_if kinds.Duration (is_sum total) (Ok (places.AfterMoment, record m { total = total })) (Err (OutOfRange m.first)) refl tt
-
 later_moves : (t : Lexeme) (m : Moment) (o : Option ℤ) → Moves kinds.Duration (later_by t m o)
 later_moves t m None = tt
-later_moves t m (Some value) = summed_moves m (m.total +ℤ value)
+later_moves t m (Some value) = refl
 
 earlier_moves : (t : Lexeme) (m : Moment) (o : Option ℤ) → Moves kinds.Duration (earlier_by t m o)
 earlier_moves t m None = tt
-earlier_moves t m (Some value) = summed_moves m (m.total -ℤ value)
+earlier_moves t m (Some value) = refl
 
 moment_moves : (now : ℤ) (p : Place) (k : Kind) (t : Lexeme) (m : Moment) → Moves k (moment_at now p k t m)
 moment_moves now places.TimeSign kinds.Equals t m = refl
@@ -133,7 +131,7 @@ time_item_moves k t g None other = sym other
 time_item_moves k t g (Some b) other = tt
 
 item_moves : (k : Kind) (t : Lexeme) (g : Grouped) → is_end_of_text k ≡ false → Moves k (item_at t g)
-item_moves k t g other = moves_if k (is_time t.kind t.text) (time_item t g g.buckets) (Ok (places.AfterTag, record g { tags = with_text (unescaped t.text) g.tags })) (time_item_moves k t g g.buckets other) (sym other)
+item_moves k t g other = moves_if k (is_time t.kind t.text) (time_item t g g.buckets) (Ok (places.AfterTag, record g { tags = with_text (text_spelled t.text) g.tags })) (time_item_moves k t g g.buckets other) (sym other)
 
 interval_moves : (t : Lexeme) (g : Grouped) (o : Option ℤ) → Moves kinds.Duration (with_interval t g o)
 interval_moves t g None = tt
@@ -242,22 +240,22 @@ next_opens p t = clause_opens p t.kind t.text
 
 -- ---- statements
 
-abbrev MovesTo : Kind → Step → Type 0
+abbrev MovesTo : Kind → Advance → Type 0
 MovesTo k (Ok s) = is_done s.place ≡ is_end_of_text k
 MovesTo k (Err fault) = Unit {0}
 
-moves_to_if : (k : Kind) (test : Bool) (one other : Step) → (test ≡ true → MovesTo k one) → MovesTo k other → MovesTo k (if test then one else other)
+moves_to_if : (k : Kind) (test : Bool) (one other : Advance) → (test ≡ true → MovesTo k one) → MovesTo k other → MovesTo k (if test then one else other)
 moves_to_if k true one other a b = a refl
 moves_to_if k false one other a b = b
 
-begun_at_moves : (k : Kind) (t : Lexeme) (s : State) → MovesTo k (begun_at k t s)
+begun_at_moves : (k : Kind) (t : Lexeme) (s : Progress) → MovesTo k (begun_at k t s)
 begun_at_moves kinds.Keyword t s =
     moves_to_if kinds.Keyword (is_word (codes "select") t.text) (if nat_le 16 s.count then Err (TooManyStatements t.start) else Ok (record s { place = places.Function; count = s.count + 1; start = t.start })) (Err (unexpected t))
     (λ _. moves_to_if kinds.Keyword (nat_le 16 s.count) (Err (TooManyStatements t.start)) (Ok (record s { place = places.Function; count = s.count + 1; start = t.start })) (λ _. tt) refl) tt
 begun_at_moves kinds.End t s = moves_to_if kinds.End (eqb s.count 0) (Err (unexpected t)) (Ok (record s { place = places.Done })) (λ _. tt) refl
 begun_at_moves k t s = tt
 
-begun_moves : (t : Lexeme) (s : State) → MovesTo t.kind (begun t s)
+begun_moves : (t : Lexeme) (s : Progress) → MovesTo t.kind (begun t s)
 unfolding begun
 begun_moves t s = begun_at_moves t.kind t s
 
@@ -266,36 +264,36 @@ after_end_moves kinds.Semicolon e = refl
 after_end_moves kinds.End e = refl
 after_end_moves k e = absurd (cc)
 
-ended_moves : (k : Kind) (s : State) (r : Result Select Fault) → is_end k ≡ true → MovesTo k (ended_with k s r)
+ended_moves : (k : Kind) (s : Progress) (r : Result Select Fault) → is_end k ≡ true → MovesTo k (ended_with k s r)
 ended_moves k s (Ok q) e = after_end_moves k e
 ended_moves k s (Err fault) e = tt
 
-with_draft_moves : (k : Kind) (s : State) (r : Drafting) → Moves k r → MovesTo k (with_draft s r)
+with_draft_moves : (k : Kind) (s : Progress) (r : Drafting) → Moves k r → MovesTo k (with_draft s r)
 with_draft_moves k s (Ok p) m = m
 with_draft_moves k s (Err fault) m = tt
 
-clause_moves : (now : ℤ) (t : Lexeme) (s : State) (o : Option Place) → Opens t.kind o → MovesTo t.kind (clause_or now t s o)
+clause_moves : (now : ℤ) (t : Lexeme) (s : Progress) (o : Option Place) → Opens t.kind o → MovesTo t.kind (clause_or now t s o)
 clause_moves now t s None opens = with_draft_moves t.kind s (draft_step now s.place t s.draft) (draft_moves now s.place t s.draft)
 clause_moves now t s (Some next) opens = opens
 
-continued_moves : (now : ℤ) (t : Lexeme) (s : State) → MovesTo t.kind (continued now t s)
+continued_moves : (now : ℤ) (t : Lexeme) (s : Progress) → MovesTo t.kind (continued now t s)
 continued_moves now t s =
     moves_to_if t.kind (may_end s.place && is_end t.kind) (ended now t.kind s) (clause_or now t s (next_clause s.place t))
-    (λ e. ended_moves t.kind s (statement_said s.start now (parts s.draft)) (and_parts (may_end s.place) (is_end t.kind) e).1)
+    (λ e. ended_moves t.kind s (statement_said s.start now (meaning s.draft)) (and_parts (may_end s.place) (is_end t.kind) e).1)
     (clause_moves now t s (next_clause s.place t) (next_opens s.place t))
 
-placed_moves : (p : Place) (now : ℤ) (t : Lexeme) (s : State) → MovesTo t.kind (placed_at p now t s)
+placed_moves : (p : Place) (now : ℤ) (t : Lexeme) (s : Progress) → MovesTo t.kind (placed_at p now t s)
 placed_moves places.Statement now t s = begun_moves t s
 placed_moves p now t s = continued_moves now t s
 
-settling_moves : (now : ℤ) (t : Lexeme) (s : State) (r : Drafting) → MovesTo t.kind (after_settling now t s r)
+settling_moves : (now : ℤ) (t : Lexeme) (s : Progress) (r : Drafting) → MovesTo t.kind (after_settling now t s r)
 settling_moves now t s (Ok p) = placed_moves p.0 now t (record s { place = p.0; draft = p.1 })
 settling_moves now t s (Err fault) = tt
 
-step_moves_to : (now : ℤ) (t : Lexeme) (s : State) → MovesTo t.kind (step now t s)
+step_moves_to : (now : ℤ) (t : Lexeme) (s : Progress) → MovesTo t.kind (step now t s)
 unfolding step
 step_moves_to now t s = settling_moves now t s (settle_step s.place t.kind s.draft)
 
 -- the text has been read after a step exactly if the step took its end
-pub step_done : (now : ℤ) (t : Lexeme) (s after : State) → step now t s ≡ Ok after → is_done after.place ≡ is_end_of_text t.kind
-step_done now t s after e = subst (λ (r : Step). MovesTo t.kind r) e (step_moves_to now t s)
+pub step_done : (now : ℤ) (t : Lexeme) (s after : Progress) → step now t s ≡ Ok after → is_done after.place ≡ is_end_of_text t.kind
+step_done now t s after e = subst (λ (r : Advance). MovesTo t.kind r) e (step_moves_to now t s)

@@ -1,11 +1,11 @@
 -- What the machine reads of a text is what the text says by the grammar, or its first fault.
-use Rattle.std.proofs.Common.{◌≡◌, ℕ, ℤ, ◌≤◌, List, length, nat_lt, Bool, true, false, Result, Ok, Err, refl, sym, ap, ◌∙◌, subst}
+use Rattle.std.proofs.Common.{◌≡◌, ◌⊎◌, inl, inr, ℕ, ℤ, ◌≤◌, List, length, nat_lt, Bool, true, false, Result, Ok, Err, refl, sym, ap, ◌∙◌, subst}
 use Rattle.std.proofs.lemmas.Bool.{ltb-false}
 use Rattle.ts_core.specs.Facts.{Text}
 use Rattle.ts_ql.specs.declared.fault.ParseError.{ParseError}
 use Rattle.ts_ql.specs.declared.fault.ParseError.TheVariants as errors
-use Rattle.ts_ql.specs.Faults.{Fault, Syntax, told, Gives}
-use Rattle.ts_ql.specs.Laws.{Says, SaysUnless, IsFaultIf, TextSays, TextFault, Tells}
+use Rattle.ts_ql.specs.QueryFaults.{Fault, Syntax, as_fault, Gives}
+use Rattle.ts_ql.specs.Laws.{Says, SaysUnless, IsFaultIf, TextSays, TextFault, Tells, ReadsText, IsDecided}
 use Rattle.ts_ql.specs.Reading.{queries_of}
 use Rattle.ts_ql.specs.Selects.{Select}
 use Rattle.ts_ql.specs.Tokenizing.{tokens_of}
@@ -45,19 +45,49 @@ fault_text_by : (now : ℤ) (text : Text) (f : Fault) (b : Bool) → nat_lt 6553
 fault_text_by now text f true long w = long_fault now text long ∙ ap Err (sym w)
 fault_text_by now text f false is w = runs_err now text f (short (length text) is) (fault_only now (tokens_of text) f w)
 
+said_as : (now : ℤ) (text : Text) (queries : List Select) → TextSays now text queries → queries_of now text ≡ Ok queries
+said_as now text queries w = says_text_by now text queries (nat_lt 65536 (length text)) refl w
+
+faulty_as : (now : ℤ) (text : Text) (f : Fault) → TextFault now text f → queries_of now text ≡ Err f
+faulty_as now text f w = fault_text_by now text f (nat_lt 65536 (length text)) refl w
+
+-- ---- each text says queries or has a first fault
+
+some_of : (now : ℤ) (text : Text) (r : Result (List Select) Fault) → queries_of now text ≡ r
+    → ((queries : List Select) × TextSays now text queries) ⊎ ((fault : Fault) × TextFault now text fault)
+some_of now text (Ok queries) e = inl (queries, text_says now text queries e)
+some_of now text (Err f) e = inr (f, text_fault now text f e)
+
+apart : (queries : List Select) (f : Fault) (r : Result (List Select) Fault) → r ≡ Ok queries → r ≡ Err f → ⊥
+apart queries f r said faulty = cc
+
+one_ok : (queries others : List Select) (r : Result (List Select) Fault) → r ≡ Ok queries → r ≡ Ok others → queries ≡ others
+one_ok queries others r said also = cc
+
+one_err : (f other : Fault) (r : Result (List Select) Fault) → r ≡ Err f → r ≡ Err other → f ≡ other
+one_err f other r told also = cc
+
+pub decided : (now : ℤ) (text : Text) → IsDecided now text
+decided now text = record {
+  some = some_of now text (queries_of now text) refl;
+  not_both = λ queries f said faulty. apart queries f (queries_of now text) (said_as now text queries said) (faulty_as now text f faulty);
+  one_meaning = λ queries others said also. one_ok queries others (queries_of now text) (said_as now text queries said) (said_as now text others also);
+  one_fault = λ f other told also. one_err f other (queries_of now text) (faulty_as now text f told) (faulty_as now text other also);
+}
+
 -- ---- the same of what was returned
 
-pub tells : {X : Type 0} (view : X → List Select) (now : ℤ) (text : Text) (r : Result X ParseError) → Gives view r (queries_of now text) → Tells view now text r
+tells : {X : Type 0} (view : X → List Select) (now : ℤ) (text : Text) (r : Result X ParseError) → Gives view r (queries_of now text) → Tells view now text r
 tells {X} view now text (Ok x) e = text_says now text (view x) e
-tells {X} view now text (Err errors.Memory) e = tt
-tells {X} view now text (Err (errors.Fault f)) e = text_fault now text (told f) e
+tells {X} view now text (Err errors.OutOfMemory) e = tt
+tells {X} view now text (Err (errors.Fault f)) e = text_fault now text (as_fault f) e
 
-pub says_text : {X : Type 0} (view : X → List Select) (now : ℤ) (text : Text) (r : Result X ParseError) (queries : List Select)
-    → Gives view r (queries_of now text) → TextSays now text queries → Gives view r (Ok queries)
-says_text {X} view now text r queries e w =
-    subst (λ (said : Result (List Select) Fault). Gives view r said) (says_text_by now text queries (nat_lt 65536 (length text)) refl w) e
+gives_as : {X : Type 0} (view : X → List Select) (r : Result X ParseError) (a b : Result (List Select) Fault) → a ≡ b → Gives view r a → Gives view r b
+gives_as {X} view r a b e w = subst (λ (said : Result (List Select) Fault). Gives view r said) e w
 
-pub fault_text : {X : Type 0} (view : X → List Select) (now : ℤ) (text : Text) (r : Result X ParseError) (f : Fault)
-    → Gives view r (queries_of now text) → TextFault now text f → Gives view r (Err f)
-fault_text {X} view now text r f e w =
-    subst (λ (said : Result (List Select) Fault). Gives view r said) (fault_text_by now text f (nat_lt 65536 (length text)) refl w) e
+pub reads_text : {X : Type 0} (view : X → List Select) (now : ℤ) (text : Text) (r : Result X ParseError) → Gives view r (queries_of now text) → ReadsText view now text r
+reads_text {X} view now text r e = record {
+  tells = tells view now text r e;
+  queries = λ queries said. gives_as view r (queries_of now text) (Ok queries) (said_as now text queries said) e;
+  fault = λ f faulty. gives_as view r (queries_of now text) (Err f) (faulty_as now text f faulty) e;
+}

@@ -11,7 +11,8 @@ use Rattle.ts_ql.specs.declared.bytes.Class.{Class}
 use Rattle.ts_ql.specs.declared.bytes.Class.TheVariants.{Space, Name, Digit}
 use Rattle.ts_ql.specs.declared.token.Kind.{Kind}
 use Rattle.ts_ql.specs.declared.token.Kind.TheVariants as kinds
-use Rattle.ts_ql.specs.Lexing.{is_in, run_end, end_of, is_escapable, closing, closing_quote, unit_len, parts_end, duration_end, double, single, single_at, double_at, operator_at, number_at, closed_at, quoted_at, shape_at, kind_of, token_at}
+use Rattle.ts_ql.specs.Lexing.{is_in, run_end, end_of_run, is_escape_byte, closing, closing_quote, parts_end, duration_end, double, single, single_at, double_at, operator_at, number_at, closed_at, quoted_at, shape_at, kind_of, token_at}
+use Rattle.ts_ql.specs.DurationUnits.{unit_len}
 use Rattle.ts_ql.specs.Tokenizing.{is_end_of_text}
 use Rattle.ts_ql.specs.Words.{is_keyword}
 use Rattle.ts_ql.proofs.LexingLemmas.{in_text}
@@ -29,15 +30,15 @@ run_some class at b bs e =
     let rest : (at + 1 ≤ run_end class (at + 1) bs) × (run_end class (at + 1) bs ≤ at + 1 + length bs) = run_within class (at + 1) bs in
     rw e (omega arith)
 
-end_within : (class : Class) (text : Text) (from : ℕ) → from ≤ length text → (from ≤ end_of class text from) × (end_of class text from ≤ length text)
-unfolding end_of
+end_within : (class : Class) (text : Text) (from : ℕ) → from ≤ length text → (from ≤ end_of_run class text from) × (end_of_run class text from ≤ length text)
+unfolding end_of_run
 end_within class text from le =
     let within : (from ≤ run_end class from (drop from text)) × (run_end class from (drop from text) ≤ from + length (drop from text)) = run_within class from (drop from text) in
     let left : length (drop from text) ≡ length text - from = length-drop from text in
     (omega arith, omega arith)
 
-end_some : (class : Class) (text : Text) (from : ℕ) → from < length text → is_in class (get_or text from 0) ≡ true → from < end_of class text from
-unfolding end_of
+end_some : (class : Class) (text : Text) (from : ℕ) → from < length text → is_in class (get_or text from 0) ≡ true → from < end_of_run class text from
+unfolding end_of_run
 end_some class text from lt e = rw (drop-cons text from 0 lt) (run_some class from (get_or text from 0) (drop (suc from) text) e)
 
 -- ---- texts in quotes
@@ -55,7 +56,7 @@ closing_within : (quote : ℕ) (escaped : Bool) (at past : ℕ) (bs : Text) → 
 closing_within quote true at past [] e = tt
 closing_within quote false at past [] e = tt
 closing_within quote true at past (b ∷ bs) e =
-    cond_both (is_escapable b) (closing quote false (at + 1) bs) None (Closes at past)
+    cond_both (is_escape_byte b) (closing quote false (at + 1) bs) None (Closes at past)
     (λ t. closes_later at past (closing quote false (at + 1) bs) (closing_within quote false (at + 1) past bs (omega arith))) (λ t. tt)
 closing_within quote false at past (b ∷ bs) e =
     cond_both (eqb b quote) (Some at) (closing quote (eqb b 92) (at + 1) bs) (Closes at past) (λ t. (omega arith, omega arith))
@@ -155,10 +156,10 @@ unfolding number_at
 number_ends text start lt digit =
     let le : start ≤ length text = omega arith in
     let duration : duration_end text start ≤ length text = duration_within text start le in
-    let digits : (start ≤ end_of Digit text start) × (end_of Digit text start ≤ length text) = end_within Digit text start le in
-    let some : start < end_of Digit text start = end_some Digit text start lt digit in
+    let digits : (start ≤ end_of_run Digit text start) × (end_of_run Digit text start ≤ length text) = end_within Digit text start le in
+    let some : start < end_of_run Digit text start = end_some Digit text start lt digit in
     if_ends text start _ _ _ (λ e. record { within = duration; after = λ u. ltb-true start (duration_end text start) e })
-    (λ e. if_ends text start (is_ascii_alphabetic (get_or text (end_of Digit text start) 0) || eqb (get_or text (end_of Digit text start) 0) 46) (kinds.Bad, length text) (kinds.Integer, end_of Digit text start) (λ bad. past_end text start lt) (λ good. record { within = digits.1; after = λ u. some }))
+    (λ e. if_ends text start (is_ascii_alphabetic (get_or text (end_of_run Digit text start) 0) || eqb (get_or text (end_of_run Digit text start) 0) 46) (kinds.Bad, length text) (kinds.Integer, end_of_run Digit text start) (λ bad. past_end text start lt) (λ good. record { within = digits.1; after = λ u. some }))
 
 closed_ends : (text : Text) (quote start : ℕ) (o : Option ℕ) → start < length text → Closes (start + 1) (length text) o → Ends text start (closed_at text quote start o)
 closed_ends text quote start None lt closes = past_end text start lt
@@ -175,7 +176,7 @@ some_ends : (text : Text) (start : ℕ) → start < length text → Ends text st
 unfolding shape_at
 some_ends text start lt =
     let le : start ≤ length text = omega arith in
-    let name : (start ≤ end_of Name text start) × (end_of Name text start ≤ length text) = end_within Name text start le in
+    let name : (start ≤ end_of_run Name text start) × (end_of_run Name text start ≤ length text) = end_within Name text start le in
     if_ends text start _ _ _ (λ e. absurd (let last : length text ≡ start = eqb-true (length text) start e in omega arith))
     (λ _. if_ends text start _ _ _ (λ digit. number_ends text start lt digit)
     (λ _. if_ends text start _ _ _ (λ word. record { within = name.1; after = λ u. end_some Name text start lt word })
@@ -196,13 +197,13 @@ kind_same kind raw = refl
 pub token_within : (text : Text) (from : ℕ) → from ≤ length text → (token_at text from).end ≤ length text
 unfolding token_at
 token_within text from le =
-    let start : (from ≤ end_of Space text from) × (end_of Space text from ≤ length text) = end_within Space text from le in
-    (shape_ends text (end_of Space text from) start.1).within
+    let start : (from ≤ end_of_run Space text from) × (end_of_run Space text from ≤ length text) = end_within Space text from le in
+    (shape_ends text (end_of_run Space text from) start.1).within
 
 pub token_after : (text : Text) (from : ℕ) → from ≤ length text → is_end_of_text (token_at text from).kind ≡ false → from < (token_at text from).end
 unfolding token_at
 token_after text from le other =
-    let start : (from ≤ end_of Space text from) × (end_of Space text from ≤ length text) = end_within Space text from le in
-    let shape : Kind × ℕ = shape_at text (end_of Space text from) in
-    let after : end_of Space text from < shape.1 = (shape_ends text (end_of Space text from) start.1).after (sym (kind_same shape.0 (slice_range text (end_of Space text from) shape.1)) ∙ other) in
+    let start : (from ≤ end_of_run Space text from) × (end_of_run Space text from ≤ length text) = end_within Space text from le in
+    let shape : Kind × ℕ = shape_at text (end_of_run Space text from) in
+    let after : end_of_run Space text from < shape.1 = (shape_ends text (end_of_run Space text from) start.1).after (sym (kind_same shape.0 (slice_range text (end_of_run Space text from) shape.1)) ∙ other) in
     omega arith

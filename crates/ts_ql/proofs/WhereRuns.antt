@@ -8,15 +8,16 @@ use Rattle.ts_ql.specs.declared.place.Place.TheVariants as places
 use Rattle.ts_ql.specs.declared.token.Kind.{Kind}
 use Rattle.ts_ql.specs.declared.token.Kind.TheVariants as kinds
 use Rattle.ts_ql.specs.declared.moment.Comparison.{Comparison}
-use Rattle.ts_ql.specs.Faults.{Fault, unexpected, left_out}
+use Rattle.ts_ql.specs.QueryFaults.{Fault, unexpected, left_out}
 use Rattle.ts_ql.specs.Grammar.{Of, Item, Any, This, Examine, Instant, Cond, Compare, Match, Group, And, is_name}
 use Rattle.ts_ql.specs.Laws.{Reach, Reads}
-use Rattle.ts_ql.specs.Literals.{is_word, unescaped}
+use Rattle.ts_ql.specs.Literals.{is_word, text_spelled}
 use Rattle.ts_ql.specs.Meanings.{after_cond}
-use Rattle.ts_ql.specs.Reading.{State, Step, with_draft, in_filter}
+use Rattle.ts_ql.specs.Reading.{Progress, Advance, with_draft, in_filter}
 use Rattle.ts_ql.specs.Selects.{Select}
-use Rattle.ts_ql.specs.Spelling.{spell_cond, spell_tag_type, depth_fault, equality}
-use Rattle.ts_ql.specs.Statements.{Drafted, Parts, parts}
+use Rattle.ts_ql.specs.Productions.{spell_cond, spell_tag_type, depth_fault, equality}
+use Rattle.ts_ql.specs.Statements.{Meaning}
+use Rattle.ts_ql.specs.Drafts.{Drafted, meaning}
 use Rattle.ts_ql.specs.Tokens.{Lexeme}
 use Rattle.ts_ql.specs.WhereSteps.{Filtered, Filtering, with_condition, term_at, where_at, after_term}
 use Rattle.ts_ql.specs.Words.{is_time, named}
@@ -24,7 +25,7 @@ use Rattle.ts_ql.proofs.Completions.{closing_of, closing_levels}
 use Rattle.ts_ql.proofs.Rests.{Closing, Outside, Inside, GroupTail, levels, after_conds, spell_conds, Rest, left, left_at, left_closing, with_match, said_closing, all_said, SoundAt, Suits, SuitsAt}
 use Rattle.ts_ql.proofs.Steps.{at, Answer, Leads, passes, fails, passed, failed}
 
-abbrev pub filtering : State → Place → Filtering → Step
+abbrev pub filtering : Progress → Place → Filtering → Advance
 filtering s p step = with_draft (at p s) (in_filter s.draft step)
 
 -- ---- several conditions as one
@@ -38,21 +39,21 @@ pub spell_joined : (now : ℤ) (depth : ℕ) (c : Cond) (cs : List Cond) (rest :
 spell_joined now depth c [] rest = refl
 spell_joined now depth c (d ∷ ds) rest = spell_joined now depth (And c d) ds rest
 
-pub after_joined : (now : ℤ) (p : Parts) (c : Cond) (cs : List Cond) → after_cond now p (joined c cs) ≡ after_conds now (after_cond now p c) cs
+pub after_joined : (now : ℤ) (p : Meaning) (c : Cond) (cs : List Cond) → after_cond now p (joined c cs) ≡ after_conds now (after_cond now p c) cs
 after_joined now p c [] = refl
 after_joined now p c (d ∷ ds) = after_joined now p (And c d) ds
 
 -- ---- to trees
 
 -- a rest here spells the token before these items, and says the same
-abbrev pub Behind : ℤ → (s : State) → Lexeme → List Item → List (Result Select Fault) → Type 0
+abbrev pub Behind : ℤ → (s : Progress) → Lexeme → List Item → List (Result Select Fault) → Type 0
 Behind now s t items said =
     (q : Rest s.place) × Suits s q × ((ts : List Lexeme) (reach : Reach) → Reads items ts reach → Reads (left now s q) (t ∷ ts) reach)
     × (all_said now s q ≡ map Ok s.queries ++ said)
 
 -- after a term at that depth
-pub closes : (now : ℤ) (s : State) (t : Lexeme) (d : Drafted)
-    → ((c : Closing) → d.filter.depth ≡ levels c → Behind now s t (left_closing now s (parts d) c) (said_closing now s (parts d) c))
+pub closes : (now : ℤ) (s : Progress) (t : Lexeme) (d : Drafted)
+    → ((c : Closing) → d.filter.depth ≡ levels c → Behind now s t (left_closing now s (meaning d) c) (said_closing now s (meaning d) c))
     → (b : Bool) → (d.filter.depth == 0) ≡ b → Answer now s t (Ok (record s { place = if b then places.AfterTerm else places.NestedTerm; draft = d }))
 closes now s t d back true e = (eqb-true d.filter.depth 0 e, λ r suits. back r suits)
 closes now s t d back false e =
@@ -64,33 +65,33 @@ no_depth_fault depth levels t same lt = ap (λ (n : ℕ). depth_fault n t) (sym 
 a_depth_fault : (depth levels : ℕ) (t : Lexeme) → depth ≡ levels → nat_lt depth 32 ≡ false → depth_fault levels t ≡ Some (left_out t)
 a_depth_fault depth levels t same lt = ap (λ (n : ℕ). depth_fault n t) (sym same) ∙ ap (λ (b : Bool). if b then None else Some (left_out t)) lt
 
-abbrev group_items : ℤ → State → Cond → Closing → Parts → List Item
+abbrev group_items : ℤ → Progress → Cond → Closing → Meaning → List Item
 group_items now s c outer p = spell_cond now (levels outer + 1) c (Any (Of kinds.Close) ∷ left_closing now s p outer)
 
-group_back : (now : ℤ) (s : State) (t : Lexeme) → t.kind ≡ kinds.Open → nat_lt s.draft.filter.depth 32 ≡ true
+group_back : (now : ℤ) (s : Progress) (t : Lexeme) → t.kind ≡ kinds.Open → nat_lt s.draft.filter.depth 32 ≡ true
     → (c : Cond) (closing : Closing) → s.draft.filter.depth + 1 ≡ levels closing
-    → Behind now (at places.Term s) t (spell_cond now (levels closing) c (left_closing now s (after_cond now (parts s.draft) c) closing))
-    (said_closing now s (after_cond now (parts s.draft) c) closing)
+    → Behind now (at places.Term s) t (spell_cond now (levels closing) c (left_closing now s (after_cond now (meaning s.draft) c) closing))
+    (said_closing now s (after_cond now (meaning s.draft) c) closing)
 group_back now s t e lt c (Outside cs tail) suits = absurd (omega (arith, suits))
 group_back now s t e lt c (Inside cs outer) suits =
     let same : s.draft.filter.depth ≡ levels outer = omega (arith, suits) in
-    let after : after_cond now (parts s.draft) (joined c cs) ≡ after_conds now (after_cond now (parts s.draft) c) cs = after_joined now (parts s.draft) c cs in
-    let items : group_items now s (joined c cs) outer (after_cond now (parts s.draft) (joined c cs))
-    ≡ spell_cond now (levels outer + 1) c (left_closing now s (after_cond now (parts s.draft) c) (Inside cs outer))
+    let after : after_cond now (meaning s.draft) (joined c cs) ≡ after_conds now (after_cond now (meaning s.draft) c) cs = after_joined now (meaning s.draft) c cs in
+    let items : group_items now s (joined c cs) outer (after_cond now (meaning s.draft) (joined c cs))
+    ≡ spell_cond now (levels outer + 1) c (left_closing now s (after_cond now (meaning s.draft) c) (Inside cs outer))
     = ap (group_items now s (joined c cs) outer) after
-    ∙ spell_joined now (levels outer + 1) c cs (Any (Of kinds.Close) ∷ left_closing now s (after_conds now (after_cond now (parts s.draft) c) cs) outer) in (
+    ∙ spell_joined now (levels outer + 1) c cs (Any (Of kinds.Close) ∷ left_closing now s (after_conds now (after_cond now (meaning s.draft) c) cs) outer) in (
       (Group t (joined c cs), outer),
       same,
       (λ ts reach w. (
         refl,
         e,
-        passes (depth_fault (levels outer) t) (group_items now s (joined c cs) outer (after_cond now (parts s.draft) (joined c cs))) ts reach
+        passes (depth_fault (levels outer) t) (group_items now s (joined c cs) outer (after_cond now (meaning s.draft) (joined c cs))) ts reach
             (no_depth_fault s.draft.filter.depth (levels outer) t same lt) (subst (λ (l : List Item). Reads l ts reach) (sym items) w),
       )),
-      ap (λ (p : Parts). map Ok s.queries ++ said_closing now s p outer) after,
+      ap (λ (p : Meaning). map Ok s.queries ++ said_closing now s p outer) after,
     )
 
-opened : (now : ℤ) (s : State) (t : Lexeme) → t.kind ≡ kinds.Open → (b : Bool) → nat_lt s.draft.filter.depth 32 ≡ b
+opened : (now : ℤ) (s : Progress) (t : Lexeme) → t.kind ≡ kinds.Open → (b : Bool) → nat_lt s.draft.filter.depth 32 ≡ b
     → Answer now (at places.Term s) t (filtering s places.Term
     (if b then Ok (places.Term, record s.draft.filter { depth = s.draft.filter.depth + 1 }) else Err (left_out t)))
 opened now s t e true lt = (tt, λ r suits. group_back now s t e lt r.0 r.1 suits)
@@ -103,53 +104,53 @@ opened now s t e false lt =
       inr (
         refl,
         e,
-        fails (depth_fault (levels outer) t) (group_items now s (Match t false false t) outer (after_cond now (parts s.draft) (Match t false false t))) (left_out t)
+        fails (depth_fault (levels outer) t) (group_items now s (Match t false false t) outer (after_cond now (meaning s.draft) (Match t false false t))) (left_out t)
             (a_depth_fault s.draft.filter.depth (levels outer) t same lt),
       ),
     )
 
 -- time, or a tag
-term_answers : (now : ℤ) (s : State) (t : Lexeme) → is_name t.kind ≡ true → (b : Bool) → is_time t.kind t.text ≡ b
+term_answers : (now : ℤ) (s : Progress) (t : Lexeme) → is_name t.kind ≡ true → (b : Bool) → is_time t.kind t.text ≡ b
     → Answer now (at places.Term s) t (filtering s places.Term
-    (if b then Ok (places.TimeSign, s.draft.filter) else Ok (places.TagEnd, record s.draft.filter { tag = unescaped t.text })))
+    (if b then Ok (places.TimeSign, s.draft.filter) else Ok (places.TagEnd, record s.draft.filter { tag = text_spelled t.text })))
 term_answers now s t e true is = (tt, λ r suits. ((Compare t r.0 r.1.0, r.1.1), suits, (λ ts reach w. (refl, is, w)), refl))
 term_answers now s t e false is = (tt, λ r suits. ((Match t r.0 r.1.0 r.1.1.0, r.1.1.1), suits, (λ ts reach w. (refl, (e, is), w)), refl))
 
-type_answers : (now : ℤ) (s : State) (t : Lexeme) → t.kind ≡ kinds.Word → (b : Bool) → is_word (codes "tag") t.text ≡ b
+type_answers : (now : ℤ) (s : Progress) (t : Lexeme) → t.kind ≡ kinds.Word → (b : Bool) → is_word (codes "tag") t.text ≡ b
     → Answer now (at places.TagType s) t (filtering s places.TagType (if b then Ok (places.TagSign, s.draft.filter) else Err (unexpected t)))
 type_answers now s t e true is = (tt, λ r suits. (r, suits, (λ ts reach w. ((e, is), w)), refl))
 type_answers now s t e false is = inr refl
 
 -- AND behind a term outside of all parentheses, and inside of some
-and_back : (now : ℤ) (s : State) (t : Lexeme) → t.kind ≡ kinds.Keyword → is_word (codes "and") t.text ≡ true → s.draft.filter.depth ≡ 0
+and_back : (now : ℤ) (s : Progress) (t : Lexeme) → t.kind ≡ kinds.Keyword → is_word (codes "and") t.text ≡ true → s.draft.filter.depth ≡ 0
     → (c : Cond) (closing : Closing) → s.draft.filter.depth ≡ levels closing
-    → Behind now (at places.AfterTerm s) t (spell_cond now (levels closing) c (left_closing now s (after_cond now (parts s.draft) c) closing))
-    (said_closing now s (after_cond now (parts s.draft) c) closing)
+    → Behind now (at places.AfterTerm s) t (spell_cond now (levels closing) c (left_closing now s (after_cond now (meaning s.draft) c) closing))
+    (said_closing now s (after_cond now (meaning s.draft) c) closing)
 and_back now s t e is sound c (Outside cs tail) suits = (Outside (c ∷ cs) tail, suits, (λ ts reach w. ((e, is), w)), refl)
 and_back now s t e is sound c (Inside cs outer) suits = absurd (omega (arith, sound, suits))
 
-nested_and_back : (now : ℤ) (s : State) (t : Lexeme) → t.kind ≡ kinds.Keyword → is_word (codes "and") t.text ≡ true → 0 < s.draft.filter.depth
+nested_and_back : (now : ℤ) (s : Progress) (t : Lexeme) → t.kind ≡ kinds.Keyword → is_word (codes "and") t.text ≡ true → 0 < s.draft.filter.depth
     → (c : Cond) (closing : Closing) → s.draft.filter.depth ≡ levels closing
-    → Behind now (at places.NestedTerm s) t (spell_cond now (levels closing) c (left_closing now s (after_cond now (parts s.draft) c) closing))
-    (said_closing now s (after_cond now (parts s.draft) c) closing)
+    → Behind now (at places.NestedTerm s) t (spell_cond now (levels closing) c (left_closing now s (after_cond now (meaning s.draft) c) closing))
+    (said_closing now s (after_cond now (meaning s.draft) c) closing)
 nested_and_back now s t e is sound c (Outside cs tail) suits = absurd (omega (arith, sound, suits))
 nested_and_back now s t e is sound c (Inside cs outer) suits = (Inside (c ∷ cs) outer, suits, (λ ts reach w. ((e, is), w)), refl)
 
-and_answers : (now : ℤ) (s : State) (t : Lexeme) → t.kind ≡ kinds.Keyword → s.draft.filter.depth ≡ 0 → (b : Bool) → is_word (codes "and") t.text ≡ b
+and_answers : (now : ℤ) (s : Progress) (t : Lexeme) → t.kind ≡ kinds.Keyword → s.draft.filter.depth ≡ 0 → (b : Bool) → is_word (codes "and") t.text ≡ b
     → Answer now (at places.AfterTerm s) t (filtering s places.AfterTerm (if b then Ok (places.Term, s.draft.filter) else Err (unexpected t)))
 and_answers now s t e sound true is = (tt, λ r suits. and_back now s t e is sound r.0 r.1 suits)
 and_answers now s t e sound false is = inr refl
 
-nested_and_answers : (now : ℤ) (s : State) (t : Lexeme) → t.kind ≡ kinds.Keyword → 0 < s.draft.filter.depth → (b : Bool) → is_word (codes "and") t.text ≡ b
+nested_and_answers : (now : ℤ) (s : Progress) (t : Lexeme) → t.kind ≡ kinds.Keyword → 0 < s.draft.filter.depth → (b : Bool) → is_word (codes "and") t.text ≡ b
     → Answer now (at places.NestedTerm s) t (filtering s places.NestedTerm (if b then Ok (places.Term, s.draft.filter) else Err (unexpected t)))
 nested_and_answers now s t e sound true is = (tt, λ r suits. nested_and_back now s t e is sound r.0 r.1 suits)
 nested_and_answers now s t e sound false is = inr refl
 
 -- one parenthesis less
-abbrev closed_draft : State → Drafted
+abbrev closed_draft : Progress → Drafted
 closed_draft s = record s.draft { filter = record s.draft.filter { depth = s.draft.filter.depth - 1 } }
 
-close_answers : (now : ℤ) (s : State) (t : Lexeme) → t.kind ≡ kinds.Close → 0 < s.draft.filter.depth → (b : Bool) → nat_lt 0 s.draft.filter.depth ≡ b
+close_answers : (now : ℤ) (s : Progress) (t : Lexeme) → t.kind ≡ kinds.Close → 0 < s.draft.filter.depth → (b : Bool) → nat_lt 0 s.draft.filter.depth ≡ b
     → Answer now (at places.NestedTerm s) t (filtering s places.NestedTerm
     (if b then Ok (after_term (s.draft.filter.depth - 1), record s.draft.filter { depth = s.draft.filter.depth - 1 }) else Err (unexpected t)))
 close_answers now s t e sound true lt =
@@ -157,10 +158,10 @@ close_answers now s t e sound true lt =
     (λ c suits. (Inside [] c, omega (arith, sound, suits), (λ ts reach w. (e, w)), refl)) (s.draft.filter.depth - 1 == 0) refl
 close_answers now s t e sound false lt = inr refl
 
-abbrev matched_draft : State → Lexeme → Drafted
-matched_draft s t = record s.draft { filter = with_condition (unescaped t.text) s.draft.filter }
+abbrev matched_draft : Progress → Lexeme → Drafted
+matched_draft s t = record s.draft { filter = with_condition (text_spelled t.text) s.draft.filter }
 
-pub where_answers : (now : ℤ) (s : State) (p : Place) (k : Kind) (t : Lexeme) → t.kind ≡ k → SoundAt p (at p s)
+pub where_answers : (now : ℤ) (s : Progress) (p : Place) (k : Kind) (t : Lexeme) → t.kind ≡ k → SoundAt p (at p s)
     → Answer now (at p s) t (filtering s p (where_at p k t s.draft.filter))
 where_answers now s places.Term kinds.Open t e sound = opened now s t e (nat_lt s.draft.filter.depth 32) refl
 where_answers now s places.Term kinds.Word t e sound = term_answers now s t (ap is_name e) (is_time t.kind t.text) refl
@@ -181,12 +182,12 @@ where_answers now s p k t e sound = inr refl
 -- ---- from trees
 
 -- the step with a token of that kind
-abbrev pub where_steps : State → Place → Lexeme → Kind → Step
+abbrev pub where_steps : Progress → Place → Lexeme → Kind → Advance
 where_steps s p t k = filtering s p (where_at p k t s.draft.filter)
 
 -- after a term at that depth
-pub closing_leads : (now : ℤ) (s : State) (q : Rest s.place) (ts : List Lexeme) (reach : Reach) (d : Drafted) (c : Closing) (b : Bool) → d.filter.depth ≡ levels c
-    → Reads (left_closing now s (parts d) c) ts reach → all_said now s q ≡ map Ok s.queries ++ said_closing now s (parts d) c
+pub closing_leads : (now : ℤ) (s : Progress) (q : Rest s.place) (ts : List Lexeme) (reach : Reach) (d : Drafted) (c : Closing) (b : Bool) → d.filter.depth ≡ levels c
+    → Reads (left_closing now s (meaning d) c) ts reach → all_said now s q ≡ map Ok s.queries ++ said_closing now s (meaning d) c
     → Leads now s q ts reach (Ok (record s { place = if b then places.AfterTerm else places.NestedTerm; draft = d }))
 closing_leads now s q ts reach d c true suits w said = (c, suits, w, said)
 closing_leads now s q ts reach d c false suits w said = (c, suits, w, said)
@@ -204,10 +205,10 @@ name_step kinds.Word t f is = refl
 name_step kinds.QuotedName t f is = refl
 name_step k t f is = absurd cc
 
-abbrev name_steps : State → Lexeme → Bool → Step
-name_steps s t b = filtering s places.Term (if b then Ok (places.TimeSign, s.draft.filter) else Ok (places.TagEnd, record s.draft.filter { tag = unescaped t.text }))
+abbrev name_steps : Progress → Lexeme → Bool → Advance
+name_steps s t b = filtering s places.Term (if b then Ok (places.TimeSign, s.draft.filter) else Ok (places.TagEnd, record s.draft.filter { tag = text_spelled t.text }))
 
-compare_leads : (now : ℤ) (s : State) (l : Lexeme) (c : Comparison) (i : Instant) (closing : Closing) (t : Lexeme) (ts : List Lexeme) (reach : Reach)
+compare_leads : (now : ℤ) (s : Progress) (l : Lexeme) (c : Comparison) (i : Instant) (closing : Closing) (t : Lexeme) (ts : List Lexeme) (reach : Reach)
     → SuitsAt places.Term (at places.Term s) (Compare l c i, closing)
     → Reads (left_at places.Term now (at places.Term s) (Compare l c i, closing)) (t ∷ ts) reach
     → Leads now (at places.Term s) (Compare l c i, closing) ts reach (where_steps s places.Term t t.kind)
@@ -216,11 +217,11 @@ compare_leads now s l c i closing t ts reach suits w =
     = ap (filtering s places.Term) (name_step t.kind t s.draft.filter (time_is_name t.kind t.text w.1)) ∙ ap (name_steps s t) w.1 in
     subst (Leads now (at places.Term s) (Compare l c i, closing) ts reach) (sym stepped) ((c, (i, closing)), suits, w.2, refl)
 
-abbrev tag_items : ℤ → State → Bool → Bool → Lexeme → Closing → Lexeme → List Item
+abbrev tag_items : ℤ → Progress → Bool → Bool → Lexeme → Closing → Lexeme → List Item
 tag_items now s cast differs value closing l = spell_tag_type cast (Any (Of (equality differs)) ∷ This (Of kinds.Literal) value
-    ∷ left_closing now s (with_match (parts s.draft) (named l) differs value) closing)
+    ∷ left_closing now s (with_match (meaning s.draft) (named l) differs value) closing)
 
-match_leads : (now : ℤ) (s : State) (l : Lexeme) (cast differs : Bool) (value : Lexeme) (closing : Closing) (t : Lexeme) (ts : List Lexeme) (reach : Reach)
+match_leads : (now : ℤ) (s : Progress) (l : Lexeme) (cast differs : Bool) (value : Lexeme) (closing : Closing) (t : Lexeme) (ts : List Lexeme) (reach : Reach)
     → SuitsAt places.Term (at places.Term s) (Match l cast differs value, closing)
     → Reads (left_at places.Term now (at places.Term s) (Match l cast differs value, closing)) (t ∷ ts) reach
     → Leads now (at places.Term s) (Match l cast differs value, closing) ts reach (where_steps s places.Term t t.kind)
@@ -231,29 +232,29 @@ match_leads now s l cast differs value closing t ts reach suits w =
       (cast, (differs, (value, closing))),
       suits,
       subst (λ (x : Lexeme). Reads (tag_items now s cast differs value closing x) ts reach) (sym w.0) w.2,
-      ap (λ (x : Lexeme). map Ok s.queries ++ said_closing now s (with_match (parts s.draft) (named x) differs value) closing) (sym w.0),
+      ap (λ (x : Lexeme). map Ok s.queries ++ said_closing now s (with_match (meaning s.draft) (named x) differs value) closing) (sym w.0),
     )
 
-abbrev open_steps : State → Lexeme → Bool → Step
+abbrev open_steps : Progress → Lexeme → Bool → Advance
 open_steps s t b =
     filtering s places.Term (if b then Ok (places.Term, record s.draft.filter { depth = s.draft.filter.depth + 1 }) else Err (left_out t))
 
-open_leads : (now : ℤ) (s : State) (o : Lexeme) (c : Cond) (closing : Closing) (t : Lexeme) (ts : List Lexeme) (reach : Reach)
+open_leads : (now : ℤ) (s : Progress) (o : Lexeme) (c : Cond) (closing : Closing) (t : Lexeme) (ts : List Lexeme) (reach : Reach)
     → s.draft.filter.depth ≡ levels closing → t ≡ o
-    → Reads (Examine (depth_fault (levels closing) o) ∷ group_items now s c closing (after_cond now (parts s.draft) c)) ts reach
+    → Reads (Examine (depth_fault (levels closing) o) ∷ group_items now s c closing (after_cond now (meaning s.draft) c)) ts reach
     → (b : Bool) → nat_lt s.draft.filter.depth 32 ≡ b → Leads now (at places.Term s) (Group o c, closing) ts reach (open_steps s t b)
 open_leads now s o c closing t ts reach suits same w true lt = (
   (c, Inside [] closing),
   omega (arith, suits),
-  passed (depth_fault (levels closing) o) (group_items now s c closing (after_cond now (parts s.draft) c)) ts reach
+  passed (depth_fault (levels closing) o) (group_items now s c closing (after_cond now (meaning s.draft) c)) ts reach
       (no_depth_fault s.draft.filter.depth (levels closing) o suits lt) w,
   refl,
 )
 open_leads now s o c closing t ts reach suits same w false lt =
-    failed (depth_fault (levels closing) o) (group_items now s c closing (after_cond now (parts s.draft) c)) ts reach (left_out t)
+    failed (depth_fault (levels closing) o) (group_items now s c closing (after_cond now (meaning s.draft) c)) ts reach (left_out t)
     (a_depth_fault s.draft.filter.depth (levels closing) o suits lt ∙ ap (λ (x : Lexeme). Some (left_out x)) (sym same)) w
 
-cond_leads : (now : ℤ) (s : State) (c : Cond) (closing : Closing) (t : Lexeme) (ts : List Lexeme) (reach : Reach)
+cond_leads : (now : ℤ) (s : Progress) (c : Cond) (closing : Closing) (t : Lexeme) (ts : List Lexeme) (reach : Reach)
     → SuitsAt places.Term (at places.Term s) (c, closing) → Reads (left_at places.Term now (at places.Term s) (c, closing)) (t ∷ ts) reach
     → Leads now (at places.Term s) (c, closing) ts reach (where_steps s places.Term t t.kind)
 cond_leads now s (Compare l c i) closing t ts reach suits w = compare_leads now s l c i closing t ts reach suits w
@@ -264,14 +265,14 @@ cond_leads now s (Group o c) closing t ts reach suits w =
 cond_leads now s (And a b) (Outside cs tail) t ts reach suits w = cond_leads now s a (Outside (b ∷ cs) tail) t ts reach suits w
 cond_leads now s (And a b) (Inside cs outer) t ts reach suits w = cond_leads now s a (Inside (b ∷ cs) outer) t ts reach suits w
 
-pub term_leads : (now : ℤ) (s : State) (q : Rest places.Term) (t : Lexeme) (ts : List Lexeme) (reach : Reach) → SuitsAt places.Term (at places.Term s) q
+pub term_leads : (now : ℤ) (s : Progress) (q : Rest places.Term) (t : Lexeme) (ts : List Lexeme) (reach : Reach) → SuitsAt places.Term (at places.Term s) q
     → Reads (left_at places.Term now (at places.Term s) q) (t ∷ ts) reach
     → Leads now (at places.Term s) q ts reach (filtering s places.Term (where_at places.Term t.kind t s.draft.filter))
 term_leads now s q t ts reach suits w = cond_leads now s q.0 q.1 t ts reach suits w
 
 -- ---- a condition on a tag
 
-tag_end_leads_at : (now : ℤ) (s : State) (cast differs : Bool) (tail : Lexeme × Closing) (t : Lexeme) (ts : List Lexeme) (reach : Reach)
+tag_end_leads_at : (now : ℤ) (s : Progress) (cast differs : Bool) (tail : Lexeme × Closing) (t : Lexeme) (ts : List Lexeme) (reach : Reach)
     → SuitsAt places.TagEnd (at places.TagEnd s) (cast, (differs, tail)) → Reads (left_at places.TagEnd now (at places.TagEnd s) (cast, (differs, tail))) (t ∷ ts) reach
     → Leads now (at places.TagEnd s) (cast, (differs, tail)) ts reach (where_steps s places.TagEnd t t.kind)
 tag_end_leads_at now s true differs tail t ts reach suits w =
@@ -281,22 +282,22 @@ tag_end_leads_at now s false true tail t ts reach suits w =
 tag_end_leads_at now s false false tail t ts reach suits w =
     subst (λ (k : Kind). Leads now (at places.TagEnd s) (false, (false, tail)) ts reach (where_steps s places.TagEnd t k)) (sym w.0) (tail, suits, w.1, refl)
 
-pub tag_end_leads : (now : ℤ) (s : State) (q : Rest places.TagEnd) (t : Lexeme) (ts : List Lexeme) (reach : Reach) → SuitsAt places.TagEnd (at places.TagEnd s) q
+pub tag_end_leads : (now : ℤ) (s : Progress) (q : Rest places.TagEnd) (t : Lexeme) (ts : List Lexeme) (reach : Reach) → SuitsAt places.TagEnd (at places.TagEnd s) q
     → Reads (left_at places.TagEnd now (at places.TagEnd s) q) (t ∷ ts) reach
     → Leads now (at places.TagEnd s) q ts reach (filtering s places.TagEnd (where_at places.TagEnd t.kind t s.draft.filter))
 tag_end_leads now s q t ts reach suits w = tag_end_leads_at now s q.0 q.1.0 q.1.1 t ts reach suits w
 
-abbrev type_steps : State → Lexeme → Bool → Step
+abbrev type_steps : Progress → Lexeme → Bool → Advance
 type_steps s t b = filtering s places.TagType (if b then Ok (places.TagSign, s.draft.filter) else Err (unexpected t))
 
-pub tag_type_leads : (now : ℤ) (s : State) (q : Rest places.TagType) (t : Lexeme) (ts : List Lexeme) (reach : Reach) → SuitsAt places.TagType (at places.TagType s) q
+pub tag_type_leads : (now : ℤ) (s : Progress) (q : Rest places.TagType) (t : Lexeme) (ts : List Lexeme) (reach : Reach) → SuitsAt places.TagType (at places.TagType s) q
     → Reads (left_at places.TagType now (at places.TagType s) q) (t ∷ ts) reach
     → Leads now (at places.TagType s) q ts reach (filtering s places.TagType (where_at places.TagType t.kind t s.draft.filter))
 tag_type_leads now s q t ts reach suits w =
     subst (λ (k : Kind). Leads now (at places.TagType s) q ts reach (where_steps s places.TagType t k)) (sym w.0.0)
     (subst (λ (b : Bool). Leads now (at places.TagType s) q ts reach (type_steps s t b)) (sym w.0.1) (q, suits, w.1, refl))
 
-tag_sign_leads_at : (now : ℤ) (s : State) (differs : Bool) (tail : Lexeme × Closing) (t : Lexeme) (ts : List Lexeme) (reach : Reach)
+tag_sign_leads_at : (now : ℤ) (s : Progress) (differs : Bool) (tail : Lexeme × Closing) (t : Lexeme) (ts : List Lexeme) (reach : Reach)
     → SuitsAt places.TagSign (at places.TagSign s) (differs, tail) → Reads (left_at places.TagSign now (at places.TagSign s) (differs, tail)) (t ∷ ts) reach
     → Leads now (at places.TagSign s) (differs, tail) ts reach (where_steps s places.TagSign t t.kind)
 tag_sign_leads_at now s true tail t ts reach suits w =
@@ -304,15 +305,15 @@ tag_sign_leads_at now s true tail t ts reach suits w =
 tag_sign_leads_at now s false tail t ts reach suits w =
     subst (λ (k : Kind). Leads now (at places.TagSign s) (false, tail) ts reach (where_steps s places.TagSign t k)) (sym w.0) (tail, suits, w.1, refl)
 
-pub tag_sign_leads : (now : ℤ) (s : State) (q : Rest places.TagSign) (t : Lexeme) (ts : List Lexeme) (reach : Reach) → SuitsAt places.TagSign (at places.TagSign s) q
+pub tag_sign_leads : (now : ℤ) (s : Progress) (q : Rest places.TagSign) (t : Lexeme) (ts : List Lexeme) (reach : Reach) → SuitsAt places.TagSign (at places.TagSign s) q
     → Reads (left_at places.TagSign now (at places.TagSign s) q) (t ∷ ts) reach
     → Leads now (at places.TagSign s) q ts reach (filtering s places.TagSign (where_at places.TagSign t.kind t s.draft.filter))
 tag_sign_leads now s q t ts reach suits w = tag_sign_leads_at now s q.0 q.1 t ts reach suits w
 
-abbrev matched_parts : State → Lexeme → Parts
-matched_parts s l = with_match (parts s.draft) s.draft.filter.tag s.draft.filter.differs l
+abbrev matched_parts : Progress → Lexeme → Meaning
+matched_parts s l = with_match (meaning s.draft) s.draft.filter.tag s.draft.filter.differs l
 
-pub tag_value_leads : (now : ℤ) (s : State) (q : Rest places.TagValue) (t : Lexeme) (ts : List Lexeme) (reach : Reach) → SuitsAt places.TagValue (at places.TagValue s) q
+pub tag_value_leads : (now : ℤ) (s : Progress) (q : Rest places.TagValue) (t : Lexeme) (ts : List Lexeme) (reach : Reach) → SuitsAt places.TagValue (at places.TagValue s) q
     → Reads (left_at places.TagValue now (at places.TagValue s) q) (t ∷ ts) reach
     → Leads now (at places.TagValue s) q ts reach (filtering s places.TagValue (where_at places.TagValue t.kind t s.draft.filter))
 tag_value_leads now s q t ts reach suits w =
@@ -323,10 +324,10 @@ tag_value_leads now s q t ts reach suits w =
 
 -- ---- behind a term
 
-abbrev and_steps : State → Place → Lexeme → Bool → Step
+abbrev and_steps : Progress → Place → Lexeme → Bool → Advance
 and_steps s p t b = filtering s p (if b then Ok (places.Term, s.draft.filter) else Err (unexpected t))
 
-pub after_term_leads : (now : ℤ) (s : State) (c : Cond) (cs : List Cond) (tail : GroupTail) (t : Lexeme) (ts : List Lexeme) (reach : Reach)
+pub after_term_leads : (now : ℤ) (s : Progress) (c : Cond) (cs : List Cond) (tail : GroupTail) (t : Lexeme) (ts : List Lexeme) (reach : Reach)
     → SuitsAt places.AfterTerm (at places.AfterTerm s) (Outside (c ∷ cs) tail)
     → Reads (left_at places.AfterTerm now (at places.AfterTerm s) (Outside (c ∷ cs) tail)) (t ∷ ts) reach
     → Leads now (at places.AfterTerm s) (Outside (c ∷ cs) tail) ts reach (filtering s places.AfterTerm (where_at places.AfterTerm t.kind t s.draft.filter))
@@ -335,7 +336,7 @@ after_term_leads now s c cs tail t ts reach suits w =
     (subst (λ (b : Bool). Leads now (at places.AfterTerm s) (Outside (c ∷ cs) tail) ts reach (and_steps s places.AfterTerm t b)) (sym w.0.1)
     ((c, Outside cs tail), suits, w.1, refl))
 
-pub nested_and_leads : (now : ℤ) (s : State) (c : Cond) (cs : List Cond) (closing : Closing) (t : Lexeme) (ts : List Lexeme) (reach : Reach)
+pub nested_and_leads : (now : ℤ) (s : Progress) (c : Cond) (cs : List Cond) (closing : Closing) (t : Lexeme) (ts : List Lexeme) (reach : Reach)
     → SuitsAt places.NestedTerm (at places.NestedTerm s) (Inside (c ∷ cs) closing)
     → Reads (left_at places.NestedTerm now (at places.NestedTerm s) (Inside (c ∷ cs) closing)) (t ∷ ts) reach
     → Leads now (at places.NestedTerm s) (Inside (c ∷ cs) closing) ts reach (filtering s places.NestedTerm (where_at places.NestedTerm t.kind t s.draft.filter))
@@ -344,11 +345,11 @@ nested_and_leads now s c cs closing t ts reach suits w =
     (subst (λ (b : Bool). Leads now (at places.NestedTerm s) (Inside (c ∷ cs) closing) ts reach (and_steps s places.NestedTerm t b)) (sym w.0.1)
     ((c, Inside cs closing), suits, w.1, refl))
 
-abbrev close_steps : State → Lexeme → Bool → Step
+abbrev close_steps : Progress → Lexeme → Bool → Advance
 close_steps s t b = filtering s places.NestedTerm
     (if b then Ok (after_term (s.draft.filter.depth - 1), record s.draft.filter { depth = s.draft.filter.depth - 1 }) else Err (unexpected t))
 
-pub nested_close_leads : (now : ℤ) (s : State) (closing : Closing) (t : Lexeme) (ts : List Lexeme) (reach : Reach)
+pub nested_close_leads : (now : ℤ) (s : Progress) (closing : Closing) (t : Lexeme) (ts : List Lexeme) (reach : Reach)
     → SuitsAt places.NestedTerm (at places.NestedTerm s) (Inside [] closing)
     → Reads (left_at places.NestedTerm now (at places.NestedTerm s) (Inside [] closing)) (t ∷ ts) reach
     → Leads now (at places.NestedTerm s) (Inside [] closing) ts reach (filtering s places.NestedTerm (where_at places.NestedTerm t.kind t s.draft.filter))

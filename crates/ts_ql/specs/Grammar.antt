@@ -3,10 +3,10 @@
 --
 --   text      = statement ending
 --   ending    = [ ";" ] | ";" statement ending
---   statement = SELECT aggregate { "," aggregate } FROM source [ WHERE cond ]
+--   statement = SELECT call { "," call } FROM from [ WHERE cond ]
 --               [ GROUP BY item { "," item } ] [ FILL "(" option ")" ]
---   aggregate = function "(" name [ "::" ( FIELD | INTEGER ) ] ")" [ AS name ]
---   source    = name
+--   call      = function "(" name [ "::" ( FIELD | INTEGER ) ] ")" [ AS name ]
+--   from      = name
 --   cond      = time ( "=" | "<" | "<=" | ">" | ">=" ) moment | tag [ "::" TAG ] ( "=" | "!=" | "<>" ) string
 --             | "(" cond ")" | cond AND cond
 --   moment    = base { ( "+" | "-" ) duration }
@@ -21,7 +21,7 @@ use Rattle.ts_core.specs.Facts.{Text}
 use Rattle.ts_ql.specs.declared.moment.Comparison.{Comparison}
 use Rattle.ts_ql.specs.declared.token.Kind.{Kind}
 use Rattle.ts_ql.specs.declared.token.Kind.TheVariants as kinds
-use Rattle.ts_ql.specs.Faults.{Fault}
+use Rattle.ts_ql.specs.QueryFaults.{Fault}
 use Rattle.ts_ql.specs.Literals.{is_word}
 use Rattle.ts_ql.specs.Tokens.{Lexeme}
 use Rattle.ts_ql.specs.Words.{is_time}
@@ -69,16 +69,16 @@ pub data FieldType : Type 0 where
   Field : FieldType
   Integer : FieldType
 
-pub record Aggregate : Type 0 where
+pub record Call : Type 0 where
   pub function : Lexeme
   pub field : Lexeme
   pub cast : Option FieldType
   pub alias : Option Lexeme
 
-pub data Source : Type 0 where
-  Measurement : Lexeme → Source
+pub data FromClause : Type 0 where
+  Measurement : Lexeme → FromClause
   -- a subquery begins, which the profile leaves out
-  Subquery : Lexeme → Source
+  Subquery : Lexeme → FromClause
 
 -- an integer counts nanoseconds; a duration has units
 pub data Measure : Type 0 where
@@ -130,9 +130,9 @@ pub data FillOption : Type 0 where
 
 pub record Statement : Type 0 where
   pub select : Lexeme
-  pub first : Aggregate
-  pub more : List Aggregate
-  pub source : Source
+  pub first : Call
+  pub more : List Call
+  pub source : FromClause
   pub filter : Option Cond
   pub group : Option GroupBy
   pub fill : Option FillOption

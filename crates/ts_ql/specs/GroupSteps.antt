@@ -1,20 +1,18 @@
 -- What each token means in GROUP BY and FILL.
 -- (InfluxData 1.8, InfluxQL: the GROUP BY clause, GROUP BY time intervals, the offset interval, fill().)
-use Rattle.std.specs.Prelude.{ℕ, ℤ, pos, int_le, List, [], ◌∷◌, true, false, Option, Some, None, Result, Ok, Err, if◌then◌else◌, codes}
-use Rattle.std.specs.declared.cmp.Ordering.{Ordering}
-use Rattle.std.specs.declared.cmp.Ordering.TheVariants as orders
-use Rattle.ts_core.specs.Facts.{Text, text_cmp}
+use Rattle.std.specs.Prelude.{ℕ, ℤ, pos, int_le, List, [], true, false, Option, Some, None, Result, Ok, Err, if◌then◌else◌, codes}
+use Rattle.ts_core.specs.Facts.{Text}
 use Rattle.ts_core.specs.declared.fill.Fill.{Fill}
 use Rattle.ts_core.specs.declared.fill.Fill.TheVariants as fills
-use Rattle.ts_ql.specs.Selects.{texts, Buckets}
+use Rattle.ts_ql.specs.Selects.{texts, Buckets, with_text, of_interval, moved}
 use Rattle.ts_ql.specs.declared.groups.Groups.{Groups}
 use Rattle.ts_ql.specs.declared.filling.Filling.{Filling}
 use Rattle.ts_ql.specs.declared.place.Place.{Place}
 use Rattle.ts_ql.specs.declared.place.Place.TheVariants as places
 use Rattle.ts_ql.specs.declared.token.Kind.{Kind}
 use Rattle.ts_ql.specs.declared.token.Kind.TheVariants as kinds
-use Rattle.ts_ql.specs.Faults.{Fault, OutOfRange, unexpected}
-use Rattle.ts_ql.specs.Literals.{is_word, literal, unescaped}
+use Rattle.ts_ql.specs.QueryFaults.{Fault, OutOfRange, unexpected}
+use Rattle.ts_ql.specs.Literals.{is_word, literal, text_spelled}
 use Rattle.ts_ql.specs.Tokens.{Lexeme}
 use Rattle.ts_ql.specs.Words.{is_time}
 
@@ -33,16 +31,6 @@ empty_groups = record { buckets = None; first = 0; tags = [] }
 abbrev pub Grouping : Type 0
 Grouping = Result (Place × Grouped) Fault
 
--- a text among others, which stand in byte order, each once
-abbrev pub insert_by : Ordering → Text → Text → List Text → List Text → List Text
-insert_by orders.Less new text rest inserted = new ∷ text ∷ rest
-insert_by orders.Equal new text rest inserted = text ∷ rest
-insert_by orders.Greater new text rest inserted = text ∷ inserted
-
-abbrev pub with_text : Text → List Text → List Text
-with_text new [] = new ∷ []
-with_text new (text ∷ rest) = insert_by (text_cmp new text) new text rest (with_text new rest)
-
 -- the column that an item begins with: a second time(..) can't follow
 abbrev pub time_item : Lexeme → Grouped → Option Buckets → Grouping
 time_item t g None = Ok (places.TimeOpen, g)
@@ -51,20 +39,12 @@ time_item t g (Some buckets) = Err (unexpected t)
 abbrev pub item_at : Lexeme → Grouped → Grouping
 item_at t g =
     if is_time t.kind t.text then time_item t g g.buckets
-    else Ok (places.AfterTag, record g { tags = with_text (unescaped t.text) g.tags })
-
--- buckets of that interval: a nanosecond or more
-abbrev pub of_interval : ℤ → Option Buckets
-of_interval interval = if int_le (pos 1) interval then Some (record { interval = interval; offset = pos 0 }) else None
+    else Ok (places.AfterTag, record g { tags = with_text (text_spelled t.text) g.tags })
 
 abbrev pub with_interval : Lexeme → Grouped → Option ℤ → Grouping
 with_interval t g None = Err (OutOfRange t.start)
 with_interval t g (Some interval) =
     if int_le (pos 1) interval then Ok (places.IntervalEnd, record g { buckets = of_interval interval }) else Err (OutOfRange t.start)
-
-abbrev pub moved : ℤ → Option Buckets → Option Buckets
-moved offset None = None
-moved offset (Some b) = Some (record b { offset = offset })
 
 -- an offset whose first token stands at `first`
 abbrev pub with_offset : ℕ → Grouped → Option ℤ → Grouping

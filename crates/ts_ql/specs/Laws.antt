@@ -4,11 +4,12 @@ use Rattle.std.specs.Prelude.{◌≡◌, ◌⊎◌, ℤ, List, [], ◌∷◌, �
 use Rattle.ts_core.specs.Facts.{Text}
 use Rattle.ts_ql.specs.declared.fault.ParseError.{ParseError}
 use Rattle.ts_ql.specs.declared.fault.ParseError.TheVariants as errors
-use Rattle.ts_ql.specs.Faults.{Fault, Syntax, told, unexpected}
+use Rattle.ts_ql.specs.QueryFaults.{Fault, Syntax, as_fault, unexpected, Gives}
 use Rattle.ts_ql.specs.Grammar.{Item, Any, This, Examine, Is, Script}
+use Rattle.ts_ql.specs.Literals.{Part, AreParts, written, counted, AreDigits, magnitude, number_written}
 use Rattle.ts_ql.specs.Meanings.{sayings}
 use Rattle.ts_ql.specs.Selects.{Select}
-use Rattle.ts_ql.specs.Spelling.{spell}
+use Rattle.ts_ql.specs.Productions.{spell}
 use Rattle.ts_ql.specs.Tokenizing.{tokens_of}
 use Rattle.ts_ql.specs.Tokens.{Lexeme}
 
@@ -84,10 +85,32 @@ abbrev pub TextFault : ℤ → Text → Fault → Type 0
 TextFault now text fault = IsFaultIf (nat_lt 65536 (length text)) now text fault
 
 abbrev pub Explained : ℤ → Text → ParseError → Type 0
-Explained now text errors.Memory = ⊤
-Explained now text (errors.Fault fault) = TextFault now text (told fault)
+Explained now text errors.OutOfMemory = ⊤
+Explained now text (errors.Fault fault) = TextFault now text (as_fault fault)
 
 -- what was returned, seen by `view`, is what the text says or its first fault, unless memory ran out
 abbrev pub Tells : {X : Type 0} → (X → List Select) → ℤ → Text → Result X ParseError → Type 0
 Tells view now text (Ok x) = TextSays now text (view x)
 Tells view now text (Err e) = Explained now text e
+
+-- ---- the laws
+
+-- what was returned, seen by `view`, unless memory ran out
+pub record ReadsText {X : Type 0} (view : X → List Select) (now : ℤ) (text : Text) (result : Result X ParseError) : Type 0 where
+  pub tells : Tells view now text result
+  -- who says queries is read as them
+  pub queries : (queries : List Select) → TextSays now text queries → Gives view result (Ok queries)
+  -- who has a first fault is refused for it
+  pub fault : (fault : Fault) → TextFault now text fault → Gives view result (Err fault)
+
+-- each text says queries or has a first fault, not both, and one of them alone
+pub record IsDecided (now : ℤ) (text : Text) : Type 0 where
+  pub some : ((queries : List Select) × TextSays now text queries) ⊎ ((fault : Fault) × TextFault now text fault)
+  pub not_both : (queries : List Select) (fault : Fault) → TextSays now text queries → TextFault now text fault → ⊥
+  pub one_meaning : (queries others : List Select) → TextSays now text queries → TextSays now text others → queries ≡ others
+  pub one_fault : (fault other : Fault) → TextFault now text fault → TextFault now text other → fault ≡ other
+
+-- digits count in tens, and a duration is the sum of its numbers, each times its unit
+pub record LiteralsCount : Type 0 where
+  pub durations : (ps : List Part) → AreParts ps → magnitude (written ps) ≡ counted ps
+  pub integers : (digits : Text) → AreDigits digits → magnitude digits ≡ number_written 0 digits

@@ -7,6 +7,7 @@ use Rattle.ts_ql.specs.declared.bytes.Class.{Class}
 use Rattle.ts_ql.specs.declared.bytes.Class.TheVariants.{Space, Name, Digit}
 use Rattle.ts_ql.specs.declared.token.Kind.{Kind}
 use Rattle.ts_ql.specs.declared.token.Kind.TheVariants as kinds
+use Rattle.ts_ql.specs.DurationUnits.{unit_len}
 use Rattle.ts_ql.specs.Tokens.{Lexeme}
 use Rattle.ts_ql.specs.Words.{is_keyword}
 
@@ -23,34 +24,25 @@ abbrev pub run_end : Class → ℕ → Text → ℕ
 run_end class at [] = at
 run_end class at (b ∷ bs) = if is_in class b then run_end class (at + 1) bs else at
 
-unfoldable pub end_of : Class → Text → ℕ → ℕ
-end_of class text from = run_end class from (drop from text)
+unfoldable pub end_of_run : Class → Text → ℕ → ℕ
+end_of_run class text from = run_end class from (drop from text)
 
 -- ---- texts in quotes
 
 -- `\\`, `\n`, `\"` and `\'` alone are escapes
-abbrev pub is_escapable : ℕ → Bool
-is_escapable byte = byte == 92 || byte == 110 || byte == 34 || byte == 39
+abbrev pub is_escape_byte : ℕ → Bool
+is_escape_byte byte = byte == 92 || byte == 110 || byte == 34 || byte == 39
 
 -- the place of the closing quote; none where another byte is escaped, or where no quote closes
 abbrev pub closing : ℕ → Bool → ℕ → Text → Option ℕ
 closing quote escaped at [] = None
-closing quote true at (b ∷ bs) = if is_escapable b then closing quote false (at + 1) bs else None
+closing quote true at (b ∷ bs) = if is_escape_byte b then closing quote false (at + 1) bs else None
 closing quote false at (b ∷ bs) = if b == quote then Some at else closing quote (b == 92) (at + 1) bs
 
 unfoldable pub closing_quote : ℕ → Text → ℕ → Option ℕ
 closing_quote quote text from = closing quote false from (drop from text)
 
 -- ---- durations
-
--- how many bytes the unit has that begins with this byte before that one; 0 where none begins
--- (ns, u, µ, ms, s, m, h, d, w)
-unfoldable pub unit_len : ℕ → ℕ → ℕ
-unit_len byte next =
-    if byte == 110 then (if next == 115 then 2 else 0)
-    else if byte == 194 then (if next == 181 then 2 else 0)
-    else if byte == 109 then (if next == 115 then 2 else 1)
-    else if byte == 117 || byte == 115 || byte == 104 || byte == 100 || byte == 119 then 1 else 0
 
 -- the end of the last number with its unit, of which the last so far ends at `last`; these bytes stand from `at` on,
 -- and `counting` tells that digits stand directly before them
@@ -111,8 +103,8 @@ operator_at text start = double_at text start (double (slice_index text start) (
 unfoldable pub number_at : Text → ℕ → Kind × ℕ
 number_at text start =
     if nat_lt start (duration_end text start) then (kinds.Duration, duration_end text start)
-    else if is_ascii_alphabetic (slice_index text (end_of Digit text start)) || slice_index text (end_of Digit text start) == 46 then (kinds.Bad, length text)
-    else (kinds.Integer, end_of Digit text start)
+    else if is_ascii_alphabetic (slice_index text (end_of_run Digit text start)) || slice_index text (end_of_run Digit text start) == 46 then (kinds.Bad, length text)
+    else (kinds.Integer, end_of_run Digit text start)
 
 -- a text in quotes; a name in quotes isn't empty
 abbrev pub closed_at : Text → ℕ → ℕ → Option ℕ → Kind × ℕ
@@ -128,7 +120,7 @@ unfoldable pub shape_at : Text → ℕ → Kind × ℕ
 shape_at text start =
     if length text == start then (kinds.End, start)
     else if is_ascii_digit (slice_index text start) then number_at text start
-    else if is_in Name (slice_index text start) then (kinds.Word, end_of Name text start)
+    else if is_in Name (slice_index text start) then (kinds.Word, end_of_run Name text start)
     else if slice_index text start == 34 || slice_index text start == 39 then quoted_at text start
     else operator_at text start
 
@@ -139,8 +131,8 @@ is_quoted kinds.Literal = true
 is_quoted kind = false
 
 -- the text of a token from one place to another
-abbrev pub text_of : Text → ℕ → Kind × ℕ → Text
-text_of text start shape = if is_quoted shape.0 then slice_range text (start + 1) (shape.1 - 1) else slice_range text start shape.1
+abbrev pub token_text : Text → ℕ → Kind × ℕ → Text
+token_text text start shape = if is_quoted shape.0 then slice_range text (start + 1) (shape.1 - 1) else slice_range text start shape.1
 
 -- a word may be a keyword
 abbrev pub kind_of : Kind → Text → Kind
@@ -153,9 +145,9 @@ shaped text start shape = record {
   start = start;
   end = shape.1;
   raw = slice_range text start shape.1;
-  text = text_of text start shape;
+  text = token_text text start shape;
 }
 
 -- the first token from a place on
 unfoldable pub token_at : Text → ℕ → Lexeme
-token_at text from = shaped text (end_of Space text from) (shape_at text (end_of Space text from))
+token_at text from = shaped text (end_of_run Space text from) (shape_at text (end_of_run Space text from))

@@ -1,19 +1,24 @@
+-- What the public contracts and the laws cite: tokens, the grammar, what its trees spell and mean, and what a text says.
 pub mod Tokens
+pub mod DurationUnits
 pub mod Lexing
+pub mod Tokenizing
 pub mod Literals
 pub mod Dates
 pub mod Words
-pub mod Faults
+pub mod QueryFaults
+pub mod QueryFaultText
 pub mod Selects
+pub mod Ranges
+pub mod Grammar
+pub mod Statements
+pub mod Meanings
+pub mod Productions
+pub mod Laws
+-- What only the proofs of the code need: the machine that reads a text token by token.
 pub mod SelectSteps
 pub mod MomentSteps
 pub mod WhereSteps
 pub mod GroupSteps
-pub mod Statements
-pub mod Tokenizing
+pub mod Drafts
 pub mod Reading
-pub mod FaultText
-pub mod Grammar
-pub mod Meanings
-pub mod Spelling
-pub mod Laws

@@ -4,18 +4,9 @@ use Rattle.std.specs.Prelude.{◌≡◌, ◌<◌, ◌++◌, length, codes, ⊤, 
 use Rattle.std.specs.Char.{is_ascii_digit}
 use Rattle.std.specs.Str.{chars, str_eq_ignore_ascii_case}
 use Rattle.ts_core.specs.Facts.{Text}
+use Rattle.ts_ql.specs.DurationUnits.{Unit, unit_text, unit_nanos, nanos_of_unit}
 
 -- ---- numbers
-
--- how many nanoseconds the unit has that begins with this byte before that one; the nanosecond where none begins
-unfoldable pub unit_of : ℕ → ℕ → ℕ
-unit_of byte next =
-    if byte == 194 || byte == 117 then 1000
-    else if byte == 109 then (if next == 115 then 1000000 else 60000000000)
-    else if byte == 115 then 1000000000
-    else if byte == 104 then 3600000000000
-    else if byte == 100 then 86400000000000
-    else if byte == 119 then 604800000000000 else 1
 
 -- the numbers with their units added up, after a total and a number so far; a number without a unit counts as it is.
 -- (The second byte of a unit has no number before it, and adds nothing.)
@@ -23,7 +14,7 @@ abbrev pub added_up : ℕ → ℕ → Text → ℕ
 added_up total number [] = total + number
 added_up total number (b ∷ bs) =
     if is_ascii_digit b then added_up total (number * 10 + (b - 48)) bs
-    else added_up (total + number * unit_of b (slice_index bs 0)) 0 bs
+    else added_up (total + number * nanos_of_unit b (slice_index bs 0)) 0 bs
 
 -- what an integer counts, or how many nanoseconds a duration has
 unfoldable pub magnitude : Text → ℕ
@@ -31,45 +22,10 @@ magnitude text = added_up 0 0 text
 
 -- ---- the same as it is written: numbers with their units
 
-pub data Unit : Type 0 where
-  Nanosecond : Unit
-  -- written `u`, and `µ`
-  Microsecond : Unit
-  Micro : Unit
-  Millisecond : Unit
-  Second : Unit
-  Minute : Unit
-  Hour : Unit
-  Day : Unit
-  Week : Unit
-
-abbrev pub unit_text : Unit → Text
-unit_text Nanosecond = codes "ns"
-unit_text Microsecond = codes "u"
-unit_text Micro = 194 ∷ 181 ∷ []
-unit_text Millisecond = codes "ms"
-unit_text Second = codes "s"
-unit_text Minute = codes "m"
-unit_text Hour = codes "h"
-unit_text Day = codes "d"
-unit_text Week = codes "w"
-
--- in nanoseconds
-abbrev pub unit_nanos : Unit → ℕ
-unit_nanos Nanosecond = 1
-unit_nanos Microsecond = 1000
-unit_nanos Micro = 1000
-unit_nanos Millisecond = 1000000
-unit_nanos Second = 1000000000
-unit_nanos Minute = 60000000000
-unit_nanos Hour = 3600000000000
-unit_nanos Day = 86400000000000
-unit_nanos Week = 604800000000000
-
 -- the number that digits write behind those of `n`
-abbrev pub number_of : ℕ → Text → ℕ
-number_of n [] = n
-number_of n (b ∷ bs) = number_of (n * 10 + (b - 48)) bs
+abbrev pub number_written : ℕ → Text → ℕ
+number_written n [] = n
+number_written n (b ∷ bs) = number_written (n * 10 + (b - 48)) bs
 
 abbrev pub AreDigits : Text → Type 0
 AreDigits [] = ⊤
@@ -90,7 +46,7 @@ written (p ∷ ps) = p.digits ++ (unit_text p.unit ++ written ps)
 
 abbrev pub counted : List Part → ℕ
 counted [] = 0
-counted (p ∷ ps) = number_of 0 p.digits * unit_nanos p.unit + counted ps
+counted (p ∷ ps) = number_written 0 p.digits * unit_nanos p.unit + counted ps
 
 -- ---- ranges
 
@@ -118,8 +74,8 @@ spelled true (c ∷ cs) = escape c ∷ spelled false cs
 spelled false (c ∷ cs) = if c == 92 then spelled true cs else c ∷ spelled false cs
 
 -- the text that a text with its escapes spells
-unfoldable pub unescaped : Text → Text
-unescaped text = encode_utf8_all (spelled false (chars text))
+unfoldable pub text_spelled : Text → Text
+text_spelled text = encode_utf8_all (spelled false (chars text))
 
 -- the word in any case
 abbrev pub is_word : Text → Text → Bool

@@ -10,19 +10,18 @@ use Rattle.ts_core.specs.declared.value.Function.{Function}
 use Rattle.ts_core.specs.declared.value.Function.TheVariants as functions
 use Rattle.ts_ql.specs.declared.moment.Range.{Range}
 use Rattle.ts_ql.specs.Dates.{moment_told}
-use Rattle.ts_ql.specs.Faults.{Fault}
-use Rattle.ts_ql.specs.Grammar.{Aggregate, Source, Measurement, Subquery, Base, Number, Negative, Quoted, Now, Change, Instant, Cond, Compare, Match, Group, And, Signed, Dimension, Every, ByTag, GroupBy, FillOption, NullOption, NoneOption, PreviousOption, NumberOption, Statement, Ending, Stop, Close, Next, Script}
-use Rattle.ts_ql.specs.GroupSteps.{with_text, of_interval, moved}
+use Rattle.ts_ql.specs.QueryFaults.{Fault}
+use Rattle.ts_ql.specs.Grammar.{Call, FromClause, Measurement, Subquery, Base, Number, Negative, Quoted, Now, Change, Instant, Cond, Compare, Match, Group, And, Signed, Dimension, Every, ByTag, GroupBy, FillOption, NullOption, NoneOption, PreviousOption, NumberOption, Statement, Ending, Stop, Close, Next, Script}
+use Rattle.ts_ql.specs.Ranges.{bounded, unbounded}
 use Rattle.ts_ql.specs.Literals.{literal}
-use Rattle.ts_ql.specs.MomentSteps.{bounded, unbounded}
-use Rattle.ts_ql.specs.Selects.{Column, Select, Buckets, function_name}
-use Rattle.ts_ql.specs.Statements.{Parts, statement_said}
+use Rattle.ts_ql.specs.Selects.{Projection, Select, Buckets, function_name, with_text, of_interval, moved}
+use Rattle.ts_ql.specs.Statements.{Meaning, statement_said}
 use Rattle.ts_ql.specs.Tokens.{Lexeme}
 use Rattle.ts_ql.specs.Words.{function_called, named}
 
 -- nothing has been said
-abbrev pub no_parts : Parts
-no_parts = record { columns = []; field = None; measurement = []; conditions = []; range = unbounded; buckets = None; tags = []; fill = fills.Null }
+abbrev pub no_meaning : Meaning
+no_meaning = record { columns = []; field = None; measurement = []; conditions = []; range = unbounded; buckets = None; tags = []; fill = fills.Null }
 
 -- ---- SELECT and FROM
 
@@ -30,28 +29,28 @@ abbrev pub function_of : Lexeme → Function
 function_of l = unwrap_or (function_called l.text) functions.Count
 
 -- a column has the name of AS, or its function's
-abbrev pub column_of : Function → Option Lexeme → Column
-column_of f None = record { function = f; name = function_name f }
-column_of f (Some alias) = record { function = f; name = named alias }
+abbrev pub projection_of : Function → Option Lexeme → Projection
+projection_of f None = record { function = f; name = function_name f }
+projection_of f (Some alias) = record { function = f; name = named alias }
 
 -- the field of all functions is that of the first
 abbrev pub field_after : Option Text → Lexeme → Option Text
 field_after None l = Some (named l)
 field_after (Some field) l = Some field
 
-abbrev pub after_aggregate : Parts → Aggregate → Parts
-after_aggregate p a = record p { field = field_after p.field a.field; columns = p.columns ++ column_of (function_of a.function) a.alias ∷ [] }
+abbrev pub after_call : Meaning → Call → Meaning
+after_call p a = record p { field = field_after p.field a.field; columns = p.columns ++ projection_of (function_of a.function) a.alias ∷ [] }
 
-abbrev pub after_aggregates : Parts → List Aggregate → Parts
-after_aggregates p [] = p
-after_aggregates p (a ∷ more) = after_aggregates (after_aggregate p a) more
+abbrev pub after_calls : Meaning → List Call → Meaning
+after_calls p [] = p
+after_calls p (a ∷ more) = after_calls (after_call p a) more
 
-abbrev pub measured : Source → Text
+abbrev pub measured : FromClause → Text
 measured (Measurement l) = named l
 measured (Subquery l) = []
 
-abbrev pub after_source : Parts → Source → Parts
-after_source p source = record p { measurement = measured source }
+abbrev pub after_from : Meaning → FromClause → Meaning
+after_from p source = record p { measurement = measured source }
 
 -- ---- moments
 
@@ -98,10 +97,10 @@ range_after now r (Match tag cast differs value) = r
 range_after now r (Group opener c) = range_after now r c
 range_after now r (And a b) = range_after now (range_after now r a) b
 
-abbrev pub after_cond : ℤ → Parts → Cond → Parts
+abbrev pub after_cond : ℤ → Meaning → Cond → Meaning
 after_cond now p c = record p { conditions = conditions_after p.conditions c; range = range_after now p.range c }
 
-abbrev pub after_filter : ℤ → Parts → Option Cond → Parts
+abbrev pub after_filter : ℤ → Meaning → Option Cond → Meaning
 after_filter now p None = p
 after_filter now p (Some c) = after_cond now p c
 
@@ -130,15 +129,15 @@ offset_by b None = b
 offset_by b (Some s) = moved (unwrap_or (signed_value s) (pos 0)) b
 
 -- tags stand in byte order, each once
-abbrev pub after_dimension : Parts → Dimension → Parts
+abbrev pub after_dimension : Meaning → Dimension → Meaning
 after_dimension p (Every time interval offset) = record p { buckets = offset_by (buckets_of (literal false interval.text)) offset }
 after_dimension p (ByTag tag cast) = record p { tags = with_text (named tag) p.tags }
 
-abbrev pub after_dimensions : Parts → List Dimension → Parts
+abbrev pub after_dimensions : Meaning → List Dimension → Meaning
 after_dimensions p [] = p
 after_dimensions p (d ∷ ds) = after_dimensions (after_dimension p d) ds
 
-abbrev pub after_group : Parts → Option GroupBy → Parts
+abbrev pub after_group : Meaning → Option GroupBy → Meaning
 after_group p None = p
 after_group p (Some g) = after_dimensions (after_dimension p g.first) g.more
 
@@ -148,21 +147,21 @@ fill_of NoneOption = fills.None
 fill_of PreviousOption = fills.Previous
 fill_of (NumberOption s) = fills.Number (unwrap_or (signed_value s) (pos 0))
 
-abbrev pub after_fill : Parts → Option FillOption → Parts
+abbrev pub after_fill : Meaning → Option FillOption → Meaning
 after_fill p None = p
 after_fill p (Some option) = record p { fill = fill_of option }
 
 -- ---- statements
 
-abbrev pub parts_of : ℤ → Statement → Parts
-parts_of now s =
-    after_fill (after_group (after_filter now (after_source (after_aggregates (after_aggregate no_parts s.first) s.more) s.source) s.filter) s.group) s.fill
+abbrev pub meaning_of : ℤ → Statement → Meaning
+meaning_of now s =
+    after_fill (after_group (after_filter now (after_from (after_calls (after_call no_meaning s.first) s.more) s.source) s.filter) s.group) s.fill
 
 -- what a statement of these parts says, and those behind it
-abbrev pub said_all : ℤ → ℕ → Parts → Ending → List (Result Select Fault)
+abbrev pub said_all : ℤ → ℕ → Meaning → Ending → List (Result Select Fault)
 said_all now start p Stop = statement_said start now p ∷ []
 said_all now start p Close = statement_said start now p ∷ []
-said_all now start p (Next s rest) = statement_said start now p ∷ said_all now s.select.start (parts_of now s) rest
+said_all now start p (Next s rest) = statement_said start now p ∷ said_all now s.select.start (meaning_of now s) rest
 
 abbrev pub sayings : ℤ → Script → List (Result Select Fault)
-sayings now script = said_all now script.first.select.start (parts_of now script.first) script.rest
+sayings now script = said_all now script.first.select.start (meaning_of now script.first) script.rest

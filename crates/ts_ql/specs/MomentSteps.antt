@@ -1,6 +1,6 @@
 -- What each token means in a comparison with time, and the range that comes of it.
 -- (InfluxData 1.8, InfluxQL: time syntax, absolute and relative time. Own rule: sums are exact.)
-use Rattle.std.specs.Prelude.{ℕ, ℤ, pos, negsuc, ◌+ℤ◌, ◌-ℤ◌, int_le, Bool, ◌&&◌, true, false, Option, Some, None, Result, Ok, Err, if◌then◌else◌, codes}
+use Rattle.std.specs.Prelude.{ℕ, ℤ, pos, ◌+◌, ◌≤◌, ◌^◌, unsigned_abs, ◌+ℤ◌, ◌-ℤ◌, int_le, ◌&&◌, true, false, Option, Some, None, Result, Ok, Err, if◌then◌else◌, codes}
 use Rattle.ts_core.specs.Times.{least_time, greatest_time}
 use Rattle.ts_ql.specs.declared.moment.Comparison.{Comparison}
 use Rattle.ts_ql.specs.declared.moment.Comparison.TheVariants as comparisons
@@ -11,8 +11,9 @@ use Rattle.ts_ql.specs.declared.place.Place.TheVariants as places
 use Rattle.ts_ql.specs.declared.token.Kind.{Kind}
 use Rattle.ts_ql.specs.declared.token.Kind.TheVariants as kinds
 use Rattle.ts_ql.specs.Dates.{moment_told}
-use Rattle.ts_ql.specs.Faults.{Fault, OutOfRange, unexpected}
+use Rattle.ts_ql.specs.QueryFaults.{Fault, OutOfRange, unexpected}
 use Rattle.ts_ql.specs.Literals.{is_word, literal}
+use Rattle.ts_ql.specs.Ranges.{bounded}
 use Rattle.ts_ql.specs.Tokens.{Lexeme}
 
 abbrev pub Timing : Type 0
@@ -23,22 +24,19 @@ abbrev pub based : ℕ → Moment → Option ℤ → Timing
 based first m None = Err (OutOfRange first)
 based first m (Some value) = Ok (places.AfterMoment, record m { first = first; total = value })
 
--- a sum stays within 128 bits (no text of 65,536 bytes can have another; that isn't proved)
-abbrev pub is_sum : ℤ → Bool
-is_sum z = int_le (negsuc 170141183460469231731687303715884105727) z && int_le z (pos 170141183460469231731687303715884105727)
-
-abbrev pub summed : Moment → ℤ → Timing
-summed m total = if is_sum total then Ok (places.AfterMoment, record m { total = total }) else Err (OutOfRange m.first)
+-- the sum has room for a duration more in 128 bits
+abbrev pub HasRoom : ℤ → Moment → Type 0
+HasRoom now m = unsigned_abs m.total ≤ 2 ^ 126 + unsigned_abs now
 
 -- a moment with a duration more
 abbrev pub later_by : Lexeme → Moment → Option ℤ → Timing
 later_by t m None = Err (OutOfRange t.start)
-later_by t m (Some value) = summed m (m.total +ℤ value)
+later_by t m (Some value) = Ok (places.AfterMoment, record m { total = m.total +ℤ value })
 
 -- a moment with a duration less
 abbrev pub earlier_by : Lexeme → Moment → Option ℤ → Timing
 earlier_by t m None = Err (OutOfRange t.start)
-earlier_by t m (Some value) = summed m (m.total -ℤ value)
+earlier_by t m (Some value) = Ok (places.AfterMoment, record m { total = m.total -ℤ value })
 
 abbrev pub compared : Comparison → Moment → Timing
 compared c m = Ok (places.Moment, record m { comparison = c })
@@ -68,41 +66,14 @@ moment_at now place kind t m = Err (unexpected t)
 unfoldable pub moment_step : ℤ → Place → Lexeme → Moment → Timing
 moment_step now place t m = moment_at now place t.kind t m
 
--- ---- the range
-
-abbrev pub greater : ℤ → Option ℤ → ℤ
-greater x None = x
-greater x (Some y) = if int_le x y then y else x
-
-abbrev pub lesser : ℤ → Option ℤ → ℤ
-lesser x None = x
-lesser x (Some y) = if int_le y x then y else x
-
--- from this time on
-abbrev pub from_on : ℤ → Range → Range
-from_on x r = record r { lower = Some (greater x r.lower) }
-
--- before this one
-abbrev pub before : ℤ → Range → Range
-before x r = record r { upper = Some (lesser x r.upper) }
-
--- the range where time stands so to the moment x
-unfoldable pub bounded : Comparison → ℤ → Range → Range
-bounded comparisons.Equal x r = before (x +ℤ pos 1) (from_on x r)
-bounded comparisons.Less x r = before x r
-bounded comparisons.LessOrEqual x r = before (x +ℤ pos 1) r
-bounded comparisons.Greater x r = from_on (x +ℤ pos 1) r
-bounded comparisons.GreaterOrEqual x r = from_on x r
+-- ---- the end of a moment
 
 abbrev pub no_moment : Moment
 no_moment = record { comparison = comparisons.Equal; first = 0; total = pos 0 }
 
-abbrev pub unbounded : Range
-unbounded = record { lower = None; upper = None }
-
 -- a moment that has been read whole is a valid time
-abbrev pub time_of : Moment → Result ℤ Fault
-time_of m = if int_le least_time m.total && int_le m.total greatest_time then Ok m.total else Err (OutOfRange m.first)
+abbrev pub moment_time : Moment → Result ℤ Fault
+moment_time m = if int_le least_time m.total && int_le m.total greatest_time then Ok m.total else Err (OutOfRange m.first)
 
 abbrev pub bounded_by : Comparison → Range → Result ℤ Fault → Result Range Fault
 bounded_by c r (Ok time) = Ok (bounded c time r)
@@ -110,4 +81,4 @@ bounded_by c r (Err fault) = Err fault
 
 -- the range once a moment has been read whole
 unfoldable pub settled : Moment → Range → Result Range Fault
-settled m r = bounded_by m.comparison r (time_of m)
+settled m r = bounded_by m.comparison r (moment_time m)

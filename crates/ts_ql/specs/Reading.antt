@@ -13,14 +13,15 @@ use Rattle.ts_ql.specs.declared.place.Place.TheVariants as places
 use Rattle.ts_ql.specs.declared.reader.Reader.{Reader}
 use Rattle.ts_ql.specs.declared.token.Kind.{Kind}
 use Rattle.ts_ql.specs.declared.token.Kind.TheVariants as kinds
-use Rattle.ts_ql.specs.Faults.{Fault, Syntax, TooManyStatements, unexpected, IsFailure}
+use Rattle.ts_ql.specs.QueryFaults.{Fault, Syntax, TooManyStatements, unexpected, IsFailure}
 use Rattle.ts_ql.specs.GroupSteps.{Grouped, group_step, fill_step}
 use Rattle.ts_ql.specs.Lexing.{token_at}
 use Rattle.ts_ql.specs.Literals.{is_word}
 use Rattle.ts_ql.specs.MomentSteps.{moment_step, settled}
 use Rattle.ts_ql.specs.SelectSteps.{Selected, select_step}
 use Rattle.ts_ql.specs.Selects.{Select}
-use Rattle.ts_ql.specs.Statements.{Drafted, drafted, empty_draft, parts, statement_said}
+use Rattle.ts_ql.specs.Statements.{statement_said}
+use Rattle.ts_ql.specs.Drafts.{Drafted, drafted, empty_draft, meaning}
 use Rattle.ts_ql.specs.Tokens.{Lexeme}
 use Rattle.ts_ql.specs.WhereSteps.{Filtered, after_term, where_step}
 
@@ -162,29 +163,29 @@ may_end place = false
 
 -- how far the text has been read: the place, how many statements began, where the last of them did, what has been read of
 -- it, and the queries of those before it
-pub record State : Type 0 where
+pub record Progress : Type 0 where
   pub place : Place
   pub count : ℕ
   pub start : ℕ
   pub draft : Drafted
   pub queries : List Select
 
-abbrev pub state : {A : Type 0} → Reader A → State
-state r = record { place = r.place; count = r.count; start = r.start; draft = drafted r.draft; queries = r.queries.items }
+abbrev pub progress : {A : Type 0} → Reader A → Progress
+progress r = record { place = r.place; count = r.count; start = r.start; draft = drafted r.draft; queries = r.queries.items }
 
-abbrev pub start_state : State
-start_state = record { place = places.Statement; count = 0; start = 0; draft = empty_draft; queries = [] }
+abbrev pub start_progress : Progress
+start_progress = record { place = places.Statement; count = 0; start = 0; draft = empty_draft; queries = [] }
 
-abbrev pub Step : Type 0
-Step = Result State Fault
+abbrev pub Advance : Type 0
+Advance = Result Progress Fault
 
 -- what was returned leaves this state, unless memory ran out
-abbrev pub Leaves : Result (Unit {0}) ParseError → State → Step → Type 0
+abbrev pub Leaves : Result (Unit {0}) ParseError → Progress → Advance → Type 0
 Leaves (Ok u) s step = step ≡ Ok s
 Leaves (Err e) s step = IsFailure e step
 
 -- SELECT begins a statement, and the text may end after one
-abbrev pub begun_at : Kind → Lexeme → State → Step
+abbrev pub begun_at : Kind → Lexeme → Progress → Advance
 begun_at kinds.Keyword t s =
     if is_word (codes "select") t.text
     then (if nat_le 16 s.count then Err (TooManyStatements t.start) else Ok (record s { place = places.Function; count = s.count + 1; start = t.start }))
@@ -192,43 +193,43 @@ begun_at kinds.Keyword t s =
 begun_at kinds.End t s = if s.count == 0 then Err (unexpected t) else Ok (record s { place = places.Done })
 begun_at kind t s = Err (unexpected t)
 
-unfoldable pub begun : Lexeme → State → Step
+unfoldable pub begun : Lexeme → Progress → Advance
 begun t s = begun_at t.kind t s
 
 abbrev pub after_end : Kind → Place
 after_end kinds.Semicolon = places.Statement
 after_end kind = places.Done
 
-abbrev pub ended_with : Kind → State → Result Select Fault → Step
+abbrev pub ended_with : Kind → Progress → Result Select Fault → Advance
 ended_with kind s (Ok q) = Ok (record s { place = after_end kind; draft = empty_draft; queries = s.queries ++ q ∷ [] })
 ended_with kind s (Err fault) = Err fault
 
-abbrev pub ended : ℤ → Kind → State → Step
-ended now kind s = ended_with kind s (statement_said s.start now (parts s.draft))
+abbrev pub ended : ℤ → Kind → Progress → Advance
+ended now kind s = ended_with kind s (statement_said s.start now (meaning s.draft))
 
-abbrev pub with_draft : State → Drafting → Step
+abbrev pub with_draft : Progress → Drafting → Advance
 with_draft s (Ok p) = Ok (record s { place = p.0; draft = p.1 })
 with_draft s (Err fault) = Err fault
 
-abbrev pub clause_or : ℤ → Lexeme → State → Option Place → Step
+abbrev pub clause_or : ℤ → Lexeme → Progress → Option Place → Advance
 clause_or now t s None = with_draft s (draft_step now s.place t s.draft)
 clause_or now t s (Some next) = Ok (record s { place = next })
 
 -- a token within a statement
-abbrev pub continued : ℤ → Lexeme → State → Step
+abbrev pub continued : ℤ → Lexeme → Progress → Advance
 continued now t s =
     if may_end s.place && is_end t.kind then ended now t.kind s else clause_or now t s (next_clause s.place t)
 
-abbrev pub placed_at : Place → ℤ → Lexeme → State → Step
+abbrev pub placed_at : Place → ℤ → Lexeme → Progress → Advance
 placed_at places.Statement now t s = begun t s
 placed_at place now t s = continued now t s
 
-abbrev pub after_settling : ℤ → Lexeme → State → Drafting → Step
+abbrev pub after_settling : ℤ → Lexeme → Progress → Drafting → Advance
 after_settling now t s (Ok p) = placed_at p.0 now t (record s { place = p.0; draft = p.1 })
 after_settling now t s (Err fault) = Err fault
 
 -- the state after one token more
-unfoldable pub step : ℤ → Lexeme → State → Step
+unfoldable pub step : ℤ → Lexeme → Progress → Advance
 step now t s = after_settling now t s (settle_step s.place t.kind s.draft)
 
 -- ---- texts
@@ -237,15 +238,15 @@ abbrev pub is_done : Place → Bool
 is_done places.Done = true
 is_done place = false
 
-abbrev pub goes_on : (State → ℕ → Result (List Select) Fault) → Lexeme → Step → Result (List Select) Fault
+abbrev pub goes_on : (Progress → ℕ → Result (List Select) Fault) → Lexeme → Advance → Result (List Select) Fault
 goes_on rest t (Ok s) = if is_done s.place then Ok s.queries else rest s t.end
 goes_on rest t (Err fault) = Err fault
 
 -- the queries from a place on, in so many tokens at most
-abbrev pub read_on : ℕ → ℤ → Text → State → ℕ → Result (List Select) Fault
+abbrev pub read_on : ℕ → ℤ → Text → Progress → ℕ → Result (List Select) Fault
 read_on zero now text s at = Err (Syntax (length text))
 read_on (suc n) now text s at = goes_on (read_on n now text) (token_at text at) (step now (token_at text at) s)
 
 -- the queries that a text says, or its first fault; a text has no more tokens than bytes and one at its end
 unfoldable pub queries_of : ℤ → Text → Result (List Select) Fault
-queries_of now text = if nat_lt 65536 (length text) then Err (Syntax 65536) else read_on (length text + 1) now text start_state 0
+queries_of now text = if nat_lt 65536 (length text) then Err (Syntax 65536) else read_on (length text + 1) now text start_progress 0

@@ -9,15 +9,15 @@ use Rattle.ts_ql.specs.declared.place.Place.TheVariants as places
 use Rattle.ts_ql.specs.declared.selection.Selection.{Selection}
 use Rattle.ts_ql.specs.declared.token.Kind.{Kind}
 use Rattle.ts_ql.specs.declared.token.Kind.TheVariants as kinds
-use Rattle.ts_ql.specs.Faults.{Fault, left_out, unexpected}
+use Rattle.ts_ql.specs.QueryFaults.{Fault, left_out, unexpected}
 use Rattle.ts_ql.specs.Literals.{is_word}
-use Rattle.ts_ql.specs.Selects.{Column, function_name}
+use Rattle.ts_ql.specs.Selects.{Projection, function_name}
 use Rattle.ts_ql.specs.Tokens.{Lexeme}
 use Rattle.ts_ql.specs.Words.{function_called, named}
 
 -- what has been read: the columns, the function of the column being read, the one field, and the measurement
 pub record Selected : Type 0 where
-  pub columns : List Column
+  pub columns : List Projection
   pub function : Function
   pub field : Option Text
   pub measurement : Text
@@ -38,9 +38,9 @@ with_function t s None = Err (left_out t)
 with_function t s (Some f) = Ok (places.FunctionOpen, record s { function = f })
 
 -- all functions are of one field
-abbrev pub with_field : Lexeme → Selected → Option Text → Selecting
-with_field t s None = Ok (places.FieldEnd, record s { field = Some (named t) })
-with_field t s (Some field) = if bytes_eq field (named t) then Ok (places.FieldEnd, s) else Err (left_out t)
+abbrev pub with_call_field : Lexeme → Selected → Option Text → Selecting
+with_call_field t s None = Ok (places.FieldEnd, record s { field = Some (named t) })
+with_call_field t s (Some field) = if bytes_eq field (named t) then Ok (places.FieldEnd, s) else Err (left_out t)
 
 -- the column that ends here, under that name
 abbrev pub with_column : Text → Selected → Selected
@@ -53,8 +53,8 @@ abbrev pub select_at : Place → Kind → Lexeme → Selected → Selecting
 select_at places.Function kinds.Word t s = with_function t s (function_called t.text)
 select_at places.Function kinds.QuotedName t s = Err (left_out t)
 select_at places.FunctionOpen kinds.Open t s = Ok (places.Field, s)
-select_at places.Field kinds.Word t s = with_field t s s.field
-select_at places.Field kinds.QuotedName t s = with_field t s s.field
+select_at places.Field kinds.Word t s = with_call_field t s s.field
+select_at places.Field kinds.QuotedName t s = with_call_field t s s.field
 select_at places.FieldEnd kinds.Close t s = Ok (places.AfterColumn, s)
 select_at places.FieldEnd kinds.Cast t s = Ok (places.FieldType, s)
 select_at places.FieldType kinds.Word t s =

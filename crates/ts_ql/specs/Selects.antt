@@ -1,7 +1,9 @@
 -- What a statement says: a query with its functions and what fills empty buckets.
 -- (InfluxData 1.8, InfluxQL: the basic SELECT statement, functions, GROUP BY time intervals and fill().)
-use Rattle.std.specs.Prelude.{ℤ, List, map, codes, String, string_bytes}
-use Rattle.ts_core.specs.Facts.{Text}
+use Rattle.std.specs.Prelude.{ℤ, pos, int_le, List, [], ◌∷◌, map, Option, Some, None, if◌then◌else◌, codes, String, string_bytes}
+use Rattle.std.specs.declared.cmp.Ordering.{Ordering}
+use Rattle.std.specs.declared.cmp.Ordering.TheVariants as orders
+use Rattle.ts_core.specs.Facts.{Text, text_cmp}
 use Rattle.ts_core.specs.declared.fill.Fill.{Fill}
 use Rattle.ts_core.specs.declared.value.Function.{Function}
 use Rattle.ts_core.specs.declared.value.Function.TheVariants.{Count, Sum, Min, Max, First, Last, Mean}
@@ -22,14 +24,34 @@ pub record Buckets : Type 0 where
   pub interval : ℤ
   pub offset : ℤ
 
-pub record Column : Type 0 where
+-- buckets of that interval: a nanosecond or more
+abbrev pub of_interval : ℤ → Option Buckets
+of_interval interval = if int_le (pos 1) interval then Some (record { interval = interval; offset = pos 0 }) else None
+
+-- the same from another offset on
+abbrev pub moved : ℤ → Option Buckets → Option Buckets
+moved offset None = None
+moved offset (Some b) = Some (record b { offset = offset })
+
+-- a function under a name
+pub record Projection : Type 0 where
   pub function : Function
   pub name : Text
 
 pub record Select : Type 0 where
-  pub columns : List Column
+  pub columns : List Projection
   pub fill : Fill
   pub query : queries.Query
 
 abbrev pub texts : {A : Type 0} → List (String A) → List Text
 texts {A} ss = map (λ (s : String A). string_bytes s) ss
+
+-- a text among others, which stand in byte order, each once
+abbrev pub insert_by : Ordering → Text → Text → List Text → List Text → List Text
+insert_by orders.Less new text rest inserted = new ∷ text ∷ rest
+insert_by orders.Equal new text rest inserted = text ∷ rest
+insert_by orders.Greater new text rest inserted = text ∷ inserted
+
+abbrev pub with_text : Text → List Text → List Text
+with_text new [] = new ∷ []
+with_text new (text ∷ rest) = insert_by (text_cmp new text) new text rest (with_text new rest)

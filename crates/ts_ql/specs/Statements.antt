@@ -9,60 +9,23 @@ use Rattle.ts_core.specs.declared.fill.Fill.{Fill}
 use Rattle.ts_core.specs.Facts.{Text}
 use Rattle.ts_core.specs.Queries.{Condition}
 use Rattle.ts_core.specs.Times.{least_time}
-use Rattle.ts_ql.specs.declared.filling.Filling.{Filling}
-use Rattle.ts_ql.specs.declared.moment.Moment.{Moment}
 use Rattle.ts_ql.specs.declared.moment.Range.{Range}
-use Rattle.ts_ql.specs.declared.fault.QlFault.{QlFault}
 use Rattle.ts_ql.specs.declared.query.Span.{Span}
-use Rattle.ts_ql.specs.declared.statement.Draft.{Draft}
-use Rattle.ts_ql.specs.Faults.{Fault, told, OutOfProfile, NoLowerBound, RepeatedColumn, TooManyBuckets, BucketBeforeLeastTime}
-use Rattle.ts_ql.specs.GroupSteps.{Grouped, grouped, empty_groups, no_fill}
-use Rattle.ts_ql.specs.SelectSteps.{Selected, selected, empty_selection}
-use Rattle.ts_ql.specs.Selects.{Column, Select, Buckets}
-use Rattle.ts_ql.specs.WhereSteps.{Filtered, filtered, empty_filter}
-use Rattle.ts_ql.specs.MomentSteps.{no_moment, unbounded}
+use Rattle.ts_ql.specs.QueryFaults.{Fault, OutOfProfile, NoLowerBound, RepeatedColumn, TooManyBuckets, BucketBeforeLeastTime}
+use Rattle.ts_ql.specs.Selects.{Projection, Select, Buckets}
 
 -- some column has the name
-abbrev pub has_column : Text → List Column → Bool
-has_column name columns = list_any (λ (c : Column). bytes_eq c.name name) columns
+abbrev pub has_column : Text → List Projection → Bool
+has_column name columns = list_any (λ (c : Projection). bytes_eq c.name name) columns
 
 -- two columns have one name, or one is called as the column of time
-abbrev pub repeats : List Column → Bool
+abbrev pub repeats : List Projection → Bool
 repeats [] = false
 repeats (c ∷ cs) = bytes_eq c.name (codes "time") || has_column c.name cs || repeats cs
 
--- what has been read of a statement
-pub record Drafted : Type 0 where
-  pub selection : Selected
-  pub filter : Filtered
-  pub moment : Moment
-  pub range : Range
-  pub groups : Grouped
-  pub filling : Filling
-
-abbrev pub drafted : {A : Type 0} → Draft A → Drafted
-drafted d = record {
-  selection = selected d.selection;
-  filter = filtered d.filter;
-  moment = d.moment;
-  range = d.range;
-  groups = grouped d.groups;
-  filling = d.filling;
-}
-
-abbrev pub empty_draft : Drafted
-empty_draft = record {
-  selection = empty_selection;
-  filter = empty_filter;
-  moment = no_moment;
-  range = unbounded;
-  groups = empty_groups;
-  filling = no_fill;
-}
-
--- what a statement has said so far
-pub record Parts : Type 0 where
-  pub columns : List Column
+-- what a statement means, or its beginning
+pub record Meaning : Type 0 where
+  pub columns : List Projection
   pub field : Option Text
   pub measurement : Text
   pub conditions : List Condition
@@ -70,22 +33,6 @@ pub record Parts : Type 0 where
   pub buckets : Option Buckets
   pub tags : List Text
   pub fill : Fill
-
-abbrev pub parts : Drafted → Parts
-parts d = record {
-  columns = d.selection.columns;
-  field = d.selection.field;
-  measurement = d.selection.measurement;
-  conditions = d.filter.conditions;
-  range = d.range;
-  buckets = d.groups.buckets;
-  tags = d.groups.tags;
-  fill = d.filling.fill;
-}
-
-abbrev pub option_told : Option QlFault → Option Fault
-option_told None = None
-option_told (Some fault) = Some (told fault)
 
 -- the end of a range without an upper bound is the next nanosecond; no range ends before it begins
 abbrev pub range_end : ℤ → ℤ → Option ℤ → ℤ
@@ -99,7 +46,7 @@ first_start from b = (bucket_of from b.interval b.offset *ℤ b.interval) +ℤ b
 abbrev pub buckets_between : ℤ → ℤ → Buckets → ℤ
 buckets_between from to b = bucket_of (to -ℤ pos 1) b.interval b.offset -ℤ bucket_of from b.interval b.offset
 
-abbrev pub query_of : Parts → Buckets → Span → Select
+abbrev pub query_of : Meaning → Buckets → Span → Select
 query_of p b span = record {
   columns = p.columns;
   fill = p.fill;
@@ -131,14 +78,14 @@ abbrev pub said_unless : Select → Option Fault → Result Select Fault
 said_unless q None = Ok q
 said_unless q (Some fault) = Err fault
 
-abbrev pub with_span : ℕ → Parts → Buckets → Option Span → Result Select Fault
+abbrev pub with_span : ℕ → Meaning → Buckets → Option Span → Result Select Fault
 with_span start p b None = Err (NoLowerBound start)
 with_span start p b (Some span) = said_unless (query_of p b span) (span_fault start b span)
 
-abbrev pub with_time : ℕ → ℤ → Parts → Option Buckets → Result Select Fault
+abbrev pub with_time : ℕ → ℤ → Meaning → Option Buckets → Result Select Fault
 with_time start now p None = Err (OutOfProfile start (codes "GROUP BY time"))
 with_time start now p (Some b) = with_span start p b (span_from now p.range p.range.lower)
 
 -- what a statement says that begins at `start`
-unfoldable pub statement_said : ℕ → ℤ → Parts → Result Select Fault
+unfoldable pub statement_said : ℕ → ℤ → Meaning → Result Select Fault
 statement_said start now p = if repeats p.columns then Err (RepeatedColumn start) else with_time start now p p.buckets

@@ -8,8 +8,8 @@ use Rattle.ts_ql.specs.declared.place.Place.{Place}
 use Rattle.ts_ql.specs.declared.place.Place.TheVariants as places
 use Rattle.ts_ql.specs.declared.token.Kind.{Kind}
 use Rattle.ts_ql.specs.declared.token.Kind.TheVariants as kinds
-use Rattle.ts_ql.specs.Faults.{Fault, left_out, unexpected}
-use Rattle.ts_ql.specs.Literals.{is_word, unescaped}
+use Rattle.ts_ql.specs.QueryFaults.{Fault, left_out, unexpected}
+use Rattle.ts_ql.specs.Literals.{is_word, text_spelled}
 use Rattle.ts_ql.specs.Tokens.{Lexeme}
 use Rattle.ts_ql.specs.Words.{is_time}
 
@@ -47,7 +47,7 @@ with_condition value f = record f {
 
 -- the first token of a term that is no parenthesis
 abbrev pub term_at : Lexeme → Filtered → Filtering
-term_at t f = if is_time t.kind t.text then Ok (places.TimeSign, f) else Ok (places.TagEnd, record f { tag = unescaped t.text })
+term_at t f = if is_time t.kind t.text then Ok (places.TimeSign, f) else Ok (places.TagEnd, record f { tag = text_spelled t.text })
 
 abbrev pub where_at : Place → Kind → Lexeme → Filtered → Filtering
 where_at places.Term kinds.Open t f = if nat_lt f.depth 32 then Ok (places.Term, record f { depth = f.depth + 1 }) else Err (left_out t)
@@ -59,7 +59,7 @@ where_at places.TagEnd kinds.Differs t f = Ok (places.TagValue, record f { diffe
 where_at places.TagType kinds.Word t f = if is_word (codes "tag") t.text then Ok (places.TagSign, f) else Err (unexpected t)
 where_at places.TagSign kinds.Equals t f = Ok (places.TagValue, record f { differs = false })
 where_at places.TagSign kinds.Differs t f = Ok (places.TagValue, record f { differs = true })
-where_at places.TagValue kinds.Literal t f = Ok (after_term f.depth, with_condition (unescaped t.text) f)
+where_at places.TagValue kinds.Literal t f = Ok (after_term f.depth, with_condition (text_spelled t.text) f)
 where_at places.AfterTerm kinds.Keyword t f = if is_word (codes "and") t.text then Ok (places.Term, f) else Err (unexpected t)
 where_at places.NestedTerm kinds.Keyword t f = if is_word (codes "and") t.text then Ok (places.Term, f) else Err (unexpected t)
 where_at places.NestedTerm kinds.Close t f =

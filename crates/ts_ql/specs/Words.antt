@@ -6,12 +6,12 @@ use Rattle.ts_core.specs.declared.value.Function.{Function}
 use Rattle.ts_core.specs.declared.value.Function.TheVariants as functions
 use Rattle.ts_ql.specs.declared.token.Kind.{Kind}
 use Rattle.ts_ql.specs.declared.token.Kind.TheVariants as kinds
-use Rattle.ts_ql.specs.Literals.{is_word, unescaped}
+use Rattle.ts_ql.specs.Literals.{is_word, text_spelled}
 use Rattle.ts_ql.specs.Tokens.{Lexeme}
 
 -- the name that a token spells
 abbrev pub named : Lexeme → Text
-named l = unescaped l.text
+named l = text_spelled l.text
 
 -- keywords of the profile
 unfoldable pub is_clause_word : Text → Bool

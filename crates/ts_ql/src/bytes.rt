@@ -1,7 +1,7 @@
 //! Runs of bytes in a text.
 ghost use Rattle.std.specs.Prelude.{◌≡◌, ◌+◌, ◌<◌, ◌≤◌, IfSome, true, length, slice_index};
 ghost use Rattle.std.specs.Str.{IsCharBoundary};
-ghost use Rattle.ts_ql.specs.Lexing.{is_in, end_of, is_escapable, closing_quote};
+ghost use Rattle.ts_ql.specs.Lexing.{is_in, end_of_run, is_escape_byte, closing_quote};
 
 /// A class of bytes.
 #[derive(Clone, Copy, Debug, PartialEq, Eq)]
@@ -44,10 +44,10 @@ pub(crate) fn after(text: &str, at: usize) -> usize
 }
 
 /// The first place from `from` on whose byte isn't in the class.
-#[tactic(auto, using(crate::proofs::LexingLemmas::run_end_step, crate::proofs::LexingLemmas::run_end_past, crate::proofs::LexingLemmas::in_ascii), unfolding(crate::specs::Lexing::end_of))]
-pub(crate) fn end_of(text: &str, from: usize, class: Class) -> usize
+#[tactic(auto, using(crate::proofs::LexingLemmas::run_end_step, crate::proofs::LexingLemmas::run_end_past, crate::proofs::LexingLemmas::in_ascii), unfolding(crate::specs::Lexing::end_of_run))]
+pub(crate) fn end_of_run(text: &str, from: usize, class: Class) -> usize
     requires { IsCharBoundary text.now from }
-    ensures value { result ≡ end_of class text.now from }
+    ensures value { result ≡ end_of_run class text.now from }
     ensures from { from ≤ result }
     ensures past { from < length text.now → is_in class (slice_index text.now from) ≡ true → from < result }
     ensures boundary { IsCharBoundary text.now result }
@@ -60,8 +60,8 @@ pub(crate) fn end_of(text: &str, from: usize, class: Class) -> usize
     i
 }
 
-fn is_escapable(byte: u8) -> bool
-    ensures { result ≡ is_escapable byte }
+fn is_escape_byte(byte: u8) -> bool
+    ensures { result ≡ is_escape_byte byte }
 {
     byte == b'\\' || byte == b'n' || byte == b'"' || byte == b'\''
 }
@@ -78,7 +78,7 @@ pub(crate) fn closing_quote(text: &str, from: usize, quote: u8) -> Option<usize>
     while i < bytes.len() {
         let byte = bytes[i];
         if escaped {
-            if !is_escapable(byte) {
+            if !is_escape_byte(byte) {
                 return None;
             }
             escaped = false;

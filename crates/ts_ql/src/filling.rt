@@ -1,11 +1,11 @@
 //! FILL.
 ghost use Rattle.std.specs.Prelude.{◌≡◌};
-ghost use Rattle.ts_ql.specs.Faults.{GivesWith};
+ghost use Rattle.ts_ql.specs.QueryFaults.{GivesWith};
 ghost use Rattle.ts_ql.specs.GroupSteps.{chosen, with_number, fill_step, no_fill};
 ghost use Rattle.ts_ql.specs.Literals.{literal};
 ghost use Rattle.ts_ql.specs.Tokens.{lexeme};
 
-use crate::fault::{ParseError, QlFault};
+use crate::fault::{ParseError, QlFaultKind};
 use crate::literal::{is_word, literal};
 use crate::place::Place;
 use crate::token::{Kind, Token};
@@ -52,7 +52,7 @@ impl Filling {
                 self.fill = Fill::Number(number);
                 Ok(Place::FillClose)
             }
-            None => Err(ParseError::Fault(QlFault::OutOfRange(first))),
+            None => Err(ParseError::Fault(QlFaultKind::OutOfRange.at(first))),
         }
     }
 

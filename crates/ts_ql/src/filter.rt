@@ -1,11 +1,11 @@
 //! The conditions of WHERE.
 ghost use Rattle.std.specs.Prelude.{◌≡◌, IfOk, string_bytes};
-ghost use Rattle.ts_ql.specs.Faults.{GivesWith};
+ghost use Rattle.ts_ql.specs.QueryFaults.{GivesWith};
 ghost use Rattle.ts_ql.specs.Tokens.{lexeme};
 ghost use Rattle.ts_ql.specs.WhereSteps.{filtered, empty_filter, after_term, with_condition, term_at, where_step};
 
 use crate::fault::ParseError;
-use crate::literal::{is_word, unescaped};
+use crate::literal::{is_word, text_spelled};
 use crate::place::Place;
 use crate::query::Condition;
 use crate::token::{Kind, Token};
@@ -65,7 +65,7 @@ impl<A: Allocator + Copy> Filter<A> {
         if token.is_time() {
             return Ok(Place::TimeSign);
         }
-        self.tag = unescaped(alloc, token.text)?;
+        self.tag = text_spelled(alloc, token.text)?;
         Ok(Place::TagEnd)
     }
 
@@ -99,7 +99,7 @@ impl<A: Allocator + Copy> Filter<A> {
                 Ok(Place::TagValue)
             }
             (Place::TagValue, Kind::Literal) => {
-                self.push(alloc, unescaped(alloc, token.text)?)?;
+                self.push(alloc, text_spelled(alloc, token.text)?)?;
                 Ok(after_term(self.depth))
             }
             (Place::AfterTerm | Place::NestedTerm, Kind::Keyword) if is_word(token.text, "and") => {

@@ -1,12 +1,12 @@
 //! GROUP BY.
 ghost use Rattle.std.specs.Prelude.{◌≡◌, IfOk, false};
-ghost use Rattle.ts_ql.specs.Faults.{GivesWith};
+ghost use Rattle.ts_ql.specs.QueryFaults.{GivesWith};
 ghost use Rattle.ts_ql.specs.GroupSteps.{grouped, empty_groups, item_at, with_interval, with_offset, group_step};
 ghost use Rattle.ts_ql.specs.Literals.{literal};
 ghost use Rattle.ts_ql.specs.Tokens.{lexeme};
 
-use crate::fault::{ParseError, QlFault};
-use crate::literal::{is_word, literal, unescaped};
+use crate::fault::{ParseError, QlFaultKind};
+use crate::literal::{is_word, literal, text_spelled};
 use crate::place::Place;
 use crate::token::{Kind, Token};
 use std::alloc::{AllocError, Allocator};
@@ -35,7 +35,7 @@ impl Model for Buckets {
 
 impl Buckets {
     ghost use Rattle.std.specs.Prelude.{◌≡◌, ◌≤ℤ◌, pos};
-    ghost use Rattle.ts_ql.specs.GroupSteps.{of_interval};
+    ghost use Rattle.ts_ql.specs.Selects.{of_interval};
 
     /// Buckets of that interval, where it has a nanosecond or more.
     pub(crate) fn new(interval: i64) -> Option<Buckets>
@@ -109,7 +109,7 @@ impl<A: Allocator + Copy> Groups<A> {
                 Some(_) => Err(ParseError::Fault(token.unexpected())),
             };
         }
-        let name = unescaped(alloc, token.text)?;
+        let name = text_spelled(alloc, token.text)?;
         self.tags.insert(name)?;
         Ok(Place::AfterTag)
     }
@@ -124,7 +124,7 @@ impl<A: Allocator + Copy> Groups<A> {
                 return Ok(Place::IntervalEnd);
             }
         }
-        Err(ParseError::Fault(QlFault::OutOfRange(token.start)))
+        Err(ParseError::Fault(QlFaultKind::OutOfRange.at(token.start)))
     }
 
     /// Takes the offset, whose first token stands at `first`.
@@ -144,7 +144,7 @@ impl<A: Allocator + Copy> Groups<A> {
                 };
                 Ok(Place::OffsetEnd)
             }
-            None => Err(ParseError::Fault(QlFault::OutOfRange(first))),
+            None => Err(ParseError::Fault(QlFaultKind::OutOfRange.at(first))),
         }
     }
 

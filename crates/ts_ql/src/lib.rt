@@ -1,6 +1,6 @@
 //! The query reader: a text of InfluxQL is its queries, or its first fault.
 //! It stands on ts_core alone, and on jiff for the calendar. `parse` is proved to answer what the text says
-//! by the grammar of trees (specs/Grammar, Spelling, Meanings), or its first fault (specs/Laws), both ways.
+//! by the grammar of trees (specs/Grammar, Productions, Meanings), or its first fault (specs/Laws), both ways.
 //! Within it is a machine over tokens (specs/Reading): a place in the grammar and a draft of the statement.
 #![tactic(auto)]
 
@@ -20,10 +20,11 @@ mod selection;
 mod shape;
 mod statement;
 mod token;
+mod unit;
 mod words;
 
-pub use fault::{ParseError, QlFault};
-pub use query::{Column, Condition, Query};
+pub use fault::{ParseError, QlFault, QlFaultKind};
+pub use query::{Condition, Projection, Query};
 pub use reader::parse;
 
 #[cfg(test)]

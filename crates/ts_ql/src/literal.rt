@@ -3,28 +3,12 @@ ghost use Rattle.std.specs.Prelude.{◌≡◌, ◌+◌, ◌*◌, ◌-◌, ◌<�
 ghost use Rattle.std.specs.Char.{is_ascii_digit};
 ghost use Rattle.std.specs.Option.{SomeIff};
 ghost use Rattle.std.specs.Str.{str_eq_ignore_ascii_case};
-ghost use Rattle.ts_ql.specs.Literals.{unit_of, magnitude, within, literal, escape, unescaped};
+ghost use Rattle.ts_ql.specs.Literals.{magnitude, within, literal, escape, text_spelled};
+ghost use Rattle.ts_ql.specs.DurationUnits.{nanos_of_unit};
 
 use crate::bytes::byte_at;
+use crate::unit::nanos_of_unit;
 use std::alloc::{AllocError, Allocator};
-
-/// How many nanoseconds the unit has that begins with the byte before that one, or 1.
-#[tactic(auto, unfolding(crate::specs::Literals::unit_of))]
-fn unit_of(byte: u8, next: u8) -> u64
-    ensures value { result ≡ unit_of byte next }
-    ensures some { 1 ≤ result }
-{
-    match byte {
-        0xc2 | b'u' => 1_000,
-        b'm' if next == b's' => 1_000_000,
-        b'm' => 60_000_000_000,
-        b's' => 1_000_000_000,
-        b'h' => 3_600_000_000_000,
-        b'd' => 86_400_000_000_000,
-        b'w' => 604_800_000_000_000,
-        _ => 1,
-    }
-}
 
 /// A total and so many units more.
 fn with_units(total: u64, number: u64, unit: u64) -> Option<u64>
@@ -55,7 +39,7 @@ pub(crate) fn magnitude(text: &str) -> Option<u64>
         if byte.is_ascii_digit() {
             number = with_digit(number, byte - b'0')?;
         } else {
-            total = with_units(total, number, unit_of(byte, byte_at(text, at + 1)))?;
+            total = with_units(total, number, nanos_of_unit(byte, byte_at(text, at + 1)))?;
             number = 0;
         }
         at += 1;
@@ -84,9 +68,12 @@ fn escape(c: char) -> char
 }
 
 /// The text that a text with its escapes spells.
-#[tactic(auto, unfolding(crate::specs::Literals::unescaped))]
-pub(crate) fn unescaped<A: Allocator + Copy>(alloc: A, text: &str) -> Result<String<A>, AllocError>
-    ensures { IfOk result (λ s. string_bytes s ≡ unescaped text.now) }
+#[tactic(auto, unfolding(crate::specs::Literals::text_spelled))]
+pub(crate) fn text_spelled<A: Allocator + Copy>(
+    alloc: A,
+    text: &str,
+) -> Result<String<A>, AllocError>
+    ensures { IfOk result (λ s. string_bytes s ≡ text_spelled text.now) }
 {
     let mut spelled = String::new(alloc);
     let mut escaped = false;

@@ -1,12 +1,13 @@
 //! Moments and the range of time.
-ghost use Rattle.std.specs.Prelude.{◌≡◌, false};
-ghost use Rattle.ts_ql.specs.Faults.{Gives, GivesWith};
+ghost use Rattle.std.specs.Prelude.{◌≡◌, ◌+◌, ◌≤◌, ◌^◌, false, unsigned_abs};
+ghost use Rattle.ts_ql.specs.QueryFaults.{Gives, GivesWith};
 ghost use Rattle.ts_ql.specs.Literals.{literal};
-ghost use Rattle.ts_ql.specs.MomentSteps.{based, later_by, earlier_by, compared, moment_step, time_of, no_moment, unbounded, from_on, before, bounded, settled};
+ghost use Rattle.ts_ql.specs.MomentSteps.{HasRoom, based, later_by, earlier_by, compared, moment_step, moment_time, no_moment, settled};
+ghost use Rattle.ts_ql.specs.Ranges.{unbounded, from_on, before, bounded};
 ghost use Rattle.ts_ql.specs.Tokens.{lexeme};
 
 use crate::date::moment_told;
-use crate::fault::{ParseError, QlFault};
+use crate::fault::{ParseError, QlFaultKind};
 use crate::literal::{is_word, literal};
 use crate::place::Place;
 use crate::token::{Kind, Token};
@@ -61,40 +62,32 @@ impl Moment {
                 self.total = value;
                 Ok(Place::AfterMoment)
             }
-            None => Err(ParseError::Fault(QlFault::OutOfRange(first))),
+            None => Err(ParseError::Fault(QlFaultKind::OutOfRange.at(first))),
         }
     }
 
     /// Adds a duration.
     fn add<'a>(&mut self, token: &Token<'a>) -> Result<Place, ParseError<'a>>
+        requires { unsigned_abs self.old.total ≤ 2 ^ 126 + 2 ^ 64 }
         ensures { GivesWith result self.new (later_by (lexeme token.now) self.old (literal false token.now.text.now)) }
     {
         let Some(value) = literal(false, token.text) else {
-            return Err(ParseError::Fault(QlFault::OutOfRange(token.start)));
+            return Err(ParseError::Fault(QlFaultKind::OutOfRange.at(token.start)));
         };
-        match self.total.checked_add(i128::from(value)) {
-            Some(total) => {
-                self.total = total;
-                Ok(Place::AfterMoment)
-            }
-            None => Err(ParseError::Fault(QlFault::OutOfRange(self.first))),
-        }
+        self.total += i128::from(value);
+        Ok(Place::AfterMoment)
     }
 
     /// Takes a duration away.
     fn subtract<'a>(&mut self, token: &Token<'a>) -> Result<Place, ParseError<'a>>
+        requires { unsigned_abs self.old.total ≤ 2 ^ 126 + 2 ^ 64 }
         ensures { GivesWith result self.new (earlier_by (lexeme token.now) self.old (literal false token.now.text.now)) }
     {
         let Some(value) = literal(false, token.text) else {
-            return Err(ParseError::Fault(QlFault::OutOfRange(token.start)));
+            return Err(ParseError::Fault(QlFaultKind::OutOfRange.at(token.start)));
         };
-        match self.total.checked_sub(i128::from(value)) {
-            Some(total) => {
-                self.total = total;
-                Ok(Place::AfterMoment)
-            }
-            None => Err(ParseError::Fault(QlFault::OutOfRange(self.first))),
-        }
+        self.total -= i128::from(value);
+        Ok(Place::AfterMoment)
     }
 
     /// Takes the sign of a comparison.
@@ -113,8 +106,10 @@ impl Moment {
         place: Place,
         token: &Token<'a>,
     ) -> Result<Place, ParseError<'a>>
+        requires { HasRoom now self.old }
         ensures { GivesWith result self.new (moment_step now place (lexeme token.now) self.old) }
     {
+        let now = i128::from(now.nanos());
         match (place, token.kind) {
             (Place::TimeSign, Kind::Equals) => self.compare(Comparison::Equal),
             (Place::TimeSign, Kind::Less) => self.compare(Comparison::Less),
@@ -138,7 +133,7 @@ impl Moment {
             }
             (Place::NowOpen, Kind::Open) => Ok(Place::NowClose),
             (Place::NowClose, Kind::Close) => {
-                self.total = i128::from(now.nanos());
+                self.total = now;
                 Ok(Place::AfterMoment)
             }
             (Place::AfterMoment, Kind::Plus) => Ok(Place::MomentPlus),
@@ -151,14 +146,14 @@ impl Moment {
 
     /// The moment as a valid time.
     fn time<'a>(&self) -> Result<Time, ParseError<'a>>
-        ensures { Gives (λ t. t) result (time_of self.now) }
+        ensures { Gives (λ t. t) result (moment_time self.now) }
     {
         match i64::try_from(self.total) {
             Ok(nanos) => match Time::new(nanos) {
                 Some(time) => Ok(time),
-                None => Err(ParseError::Fault(QlFault::OutOfRange(self.first))),
+                None => Err(ParseError::Fault(QlFaultKind::OutOfRange.at(self.first))),
             },
-            Err(_) => Err(ParseError::Fault(QlFault::OutOfRange(self.first))),
+            Err(_) => Err(ParseError::Fault(QlFaultKind::OutOfRange.at(self.first))),
         }
     }
 }
@@ -211,7 +206,7 @@ impl Range {
     }
 
     /// The range where time stands so to that time.
-    #[tactic(auto, unfolding(crate::specs::MomentSteps::bounded))]
+    #[tactic(auto, unfolding(crate::specs::Ranges::bounded))]
     fn bounded(self, comparison: Comparison, time: Time) -> Range
         ensures { result ≡ bounded comparison time self }
     {

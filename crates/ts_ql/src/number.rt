@@ -1,23 +1,11 @@
 //! Durations in a text.
 ghost use Rattle.std.specs.Prelude.{◌≡◌, ◌+◌, ◌<◌, ◌≤◌, length, slice_index};
 ghost use Rattle.std.specs.Str.{IsCharBoundary};
-ghost use Rattle.ts_ql.specs.Lexing.{unit_len, duration_end};
+ghost use Rattle.ts_ql.specs.Lexing.{duration_end};
+ghost use Rattle.ts_ql.specs.DurationUnits.{unit_len};
 
 use crate::bytes::byte_at;
-
-#[tactic(auto, unfolding(crate::specs::Lexing::unit_len))]
-/// How many bytes the unit has that begins with the byte before that one, and 0 where none begins.
-pub(crate) fn unit_len(byte: u8, next: u8) -> usize
-    ensures { result ≡ unit_len byte next }
-{
-    match byte {
-        b'n' => if next == b's' { 2 } else { 0 },
-        0xc2 => if next == 0xb5 { 2 } else { 0 },
-        b'm' => if next == b's' { 2 } else { 1 },
-        b'u' | b's' | b'h' | b'd' | b'w' => 1,
-        _ => 0,
-    }
-}
+use crate::unit::unit_len;
 
 /// The end of the unit that begins at that place, or the place where none begins.
 fn unit_end(text: &str, at: usize) -> usize

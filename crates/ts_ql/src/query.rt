@@ -12,25 +12,25 @@ mod copies;
 
 /// A column of the answer: a function under a name.
 #[derive(Drop)]
-pub struct Column<A: Allocator> {
+pub struct Projection<A: Allocator> {
     function: Function,
     name: String<A>,
 }
 
-impl<A: Allocator> Model for Column<A> {
+impl<A: Allocator> Model for Projection<A> {
     ghost use Rattle.std.specs.Prelude.{string_bytes};
-    ghost use Rattle.ts_ql.specs.Selects.{Column as ColumnValue};
+    ghost use Rattle.ts_ql.specs.Selects.{Projection as ProjectionValue};
 
-    ghost Value = { ColumnValue };
+    ghost Value = { ProjectionValue };
 
     ghost view = { λ c. record { function = c.function; name = string_bytes c.name } };
 }
 
-impl<A: Allocator> Column<A> {
-    pub(crate) fn new(function: Function, name: String<A>) -> Column<A>
+impl<A: Allocator> Projection<A> {
+    pub(crate) fn new(function: Function, name: String<A>) -> Projection<A>
         ensures { result ≡ record { function = function; name = string_bytes name } }
     {
-        Column { function, name }
+        Projection { function, name }
     }
 
     /// The function.
@@ -101,7 +101,7 @@ impl<A: Allocator> Condition<A> {
 /// A query with its functions and what fills its empty buckets. Times are in nanoseconds of the Unix epoch.
 #[derive(Drop)]
 pub struct Query<A: Allocator> {
-    columns: Vec<Column<A>, A>,
+    columns: Vec<Projection<A>, A>,
     fill: Fill,
     measurement: String<A>,
     field: String<A>,
@@ -189,7 +189,7 @@ impl<A: Allocator> Query<A> {
     }
 
     /// The columns in the order of the statement.
-    pub fn columns(&self) -> &[Column<A>]
+    pub fn columns(&self) -> &[Projection<A>]
         ensures { result.now ≡ self.now.columns }
     {
         self.columns.as_slice()

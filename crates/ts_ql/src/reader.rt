@@ -1,14 +1,12 @@
 //! Texts of statements.
-ghost use Rattle.std.specs.Prelude.{◌≡◌, ◌&&◌, List, Ok, Err};
-ghost use Rattle.ts_ql.specs.Faults.{Fault, Gives};
-ghost use Rattle.ts_core.specs.Facts.{Text};
-ghost use Rattle.ts_ql.specs.Literals.{magnitude, number_of, AreDigits, Part, AreParts, written, counted};
-ghost use Rattle.ts_ql.specs.Laws.{TextSays, TextFault, Tells};
-ghost use Rattle.ts_ql.specs.Reading.{next_clause, may_end, is_end, state, start_state, Leaves, begun, ended, step, queries_of};
-ghost use Rattle.ts_ql.specs.Selects.{Select};
+ghost use Rattle.std.specs.Prelude.{◌≡◌, ◌&&◌};
+ghost use Rattle.ts_ql.specs.QueryFaults.{Gives};
+ghost use Rattle.ts_ql.specs.Laws.{ReadsText, IsDecided, LiteralsCount};
+ghost use Rattle.ts_ql.specs.MomentSteps.{HasRoom};
+ghost use Rattle.ts_ql.specs.Reading.{next_clause, may_end, is_end, progress, start_progress, Leaves, begun, ended, step, queries_of};
 ghost use Rattle.ts_ql.specs.Tokens.{lexeme};
 
-use crate::fault::{ParseError, QlFault};
+use crate::fault::{ParseError, QlFaultKind};
 use crate::literal::is_word;
 use crate::place::Place;
 use crate::query::Query;
@@ -70,7 +68,7 @@ fn ends(place: Place, kind: Kind) -> bool
 impl<A: Allocator + Copy> Reader<A> {
     /// Nothing yet.
     fn new(alloc: A) -> Reader<A>
-        ensures { state result ≡ start_state }
+        ensures { progress result ≡ start_progress }
     {
         Reader {
             place: Place::Statement,
@@ -84,7 +82,7 @@ impl<A: Allocator + Copy> Reader<A> {
     /// Begins a statement, or ends the text.
     #[tactic(auto, unfolding(crate::specs::Reading::begun))]
     fn begin<'a>(&mut self, token: &Token<'a>) -> Result<(), ParseError<'a>>
-        ensures { Leaves result (state self.new) (begun (lexeme token.now) (state self.old)) }
+        ensures { Leaves result (progress self.new) (begun (lexeme token.now) (progress self.old)) }
     {
         match token.kind {
             Kind::Keyword => {
@@ -92,7 +90,7 @@ impl<A: Allocator + Copy> Reader<A> {
                     return Err(ParseError::Fault(token.unexpected()));
                 }
                 if self.count >= 16 {
-                    return Err(ParseError::Fault(QlFault::TooManyStatements(token.start)));
+                    return Err(ParseError::Fault(QlFaultKind::TooManyStatements.at(token.start)));
                 }
                 self.place = Place::Function;
                 self.count += 1;
@@ -112,7 +110,7 @@ impl<A: Allocator + Copy> Reader<A> {
 
     /// Ends a statement.
     fn end<'a>(&mut self, alloc: A, now: Time, kind: Kind) -> Result<(), ParseError<'a>>
-        ensures { Leaves result (state self.new) (ended now kind (state self.old)) }
+        ensures { Leaves result (progress self.new) (ended now kind (progress self.old)) }
     {
         let draft = mem::replace(&mut self.draft, Draft::new(alloc));
         let query = draft.query(alloc, self.start, now)?;
@@ -127,7 +125,8 @@ impl<A: Allocator + Copy> Reader<A> {
     /// Takes the next token.
     #[tactic(auto, unfolding(crate::specs::Reading::step))]
     fn take<'a>(&mut self, alloc: A, now: Time, token: &Token<'a>) -> Result<(), ParseError<'a>>
-        ensures { Leaves result (state self.new) (step now (lexeme token.now) (state self.old)) }
+        requires { HasRoom now self.old.draft.moment }
+        ensures { Leaves result (progress self.new) (step now (lexeme token.now) (progress self.old)) }
     {
         self.place = self.draft.settle(self.place, token.kind)?;
         if let Place::Statement = self.place {
@@ -153,7 +152,7 @@ fn read<A: Allocator + Copy>(
     ensures { Gives (λ v. v.items) result (queries_of now text.now) }
 {
     if text.len() > 65_536 {
-        return Err(ParseError::Fault(QlFault::Syntax(65_536)));
+        return Err(ParseError::Fault(QlFaultKind::Syntax.at(65_536)));
     }
     let mut reader = Reader::new(alloc);
     let mut at = 0;
@@ -165,7 +164,7 @@ fn read<A: Allocator + Copy>(
         }
         at = token.end;
     }
-    Err(ParseError::Fault(QlFault::Syntax(text.len())))
+    Err(ParseError::Fault(QlFaultKind::Syntax.at(text.len())))
 }
 
 /// Reads a text of InfluxQL: its statements as queries, or its first fault.
@@ -175,11 +174,9 @@ pub fn parse<A: Allocator + Copy>(
     text: &str,
     now: Time,
 ) -> Result<Vec<Query<A>, A>, ParseError<'_>>
-    ensures tells { Tells (λ v. v.items) now text.now result }
-    ensures queries { (queries : List Select) → TextSays now text.now queries → Gives (λ v. v.items) result (Ok queries) }
-    ensures fault { (fault : Fault) → TextFault now text.now fault → Gives (λ v. v.items) result (Err fault) }
-    ensures durations { (ps : List Part) → AreParts ps → magnitude (written ps) ≡ counted ps }
-    ensures integers { (digits : Text) → AreDigits digits → magnitude digits ≡ number_of 0 digits }
+    ensures reading { ReadsText (λ v. v.items) now text.now result }
+    ensures decided { IsDecided now text.now }
+    ensures literals { LiteralsCount }
 {
     read(alloc, text, now)
 }

@@ -1,14 +1,14 @@
 //! From SELECT to the measurement.
 ghost use Rattle.std.specs.Prelude.{◌≡◌, IfOk, string_bytes};
-ghost use Rattle.ts_ql.specs.Faults.{GivesWith};
-ghost use Rattle.ts_ql.specs.Literals.{unescaped};
-ghost use Rattle.ts_ql.specs.SelectSteps.{selected, select_step, with_column, with_default, with_field, empty_selection};
+ghost use Rattle.ts_ql.specs.QueryFaults.{GivesWith};
+ghost use Rattle.ts_ql.specs.Literals.{text_spelled};
+ghost use Rattle.ts_ql.specs.SelectSteps.{selected, select_step, with_column, with_default, with_call_field, empty_selection};
 ghost use Rattle.ts_ql.specs.Tokens.{lexeme};
 
 use crate::fault::ParseError;
-use crate::literal::{is_word, unescaped};
+use crate::literal::{is_word, text_spelled};
 use crate::place::Place;
-use crate::query::Column;
+use crate::query::Projection;
 use crate::token::{Kind, Token};
 use crate::words::{function_called, function_name};
 use std::alloc::{AllocError, Allocator};
@@ -17,7 +17,7 @@ use ts_core::Function;
 /// What has been read from SELECT to the measurement.
 #[derive(Drop)]
 pub(crate) struct Selection<A: Allocator> {
-    pub columns: Vec<Column<A>, A>,
+    pub columns: Vec<Projection<A>, A>,
     /// The function of the column being read.
     pub function: Function,
     /// The one field of all functions.
@@ -42,7 +42,7 @@ impl<A: Allocator + Copy> Selection<A> {
     fn push(&mut self, name: String<A>) -> Result<(), AllocError>
         ensures { IfOk result (λ _. selected self.new ≡ with_column (string_bytes name) (selected self.old)) }
     {
-        self.columns.push(Column::new(self.function, name))?;
+        self.columns.push(Projection::new(self.function, name))?;
         Ok(())
     }
 
@@ -55,9 +55,9 @@ impl<A: Allocator + Copy> Selection<A> {
 
     /// Takes the field of a function.
     fn take_field<'a>(&mut self, alloc: A, token: &Token<'a>) -> Result<Place, ParseError<'a>>
-        ensures { GivesWith result (selected self.new) (with_field (lexeme token.now) (selected self.old) (selected self.old).field) }
+        ensures { GivesWith result (selected self.new) (with_call_field (lexeme token.now) (selected self.old) (selected self.old).field) }
     {
-        let name = unescaped(alloc, token.text)?;
+        let name = text_spelled(alloc, token.text)?;
         match &self.field {
             None => {
                 self.field = Some(name);
@@ -116,7 +116,7 @@ impl<A: Allocator + Copy> Selection<A> {
     {
         match token.kind {
             Kind::Word | Kind::QuotedName => {
-                self.measurement = unescaped(alloc, token.text)?;
+                self.measurement = text_spelled(alloc, token.text)?;
                 Ok(Place::AfterMeasurement)
             }
             Kind::Open => Err(ParseError::Fault(token.left_out())),
@@ -146,7 +146,7 @@ impl<A: Allocator + Copy> Selection<A> {
             }
             (Place::AfterColumn, _) => self.take_after_column(alloc, token),
             (Place::Alias, Kind::Word | Kind::QuotedName) => {
-                self.push(unescaped(alloc, token.text)?)?;
+                self.push(text_spelled(alloc, token.text)?)?;
                 Ok(Place::AfterAlias)
             }
             (Place::AfterAlias, Kind::Comma) => Ok(Place::Function),

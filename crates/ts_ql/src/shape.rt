@@ -4,7 +4,7 @@ ghost use Rattle.std.specs.Str.{IsCharBoundary};
 ghost use Rattle.ts_ql.specs.Lexing.{double, single, operator_at, number_at, quoted_at, shape_at, is_quoted, is_in};
 ghost use Rattle.ts_ql.specs.declared.bytes.Class.TheVariants as classes;
 
-use crate::bytes::{Class, after, byte_at, closing_quote, end_of, is_in};
+use crate::bytes::{Class, after, byte_at, closing_quote, end_of_run, is_in};
 use crate::number::duration_end;
 use crate::token::Kind;
 
@@ -79,7 +79,7 @@ fn number_at(text: &str, start: usize) -> (Kind, usize)
     if start < end {
         return (Kind::Duration, end);
     }
-    let end = end_of(text, start, Class::Digit);
+    let end = end_of_run(text, start, Class::Digit);
     let next = byte_at(text, end);
     if next.is_ascii_alphabetic() || next == b'.' {
         (Kind::Bad, text.len())
@@ -123,7 +123,7 @@ pub(crate) fn shape_at(text: &str, start: usize) -> (Kind, usize)
     match byte_at(text, start) {
         b'0'..=b'9' => number_at(text, start),
         b'"' | b'\'' => quoted_at(text, start),
-        byte if is_in(Class::Name, byte) => (Kind::Word, end_of(text, start, Class::Name)),
+        byte if is_in(Class::Name, byte) => (Kind::Word, end_of_run(text, start, Class::Name)),
         _ => operator_at(text, start),
     }
 }

@@ -2,18 +2,20 @@
 ghost use Rattle.std.specs.Prelude.{◌≡◌, ◌≤ℤ◌, ◌≤◌, ◌^◌, IfOk, IfSome, int_le, int_lt, pos, unsigned_abs};
 ghost use Rattle.ts_core.specs.Buckets.{bucket_of};
 ghost use Rattle.ts_core.specs.Times.{least_time};
-ghost use Rattle.ts_ql.specs.Faults.{Gives, GivesWith};
+ghost use Rattle.ts_ql.specs.QueryFaults.{Gives, GivesWith, option_as_fault};
+ghost use Rattle.ts_ql.specs.MomentSteps.{HasRoom};
 ghost use Rattle.ts_ql.specs.Reading.{settle_step, draft_step};
 ghost use Rattle.ts_ql.specs.Tokens.{lexeme};
-ghost use Rattle.ts_ql.specs.Statements.{repeats, first_start, buckets_between, drafted, empty_draft, parts, span_from, option_told, span_fault, query_of, statement_said};
+ghost use Rattle.ts_ql.specs.Statements.{repeats, first_start, buckets_between, span_from, span_fault, query_of, statement_said};
+ghost use Rattle.ts_ql.specs.Drafts.{drafted, empty_draft, meaning};
 
-use crate::fault::{ParseError, QlFault};
+use crate::fault::{ParseError, QlFault, QlFaultKind};
 use crate::filling::Filling;
 use crate::filter::{Filter, after_term};
 use crate::groups::{Buckets, Groups};
 use crate::moment::{Moment, Range};
 use crate::place::{Clause, Place};
-use crate::query::{Column, Query, Span};
+use crate::query::{Projection, Query, Span};
 use crate::selection::Selection;
 use crate::token::{Kind, Token};
 use std::alloc::{AllocError, Allocator};
@@ -32,7 +34,7 @@ pub(crate) struct Draft<A: Allocator> {
 }
 
 /// Whether two columns have one name, or one is called as the column of time.
-fn repeats<A: Allocator + Copy>(alloc: A, columns: &[Column<A>]) -> Result<bool, AllocError>
+fn repeats<A: Allocator + Copy>(alloc: A, columns: &[Projection<A>]) -> Result<bool, AllocError>
     ensures { IfOk result (λ found. found ≡ repeats columns.now) }
 {
     let mut names = BTreeSet::new(alloc);
@@ -101,14 +103,14 @@ fn has_too_many(span: &Span, buckets: Buckets) -> bool
 /// The fault of the buckets of a span.
 #[tactic(auto, unfolding(crate::specs::Statements::span_fault))]
 fn span_fault<'a>(start: usize, buckets: Buckets, span: &Span) -> Option<QlFault<'a>>
-    ensures { option_told result ≡ span_fault start buckets span.now }
+    ensures { option_as_fault result ≡ span_fault start buckets span.now }
 {
     if span.to <= span.from {
         None
     } else if starts_early(span, buckets) {
-        Some(QlFault::BucketBeforeLeastTime(start))
+        Some(QlFaultKind::BucketBeforeLeastTime.at(start))
     } else if has_too_many(span, buckets) {
-        Some(QlFault::TooManyBuckets(start))
+        Some(QlFaultKind::TooManyBuckets.at(start))
     } else {
         None
     }
@@ -137,16 +139,16 @@ impl<A: Allocator + Copy> Draft<A> {
         start: usize,
         now: Time,
     ) -> Result<Query<A>, ParseError<'a>>
-        ensures { Gives (λ q. q) result (statement_said start now (parts (drafted self))) }
+        ensures { Gives (λ q. q) result (statement_said start now (meaning (drafted self))) }
     {
         if repeats(alloc, self.selection.columns.as_slice())? {
-            return Err(ParseError::Fault(QlFault::RepeatedColumn(start)));
+            return Err(ParseError::Fault(QlFaultKind::RepeatedColumn.at(start)));
         }
         let Some(buckets) = self.groups.buckets else {
-            return Err(ParseError::Fault(QlFault::OutOfProfile(start, "GROUP BY time")));
+            return Err(ParseError::Fault(QlFaultKind::OutOfProfile("GROUP BY time").at(start)));
         };
         let Some(span) = span_of(&self.range, now) else {
-            return Err(ParseError::Fault(QlFault::NoLowerBound(start)));
+            return Err(ParseError::Fault(QlFaultKind::NoLowerBound.at(start)));
         };
         match span_fault(start, buckets, &span) {
             Some(fault) => Err(ParseError::Fault(fault)),
@@ -157,7 +159,7 @@ impl<A: Allocator + Copy> Draft<A> {
     /// The query over a span.
     fn over(self, alloc: A, buckets: Buckets, span: Span) -> Result<Query<A>, AllocError>
         requires { span.from ≤ℤ span.to }
-        ensures { IfOk result (λ query. query ≡ query_of (parts (drafted self)) buckets span) }
+        ensures { IfOk result (λ query. query ≡ query_of (meaning (drafted self)) buckets span) }
     {
         let mut selection = self.selection;
         let field = match selection.field.take() {
@@ -179,7 +181,8 @@ impl<A: Allocator + Copy> Draft<A> {
     /// Ends a moment, where the token doesn't go on with it.
     #[tactic(auto, unfolding(crate::specs::Reading::settle_step))]
     pub(crate) fn settle<'a>(&mut self, place: Place, kind: Kind) -> Result<Place, ParseError<'a>>
-        ensures { GivesWith result (drafted self.new) (settle_step place kind (drafted self.old)) }
+        ensures value { GivesWith result (drafted self.new) (settle_step place kind (drafted self.old)) }
+        ensures moment { self.new.moment ≡ self.old.moment }
     {
         match (place, kind) {
             (Place::AfterMoment, Kind::Plus | Kind::Minus) => Ok(place),
@@ -200,6 +203,7 @@ impl<A: Allocator + Copy> Draft<A> {
         place: Place,
         token: &Token<'a>,
     ) -> Result<Place, ParseError<'a>>
+        requires { HasRoom now self.old.moment }
         ensures { GivesWith result (drafted self.new) (draft_step now place (lexeme token.now) (drafted self.old)) }
     {
         match place.clause() {

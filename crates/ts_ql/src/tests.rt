@@ -1,405 +1,169 @@
 //! Texts and what they say, at the moment 0.
-use crate::{Column, ParseError, QlFault, Query, parse};
-use std::alloc::Global;
+use crate::{ParseError, Projection, QlFaultKind, Query, parse};
+use std::alloc::{AllocError, Global};
 use std::test::Fail;
 use ts_core::{Fill, Function, Time};
 
-// the number of a fault, its offset and its token
-fn fault<'a>(error: ParseError<'a>) -> (u8, usize, &'a str) {
-    match error {
-        ParseError::Memory => (0, 0, ""),
-        ParseError::Fault(fault) => match fault {
-            QlFault::Syntax(at) => (71, at, ""),
-            QlFault::OutOfProfile(at, token) => (72, at, token),
-            QlFault::NoLowerBound(at) => (73, at, ""),
-            QlFault::OutOfRange(at) => (74, at, ""),
-            QlFault::RepeatedColumn(at) => (75, at, ""),
-            QlFault::TooManyStatements(at) => (76, at, ""),
-            QlFault::TooManyBuckets(at) => (77, at, ""),
-            QlFault::BucketBeforeLeastTime(at) => (78, at, ""),
-        },
+/// The text of the fault that a text has, or nothing.
+fn refusal(alloc: Global, text: &str) -> Result<String, AllocError> {
+    let mut words = String::new(alloc);
+    if let Err(error) = parse(alloc, text, Time::new(0).unwrap_or(Time::least())) {
+        error.text_to(&mut words)?;
     }
+    Ok(words)
 }
 
-fn refused(alloc: Global, text: &str) -> Option<(u8, usize, &str)> {
-    match parse(alloc, text, Time::new(0)?) {
-        Ok(_) => None,
-        Err(error) => Some(fault(error)),
-    }
-}
-
-// the range, the interval and the offset of the first statement
-fn ranged(alloc: Global, text: &str) -> Option<(i64, i64, i64, i64)> {
-    match parse(alloc, text, Time::new(0)?) {
-        Ok(queries) => {
-            let query = queries.first()?;
-            Some((query.from(), query.to(), query.interval(), query.offset()))
-        }
-        Err(_) => None,
-    }
-}
-
-/// A text, and the number of its fault, where it is and its token.
-const FAULTS: [(&str, u8, usize, &str); 75] = [
-    (
-        "SELECT COUNT(f) FROM m WHERE time >= 0 AND time < 10 GROUP BY time(5ns) LIMIT 5",
-        72,
-        72,
-        "LIMIT",
-    ),
-    ("SELECT COUNT(f) FROM m WHERE", 71, 28, ""),
-    ("SELECT MEDIAN(f) FROM m", 72, 7, "MEDIAN"),
-    ("SELECT COUNT(f),SUM(g) FROM m", 72, 20, "g"),
-    ("SELECT COUNT(f) FROM a.m", 72, 22, "."),
-    (
-        "SELECT COUNT(f) FROM m WHERE time >= '2024-02-30' GROUP BY time(1h)",
-        74,
-        37,
-        "",
-    ),
-    (
-        "SELECT COUNT(f),COUNT(f) FROM m WHERE time >= 0 AND time < 10 GROUP BY time(5ns)",
-        75,
-        0,
-        "",
-    ),
-    ("SELECT COUNT(f) FROM m GROUP BY time(1m)", 73, 0, ""),
-    (
-        "SELECT COUNT(f) FROM m WHERE time >= 0 AND time < 10001 GROUP BY time(1ns)",
-        77,
-        0,
-        "",
-    ),
-    (
-        "SELECT COUNT(f) FROM m WHERE time >= -9223372036854775806 AND time < -9223372036854775000 GROUP BY time(1h)",
-        78,
-        0,
-        "",
-    ),
-    ("SELECT f FROM m", 72, 7, "f"),
-    ("", 71, 0, ""),
-    ("  ", 71, 2, ""),
-    (";", 71, 0, ""),
-    ("SHOW DATABASES", 72, 0, "SHOW"),
-    ("SELECT \"count\"(f) FROM m", 72, 7, "\"count\""),
-    ("SELECT FROM m", 71, 7, ""),
-    ("SELECT LIMIT FROM m", 72, 7, "LIMIT"),
-    ("SELECT COUNT(\"\") FROM m", 71, 13, ""),
-    ("SELECT COUNT(\"x\\y\") FROM m", 71, 13, ""),
-    ("SELECT COUNT(*) FROM m", 72, 13, "*"),
-    ("SELECT COUNT(f) FROM (m)", 72, 21, "("),
-    (
-        "SELECT COUNT(f) FROM m WHERE a = 'x' OR b = 'y'",
-        72,
-        37,
-        "OR",
-    ),
-    ("SELECT COUNT(f) FROM m WHERE a =~ 'x'", 72, 31, "=~"),
-    ("SELECT COUNT(f) FROM m WHERE a > 'x'", 72, 31, ">"),
-    (
-        "SELECT COUNT(f) FROM m WHERE time >= 5nx GROUP BY time(1m)",
-        71,
-        37,
-        "",
-    ),
-    (
-        "SELECT COUNT(f) FROM m WHERE time >= 5S GROUP BY time(1m)",
-        71,
-        37,
-        "",
-    ),
-    (
-        "SELECT COUNT(f) FROM m WHERE time >= 5.5 GROUP BY time(1m)",
-        71,
-        37,
-        "",
-    ),
-    (
-        "SELECT COUNT(f) FROM m WHERE time >= 1h30x GROUP BY time(1m)",
-        71,
-        39,
-        "",
-    ),
-    (
-        "SELECT COUNT(f) FROM m WHERE time >= 9223372036854775807 ?",
-        74,
-        37,
-        "",
-    ),
-    (
-        "SELECT COUNT(f) FROM m WHERE time >= 9223372036854775808 GROUP BY time(1m)",
-        74,
-        37,
-        "",
-    ),
-    (
-        "SELECT COUNT(f) FROM m WHERE time >= 5 - 9223372036854775808ns GROUP BY time(1m)",
-        74,
-        41,
-        "",
-    ),
-    (
-        "SELECT COUNT(f) FROM m WHERE time >= '2024-01-01T24:00:00Z' GROUP BY time(1m)",
-        74,
-        37,
-        "",
-    ),
-    (
-        "SELECT COUNT(f) FROM m WHERE time >= '2024-01-01Z' GROUP BY time(1m)",
-        74,
-        37,
-        "",
-    ),
-    (
-        "SELECT COUNT(f) FROM m WHERE time >= 0 GROUP BY time(0s)",
-        74,
-        53,
-        "",
-    ),
-    (
-        "SELECT COUNT(f) FROM m WHERE time >= 0 GROUP BY time(1m), time(1m)",
-        71,
-        58,
-        "",
-    ),
-    (
-        "SELECT COUNT(f) FROM m WHERE time >= 0 GROUP BY time, a",
-        71,
-        52,
-        "",
-    ),
-    (
-        "SELECT COUNT(f) FROM m WHERE time >= 0 GROUP BY time(1m) fill(linear)",
-        72,
-        62,
-        "linear",
-    ),
-    (
-        "SELECT COUNT(f) FROM m WHERE time >= 0 GROUP BY time(1m) fill(9223372036854775808)",
-        74,
-        62,
-        "",
-    ),
-    (
-        "SELECT COUNT(f) FROM m WHERE time >= 0 GROUP BY a",
-        72,
-        0,
-        "GROUP BY time",
-    ),
-    (
-        "SELECT COUNT(f) AS time FROM m WHERE time >= 0 GROUP BY time(1m)",
-        75,
-        0,
-        "",
-    ),
-    ("SELECT COUNT(f) FROM m WHERE time::tag = 'x'", 71, 33, ""),
-    (
-        "SELECT COUNT(f) FROM m WHERE time >= 0 GROUP BY time(1m); x",
-        71,
-        58,
-        "",
-    ),
-    ("SELECT", 71, 6, ""),
-    ("select count", 71, 12, ""),
-    ("SELECT COUNT f FROM m", 71, 13, ""),
-    ("SELECT COUNT(f::tag) FROM m", 71, 16, ""),
-    ("SELECT COUNT(f), FROM m", 71, 17, ""),
-    ("SELECT COUNT(f) AS FROM m", 71, 19, ""),
-    ("SELECT COUNT(f) INTO n FROM m", 72, 16, "INTO"),
-    ("SELECT COUNT(f) + 1 FROM m", 72, 16, "+"),
-    ("SELECT COUNT(f) FROM m ORDER BY time", 72, 23, "ORDER"),
-    ("SELECT COUNT(f) FROM m WHERE a = b", 71, 33, ""),
-    ("SELECT COUNT(f) FROM m WHERE a = 'x", 71, 33, ""),
-    ("SELECT COUNT(f) FROM m WHERE a ! 'x'", 71, 31, ""),
-    ("SELECT COUNT(f) FROM m WHERE (a = 'x'", 71, 37, ""),
-    ("SELECT COUNT(f) FROM m WHERE a = 'x')", 71, 36, ""),
-    ("SELECT COUNT(f) FROM m WHERE time >= now(", 71, 41, ""),
-    ("SELECT COUNT(f) FROM m WHERE time != 5", 71, 34, ""),
-    ("SELECT COUNT(f) FROM m WHERE time >= ''", 74, 37, ""),
-    (
-        "SELECT COUNT(f) FROM m WHERE time >= '2023-02-29'",
-        74,
-        37,
-        "",
-    ),
-    (
-        "SELECT COUNT(f) FROM m WHERE time >= '2024-13-01'",
-        74,
-        37,
-        "",
-    ),
-    (
-        "SELECT COUNT(f) FROM m WHERE time >= '2024-01-01 00:60:00'",
-        74,
-        37,
-        "",
-    ),
-    (
-        "SELECT COUNT(f) FROM m WHERE time >= '2024-01-01T00:00:00.Z'",
-        74,
-        37,
-        "",
-    ),
-    (
-        "SELECT COUNT(f) FROM m WHERE time >= '2024-01-01T00:00:00.1234567890Z'",
-        74,
-        37,
-        "",
-    ),
-    (
-        "SELECT COUNT(f) FROM m WHERE time >= -9223372036854775807 GROUP BY time(1m)",
-        74,
-        37,
-        "",
-    ),
-    (
-        "SELECT COUNT(f) FROM m WHERE time >= 0 GROUP time(1m)",
-        71,
-        45,
-        "",
-    ),
-    (
-        "SELECT COUNT(f) FROM m WHERE time >= 0 GROUP BY time(5)",
-        71,
-        53,
-        "",
-    ),
-    (
-        "SELECT COUNT(f) FROM m WHERE time >= 0 GROUP BY time(1m,)",
-        71,
-        56,
-        "",
-    ),
-    (
-        "SELECT COUNT(f) FROM m WHERE time >= 0 GROUP BY time(1m) fill()",
-        71,
-        62,
-        "",
-    ),
-    (
-        "SELECT COUNT(f) FROM m WHERE time >= 0 GROUP BY time(1m) tz('x')",
-        72,
-        57,
-        "tz",
-    ),
-    (
-        "SELECT COUNT(f) FROM m WHERE time >= 0 GROUP BY time(1m) 5mLIMIT",
-        71,
-        57,
-        "",
-    ),
-    (
-        "SELECT COUNT(f) FROM m WHERE time >= 5mLIMIT",
-        72,
-        39,
-        "LIMIT",
-    ),
-    (
-        "SELECT COUNT(f) FROM m WHERE time >= 0 GROUP BY *",
-        72,
-        48,
-        "*",
-    ),
-    ("SELECT COUNT(f) FROM m # x", 71, 23, ""),
-];
+/// In each line a text, and its first fault.
+const REFUSED: &str =
+    "SELECT COUNT(f) FROM m WHERE time >= 0 AND time < 10 GROUP BY time(5ns) LIMIT 5 -> fault 72 at 72 LIMIT
+SELECT COUNT(f) FROM m WHERE -> fault 71 at 28
+SELECT MEDIAN(f) FROM m -> fault 72 at 7 MEDIAN
+SELECT COUNT(f),SUM(g) FROM m -> fault 72 at 20 g
+SELECT COUNT(f) FROM a.m -> fault 72 at 22 .
+SELECT COUNT(f) FROM m WHERE time >= '2024-02-30' GROUP BY time(1h) -> fault 74 at 37
+SELECT COUNT(f),COUNT(f) FROM m WHERE time >= 0 AND time < 10 GROUP BY time(5ns) -> fault 75 at 0
+SELECT COUNT(f) FROM m GROUP BY time(1m) -> fault 73 at 0
+SELECT COUNT(f) FROM m WHERE time >= 0 AND time < 10001 GROUP BY time(1ns) -> fault 77 at 0
+SELECT COUNT(f) FROM m WHERE time >= -9223372036854775806 AND time < -9223372036854775000 GROUP BY time(1h) -> fault 78 at 0
+SELECT f FROM m -> fault 72 at 7 f
+ -> fault 71 at 0
+   -> fault 71 at 2
+; -> fault 71 at 0
+SHOW DATABASES -> fault 72 at 0 SHOW
+SELECT \"count\"(f) FROM m -> fault 72 at 7 \"count\"
+SELECT FROM m -> fault 71 at 7
+SELECT LIMIT FROM m -> fault 72 at 7 LIMIT
+SELECT COUNT(\"\") FROM m -> fault 71 at 13
+SELECT COUNT(\"x\\y\") FROM m -> fault 71 at 13
+SELECT COUNT(*) FROM m -> fault 72 at 13 *
+SELECT COUNT(f) FROM (m) -> fault 72 at 21 (
+SELECT COUNT(f) FROM m WHERE a = 'x' OR b = 'y' -> fault 72 at 37 OR
+SELECT COUNT(f) FROM m WHERE a =~ 'x' -> fault 72 at 31 =~
+SELECT COUNT(f) FROM m WHERE a > 'x' -> fault 72 at 31 >
+SELECT COUNT(f) FROM m WHERE time >= 5nx GROUP BY time(1m) -> fault 71 at 37
+SELECT COUNT(f) FROM m WHERE time >= 5S GROUP BY time(1m) -> fault 71 at 37
+SELECT COUNT(f) FROM m WHERE time >= 5.5 GROUP BY time(1m) -> fault 71 at 37
+SELECT COUNT(f) FROM m WHERE time >= 1h30x GROUP BY time(1m) -> fault 71 at 39
+SELECT COUNT(f) FROM m WHERE time >= 9223372036854775807 ? -> fault 74 at 37
+SELECT COUNT(f) FROM m WHERE time >= 9223372036854775808 GROUP BY time(1m) -> fault 74 at 37
+SELECT COUNT(f) FROM m WHERE time >= 5 - 9223372036854775808ns GROUP BY time(1m) -> fault 74 at 41
+SELECT COUNT(f) FROM m WHERE time >= '2024-01-01T24:00:00Z' GROUP BY time(1m) -> fault 74 at 37
+SELECT COUNT(f) FROM m WHERE time >= '2024-01-01Z' GROUP BY time(1m) -> fault 74 at 37
+SELECT COUNT(f) FROM m WHERE time >= 0 GROUP BY time(0s) -> fault 74 at 53
+SELECT COUNT(f) FROM m WHERE time >= 0 GROUP BY time(1m), time(1m) -> fault 71 at 58
+SELECT COUNT(f) FROM m WHERE time >= 0 GROUP BY time, a -> fault 71 at 52
+SELECT COUNT(f) FROM m WHERE time >= 0 GROUP BY time(1m) fill(linear) -> fault 72 at 62 linear
+SELECT COUNT(f) FROM m WHERE time >= 0 GROUP BY time(1m) fill(9223372036854775808) -> fault 74 at 62
+SELECT COUNT(f) FROM m WHERE time >= 0 GROUP BY a -> fault 72 at 0 GROUP BY time
+SELECT COUNT(f) AS time FROM m WHERE time >= 0 GROUP BY time(1m) -> fault 75 at 0
+SELECT COUNT(f) FROM m WHERE time::tag = 'x' -> fault 71 at 33
+SELECT COUNT(f) FROM m WHERE time >= 0 GROUP BY time(1m); x -> fault 71 at 58
+SELECT -> fault 71 at 6
+select count -> fault 71 at 12
+SELECT COUNT f FROM m -> fault 71 at 13
+SELECT COUNT(f::tag) FROM m -> fault 71 at 16
+SELECT COUNT(f), FROM m -> fault 71 at 17
+SELECT COUNT(f) AS FROM m -> fault 71 at 19
+SELECT COUNT(f) INTO n FROM m -> fault 72 at 16 INTO
+SELECT COUNT(f) + 1 FROM m -> fault 72 at 16 +
+SELECT COUNT(f) FROM m ORDER BY time -> fault 72 at 23 ORDER
+SELECT COUNT(f) FROM m WHERE a = b -> fault 71 at 33
+SELECT COUNT(f) FROM m WHERE a = 'x -> fault 71 at 33
+SELECT COUNT(f) FROM m WHERE a ! 'x' -> fault 71 at 31
+SELECT COUNT(f) FROM m WHERE (a = 'x' -> fault 71 at 37
+SELECT COUNT(f) FROM m WHERE a = 'x') -> fault 71 at 36
+SELECT COUNT(f) FROM m WHERE time >= now( -> fault 71 at 41
+SELECT COUNT(f) FROM m WHERE time != 5 -> fault 71 at 34
+SELECT COUNT(f) FROM m WHERE time >= '' -> fault 74 at 37
+SELECT COUNT(f) FROM m WHERE time >= '2023-02-29' -> fault 74 at 37
+SELECT COUNT(f) FROM m WHERE time >= '2024-13-01' -> fault 74 at 37
+SELECT COUNT(f) FROM m WHERE time >= '2024-01-01 00:60:00' -> fault 74 at 37
+SELECT COUNT(f) FROM m WHERE time >= '2024-01-01T00:00:00.Z' -> fault 74 at 37
+SELECT COUNT(f) FROM m WHERE time >= '2024-01-01T00:00:00.1234567890Z' -> fault 74 at 37
+SELECT COUNT(f) FROM m WHERE time >= -9223372036854775807 GROUP BY time(1m) -> fault 74 at 37
+SELECT COUNT(f) FROM m WHERE time >= 0 GROUP time(1m) -> fault 71 at 45
+SELECT COUNT(f) FROM m WHERE time >= 0 GROUP BY time(5) -> fault 71 at 53
+SELECT COUNT(f) FROM m WHERE time >= 0 GROUP BY time(1m,) -> fault 71 at 56
+SELECT COUNT(f) FROM m WHERE time >= 0 GROUP BY time(1m) fill() -> fault 71 at 62
+SELECT COUNT(f) FROM m WHERE time >= 0 GROUP BY time(1m) tz('x') -> fault 72 at 57 tz
+SELECT COUNT(f) FROM m WHERE time >= 0 GROUP BY time(1m) 5mLIMIT -> fault 71 at 57
+SELECT COUNT(f) FROM m WHERE time >= 5mLIMIT -> fault 72 at 39 LIMIT
+SELECT COUNT(f) FROM m WHERE time >= 0 GROUP BY * -> fault 72 at 48 *
+SELECT COUNT(f) FROM m # x -> fault 71 at 23";
 
 #[test]
 fn faults_have_their_places(rt: HostRuntime) -> Result<(), Fail> {
-    for (text, number, at, token) in FAULTS {
-        assert!(rt;
-            refused(rt.alloc(), text) == Some((number, at, token)),
-            "at {text}"
-        );
+    for row in REFUSED.lines() {
+        let (text, fault) = row.split_once(" -> ").ok_or("no row")?;
+        assert_eq!(rt; refusal(rt.alloc(), text)?.as_str(), fault);
     }
     Ok(())
 }
 
+/// The range, the interval and the offset of the first query, or nothing.
+fn times(alloc: Global, text: &str) -> Option<(i64, i64, i64, i64)> {
+    let queries = parse(alloc, text, Time::new(0)?).ok()?;
+    let query = queries.first()?;
+    Some((query.from(), query.to(), query.interval(), query.offset()))
+}
+
 /// A text, and the range, the interval and the offset of its statement.
-const RANGES: [(&str, i64, i64, i64, i64); 9] = [
+const RANGES: [(&str, (i64, i64, i64, i64)); 9] = [
     (
         "select count(f) from m where time >= 1h30m and time <= 2h group by time(1h)",
-        5400000000000,
-        7200000000001,
-        3600000000000,
-        0,
+        (5400000000000, 7200000000001, 3600000000000, 0),
     ),
     (
         "SELECT COUNT(f) FROM m WHERE time >= now() - 1h GROUP BY time(1m)",
-        -3600000000000,
-        1,
-        60000000000,
-        0,
+        (-3600000000000, 1, 60000000000, 0),
     ),
     (
         "SELECT COUNT(f) FROM m WHERE time > 1 AND time = 5 GROUP BY time(1u, -1ns);",
-        5,
-        6,
-        1000,
-        -1,
+        (5, 6, 1000, -1),
     ),
     (
         "SELECT COUNT(f) FROM m WHERE ((time >= 0ms)) AND (time < '1970-01-01T00:02:00Z') GROUP BY time(1m), \"host\" fill(none)",
-        0,
-        120000000000,
-        60000000000,
-        0,
+        (0, 120000000000, 60000000000, 0),
     ),
     (
         "SELECT COUNT(f) FROM m WHERE time >= '1970-01-02' AND time < '1970-01-02 00:00:00.5' GROUP BY time(1d)",
-        86400000000000,
-        86400500000000,
-        86400000000000,
-        0,
+        (86400000000000, 86400500000000, 86400000000000, 0),
     ),
     (
         "SELECT COUNT(f::integer) FROM m WHERE a::tag <> 'b' AND \"time\" >= -1u AND time < 1w GROUP BY time(7d)",
-        -1000,
-        604800000000000,
-        604800000000000,
-        0,
+        (-1000, 604800000000000, 604800000000000, 0),
     ),
     (
         "SELECT COUNT(f) FROM m WHERE time = 5 AND time = 3 GROUP BY time(1ns)",
-        5,
-        5,
-        1,
-        0,
+        (5, 5, 1, 0),
     ),
     (
         "SELECT COUNT(f) FROM m WHERE time >= '2263-01-01' - 366d - 270000000000000000ns AND time < 1 GROUP BY time(1w)",
-        8944560000000000000,
-        8944560000000000000,
-        604800000000000,
-        0,
+        (8944560000000000000, 8944560000000000000, 604800000000000, 0),
     ),
     (
         "SELECT COUNT(f) FROM show WHERE time >= 1\u{b5} GROUP BY time(1s)",
-        1000,
-        1000,
-        1000000000,
-        0,
+        (1000, 1000, 1000000000, 0),
     ),
 ];
 
 #[test]
 fn ranges_are_read(rt: HostRuntime) -> Result<(), Fail> {
-    for (text, from, to, interval, offset) in RANGES {
-        assert!(rt;
-            ranged(rt.alloc(), text) == Some((from, to, interval, offset)),
-            "at {text}"
-        );
+    for (text, range) in RANGES {
+        assert!(rt; times(rt.alloc(), text) == Some(range), "at {text}");
     }
     Ok(())
 }
 
-fn shape(column: &Column<Global>) -> (Function, &str) {
-    (column.function(), column.name())
-}
+const WHOLE: &str =
+    "SELECT MAX(\"v\\\"w\"), MEAN(\"v\\\"w\") AS \"m n\" FROM cpu WHERE host != 'a\\nb' AND time >= 0 GROUP BY host, time(1m), dc, host fill(-7); select last(x) from y where time > 1 group by time(1m)";
 
-fn is_whole(rt: &HostRuntime, query: &Query<Global>) -> Option<bool> {
+/// Whether it is the first query of `WHOLE`.
+fn is_whole(query: &Query<Global>) -> Option<bool> {
     let condition = query.conditions().first()?;
     let tag = query.group_tags().first()?;
-    let _ = rt;
+    let first = query.columns().first()?;
+    let second = query.columns().get(1)?;
     Some(
         query.measurement() == "cpu"
             && query.field() == "v\"w"
@@ -407,54 +171,91 @@ fn is_whole(rt: &HostRuntime, query: &Query<Global>) -> Option<bool> {
             && condition.value() == "a\nb"
             && condition.differs()
             && tag.as_str() == "dc"
-            && query.fill() == Fill::Number(-7),
+            && query.fill() == Fill::Number(-7)
+            && is_column(first, Function::Max, "max")
+            && is_column(second, Function::Mean, "m n"),
     )
+}
+
+fn is_column(column: &Projection<Global>, function: Function, name: &str) -> bool {
+    column.function() == function && column.name() == name
 }
 
 #[test]
 fn parts_are_read(rt: HostRuntime) -> Result<(), Fail> {
-    let text =
-        "SELECT MAX(\"v\\\"w\"), MEAN(\"v\\\"w\") AS \"m n\" FROM cpu WHERE host != 'a\\nb' AND time >= 0 GROUP BY host, time(1m), dc, host fill(-7); select last(x) from y where time > 1 group by time(1m)";
-    let queries = match parse(rt.alloc(), text, Time::least()) {
-        Ok(queries) => queries,
-        Err(_) => return Err("refused")?,
-    };
+    let queries = parse(rt.alloc(), WHOLE, Time::least()).map_err(|_| "refused")?;
     assert_eq!(rt; queries.len(), 2);
-    let query = queries.first().ok_or("none")?;
-    assert!(rt; is_whole(&rt, query) == Some(true));
-    let names = query.columns();
-    assert_eq!(rt; names.len(), 2);
-    assert!(rt; shape(&names[0]) == (Function::Max, "max"));
-    assert!(rt; shape(&names[1]) == (Function::Mean, "m n"));
+    assert!(rt; is_whole(queries.first().ok_or("none")?) == Some(true));
+    Ok(())
+}
+
+const SIMPLE: &str = "SELECT SUM(f) FROM m WHERE time >= 0 GROUP BY time(1m);";
+
+/// Words, and more of them so many times.
+fn repeated(alloc: Global, words: &str, more: &str, times: usize) -> Result<String, AllocError> {
+    let mut text = String::from_str(alloc, words)?;
+    for _ in 0..times {
+        text.push_str(more)?;
+    }
+    Ok(text)
+}
+
+/// How many queries a text has, or nothing.
+fn count(alloc: Global, text: &str) -> Option<usize> {
+    Some(parse(alloc, text, Time::new(0)?).ok()?.len())
+}
+
+#[test]
+fn limits_are_reached(rt: HostRuntime) -> Result<(), Fail> {
+    let alloc = rt.alloc();
+    let most = repeated(alloc, "", SIMPLE, 16)?;
+    assert!(rt; count(alloc, most.as_str()) == Some(16));
+    let longest = repeated(alloc, SIMPLE, " ", 65_536 - SIMPLE.len())?;
+    assert!(rt; count(alloc, longest.as_str()) == Some(1));
+    let mut conditions = repeated(
+        alloc,
+        "SELECT SUM(f) FROM m WHERE time >= 0",
+        " AND a = 'b'",
+        2_000,
+    )?;
+    conditions.push_str(" GROUP BY time(1m)")?;
+    let queries = parse(alloc, conditions.as_str(), Time::least()).map_err(|_| "refused")?;
+    assert!(rt; queries.first().ok_or("none")?.conditions().len() == 2_000);
     Ok(())
 }
 
 #[test]
-fn limits_hold(rt: HostRuntime) -> Result<(), Fail> {
-    let mut many = String::new(rt.alloc());
-    for _ in 0..17 {
-        many.push_str("SELECT SUM(f) FROM m WHERE time >= 0 GROUP BY time(1m);")?;
-    }
-    assert!(rt; refused(rt.alloc(), many.as_str()) == Some((76, 880, "")));
-    let mut nested = String::from_str(rt.alloc(), "SELECT SUM(f) FROM m WHERE ")?;
-    for _ in 0..33 {
-        nested.push_str("(")?;
-    }
-    assert!(rt; refused(rt.alloc(), nested.as_str()) == Some((72, 59, "(")));
-    let mut long = String::new(rt.alloc());
-    for _ in 0..65537 {
-        long.push_str(" ")?;
-    }
-    assert!(rt; refused(rt.alloc(), long.as_str()) == Some((71, 65536, "")));
+fn limits_are_kept(rt: HostRuntime) -> Result<(), Fail> {
+    let alloc = rt.alloc();
+    let many = repeated(alloc, "", SIMPLE, 17)?;
+    assert_eq!(rt; refusal(alloc, many.as_str())?.as_str(), "fault 76 at 880");
+    let nested = repeated(alloc, "SELECT SUM(f) FROM m WHERE ", "(", 33)?;
+    assert_eq!(rt;
+        refusal(alloc, nested.as_str())?.as_str(),
+        "fault 72 at 59 ("
+    );
+    let long = repeated(alloc, SIMPLE, " ", 65_537 - SIMPLE.len())?;
+    assert_eq!(rt;
+        refusal(alloc, long.as_str())?.as_str(),
+        "fault 71 at 65536"
+    );
     Ok(())
 }
 
 #[test]
-fn faults_are_written(rt: HostRuntime) -> Result<(), Fail> {
+fn errors_are_told_in_words(rt: HostRuntime) -> Result<(), Fail> {
+    let none = QlFaultKind::NoLowerBound.at(0);
+    assert_eq!(rt;
+        format!(in rt.alloc(); "{none}")?.as_str(),
+        "no lower bound of time, at byte 0"
+    );
+    let token = ParseError::Fault(QlFaultKind::OutOfProfile("OR").at(37));
+    assert_eq!(rt;
+        format!(in rt.alloc(); "{token}")?.as_str(),
+        "`OR` isn't supported, at byte 37"
+    );
     let mut text = String::new(rt.alloc());
-    ParseError::Fault(QlFault::OutOfProfile(7, "f")).text_to(&mut text)?;
-    ParseError::Memory.text_to(&mut text)?;
-    QlFault::TooManyBuckets(12).text_to(&mut text)?;
-    assert!(rt; text.as_str() == "fault 72 at 7 ffault memoryfault 77 at 12");
+    ParseError::OutOfMemory.text_to(&mut text)?;
+    assert_eq!(rt; text.as_str(), "fault memory");
     Ok(())
 }

@@ -4,10 +4,10 @@ ghost use Rattle.std.specs.Str.{IsCharBoundary};
 ghost use Rattle.ts_ql.specs.Lexing.{token_at};
 ghost use Rattle.ts_ql.specs.Tokens.{lexeme};
 ghost use Rattle.ts_ql.specs.Words.{is_time, is_foreign};
-ghost use Rattle.ts_ql.specs.Faults.{told, left_out, unexpected};
+ghost use Rattle.ts_ql.specs.QueryFaults.{as_fault, left_out, unexpected};
 
-use crate::bytes::{Class, end_of};
-use crate::fault::QlFault;
+use crate::bytes::{Class, end_of_run};
+use crate::fault::{QlFault, QlFaultKind};
 use crate::literal::is_word;
 use crate::shape::shape_at;
 use crate::words::{is_foreign_keyword, is_foreign_word, is_keyword};
@@ -69,7 +69,7 @@ impl<'a> Token<'a> {
         ensures from { result.kind ≢ Kind.End → from < result.end }
         ensures boundary { IsCharBoundary text.now result.end }
     {
-        let start = end_of(text, from, Class::Space);
+        let start = end_of_run(text, from, Class::Space);
         let (kind, end) = shape_at(text, start);
         let raw = &text[start..end];
         let text = match kind {
@@ -122,19 +122,19 @@ impl<'a> Token<'a> {
 
     /// The fault that the profile leaves it out.
     pub(crate) fn left_out(&self) -> QlFault<'a>
-        ensures { told result ≡ left_out (lexeme self.now) }
+        ensures { as_fault result ≡ left_out (lexeme self.now) }
     {
-        QlFault::OutOfProfile(self.start, self.raw)
+        QlFaultKind::OutOfProfile(self.raw).at(self.start)
     }
 
     /// The fault that it can't stand where it stands.
     pub(crate) fn unexpected(&self) -> QlFault<'a>
-        ensures { told result ≡ unexpected (lexeme self.now) }
+        ensures { as_fault result ≡ unexpected (lexeme self.now) }
     {
         if self.is_foreign() {
             self.left_out()
         } else {
-            QlFault::Syntax(self.start)
+            QlFaultKind::Syntax.at(self.start)
         }
     }
 }

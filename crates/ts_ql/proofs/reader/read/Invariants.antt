@@ -1,6 +1,9 @@
 use Rattle.std.proofs.Common.{◌≡◌, ◌+◌, ◌-◌, length, IsCharBoundary}
-use Rattle.ts_ql.specs.Reading.{read_on, state, start_state}
+use Rattle.ts_ql.specs.Reading.{read_on, progress, start_progress}
+use Rattle.ts_ql.proofs.SumBounds.{IsAfter}
 use Rattle.ts_ql.proofs.reader.read.Given as goal
 
 abbrev pub invariant-loop-turn : goal.invariant-loop-turn
-invariant-loop-turn g l = IsCharBoundary l.text l.at × (read_on ((length l.text + 1) - l._turn) l.now l.text (state l.reader) l.at ≡ read_on (length l.text + 1) l.now l.text start_state 0)
+invariant-loop-turn g l =
+    IsCharBoundary l.text l.at × (read_on ((length l.text + 1) - l._turn) l.now l.text (progress l.reader) l.at ≡ read_on (length l.text + 1) l.now l.text start_progress 0)
+    × IsAfter l.now l._turn (progress l.reader)

@@ -1,16 +1,16 @@
 use Rattle.std.proofs.Common.{sym, ap, ◌∙◌, Err, Result}
-use Rattle.ts_ql.specs.Faults.{Fault}
-use Rattle.ts_ql.specs.Reading.{State, state, begun}
+use Rattle.ts_ql.specs.QueryFaults.{Fault}
+use Rattle.ts_ql.specs.Reading.{Progress, progress, begun}
 use Rattle.ts_ql.specs.Tokens.{lexeme}
 use Rattle.ts_ql.proofs.ReadingLemmas.{begun_other, begun_last}
 use Rattle.ts_ql.proofs.reader.Reader.begin.Goals as goal
 
 pub returns-else-self-eq0 : goal.returns-else-self-eq0
 unfolding begun
-returns-else-self-eq0 g c = begun_last c.args.token.now.kind (lexeme c.args.token.now) (state c.args.self.now) c.in-End.is c.if-self-eq0.false
+returns-else-self-eq0 g c = begun_last c.args.token.now.kind (lexeme c.args.token.now) (progress c.args.self.now) c.in-End.is c.if-self-eq0.false
 
 pub returns-in_default : goal.returns-in_default
 unfolding begun
 returns-in_default g c =
-    let fails : Fault → Result State Fault = λ f. Err f in
-    begun_other c.args.token.now.kind (lexeme c.args.token.now) (state c.args.self.now) c.in_default.not-Keyword c.in_default.not-End ∙ ap fails (sym c.unexpected-in_default.ensures)
+    let fails : Fault → Result Progress Fault = λ f. Err f in
+    begun_other c.args.token.now.kind (lexeme c.args.token.now) (progress c.args.self.now) c.in_default.not-Keyword c.in_default.not-End ∙ ap fails (sym c.unexpected-in_default.ensures)

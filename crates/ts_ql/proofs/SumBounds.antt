@@ -1,0 +1,222 @@
+-- A sum of moments grows by little with each token, so no text has one outside of 128 bits.
+use Rattle.std.proofs.Common.{◌≡◌, ℕ, ◌+◌, ◌*◌, ◌≤◌, ◌^◌, ℤ, pos, ◌+ℤ◌, ◌-ℤ◌, unsigned_abs, Bool, true, false, ◌&&◌, Option, Some, None, Result, Ok, Err, arith, refl, subst}
+use Rattle.std.specs.Prelude.{⊤, if◌then◌else◌, nat_le, ◌==◌, codes}
+use Rattle.std.proofs.lemmas.Int.{ints}
+use Rattle.ts_ql.specs.declared.moment.Moment.{Moment}
+use Rattle.ts_ql.specs.declared.moment.Range.{Range}
+use Rattle.ts_ql.specs.declared.place.Clause.{Clause}
+use Rattle.ts_ql.specs.declared.place.Clause.TheVariants as clauses
+use Rattle.ts_ql.specs.declared.place.Place.{Place}
+use Rattle.ts_ql.specs.declared.place.Place.TheVariants as places
+use Rattle.ts_ql.specs.declared.token.Kind.{Kind}
+use Rattle.ts_ql.specs.declared.token.Kind.TheVariants as kinds
+use Rattle.ts_ql.specs.Dates.{moment_told}
+use Rattle.ts_ql.specs.Drafts.{Drafted, meaning}
+use Rattle.ts_ql.specs.GroupSteps.{Grouping, FillStep, group_step, fill_step}
+use Rattle.ts_ql.specs.Literals.{is_word, literal}
+use Rattle.ts_ql.specs.MomentSteps.{Timing, HasRoom, based, later_by, earlier_by, moment_at, moment_step, settled}
+use Rattle.ts_ql.specs.QueryFaults.{Fault, TooManyStatements, unexpected}
+use Rattle.ts_ql.specs.Reading.{Progress, Advance, Drafting, start_progress, settled_in, settle_at, settle_step, in_selection, in_filter, in_moment, in_groups, in_filling, clause_of, draft_at, draft_step, begun_at, begun, ended_with, ended, with_draft, clause_or, next_clause, is_end, may_end, placed_at, after_settling, step}
+use Rattle.ts_ql.specs.Selects.{Select}
+use Rattle.ts_ql.specs.SelectSteps.{Selecting, select_step}
+use Rattle.ts_ql.specs.Statements.{statement_said}
+use Rattle.ts_ql.specs.Tokens.{Lexeme}
+use Rattle.ts_ql.specs.WhereSteps.{Filtering, where_step}
+use Rattle.ts_ql.proofs.DateBounds.{Holds, IsNear, moment_told_near, literal_near}
+
+-- where the moment and the sum before a token have a bound, the sum behind it has one that is little more
+abbrev pub Follows : ℤ → ℤ → ℤ → Type 0
+Follows now old new = (bound : ℕ) → unsigned_abs now ≤ bound → unsigned_abs old ≤ bound → unsigned_abs new ≤ bound + 2 ^ 102
+
+-- ---- the moment
+
+abbrev MomentFollows : ℤ → Moment → Timing → Type 0
+MomentFollows now m (Ok p) = Follows now m.total p.1.total
+MomentFollows now m (Err f) = ⊤
+
+same_follows : (now old : ℤ) → Follows now old old
+same_follows now old bound n o = omega arith
+
+near_follows : (now old new : ℤ) → IsNear new → Follows now old new
+near_follows now old new h bound n o = omega arith
+
+now_follows : (now old : ℤ) → Follows now old now
+now_follows now old bound n o = omega arith
+
+sum_follows : (now old value : ℤ) → IsNear value → Follows now old (old +ℤ value)
+sum_follows now old value h bound n o = omega (arith, ints)
+
+difference_follows : (now old value : ℤ) → IsNear value → Follows now old (old -ℤ value)
+difference_follows now old value h bound n o = omega (arith, ints)
+
+based_follows : (now : ℤ) (first : ℕ) (m : Moment) (o : Option ℤ) → Holds IsNear o → MomentFollows now m (based first m o)
+based_follows now first m None h = tt
+based_follows now first m (Some value) h = near_follows now m.total value h
+
+later_follows : (now : ℤ) (t : Lexeme) (m : Moment) (o : Option ℤ) → Holds IsNear o → MomentFollows now m (later_by t m o)
+later_follows now t m None h = tt
+later_follows now t m (Some value) h = sum_follows now m.total value h
+
+earlier_follows : (now : ℤ) (t : Lexeme) (m : Moment) (o : Option ℤ) → Holds IsNear o → MomentFollows now m (earlier_by t m o)
+earlier_follows now t m None h = tt
+earlier_follows now t m (Some value) h = difference_follows now m.total value h
+
+now_or_follows : (now : ℤ) (t : Lexeme) (m : Moment) (b : Bool) → MomentFollows now m (if b then Ok (places.NowOpen, record m { first = t.start }) else Err (unexpected t))
+now_or_follows now t m true = same_follows now m.total
+now_or_follows now t m false = tt
+
+moment_follows : (now : ℤ) (p : Place) (k : Kind) (t : Lexeme) (m : Moment) → MomentFollows now m (moment_at now p k t m)
+moment_follows now places.TimeSign kinds.Equals t m = same_follows now m.total
+moment_follows now places.TimeSign kinds.Less t m = same_follows now m.total
+moment_follows now places.TimeSign kinds.LessOrEqual t m = same_follows now m.total
+moment_follows now places.TimeSign kinds.Greater t m = same_follows now m.total
+moment_follows now places.TimeSign kinds.GreaterOrEqual t m = same_follows now m.total
+moment_follows now places.Moment kinds.Minus t m = same_follows now m.total
+moment_follows now places.Moment kinds.Integer t m = based_follows now t.start m (literal false t.text) (literal_near false t.text)
+moment_follows now places.Moment kinds.Duration t m = based_follows now t.start m (literal false t.text) (literal_near false t.text)
+moment_follows now places.Moment kinds.Literal t m = based_follows now t.start m (moment_told t.text) (moment_told_near t.text)
+moment_follows now places.Moment kinds.Word t m = now_or_follows now t m (is_word (codes "now") t.text)
+moment_follows now places.MomentMinus kinds.Integer t m = based_follows now m.first m (literal true t.text) (literal_near true t.text)
+moment_follows now places.MomentMinus kinds.Duration t m = based_follows now m.first m (literal true t.text) (literal_near true t.text)
+moment_follows now places.NowOpen kinds.Open t m = same_follows now m.total
+moment_follows now places.NowClose kinds.Close t m = now_follows now m.total
+moment_follows now places.AfterMoment kinds.Plus t m = same_follows now m.total
+moment_follows now places.AfterMoment kinds.Minus t m = same_follows now m.total
+moment_follows now places.MomentPlus kinds.Duration t m = later_follows now t m (literal false t.text) (literal_near false t.text)
+moment_follows now places.MomentLess kinds.Duration t m = earlier_follows now t m (literal false t.text) (literal_near false t.text)
+moment_follows now p k t m = tt
+
+-- ---- the draft
+
+abbrev DraftFollows : ℤ → Drafted → Drafting → Type 0
+DraftFollows now d (Ok p) = Follows now d.moment.total p.1.moment.total
+DraftFollows now d (Err f) = ⊤
+
+select_follows : (now : ℤ) (d : Drafted) (r : Selecting) → DraftFollows now d (in_selection d r)
+select_follows now d (Ok p) = same_follows now d.moment.total
+select_follows now d (Err f) = tt
+
+where_follows : (now : ℤ) (d : Drafted) (r : Filtering) → DraftFollows now d (in_filter d r)
+where_follows now d (Ok p) = same_follows now d.moment.total
+where_follows now d (Err f) = tt
+
+group_follows : (now : ℤ) (d : Drafted) (r : Grouping) → DraftFollows now d (in_groups d r)
+group_follows now d (Ok p) = same_follows now d.moment.total
+group_follows now d (Err f) = tt
+
+fill_follows : (now : ℤ) (d : Drafted) (r : FillStep) → DraftFollows now d (in_filling d r)
+fill_follows now d (Ok p) = same_follows now d.moment.total
+fill_follows now d (Err f) = tt
+
+timed_follows : (now : ℤ) (d : Drafted) (r : Timing) → MomentFollows now d.moment r → DraftFollows now d (in_moment d r)
+timed_follows now d (Ok p) h = h
+timed_follows now d (Err f) h = tt
+
+clause_follows : (c : Clause) (now : ℤ) (p : Place) (t : Lexeme) (d : Drafted) → DraftFollows now d (draft_at c now p t d)
+unfolding moment_step
+clause_follows clauses.Select now p t d = select_follows now d (select_step p t d.selection)
+clause_follows clauses.Where now p t d = where_follows now d (where_step p t d.filter)
+clause_follows clauses.Moment now p t d = timed_follows now d (moment_step now p t d.moment) (moment_follows now p t.kind t d.moment)
+clause_follows clauses.Group now p t d = group_follows now d (group_step p t d.groups)
+clause_follows clauses.Fill now p t d = fill_follows now d (fill_step p t d.filling)
+clause_follows clauses.None now p t d = tt
+
+draft_follows : (now : ℤ) (p : Place) (t : Lexeme) (d : Drafted) → DraftFollows now d (draft_step now p t d)
+unfolding draft_step
+draft_follows now p t d = clause_follows (clause_of p) now p t d
+
+-- ---- the text
+
+abbrev ProgressFollows : ℤ → Progress → Advance → Type 0
+ProgressFollows now s (Ok n) = Follows now s.draft.moment.total n.draft.moment.total
+ProgressFollows now s (Err f) = ⊤
+
+with_draft_follows : (now : ℤ) (s : Progress) (r : Drafting) → DraftFollows now s.draft r → ProgressFollows now s (with_draft s r)
+with_draft_follows now s (Ok p) h = h
+with_draft_follows now s (Err f) h = tt
+
+empty_follows : (now old : ℤ) → Follows now old (pos 0)
+empty_follows now old bound n o = omega arith
+
+ended_follows : (now : ℤ) (s : Progress) (k : Kind) (r : Result Select Fault) → ProgressFollows now s (ended_with k s r)
+ended_follows now s k (Ok q) = empty_follows now s.draft.moment.total
+ended_follows now s k (Err f) = tt
+
+clause_or_follows : (now : ℤ) (t : Lexeme) (s : Progress) (o : Option Place) → ProgressFollows now s (clause_or now t s o)
+clause_or_follows now t s None = with_draft_follows now s (draft_step now s.place t s.draft) (draft_follows now s.place t s.draft)
+clause_or_follows now t s (Some next) = same_follows now s.draft.moment.total
+
+continued_follows_if : (now : ℤ) (t : Lexeme) (s : Progress) (b : Bool) → ProgressFollows now s (if b then ended now t.kind s else clause_or now t s (next_clause s.place t))
+continued_follows_if now t s true = ended_follows now s t.kind (statement_said s.start now (meaning s.draft))
+continued_follows_if now t s false = clause_or_follows now t s (next_clause s.place t)
+
+selected_follows : (now : ℤ) (t : Lexeme) (s : Progress) (b many : Bool) → ProgressFollows now s (if b then (if many then Err (TooManyStatements t.start)
+    else Ok (record s { place = places.Function; count = s.count + 1; start = t.start })) else Err (unexpected t))
+selected_follows now t s true true = tt
+selected_follows now t s true false = same_follows now s.draft.moment.total
+selected_follows now t s false many = tt
+
+stopped_follows : (now : ℤ) (t : Lexeme) (s : Progress) (b : Bool) → ProgressFollows now s (if b then Err (unexpected t) else Ok (record s { place = places.Done }))
+stopped_follows now t s true = tt
+stopped_follows now t s false = same_follows now s.draft.moment.total
+
+begun_follows : (now : ℤ) (k : Kind) (t : Lexeme) (s : Progress) → ProgressFollows now s (begun_at k t s)
+begun_follows now kinds.Keyword t s = selected_follows now t s (is_word (codes "select") t.text) (nat_le 16 s.count)
+begun_follows now kinds.End t s = stopped_follows now t s (s.count == 0)
+begun_follows now k t s = tt
+
+placed_follows : (p : Place) (now : ℤ) (t : Lexeme) (s : Progress) → ProgressFollows now s (placed_at p now t s)
+unfolding begun
+placed_follows places.Statement now t s = begun_follows now t.kind t s
+placed_follows p now t s = continued_follows_if now t s (may_end s.place && is_end t.kind)
+
+-- a token that ends a moment leaves its sum
+abbrev Keeps : Drafted → Drafting → Type 0
+Keeps d (Ok p) = p.1.moment ≡ d.moment
+Keeps d (Err f) = ⊤
+
+settled_keeps : (d : Drafted) (r : Result Range Fault) → Keeps d (settled_in d r)
+settled_keeps d (Ok range) = refl
+settled_keeps d (Err f) = tt
+
+settle_keeps : (p : Place) (k : Kind) (d : Drafted) → Keeps d (settle_at p k d)
+settle_keeps places.AfterMoment kinds.Plus d = refl
+settle_keeps places.AfterMoment kinds.Minus d = refl
+settle_keeps places.AfterMoment k d = settled_keeps d (settled d.moment d.range)
+settle_keeps p k d = refl
+
+moved_follows : (now : ℤ) (s moved : Progress) (r : Advance) → moved.draft.moment ≡ s.draft.moment → ProgressFollows now moved r → ProgressFollows now s r
+moved_follows now s moved (Ok n) same h = subst (λ (m : Moment). Follows now m.total n.draft.moment.total) same h
+moved_follows now s moved (Err f) same h = tt
+
+settling_follows : (now : ℤ) (t : Lexeme) (s : Progress) (r : Drafting) → Keeps s.draft r → ProgressFollows now s (after_settling now t s r)
+settling_follows now t s (Ok p) h =
+    let moved : Progress = record s { place = p.0; draft = p.1 } in
+    moved_follows now s moved (placed_at p.0 now t moved) h (placed_follows p.0 now t moved)
+settling_follows now t s (Err f) h = tt
+
+pub step_follows : (now : ℤ) (t : Lexeme) (s : Progress) → ProgressFollows now s (step now t s)
+unfolding step settle_step
+step_follows now t s = settling_follows now t s (settle_at s.place t.kind s.draft) (settle_keeps s.place t.kind s.draft)
+
+-- ---- token by token
+
+-- the sum after so many tokens
+abbrev pub IsAfter : ℤ → ℕ → Progress → Type 0
+IsAfter now turn s = unsigned_abs s.draft.moment.total ≤ turn * 2 ^ 102 + unsigned_abs now
+
+pub starts : (now : ℤ) (s : Progress) → s ≡ start_progress → IsAfter now 0 s
+starts now s e = rw e (omega arith)
+
+taken : (now : ℤ) (s n : Progress) (r : Advance) (turn : ℕ) → ProgressFollows now s r → r ≡ Ok n → IsAfter now turn s → IsAfter now (turn + 1) n
+taken now s n (Ok m) turn h e before =
+    let same : m ≡ n = cc in
+    let far = h (turn * 2 ^ 102 + unsigned_abs now) (omega arith) before in
+    subst (λ (k : Progress). IsAfter now (turn + 1) k) same (omega (arith, far))
+taken now s n (Err f) turn h e before = absurd cc
+
+pub follows_on : (now : ℤ) (t : Lexeme) (s n : Progress) (turn : ℕ) → step now t s ≡ Ok n → IsAfter now turn s → IsAfter now (turn + 1) n
+follows_on now t s n turn e before = taken now s n (step now t s) turn (step_follows now t s) e before
+
+pub has_room : (now : ℤ) (s : Progress) (turn : ℕ) → turn ≤ 65536 → IsAfter now turn s → HasRoom now s.draft.moment
+has_room now s turn few before = omega arith

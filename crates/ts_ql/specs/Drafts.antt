@@ -1,0 +1,54 @@
+-- What the machine has read of a statement.
+-- (InfluxData 1.8, InfluxQL: the basic SELECT statement and its clauses.)
+use Rattle.ts_ql.specs.declared.filling.Filling.{Filling}
+use Rattle.ts_ql.specs.declared.moment.Moment.{Moment}
+use Rattle.ts_ql.specs.declared.moment.Range.{Range}
+use Rattle.ts_ql.specs.declared.statement.Draft.{Draft}
+use Rattle.ts_ql.specs.GroupSteps.{Grouped, grouped, empty_groups, no_fill}
+use Rattle.ts_ql.specs.MomentSteps.{no_moment}
+use Rattle.ts_ql.specs.Ranges.{unbounded}
+use Rattle.ts_ql.specs.SelectSteps.{Selected, selected, empty_selection}
+use Rattle.ts_ql.specs.Statements.{Meaning}
+use Rattle.ts_ql.specs.WhereSteps.{Filtered, filtered, empty_filter}
+
+-- what has been read of a statement
+pub record Drafted : Type 0 where
+  pub selection : Selected
+  pub filter : Filtered
+  pub moment : Moment
+  pub range : Range
+  pub groups : Grouped
+  pub filling : Filling
+
+abbrev pub drafted : {A : Type 0} → Draft A → Drafted
+drafted d = record {
+  selection = selected d.selection;
+  filter = filtered d.filter;
+  moment = d.moment;
+  range = d.range;
+  groups = grouped d.groups;
+  filling = d.filling;
+}
+
+abbrev pub empty_draft : Drafted
+empty_draft = record {
+  selection = empty_selection;
+  filter = empty_filter;
+  moment = no_moment;
+  range = unbounded;
+  groups = empty_groups;
+  filling = no_fill;
+}
+
+-- what it means so far
+abbrev pub meaning : Drafted → Meaning
+meaning d = record {
+  columns = d.selection.columns;
+  field = d.selection.field;
+  measurement = d.selection.measurement;
+  conditions = d.filter.conditions;
+  range = d.range;
+  buckets = d.groups.buckets;
+  tags = d.groups.tags;
+  fill = d.filling.fill;
+}

@@ -1,0 +1,68 @@
+-- Why a text says no queries: the first fault with its offset.
+-- (Own rule.)
+use Rattle.std.specs.Prelude.{◌≡◌, ℕ, if◌then◌else◌, Option, Some, None, Result, Ok, Err}
+use Rattle.ts_core.specs.Facts.{Text}
+use Rattle.ts_ql.specs.declared.fault.QlFault.{QlFault}
+use Rattle.ts_ql.specs.declared.fault.QlFaultKind.{QlFaultKind}
+use Rattle.ts_ql.specs.declared.fault.QlFaultKind.TheVariants as faults
+use Rattle.ts_ql.specs.declared.fault.ParseError.{ParseError}
+use Rattle.ts_ql.specs.declared.fault.ParseError.TheVariants as errors
+use Rattle.ts_ql.specs.Tokens.{Lexeme}
+use Rattle.ts_ql.specs.Words.{is_foreign}
+
+pub data Fault : Type 0 where
+  -- 71: no text of the profile goes on so
+  Syntax : ℕ → Fault
+  -- 72: what the profile leaves out, as it is written
+  OutOfProfile : ℕ → Text → Fault
+  -- 73: no lower bound of time
+  NoLowerBound : ℕ → Fault
+  -- 74: a literal or a moment out of its range
+  OutOfRange : ℕ → Fault
+  -- 75: two columns of one name, or one called time
+  RepeatedColumn : ℕ → Fault
+  -- 76: a statement more than 16
+  TooManyStatements : ℕ → Fault
+  -- 77: more than 10,000 buckets
+  TooManyBuckets : ℕ → Fault
+  -- 78: the first bucket starts before the least time
+  BucketBeforeLeastTime : ℕ → Fault
+
+abbrev pub fault_at : QlFaultKind → ℕ → Fault
+fault_at faults.Syntax at = Syntax at
+fault_at (faults.OutOfProfile token) at = OutOfProfile at token.now
+fault_at faults.NoLowerBound at = NoLowerBound at
+fault_at faults.OutOfRange at = OutOfRange at
+fault_at faults.RepeatedColumn at = RepeatedColumn at
+fault_at faults.TooManyStatements at = TooManyStatements at
+fault_at faults.TooManyBuckets at = TooManyBuckets at
+fault_at faults.BucketBeforeLeastTime at = BucketBeforeLeastTime at
+
+abbrev pub as_fault : QlFault → Fault
+as_fault fault = fault_at fault.kind fault.at
+
+abbrev pub option_as_fault : Option QlFault → Option Fault
+option_as_fault None = None
+option_as_fault (Some fault) = Some (as_fault fault)
+
+-- the token as it is written is left out of the profile
+abbrev pub left_out : Lexeme → Fault
+left_out t = OutOfProfile t.start t.raw
+
+-- no text of the profile goes on with the token
+abbrev pub unexpected : Lexeme → Fault
+unexpected t = if is_foreign t.kind t.text then left_out t else Syntax t.start
+
+abbrev pub IsFailure : {Y : Type 0} → ParseError → Result Y Fault → Type 0
+IsFailure errors.OutOfMemory said = Unit {0}
+IsFailure (errors.Fault fault) said = said ≡ Err (as_fault fault)
+
+-- what was returned, with what stands then, unless memory ran out
+abbrev pub GivesWith : {X S : Type 0} → Result X ParseError → S → Result (X × S) Fault → Type 0
+GivesWith (Ok x) state said = said ≡ Ok (x, state)
+GivesWith (Err e) state said = IsFailure e said
+
+-- what was returned, seen by `view`, unless memory ran out
+abbrev pub Gives : {X Y : Type 0} → (X → Y) → Result X ParseError → Result Y Fault → Type 0
+Gives view (Ok x) said = said ≡ Ok (view x)
+Gives view (Err e) said = IsFailure e said
