@@ -1,6 +1,7 @@
 -- Readers and writers, seen by their bytes and by what was asked of them. (Own rules.)
-use Rattle.std.specs.Prelude.{ℕ, ◌≡◌, List, ◌++◌, Option, Result, Ok, Err, ◌==◌, if◌then◌else◌, length}
-use Rattle.std.specs.Io.KnownBytes.{Appends}
+use Rattle.std.specs.Prelude.{ℕ, ◌≡◌, ◌+◌, List, ◌++◌, Option, Result, Ok, Err, OnOk, OnErr, ◌==◌, if◌then◌else◌, length}
+use Rattle.std.specs.Io.{ReadsAtMost, WritesAtMost}
+use Rattle.std.specs.Io.KnownBytes.{Appends, ReadConsumes, WriteAppends}
 
 -- a reader: the bytes that are left, where they are known; its reads; those that failed; those that gave no
 -- byte into room, each of which told the end of the input
@@ -9,6 +10,10 @@ pub record Input : Type 0 where
   pub turns : ℕ
   pub failures : ℕ
   pub ends : ℕ
+
+-- a reader of these bytes of which nothing was asked yet
+abbrev pub unread : Option (List ℕ) → Input
+unread bytes = record { remaining = bytes; turns = 0; failures = 0; ends = 0 }
 
 -- a writer: the bytes that it holds, where they are known; its writes that failed or took no byte of some
 pub record Output : Type 0 where
@@ -28,3 +33,25 @@ one_if_stuck (Err e) bytes = 0
 -- a beginning of the bytes was appended: none, some or all of them
 abbrev pub AppendsFront : Option (List ℕ) → Option (List ℕ) → List ℕ → Type 0
 AppendsFront old new bytes = (sent : List ℕ) × (rest : List ℕ) × (bytes ≡ sent ++ rest) × Appends old new sent
+
+-- ---- what a call does
+
+-- one read into some room, which holds those bytes then
+pub record IsRead {E : Type 0} (old : Input) (result : Result ℕ E) (room : List ℕ) (new : Input) : Type 0 where
+  pub bound : ReadsAtMost result room
+  pub bytes : ReadConsumes old.remaining new.remaining result room
+  pub turns : new.turns ≡ old.turns + 1
+  pub failures : new.failures ≡ old.failures + one_if_err result
+  pub ends : new.ends ≡ old.ends + one_if_stuck result room
+
+-- one write of some bytes
+pub record IsWritten {E : Type 0} (old : Output) (result : Result ℕ E) (given : List ℕ) (new : Output) : Type 0 where
+  pub bound : WritesAtMost result given
+  pub bytes : WriteAppends old.contents new.contents result given
+  pub failures : new.failures ≡ old.failures + one_if_err result + one_if_stuck result given
+
+-- all of the bytes go out, or where that is refused a beginning of them
+pub record IsPut {T E : Type 0} (old : Output) (result : Result T E) (bytes : List ℕ) (new : Output) : Type 0 where
+  pub ok : OnOk result (Appends old.contents new.contents bytes)
+  pub err : OnErr result (AppendsFront old.contents new.contents bytes)
+  pub failures : new.failures ≡ old.failures + one_if_err result

@@ -1,4 +1,5 @@
 pub mod Times
+pub mod TimeUnits
 pub mod Members
 pub mod Facts
 pub mod Settings

@@ -25,6 +25,7 @@ mod stands;
 mod tally;
 mod texts;
 mod time;
+mod time_unit;
 mod value;
 
 pub use aggregate::{Agg, Extremes};
@@ -47,6 +48,7 @@ pub use source::Source;
 pub use stands::store_moves;
 pub use texts::is_among;
 pub use time::Time;
+pub use time_unit::TimeUnit;
 pub use value::{Function, Value};
 
 #[cfg(test)]

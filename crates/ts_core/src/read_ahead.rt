@@ -1,15 +1,13 @@
 //! Reading ahead.
-ghost use Rattle.std.specs.Prelude.{◌≡◌, ◌+◌, ◌≤◌, ◌<◌, ◌^◌, [], length, take, drop, IfOk, OnOk, OnErr, false, not, nat_lt};
-ghost use Rattle.std.specs.Io.KnownBytes.{Consumes, Keeps};
-ghost use Rattle.ts_core.specs.Devices.{Input};
-ghost use Rattle.ts_core.specs.ReadingAhead.{pending, EndIsEnd, bit, one_if_device, weight};
-ghost use Rattle.ts_core.specs.declared.read_ahead.ReadFault.TheVariants as fault;
+ghost use Rattle.std.specs.Prelude.{◌≡◌, ◌≤◌, [], length, IfOk, false};
+ghost use Rattle.ts_core.specs.ReadingAhead.{nothing_ahead, most_ahead, IsConsumed, IsFilled};
 
 use crate::Source;
 use std::alloc::{AllocError, Allocator};
 use std::io::Read;
 use std::marker::Model;
 
+/// How many bytes a turn reads at most.
 const BUFFER_SIZE: usize = 65_536;
 
 /// Why nothing more was read.
@@ -33,23 +31,20 @@ pub struct ReadAhead<A: Allocator + Copy> {
 }
 
 impl<A: Allocator + Copy> Model for ReadAhead<A> {
-    ghost use Rattle.std.specs.Prelude.{◌≡◌, ◌≤◌, ◌^◌, slice_range, vec_len};
-    ghost use Rattle.ts_core.specs.ReadingAhead.{Ahead};
+    ghost use Rattle.std.specs.Prelude.{◌≡◌, ◌≤◌, slice_range, vec_len};
+    ghost use Rattle.ts_core.specs.ReadingAhead.{Ahead, most_ahead};
 
     ghost Value = { Ahead };
 
     ghost view = { λ r. record { buffered = slice_range r.buffer.items r.at r.end; turns = r.turns; limit = r.limit; ended = r.ended } };
 
-    ghost invariant = { λ r. (r.at ≤ r.end) × (r.end ≤ vec_len r.buffer) × (vec_len r.buffer ≡ 2 ^ 16) × (r.turns ≤ r.limit) };
+    ghost invariant = { λ r. (r.at ≤ r.end) × (r.end ≤ vec_len r.buffer) × (vec_len r.buffer ≡ most_ahead) × (r.turns ≤ r.limit) };
 }
 
 impl<A: Allocator + Copy> ReadAhead<A> {
     /// Takes all the memory that reading needs, 64 KiB. At most `limit` turns are taken.
     pub fn new(alloc: A, limit: u64) -> Result<ReadAhead<A>, AllocError>
-        ensures buffered { IfOk result (λ r. r.buffered ≡ []) }
-        ensures turns { IfOk result (λ r. r.turns ≡ 0) }
-        ensures limit { IfOk result (λ r. r.limit ≡ limit) }
-        ensures ended { IfOk result (λ r. r.ended ≡ false) }
+        ensures { IfOk result (λ r. r ≡ nothing_ahead limit) }
     {
         Ok(ReadAhead {
             buffer: vec![in alloc; 0; BUFFER_SIZE]?,
@@ -64,7 +59,7 @@ impl<A: Allocator + Copy> ReadAhead<A> {
     /// What was read ahead.
     pub fn buffered(&self) -> &[u8]
         ensures value { result.now ≡ self.now.buffered }
-        ensures bound { length result.now ≤ 2 ^ 16 }
+        ensures bound { length result.now ≤ most_ahead }
         ensures within { self.now.turns ≤ self.now.limit }
     {
         &self.buffer[self.at..self.end]
@@ -80,14 +75,7 @@ impl<A: Allocator + Copy> ReadAhead<A> {
     /// Takes away the first bytes of what was read ahead.
     pub fn consume(&mut self, count: usize)
         requires { count ≤ length self.old.buffered }
-        ensures buffered { self.new.buffered ≡ drop count self.old.buffered }
-        ensures turns { self.new.turns ≡ self.old.turns }
-        ensures limit { self.new.limit ≡ self.old.limit }
-        ensures ended { self.new.ended ≡ self.old.ended }
-        ensures within { self.new.turns ≤ self.new.limit }
-        ensures bytes { (input : Input) → Consumes (pending self.old input) (pending self.new input) (take count self.old.buffered) }
-        ensures end { (input : Input) → EndIsEnd self.old input → EndIsEnd self.new input }
-        ensures less { weight self.new + count ≡ weight self.old }
+        ensures { IsConsumed self.old count self.new }
     {
         self.at += count;
     }
@@ -97,24 +85,7 @@ impl<A: Allocator + Copy> ReadAhead<A> {
     pub fn fill<R: Read>(&mut self, source: &mut Source<R>) -> Result<bool, ReadFault>
         requires empty { self.old.buffered ≡ [] }
         requires going { self.old.ended ≡ false }
-        ensures bytes { Keeps (pending self.old source.old) (pending self.new source.new) }
-        ensures end { EndIsEnd self.new source.new }
-        ensures more { IfOk result (λ more. more ≡ not self.new.ended) }
-        ensures some { IfOk result (λ more. more ≡ nat_lt 0 (length self.new.buffered)) }
-        ensures none { OnErr result (self.new.buffered ≡ []) }
-        ensures bound { length self.new.buffered ≤ 2 ^ 16 }
-        ensures failures { source.new.failures ≡ source.old.failures + one_if_device result }
-        ensures turns { source.new.turns + self.old.turns ≡ source.old.turns + self.new.turns }
-        ensures turn { OnOk result (self.new.turns ≡ self.old.turns + 1) }
-        ensures allowed { self.new.limit ≡ self.old.limit }
-        ensures within { self.new.turns ≤ self.new.limit }
-        ensures ends { source.new.ends ≡ source.old.ends + bit self.new.ended }
-        ensures failed { result ≡ Err fault.Device → self.new.turns ≡ self.old.turns + 1 }
-        ensures limit { result ≡ Err fault.Turns → self.new.turns ≡ self.new.limit }
-        ensures kept { result ≡ Err fault.Turns → (self.new ≡ self.old) × (source.new ≡ source.old) }
-        ensures refused { self.old.turns ≡ self.old.limit → result ≡ Err fault.Turns }
-        ensures stays { OnErr result (self.new.ended ≡ false) }
-        ensures less { OnOk result (weight self.new < weight self.old) }
+        ensures { IsFilled self.old source.old result self.new source.new }
     {
         if self.turns >= self.limit {
             return Err(ReadFault::Turns);

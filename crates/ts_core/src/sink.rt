@@ -1,8 +1,6 @@
 //! A writer that counts its failures.
-ghost use Rattle.std.specs.Prelude.{◌≡◌, ◌+◌, OnOk, OnErr};
-ghost use Rattle.std.specs.Io.KnownBytes.{Appends, WriteAppends};
-ghost use Rattle.std.specs.Io.{WritesAtMost};
-ghost use Rattle.ts_core.specs.Devices.{AppendsFront, one_if_err, one_if_stuck};
+ghost use Rattle.std.specs.Prelude.{◌≡◌};
+ghost use Rattle.ts_core.specs.Devices.{IsWritten, IsPut};
 
 use crate::tally::Tally;
 use std::io;
@@ -51,9 +49,7 @@ impl<W: Write> Sink<W> {
 
     /// Passes the call on, once, and counts it. No byte taken of some is a failure too.
     pub fn write(&mut self, bytes: &[u8]) -> io::Result<usize>
-        ensures bound { WritesAtMost result bytes.now }
-        ensures bytes { WriteAppends self.old.contents self.new.contents result bytes.now }
-        ensures failures { self.new.failures ≡ self.old.failures + one_if_err result + one_if_stuck result bytes.now }
+        ensures { IsWritten self.old result bytes.now self.new }
     {
         let result = self.inner.write(bytes);
         match &result {
@@ -69,9 +65,7 @@ impl<W: Write> Sink<W> {
 
     /// Writes all of the bytes. After a refusal a beginning of them went out.
     pub fn put(&mut self, bytes: &[u8]) -> Result<(), Refused>
-        ensures ok { OnOk result (Appends self.old.contents self.new.contents bytes.now) }
-        ensures err { OnErr result (AppendsFront self.old.contents self.new.contents bytes.now) }
-        ensures failures { self.new.failures ≡ self.old.failures + one_if_err result }
+        ensures { IsPut self.old result bytes.now self.new }
     {
         let mut rest = bytes;
         while !rest.is_empty() {

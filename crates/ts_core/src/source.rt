@@ -1,8 +1,6 @@
 //! A reader that counts its turns, its failures and its ends.
-ghost use Rattle.std.specs.Prelude.{◌≡◌, ◌+◌};
-ghost use Rattle.std.specs.Io.{ReadsAtMost};
-ghost use Rattle.std.specs.Io.KnownBytes.{ReadConsumes};
-ghost use Rattle.ts_core.specs.Devices.{one_if_err, one_if_stuck};
+ghost use Rattle.std.specs.Prelude.{◌≡◌};
+ghost use Rattle.ts_core.specs.Devices.{unread, IsRead};
 
 use crate::tally::Tally;
 use std::io;
@@ -30,10 +28,7 @@ impl<R: Read> Model for Source<R> {
 impl<R: Read> Source<R> {
     /// A source over this reader. Nothing is counted yet.
     pub fn new(inner: R) -> Source<R>
-        ensures remaining { result.remaining ≡ R.remaining inner }
-        ensures turns { result.turns ≡ 0 }
-        ensures failures { result.failures ≡ 0 }
-        ensures ends { result.ends ≡ 0 }
+        ensures { result ≡ unread (R.remaining inner) }
     {
         Source {
             inner,
@@ -58,11 +53,7 @@ impl<R: Read> Source<R> {
 
     /// Passes the call on, once, and counts it. No byte read into room is the end of the input.
     pub fn read(&mut self, buf: &mut [u8]) -> io::Result<usize>
-        ensures bound { ReadsAtMost result buf.new }
-        ensures bytes { ReadConsumes self.old.remaining self.new.remaining result buf.new }
-        ensures turns { self.new.turns ≡ self.old.turns + 1 }
-        ensures failures { self.new.failures ≡ self.old.failures + one_if_err result }
-        ensures ends { self.new.ends ≡ self.old.ends + one_if_stuck result buf.new }
+        ensures { IsRead self.old result buf.new self.new }
     {
         self.turns.tick();
         let result = self.inner.read(buf);

@@ -1,6 +1,5 @@
 pub mod Parts
 pub mod Sorting
-pub mod Units
 pub mod FaultText
 pub mod Numbers
 pub mod Scan

@@ -8,7 +8,6 @@ mod field;
 mod line;
 mod number;
 mod part;
-mod precision;
 mod read;
 mod scan;
 mod tag;
@@ -17,5 +16,7 @@ mod value;
 pub use fault::{LineFault, ReadLineError};
 pub use line::{Field, Line, Part, Tag};
 pub use number::{is_number, moment};
-pub use precision::Precision;
 pub use read::read_line;
+
+/// The unit of a line's timestamp: `TimeUnit::of_precision` has the names. (InfluxData 1.8, HTTP API, `precision`.)
+pub use ts_core::TimeUnit as Precision;

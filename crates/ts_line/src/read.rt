@@ -6,7 +6,7 @@ ghost use Rattle.ts_line.specs.EscapeLaws.{ReadsPairs};
 ghost use Rattle.ts_line.specs.Spans.{ArePlaced, pieces_of};
 ghost use Rattle.ts_line.specs.Spelling.{IsSpelling};
 ghost use Rattle.ts_line.specs.Steps.{GivesIfRoom};
-ghost use Rattle.ts_line.specs.Units.{unit_of};
+ghost use Rattle.ts_core.specs.TimeUnits.{nanoseconds_of};
 ghost use Rattle.ts_line.specs.Lines.{is_bare_space, trimmed, without_return, content, measurement_at, time_at, parts_at, line_of};
 
 use crate::fault::{LineFault, ReadLineError};
@@ -14,11 +14,10 @@ use crate::field::fields;
 use crate::line::{Line, Part};
 use crate::number::{is_number, moment};
 use crate::part::part_at;
-use crate::precision::Precision;
 use crate::scan::{Stops, after_spaces, byte_at, end_at};
 use crate::tag::tags;
 use std::alloc::Allocator;
-use ts_core::Time;
+use ts_core::{Time, TimeUnit};
 
 /// A line has no more bytes than this.
 const LINE_LIMIT: usize = 65_536;
@@ -31,15 +30,15 @@ const KEY_LIMIT: usize = 4_096;
 pub fn read_line<A: Allocator + Copy>(
     alloc: A,
     text: &str,
-    precision: Precision,
+    precision: TimeUnit,
     now: Time,
 ) -> Result<Option<Line<'_, A>>, ReadLineError>
     // no line, its parts, or its first fault, exactly
-    ensures value { GivesIfRoom (λ o. o) result (line_of (unit_of precision) now text.now) }
+    ensures value { GivesIfRoom (λ o. o) result (line_of (nanoseconds_of precision) now text.now) }
 
     // what is read is spelled so, and what is spelled so is read
-    ensures spelled { IfOk result (λ o. IfSome o (IsSpelling (unit_of precision) now text.now)) }
-    ensures only { (parts : Parts) → IsSpelling (unit_of precision) now text.now parts → GivesIfRoom (λ o. o) result (Ok (Some parts)) }
+    ensures spelled { IfOk result (λ o. IfSome o (IsSpelling (nanoseconds_of precision) now text.now)) }
+    ensures only { (parts : Parts) → IsSpelling (nanoseconds_of precision) now text.now parts → GivesIfRoom (λ o. o) result (Ok (Some parts)) }
 
     // each part is the slice of the text at its span, one behind the other
     ensures spans { IfOk result (λ o. IfSome o (λ p. ArePlaced text.now 0 (pieces_of p))) }
@@ -54,10 +53,10 @@ pub fn read_line<A: Allocator + Copy>(
 fn whole_line<A: Allocator + Copy>(
     alloc: A,
     text: &str,
-    precision: Precision,
+    precision: TimeUnit,
     now: Time,
 ) -> Result<Option<Line<'_, A>>, ReadLineError>
-    ensures { GivesIfRoom (λ o. o) result (line_of (unit_of precision) now text.now) }
+    ensures { GivesIfRoom (λ o. o) result (line_of (nanoseconds_of precision) now text.now) }
 {
     if text.len() > LINE_LIMIT {
         return Err(ReadLineError::Fault(LineFault::OverLimit(LINE_LIMIT)));
@@ -139,9 +138,9 @@ fn measurement<'a, A: Allocator>(
 
 /// The time behind the fields, or the moment at hand.
 #[tactic(auto, unfolding(crate::specs::Lines::time_at))]
-fn time(line: &str, at: usize, precision: Precision, now: Time) -> Result<Time, LineFault>
+fn time(line: &str, at: usize, precision: TimeUnit, now: Time) -> Result<Time, LineFault>
     requires { IsCharBoundary line.now at }
-    ensures { result ≡ time_at (unit_of precision) now line.now at }
+    ensures { result ≡ time_at (nanoseconds_of precision) now line.now at }
 {
     let start = after_spaces(line, at);
     if start == line.len() {
@@ -160,12 +159,12 @@ fn parts<A: Allocator + Copy>(
     alloc: A,
     line: &str,
     start: usize,
-    precision: Precision,
+    precision: TimeUnit,
     now: Time,
 ) -> Result<Line<'_, A>, ReadLineError>
     requires short { length line.now ≤ 65536 }
     requires boundary { IsCharBoundary line.now start }
-    ensures { GivesIfRoom (λ l. l) result (parts_at (unit_of precision) now line.now start) }
+    ensures { GivesIfRoom (λ l. l) result (parts_at (nanoseconds_of precision) now line.now start) }
 {
     let (measurement, end) = measurement(alloc, line, start)?;
     let (tags, end) = tags(alloc, line, end)?;

@@ -12,11 +12,11 @@ use Rattle.ts_raw.specs.Numbered.{Gains}
 use Rattle.ts_store.specs.Registered.{MayGain}
 use Rattle.ts_store.specs.Refusals.{write_fault}
 use Rattle.ts_store.specs.LinesPut.{Accepts, Leaves}
-use Rattle.ts_line.specs.Units.{unit_of}
+use Rattle.ts_core.specs.TimeUnits.{nanoseconds_of}
 use Rattle.ts_line.specs.Lines.{line_of}
 use Rattle.ts_line.specs.FaultText.{fault_text}
 use Rattle.ts_line.specs.declared.fault.LineFault.{LineFault}
-use Rattle.ts_line.specs.declared.precision.Precision.{Precision}
+use Rattle.ts_core.specs.declared.time_unit.TimeUnit.{TimeUnit}
 use Rattle.tsdb.specs.Commands.{Nothing, At, SetPrecision, Write, Live, Count, CountFault, Unknown, command_of}
 use Rattle.ts_store.specs.declared.fault.WriteFault.{WriteFault}
 use Rattle.ts_store.specs.declared.fault.WriteFault.TheVariants as write
@@ -30,8 +30,8 @@ use Rattle.tsdb.specs.declared.line_reader.Next.TheVariants as next
 
 -- ---- writing
 
-read_then : (s : State) (m : Serving) (text : Text) (r : Result (Option Parts) LineFault) → IsIn s m → line_of (unit_of m.precision) m.moment text ≡ r → line_in s text ≡ r
-read_then s m text r i e = ap (λ (t : ℤ). line_of (unit_of s.precision) t text) (sym i.moment) ∙ ap (λ (p : Precision). line_of (unit_of p) m.moment text) (sym i.precision) ∙ e
+read_then : (s : State) (m : Serving) (text : Text) (r : Result (Option Parts) LineFault) → IsIn s m → line_of (nanoseconds_of m.precision) m.moment text ≡ r → line_in s text ≡ r
+read_then s m text r i e = ap (λ (t : ℤ). line_of (nanoseconds_of s.precision) t text) (sym i.moment) ∙ ap (λ (p : TimeUnit). line_of (nanoseconds_of p) m.moment text) (sym i.precision) ∙ e
 
 -- a machine with this kept in place of what it kept
 abbrev pub keeping : StoreData → Serving → Serving
@@ -94,13 +94,13 @@ read_no_memory text s m i = (s, reads_no_memory text, i)
 
 -- ---- what was read, by the moment and the precision of the machine
 
-pub was_said : (text : Text) (parts : Parts) (s : State) (m : Serving) → IsIn s m → line_of (unit_of m.precision) m.moment text ≡ Ok (Some parts) → line_in s text ≡ Ok (Some parts)
+pub was_said : (text : Text) (parts : Parts) (s : State) (m : Serving) → IsIn s m → line_of (nanoseconds_of m.precision) m.moment text ≡ Ok (Some parts) → line_in s text ≡ Ok (Some parts)
 was_said text parts s m i e = read_then s m text (Ok (Some parts)) i e
 
-pub was_no_line : (text : Text) (s : State) (m : Serving) → IsIn s m → line_of (unit_of m.precision) m.moment text ≡ Ok None → Did (Write text) s (line (codes "none")) m
+pub was_no_line : (text : Text) (s : State) (m : Serving) → IsIn s m → line_of (nanoseconds_of m.precision) m.moment text ≡ Ok None → Did (Write text) s (line (codes "none")) m
 was_no_line text s m i e = (s, passes_over text (read_then s m text (Ok None) i e), i)
 
-pub was_refused : (text : Text) (fault : LineFault) (s : State) (m : Serving) → IsIn s m → line_of (unit_of m.precision) m.moment text ≡ Err fault → Did (Write text) s (line (fault_text fault)) m
+pub was_refused : (text : Text) (fault : LineFault) (s : State) (m : Serving) → IsIn s m → line_of (nanoseconds_of m.precision) m.moment text ≡ Err fault → Did (Write text) s (line (fault_text fault)) m
 was_refused text fault s m i e = (s, refuses text fault (read_then s m text (Err fault) i e), i)
 
 -- ---- the other commands
@@ -111,7 +111,7 @@ skipped s m i = (s, skips, i)
 pub moved : (t : ℤ) (s : State) (m : Serving) → IsIn s m → Did (At t) s [] (record { moment = t; precision = m.precision; kept = m.kept })
 moved t s m i = (at_moment t s, moves t, record { moment = refl; precision = i.precision; stands = i.stands; series = i.series })
 
-pub was_set : (p : Precision) (s : State) (m : Serving) → IsIn s m → Did (SetPrecision p) s [] (record { moment = m.moment; precision = p; kept = m.kept })
+pub was_set : (p : TimeUnit) (s : State) (m : Serving) → IsIn s m → Did (SetPrecision p) s [] (record { moment = m.moment; precision = p; kept = m.kept })
 was_set p s m i = (in_precision p s, sets p, record { moment = i.moment; precision = refl; stands = i.stands; series = i.series })
 
 pub counted : (measurement field : Text) (a b : ℤ) (n : ℕ) (s : State) (m : Serving) → IsIn s m → OfEachHistory m.kept (λ opening h. n ≡ count_of h measurement field a b) → Did (Count measurement field a b) s (line (decimal n)) m

@@ -4,7 +4,7 @@ use Rattle.std.specs.Char.{is_ascii_digit}
 use Rattle.std.proofs.lemmas.Bool.Decides.{nat_tests}
 use Rattle.std.proofs.lemmas.List.{at_drop_more, drop_all}
 use Rattle.ts_core.specs.Facts.{Text}
-use Rattle.tsdb.specs.Numbers.{number_len}
+use Rattle.tsdb.specs.Moments.{number_len}
 
 cond_not_at : (b : Bool) (x y : ℕ) → b ≡ true → cond (not (not b)) x y ≡ x
 cond_not_at true x y e = refl

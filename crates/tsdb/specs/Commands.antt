@@ -3,9 +3,9 @@ use Rattle.std.specs.Prelude.{ℕ, ℤ, pos, ◌-ℤ◌, int_le, length, drop, B
 use Rattle.std.specs.List.{list_all, starts_with, before_first, after_first}
 use Rattle.ts_core.specs.Facts.{Text, same_text}
 use Rattle.ts_line.specs.Numbers.{is_number}
-use Rattle.ts_line.specs.Units.{precision_of}
-use Rattle.ts_line.specs.declared.precision.Precision.{Precision}
-use Rattle.tsdb.specs.Numbers.{moment_in, moment_of}
+use Rattle.ts_core.specs.TimeUnits.{precision_of}
+use Rattle.ts_core.specs.declared.time_unit.TimeUnit.{TimeUnit}
+use Rattle.tsdb.specs.Moments.{moment_in, moment_of}
 
 pub data Command : Type 0 where
   -- nothing is asked: a blank line or a comment
@@ -13,7 +13,7 @@ pub data Command : Type 0 where
   -- the moment is this
   At : ℤ → Command
   -- timestamps count units of this precision
-  SetPrecision : Precision → Command
+  SetPrecision : TimeUnit → Command
   -- a line to be written
   Write : Text → Command
   -- how many raw facts are kept
@@ -42,7 +42,7 @@ at_of (Some t) = At t
 at_of None = Unknown
 
 -- precision P
-unfoldable pub precision_from : Option Precision → Command
+unfoldable pub precision_from : Option TimeUnit → Command
 precision_from (Some p) = SetPrecision p
 precision_from None = Unknown
 

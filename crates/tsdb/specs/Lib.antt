@@ -1,7 +1,7 @@
 pub mod Script
 pub mod Machine
 pub mod Commands
-pub mod Numbers
+pub mod Moments
 pub mod Lines
 pub mod Replies
 pub mod RunFaults

@@ -8,12 +8,12 @@ use Rattle.ts_core.specs.History.{Line, History, accepted}
 use Rattle.ts_core.specs.Latest.{count_of}
 use Rattle.ts_core.specs.RawFacts.{raw_facts}
 use Rattle.ts_line.specs.Parts.{Parts, series_of, facts_of}
-use Rattle.ts_line.specs.Units.{unit_of}
+use Rattle.ts_core.specs.TimeUnits.{nanoseconds_of}
 use Rattle.ts_line.specs.Lines.{line_of}
 use Rattle.ts_line.specs.FaultText.{fault_text}
 use Rattle.ts_line.specs.declared.fault.LineFault.{LineFault}
-use Rattle.ts_line.specs.declared.precision.Precision.{Precision}
-use Rattle.ts_line.specs.declared.precision.Precision.TheVariants.{Nanoseconds}
+use Rattle.ts_core.specs.declared.time_unit.TimeUnit.{TimeUnit}
+use Rattle.ts_core.specs.declared.time_unit.TimeUnit.TheVariants.{Nanoseconds}
 use Rattle.ts_raw.specs.Numbered.{Gains}
 use Rattle.ts_store.specs.declared.fault.WriteFault.{WriteFault}
 use Rattle.ts_store.specs.Registered.{MayGain}
@@ -25,7 +25,7 @@ use Rattle.tsdb.specs.Replies.{line, write_fault_text}
 -- accepted so far, and the series that are registered
 pub record State : Type 0 where
   pub moment : ℤ
-  pub precision : Precision
+  pub precision : TimeUnit
   pub history : History
   pub series : List Series
 
@@ -35,7 +35,7 @@ start = record { moment = pos 0; precision = Nanoseconds; history = []; series =
 abbrev pub at_moment : ℤ → State → State
 at_moment t s = record { moment = t; precision = s.precision; history = s.history; series = s.series }
 
-abbrev pub in_precision : Precision → State → State
+abbrev pub in_precision : TimeUnit → State → State
 in_precision p s = record { moment = s.moment; precision = p; history = s.history; series = s.series }
 
 -- these series are registered
@@ -48,7 +48,7 @@ with_line parts series s = record { moment = s.moment; precision = s.precision; 
 
 -- what a line says here: its parts, nothing, or a fault; without a time it has the script's moment
 abbrev pub line_in : State → Text → Result (Option Parts) LineFault
-line_in s text = line_of (unit_of s.precision) s.moment text
+line_in s text = line_of (nanoseconds_of s.precision) s.moment text
 
 -- what a line is refused by
 abbrev pub refusal_in : State → Parts → Option WriteFault
@@ -66,7 +66,7 @@ pub data Takes (old : State) (parts : Parts) : Text → State → Type 0 where
 pub data Does (old : State) : Command → Text → State → Type 0 where
   skips : Does old Nothing [] old
   moves : (t : ℤ) → Does old (At t) [] (at_moment t old)
-  sets : (p : Precision) → Does old (SetPrecision p) [] (in_precision p old)
+  sets : (p : TimeUnit) → Does old (SetPrecision p) [] (in_precision p old)
   writes : (text answer : Text) (parts : Parts) (new : State) → line_in old text ≡ Ok (Some parts) → Takes old parts answer new → Does old (Write text) answer new
   -- a comment or a blank line
   passes_over : (text : Text) → line_in old text ≡ Ok None → Does old (Write text) (line (codes "none")) old

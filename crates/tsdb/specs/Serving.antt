@@ -7,15 +7,15 @@ use Rattle.ts_core.specs.StoreStates.{StandsFor}
 use Rattle.ts_core.specs.StoreData.{StoreData, state_of}
 use Rattle.ts_core.specs.StoreCodes.{coded_store_data}
 use Rattle.ts_line.specs.Parts.{Parts}
-use Rattle.ts_line.specs.declared.precision.Precision.{Precision}
-use Rattle.ts_line.specs.declared.precision.Precision.TheVariants.{Nanoseconds, Microseconds, Milliseconds, Seconds, Minutes, Hours}
+use Rattle.ts_core.specs.declared.time_unit.TimeUnit.{TimeUnit}
+use Rattle.ts_core.specs.declared.time_unit.TimeUnit.TheVariants.{Nanoseconds, Microseconds, Milliseconds, Seconds, Minutes, Hours, Days, Weeks}
 use Rattle.tsdb.specs.Lines.{lines_of}
 use Rattle.tsdb.specs.Commands.{Command}
 use Rattle.tsdb.specs.Machine.{State, Takes, Does, Step}
 
 pub record Serving : Type 0 where
   pub moment : ℤ
-  pub precision : Precision
+  pub precision : TimeUnit
   pub kept : StoreData
 
 pub record IsIn (s : State) (m : Serving) : Type 0 where
@@ -45,32 +45,38 @@ pub record IsAnswered (bytes : Text) (left : Option Text) (s : State) (m : Servi
 
 -- ---- the code of a machine's value
 
-abbrev pub number_of : Precision → ℕ
-number_of Nanoseconds = 0
-number_of Microseconds = 1
-number_of Milliseconds = 2
-number_of Seconds = 3
-number_of Minutes = 4
-number_of Hours = 5
+abbrev pub unit_number : TimeUnit → ℕ
+unit_number Nanoseconds = 0
+unit_number Microseconds = 1
+unit_number Milliseconds = 2
+unit_number Seconds = 3
+unit_number Minutes = 4
+unit_number Hours = 5
+unit_number Days = 6
+unit_number Weeks = 7
 
-abbrev pub numbered : ℕ → Precision
-numbered zero = Nanoseconds
-numbered (suc zero) = Microseconds
-numbered (suc (suc zero)) = Milliseconds
-numbered (suc (suc (suc zero))) = Seconds
-numbered (suc (suc (suc (suc zero)))) = Minutes
-numbered (suc (suc (suc (suc (suc n))))) = Hours
+abbrev pub numbered_unit : ℕ → TimeUnit
+numbered_unit zero = Nanoseconds
+numbered_unit (suc zero) = Microseconds
+numbered_unit (suc (suc zero)) = Milliseconds
+numbered_unit (suc (suc (suc zero))) = Seconds
+numbered_unit (suc (suc (suc (suc zero)))) = Minutes
+numbered_unit (suc (suc (suc (suc (suc zero))))) = Hours
+numbered_unit (suc (suc (suc (suc (suc (suc zero)))))) = Days
+numbered_unit (suc (suc (suc (suc (suc (suc (suc n))))))) = Weeks
 
-pub numbered-of : (p : Precision) → numbered (number_of p) ≡ p
-numbered-of Nanoseconds = refl
-numbered-of Microseconds = refl
-numbered-of Milliseconds = refl
-numbered-of Seconds = refl
-numbered-of Minutes = refl
-numbered-of Hours = refl
+pub numbered_unit-of : (p : TimeUnit) → numbered_unit (unit_number p) ≡ p
+numbered_unit-of Nanoseconds = refl
+numbered_unit-of Microseconds = refl
+numbered_unit-of Milliseconds = refl
+numbered_unit-of Seconds = refl
+numbered_unit-of Minutes = refl
+numbered_unit-of Hours = refl
+numbered_unit-of Days = refl
+numbered_unit-of Weeks = refl
 
-abbrev pub coded_precision : Coded Precision
-coded_precision = code_by ℕ coded_ℕ number_of numbered numbered-of
+abbrev pub coded_unit : Coded TimeUnit
+coded_unit = code_by ℕ coded_ℕ unit_number numbered_unit numbered_unit-of
 
 abbrev pub coded_serving : Coded Serving
-coded_serving = code_by (ℤ × (Precision × StoreData)) (coded× coded_ℤ (coded× coded_precision coded_store_data)) (λ m. (m.moment, (m.precision, m.kept))) (λ p. record { moment = p.0; precision = p.1.0; kept = p.1.1 }) (λ _. refl)
+coded_serving = code_by (ℤ × (TimeUnit × StoreData)) (coded× coded_ℤ (coded× coded_unit coded_store_data)) (λ m. (m.moment, (m.precision, m.kept))) (λ p. record { moment = p.0; precision = p.1.0; kept = p.1.1 }) (λ _. refl)

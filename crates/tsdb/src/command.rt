@@ -2,13 +2,13 @@
 ghost use Rattle.std.specs.Prelude.{◌≡◌, length, MatchOption, drop, true, false, nat_eq, ◌||◌};
 ghost use Rattle.std.specs.List.{starts_with};
 ghost use Rattle.tsdb.specs.Commands.{is_blank, is_comment, word, after_word, count_of, at_of, precision_from, command_of, count_between};
-ghost use Rattle.ts_line.specs.Units.{precision_of};
-ghost use Rattle.tsdb.specs.Numbers.{moment_of};
+ghost use Rattle.ts_core.specs.TimeUnits.{precision_of};
+ghost use Rattle.tsdb.specs.Moments.{moment_of};
 ghost use Rattle.tsdb.specs.CommandParts.{command_view};
 
-use crate::number::{Unit, moment_in, moment_of};
-use ts_core::Time;
-use ts_line::{Precision, is_number};
+use crate::moment::{moment_in, moment_of};
+use ts_core::{Time, TimeUnit};
+use ts_line::is_number;
 
 /// What a line asks for.
 #[derive(Clone, Copy, Drop)]
@@ -17,8 +17,8 @@ pub enum Command<'a> {
     Nothing,
     /// To have this moment from now on.
     At(Time),
-    /// To take timestamps in units of this precision from now on.
-    SetPrecision(Precision),
+    /// To take timestamps in this unit from now on.
+    SetPrecision(TimeUnit),
     /// To write this line.
     Write(&'a str),
     /// To tell how many raw facts are kept.
@@ -82,7 +82,7 @@ fn at(text: &str) -> Command<'_>
 fn precision(text: &str) -> Command<'_>
     ensures { command_view result ≡ precision_from (precision_of text.now) }
 {
-    match Precision::from_name(text) {
+    match TimeUnit::of_precision(text) {
         Some(precision) => Command::SetPrecision(precision),
         None => Command::Unknown,
     }
@@ -129,8 +129,8 @@ fn count(text: &str) -> Command<'_>
     count_between(
         measurement,
         field,
-        moment_in(Unit::Nanosecond, from),
-        moment_in(Unit::Nanosecond, to),
+        moment_in(TimeUnit::Nanoseconds, from),
+        moment_in(TimeUnit::Nanoseconds, to),
     )
 }
 

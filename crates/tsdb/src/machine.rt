@@ -11,8 +11,8 @@ use crate::reply::Reply;
 use std::alloc::{AllocError, Allocator};
 use std::marker::Model;
 use std::str;
-use ts_core::{Settings, Time};
-use ts_line::{Line, Precision, ReadLineError, read_line};
+use ts_core::{Settings, Time, TimeUnit};
+use ts_line::{Line, ReadLineError, read_line};
 use ts_store::{Store, WriteFault};
 
 /// The moment and the precision that a script has set, and its store.
@@ -20,7 +20,7 @@ use ts_store::{Store, WriteFault};
 pub struct Machine<A: Allocator> {
     alloc: A,
     moment: Time,
-    precision: Precision,
+    precision: TimeUnit,
     store: Store<A>,
 }
 
@@ -42,7 +42,7 @@ impl<A: Allocator + Copy> Machine<A> {
         Ok(Machine {
             alloc,
             moment: Time::new(0).unwrap(),
-            precision: Precision::Nanoseconds,
+            precision: TimeUnit::Nanoseconds,
             store: Store::new(alloc, Settings::open(alloc))?,
         })
     }

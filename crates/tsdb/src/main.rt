@@ -21,7 +21,7 @@ mod line_tests;
 mod machine;
 #[cfg(test)]
 mod memory_tests;
-mod number;
+mod moment;
 mod reply;
 mod run_fault;
 #[cfg(test)]

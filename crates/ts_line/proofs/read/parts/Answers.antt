@@ -1,7 +1,7 @@
 use Rattle.std.proofs.Common.{◌≡◌, false, eqb, length, [], Ok, sym, ap, ◌∙◌}
 use Rattle.std.proofs.lemmas.Bool.{ne_eqb}
 use Rattle.std.proofs.lemmas.Result.{err_from_is_err_and}
-use Rattle.ts_line.specs.Units.{unit_of}
+use Rattle.ts_core.specs.TimeUnits.{nanoseconds_of}
 use Rattle.ts_line.specs.Scan.{spaces_end}
 use Rattle.ts_line.specs.Fields.{fields_at}
 use Rattle.ts_line.proofs.FieldLemmas.{read_fields}
@@ -16,7 +16,7 @@ returns g c =
     let start = c.after_spaces-start.ensures.value in
     let more : eqb (spaces_end c.args.line.now c.in_ok-tags.end) (length c.args.line.now) ≡ false = ne_eqb _ _ (λ e. c.if-start-line.false (start ∙ e)) in
     let fields : fields_at 256 [] c.args.line.now (spaces_end c.args.line.now c.in_ok-tags.end) ≡ Ok (c.in_ok-fields.fields.items, c.in_ok-fields.end) = rw (← start) c.in_ok-fields.ensures.value in
-    parts_read (unit_of c.args.precision) c.args.now c.args.line.now c.args.start c.in_ok-measurement.end c.in_ok-tags.end c.in_ok-fields.end c.in_ok-measurement.measurement c.in_ok-tags.tags.items c.in_ok-fields.fields.items c.in_ok-time.time
+    parts_read (nanoseconds_of c.args.precision) c.args.now c.args.line.now c.args.start c.in_ok-measurement.end c.in_ok-tags.end c.in_ok-fields.end c.in_ok-measurement.measurement c.in_ok-tags.tags.items c.in_ok-fields.fields.items c.in_ok-time.time
     c.in_ok-measurement.ensures.value c.in_ok-tags.ensures.value more fields (sym c.in_ok-time.ensures) ∙ ap (λ p. Ok p) (sym c.new.ensures)
 
 pub returns-in_err-time : goal.returns-in_err-time
@@ -25,5 +25,5 @@ returns-in_err-time g c =
     let more : eqb (spaces_end c.args.line.now c.in_ok-tags.end) (length c.args.line.now) ≡ false = ne_eqb _ _ (λ e. c.if-start-line.false (start ∙ e)) in
     let fields : fields_at 256 [] c.args.line.now (spaces_end c.args.line.now c.in_ok-tags.end) ≡ Ok (c.in_ok-fields.fields.items, c.in_ok-fields.end) = rw (← start) c.in_ok-fields.ensures.value in
     let p = err_from_is_err_and c.from_residual-in_err-time.result c.from_residual-in_err-time.ensures.1 in
-    rw (p.1, p.2) (time_fails (unit_of c.args.precision) c.args.now c.args.line.now c.args.start c.in_ok-measurement.end c.in_ok-tags.end c.in_ok-fields.end c.in_ok-measurement.measurement c.in_ok-tags.tags.items c.in_ok-fields.fields.items c.in_err-time.field-0.0
+    rw (p.1, p.2) (time_fails (nanoseconds_of c.args.precision) c.args.now c.args.line.now c.args.start c.in_ok-measurement.end c.in_ok-tags.end c.in_ok-fields.end c.in_ok-measurement.measurement c.in_ok-tags.tags.items c.in_ok-fields.fields.items c.in_err-time.field-0.0
     c.in_ok-measurement.ensures.value c.in_ok-tags.ensures.value more fields (sym c.in_err-time.ensures))

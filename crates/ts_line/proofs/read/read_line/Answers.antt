@@ -1,17 +1,17 @@
 use Rattle.ts_line.specs.EscapeLaws.{reads_pairs}
-use Rattle.ts_line.specs.Units.{unit_of}
+use Rattle.ts_core.specs.TimeUnits.{nanoseconds_of}
 use Rattle.ts_line.proofs.Laws.{told_of, read_of}
 use Rattle.ts_line.proofs.SpansLemmas.{placed_by}
 use Rattle.ts_line.proofs.read.read_line.Goals as goal
 
 pub returns-clause-spelled : goal.returns-clause-spelled
-returns-clause-spelled g c = told_of (unit_of c.args.precision) c.args.now c.args.text.now c.whole_line.result c.whole_line.ensures
+returns-clause-spelled g c = told_of (nanoseconds_of c.args.precision) c.args.now c.args.text.now c.whole_line.result c.whole_line.ensures
 
 pub returns-clause-only : goal.returns-clause-only
-returns-clause-only g c = read_of (unit_of c.args.precision) c.args.now c.args.text.now c.whole_line.result c.whole_line.ensures
+returns-clause-only g c = read_of (nanoseconds_of c.args.precision) c.args.now c.args.text.now c.whole_line.result c.whole_line.ensures
 
 pub returns-clause-pairs : goal.returns-clause-pairs
 returns-clause-pairs g c = reads_pairs
 
 pub returns-clause-spans : goal.returns-clause-spans
-returns-clause-spans g c = placed_by (unit_of c.args.precision) c.args.now c.args.text.now c.whole_line.result (told_of (unit_of c.args.precision) c.args.now c.args.text.now c.whole_line.result c.whole_line.ensures)
+returns-clause-spans g c = placed_by (nanoseconds_of c.args.precision) c.args.now c.args.text.now c.whole_line.result (told_of (nanoseconds_of c.args.precision) c.args.now c.args.text.now c.whole_line.result c.whole_line.ensures)

@@ -2,7 +2,7 @@ use Rattle.std.proofs.Common.{◌≡◌, false, eqb, ltb, length, slice_index, �
 use Rattle.std.proofs.lemmas.Bool.{ne_eqb, le-ltb}
 use Rattle.std.proofs.lemmas.Str.{IsCharBoundary-start}
 use Rattle.ts_core.specs.Facts.{Text}
-use Rattle.ts_line.specs.Units.{unit_of}
+use Rattle.ts_core.specs.TimeUnits.{nanoseconds_of}
 use Rattle.ts_line.specs.Scan.{spaces_end}
 use Rattle.ts_line.specs.Lines.{content}
 use Rattle.ts_line.proofs.LineLemmas.{line_read}
@@ -19,4 +19,4 @@ returns g c =
     let short : ltb 65536 (length source) ≡ false = le-ltb 65536 (length source) c.if-text-gt-LINE_LIMIT.false in
     let some : eqb (spaces_end (content source) 0) (length (content source)) ≡ false = rw (← line, ← start) (ne_eqb _ _ c.if-start-line.false) in
     let told : eqb (slice_index (content source) (spaces_end (content source) 0)) 35 ≡ false = rw (← line, ← start) (ne_eqb _ _ (λ e. c.if-byte_at-eq35.false (c.byte_at.ensures ∙ e))) in
-    line_read (unit_of c.args.precision) c.args.now source c.in_ok-parts.field-0 short some told (rw (← line, ← start) c.in_ok-parts.ensures)
+    line_read (nanoseconds_of c.args.precision) c.args.now source c.in_ok-parts.field-0 short some told (rw (← line, ← start) c.in_ok-parts.ensures)

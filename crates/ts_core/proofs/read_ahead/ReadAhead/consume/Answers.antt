@@ -1,8 +1,8 @@
-use Rattle.std.proofs.Common.{◌≡◌, ℕ, ◌+◌, ◌-◌, ◌≤◌, List, length, take, drop, slice_range, Option, None, Some, sym, ap, ◌∙◌, subst, arith, append_assoc}
+use Rattle.std.proofs.Common.{rules, ◌≡◌, ℕ, ◌+◌, ◌-◌, ◌≤◌, List, length, take, drop, slice_range, Option, None, Some, sym, ap, ◌∙◌, subst, arith, append_assoc, length-drop}
 use Rattle.std.proofs.lemmas.List.{drop-drop, drop-take, take-append-drop}
 use Rattle.std.proofs.Math.ListN.{length-take}
 use Rattle.std.specs.Io.KnownBytes.{Consumes, prepend_known}
-use Rattle.ts_core.specs.ReadingAhead.{Ahead, pending}
+use Rattle.ts_core.specs.ReadingAhead.{Ahead, pending, weight}
 use Rattle.ts_core.proofs.read_ahead.ReadAhead.consume.Goals as goal
 
 -- a part of a list without its first k
@@ -17,12 +17,24 @@ consumed : (buffered : List ℕ) (k : ℕ) (remaining : Option (List ℕ)) → C
 consumed buffered k None = tt
 consumed buffered k (Some xs) = rw (← append_assoc) (rw take-append-drop)
 
-pub returns-clause-buffered : goal.returns-clause-buffered
-returns-clause-buffered g c =
-    let s = c.self.inside in
-    later s.buffer.items s.at s.end c.args.count c.args.self.now.buffered (ap (λ (a : Ahead). a.buffered) c.self.view_is) c.requires
+weighs_less : (old new : Ahead) (count : ℕ) → new.limit ≡ old.limit → new.turns ≡ old.turns → new.buffered ≡ drop count old.buffered → count ≤ length old.buffered → weight new + count ≡ weight old
+weighs_less old new count limit turns rest some = omega (arith, ap length rest, length-drop count old.buffered)
 
-pub returns-clause-bytes : goal.returns-clause-bytes
-returns-clause-bytes g c = λ input.
+pub returns : goal.returns
+returns g c =
+    let s = c.self.inside in
     let old = c.args.self.now in
-    subst (λ (l : List ℕ). Consumes (pending old input) (prepend_known l input.remaining) (take c.args.count old.buffered)) (sym (returns-clause-buffered g c)) (consumed old.buffered c.args.count input.remaining)
+    let rest : slice_range s.buffer.items (s.at + c.args.count) s.end ≡ drop c.args.count old.buffered =
+    later s.buffer.items s.at s.end c.args.count old.buffered (ap (λ (a : Ahead). a.buffered) c.self.view_is) c.requires in
+    let new : Ahead = record { buffered = slice_range s.buffer.items (s.at + c.args.count) s.end; turns = s.turns; limit = s.limit; ended = s.ended } in
+    record {
+      buffered = rest;
+      turns = search rules;
+      limit = search rules;
+      ended = search rules;
+      within = search rules;
+      bytes = λ input.
+          subst (λ (l : List ℕ). Consumes (pending old input) (prepend_known l input.remaining) (take c.args.count old.buffered)) (sym rest) (consumed old.buffered c.args.count input.remaining);
+      end = search rules;
+      less = weighs_less old new c.args.count (search rules) (search rules) rest c.requires;
+    }

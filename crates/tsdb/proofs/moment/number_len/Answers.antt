@@ -1,8 +1,8 @@
 use Rattle.std.proofs.Common.{◌≡◌, ◌<◌, true, false, length, drop, ap, sym, ◌∙◌, subst, arith, get_or, ℕ, List}
 use Rattle.std.proofs.lemmas.Str.{IsCharBoundary-start, IsCharBoundary-after_ascii}
-use Rattle.tsdb.specs.Numbers.{number_len}
+use Rattle.tsdb.specs.Moments.{number_len}
 use Rattle.tsdb.proofs.NumberLemmas.{in_number, in_number-ascii, number_len-more, number_len-stop, number_len-end}
-use Rattle.tsdb.proofs.number.number_len.Goals as goal
+use Rattle.tsdb.proofs.moment.number_len.Goals as goal
 
 pub loop-i-init : goal.loop-i-init
 loop-i-init c = record { cut = IsCharBoundary-start c.args.text.now c.utf8.text; same = omega arith }

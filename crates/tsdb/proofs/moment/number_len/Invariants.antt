@@ -1,7 +1,7 @@
 use Rattle.std.proofs.Common.{◌≡◌, ◌+◌, drop}
 use Rattle.std.specs.Str.{IsCharBoundary}
-use Rattle.tsdb.specs.Numbers.{number_len}
-use Rattle.tsdb.proofs.number.number_len.Given as goal
+use Rattle.tsdb.specs.Moments.{number_len}
+use Rattle.tsdb.proofs.moment.number_len.Given as goal
 
 abbrev pub invariant-loop-i : goal.invariant-loop-i
 invariant-loop-i l = record {

@@ -1,0 +1,51 @@
+-- Units of time, and the names of them that each place takes, side by side.
+-- (InfluxData 1.8, InfluxQL reference, durations: ns, u or µ, ms, s, m, h, d, w. HTTP API reference, /write, the parameter `precision`:
+-- ns, u, ms, s, m, h. Own rules: a precision is also called `n`, and a script's moment is without a unit in nanoseconds.)
+use Rattle.std.specs.Prelude.{ℤ, pos, List, [], ◌∷◌, if◌then◌else◌, Option, Some, None, bytes_eq, codes}
+use Rattle.ts_core.specs.Facts.{Text}
+use Rattle.ts_core.specs.declared.time_unit.TimeUnit.{TimeUnit}
+use Rattle.ts_core.specs.declared.time_unit.TimeUnit.TheVariants.{Nanoseconds, Microseconds, Milliseconds, Seconds, Minutes, Hours, Days, Weeks}
+
+abbrev pub nanoseconds_of : TimeUnit → ℤ
+nanoseconds_of Nanoseconds = pos 1
+nanoseconds_of Microseconds = pos 1000
+nanoseconds_of Milliseconds = pos 1000000
+nanoseconds_of Seconds = pos 1000000000
+nanoseconds_of Minutes = pos 60000000000
+nanoseconds_of Hours = pos 3600000000000
+nanoseconds_of Days = pos 86400000000000
+nanoseconds_of Weeks = pos 604800000000000
+
+-- names, each with the unit that it calls
+abbrev pub UnitNames : Type 0
+UnitNames = List (Text × TimeUnit)
+
+-- the unit that a name calls
+abbrev pub unit_called : UnitNames → Text → Option TimeUnit
+unit_called [] name = None
+unit_called (known ∷ names) name = if bytes_eq name known.0 then Some known.1 else unit_called names name
+
+-- the timestamps of lines
+abbrev pub precision_names : UnitNames
+precision_names =
+    (codes "ns", Nanoseconds) ∷ (codes "n", Nanoseconds) ∷ (codes "u", Microseconds) ∷ (codes "ms", Milliseconds) ∷ (codes "s", Seconds)
+    ∷ (codes "m", Minutes) ∷ (codes "h", Hours) ∷ []
+
+-- durations; 194 and 181 are the bytes of µ
+abbrev pub duration_names : UnitNames
+duration_names =
+    (codes "ns", Nanoseconds) ∷ (codes "u", Microseconds) ∷ (194 ∷ 181 ∷ [], Microseconds) ∷ (codes "ms", Milliseconds) ∷ (codes "s", Seconds)
+    ∷ (codes "m", Minutes) ∷ (codes "h", Hours) ∷ (codes "d", Days) ∷ (codes "w", Weeks) ∷ []
+
+-- a script's moment: a duration's units, or none
+abbrev pub moment_names : UnitNames
+moment_names = ([], Nanoseconds) ∷ duration_names
+
+unfoldable pub precision_of : Text → Option TimeUnit
+precision_of = unit_called precision_names
+
+unfoldable pub duration_unit_of : Text → Option TimeUnit
+duration_unit_of = unit_called duration_names
+
+unfoldable pub moment_unit_of : Text → Option TimeUnit
+moment_unit_of = unit_called moment_names

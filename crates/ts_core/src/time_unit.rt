@@ -1,0 +1,79 @@
+//! Units of time, and the names of them that each place takes, side by side.
+ghost use Rattle.std.specs.Prelude.{◌≡◌, ◌≤ℤ◌, pos};
+ghost use Rattle.ts_core.specs.TimeUnits.{nanoseconds_of, precision_of, duration_unit_of, moment_unit_of};
+
+/// A unit of time.
+#[derive(Clone, Copy, Debug, PartialEq, Eq)]
+pub enum TimeUnit {
+    Nanoseconds,
+    Microseconds,
+    Milliseconds,
+    Seconds,
+    Minutes,
+    Hours,
+    Days,
+    Weeks,
+}
+
+impl TimeUnit {
+    /// How many nanoseconds one has.
+    pub fn nanoseconds(self) -> i64
+        ensures { result ≡ nanoseconds_of self }
+    {
+        match self {
+            TimeUnit::Nanoseconds => 1,
+            TimeUnit::Microseconds => 1_000,
+            TimeUnit::Milliseconds => 1_000_000,
+            TimeUnit::Seconds => 1_000_000_000,
+            TimeUnit::Minutes => 60_000_000_000,
+            TimeUnit::Hours => 3_600_000_000_000,
+            TimeUnit::Days => 86_400_000_000_000,
+            TimeUnit::Weeks => 604_800_000_000_000,
+        }
+    }
+
+    /// The unit of the timestamps of lines, by its name: `ns`, `n`, `u`, `ms`, `s`, `m` or `h`.
+    #[tactic(auto, unfolding(crate::specs::TimeUnits::precision_of))]
+    pub fn of_precision(name: &str) -> Option<TimeUnit>
+        ensures { result ≡ precision_of name.now }
+    {
+        match name {
+            "ns" | "n" => Some(TimeUnit::Nanoseconds),
+            "u" => Some(TimeUnit::Microseconds),
+            "ms" => Some(TimeUnit::Milliseconds),
+            "s" => Some(TimeUnit::Seconds),
+            "m" => Some(TimeUnit::Minutes),
+            "h" => Some(TimeUnit::Hours),
+            _ => None,
+        }
+    }
+
+    /// The unit of a duration, by its name: `ns`, `u`, `µ`, `ms`, `s`, `m`, `h`, `d` or `w`.
+    #[tactic(auto, unfolding(crate::specs::TimeUnits::duration_unit_of))]
+    pub fn of_duration(name: &str) -> Option<TimeUnit>
+        ensures { result ≡ duration_unit_of name.now }
+    {
+        match name.as_bytes() {
+            b"ns" => Some(TimeUnit::Nanoseconds),
+            b"u" | [0xc2, 0xb5] => Some(TimeUnit::Microseconds),
+            b"ms" => Some(TimeUnit::Milliseconds),
+            b"s" => Some(TimeUnit::Seconds),
+            b"m" => Some(TimeUnit::Minutes),
+            b"h" => Some(TimeUnit::Hours),
+            b"d" => Some(TimeUnit::Days),
+            b"w" => Some(TimeUnit::Weeks),
+            _ => None,
+        }
+    }
+
+    /// The unit of a script's moment, by its name: a duration's units, and nanoseconds without a name.
+    #[tactic(auto, unfolding(crate::specs::TimeUnits::moment_unit_of, crate::specs::TimeUnits::duration_unit_of))]
+    pub fn of_moment(name: &str) -> Option<TimeUnit>
+        ensures { result ≡ moment_unit_of name.now }
+    {
+        if name.is_empty() {
+            return Some(TimeUnit::Nanoseconds);
+        }
+        TimeUnit::of_duration(name)
+    }
+}
