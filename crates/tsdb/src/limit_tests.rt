@@ -4,7 +4,9 @@ use std::alloc::{AllocError, Global};
 use std::test::Fail;
 
 /// A text, another that is repeated so often behind it, the text behind these, and what the script prints.
-const REPEATED: [(&str, &str, u32, &str, &str); 12] = [
+type Repeated = (&'static str, &'static str, u32, &'static str, &'static str);
+
+const REPEATED: [Repeated; 12] = [
     // a line of protocol, and a line of a script
     ("write m f=1i", " ", 65_530, "", "ok\n"),
     ("write m f=1i", " ", 65_531, "", "fault 20 at 65536\n"),
@@ -37,20 +39,35 @@ fn repeated(
     Ok(script)
 }
 
-#[test]
-fn long_lines_are_taken_up_to_their_limits(rt: HostRuntime) -> Result<(), Fail> {
-    for (before, text, times, after, printed) in REPEATED {
-        let script = repeated(rt.alloc(), before, text, times, after)?;
-        if !prints(rt.alloc(), script.as_bytes(), printed)? {
+/// An error is the beginning of the first script that prints something else.
+fn all_print(alloc: Global, rows: &[Repeated]) -> Result<(), Fail> {
+    for &(before, text, times, after, printed) in rows {
+        let script = repeated(alloc, before, text, times, after)?;
+        if !prints(alloc, script.as_bytes(), printed)? {
             Err(before)?;
         }
     }
     Ok(())
 }
 
+#[test]
+fn long_lines_are_taken_up_to_their_limits(rt: HostRuntime) -> Result<(), Fail> {
+    all_print(rt.alloc(), &REPEATED)
+}
+
 /// A text, so many numbers behind it, each between two texts, and the text behind these; then how many lines are
 /// written, and the last answer.
-const NUMBERED: [(&str, &str, u32, &str, &str, usize, &str); 6] = [
+type Numbered = (
+    &'static str,
+    &'static str,
+    u32,
+    &'static str,
+    &'static str,
+    usize,
+    &'static str,
+);
+
+const NUMBERED: [Numbered; 6] = [
     ("write m", ",t", 64, "=1", " f=1i\nlive", 1, "1"),
     ("write m", ",t", 65, "=1", " f=1i", 0, "fault 20 at 376"),
     ("write m f=1i", ",f", 255, "=1i", "\nlive", 1, "256"),
@@ -94,17 +111,25 @@ fn numbered(
     Ok(script)
 }
 
-#[test]
-fn many_are_taken(rt: HostRuntime) -> Result<(), Fail> {
-    for (first, before, count, after, last, written, answer) in NUMBERED {
-        let script = numbered(rt.alloc(), first, before, count, after, last)?;
-        let printed = answers(rt.alloc(), script.as_bytes())?;
-        let printed = str::from_utf8(printed.as_slice())?;
-        assert_eq!(rt;
-            printed.lines().filter(|line| *line == "ok").count(),
-            written
-        );
-        assert_eq!(rt; printed.lines().last(), Some(answer));
+/// Whether so many lines of what is printed are `ok`, and the last one is that answer.
+fn ends_with(printed: &str, written: usize, answer: &str) -> bool {
+    printed.lines().filter(|line| *line == "ok").count() == written
+        && printed.lines().last() == Some(answer)
+}
+
+/// An error is the last answer of the first script that prints something else.
+fn all_are_taken(alloc: Global, rows: &[Numbered]) -> Result<(), Fail> {
+    for &(first, before, count, after, last, written, answer) in rows {
+        let script = numbered(alloc, first, before, count, after, last)?;
+        let printed = answers(alloc, script.as_bytes())?;
+        if !ends_with(str::from_utf8(printed.as_slice())?, written, answer) {
+            Err(answer)?;
+        }
     }
     Ok(())
+}
+
+#[test]
+fn many_are_taken(rt: HostRuntime) -> Result<(), Fail> {
+    all_are_taken(rt.alloc(), &NUMBERED)
 }

@@ -154,14 +154,19 @@ const SCRIPTS: [(&str, &str); 37] = [
     ),
 ];
 
-#[test]
-fn scripts_are_answered(rt: HostRuntime) -> Result<(), Fail> {
-    for (script, printed) in SCRIPTS {
-        if !prints(rt.alloc(), script.as_bytes(), printed)? {
+/// Whether each script prints what it should; an error is the first that doesn't.
+fn all_print(alloc: Global, scripts: &[(&'static str, &'static str)]) -> Result<(), Fail> {
+    for &(script, printed) in scripts {
+        if !prints(alloc, script.as_bytes(), printed)? {
             Err(script)?;
         }
     }
     Ok(())
+}
+
+#[test]
+fn scripts_are_answered(rt: HostRuntime) -> Result<(), Fail> {
+    all_print(rt.alloc(), &SCRIPTS)
 }
 
 #[test]
@@ -260,10 +265,5 @@ const FAULTS: [(&str, &str); 76] = [
 
 #[test]
 fn faults_stand_where_they_are(rt: HostRuntime) -> Result<(), Fail> {
-    for (line, printed) in FAULTS {
-        if !prints(rt.alloc(), line.as_bytes(), printed)? {
-            Err(line)?;
-        }
-    }
-    Ok(())
+    all_print(rt.alloc(), &FAULTS)
 }

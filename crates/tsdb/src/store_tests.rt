@@ -17,7 +17,9 @@ const LINES: [&str; 6] = [
 ];
 
 /// A field, the number of its column, a range, and the points that it has.
-const RANGES: [(&str, usize, i64, i64, &[(i64, i64)]); 7] = [
+type Range = (&'static str, usize, i64, i64, &'static [(i64, i64)]);
+
+const RANGES: [Range; 7] = [
     ("f", 0, 0, 9, &[(1, 10), (2, 21)]),
     ("f", 1, 0, 9, &[(2, 30), (4, 0), (5, 40)]),
     ("f", 1, 2, 5, &[(2, 30), (4, 0)]),
@@ -49,12 +51,19 @@ fn has(
     number < columns.len() && gives(store.raw_range(columns[number], from, to), expected)
 }
 
+fn has_all(store: &Store<Global>, ranges: &[Range]) -> bool {
+    for &(field, number, from, to, expected) in ranges {
+        if !has(store, field, number, from, to, expected) {
+            return false;
+        }
+    }
+    true
+}
+
 #[test]
 fn a_range_is_of_its_column(rt: HostRuntime) -> Result<(), Fail> {
     let store = written(rt.alloc())?;
-    for (field, number, from, to, expected) in RANGES {
-        assert!(rt; has(&store, field, number, from, to, expected));
-    }
+    assert!(rt; has_all(&store, &RANGES));
     assert_eq!(rt; store.accepted(), 7);
     assert_eq!(rt; store.raw_points(), 6);
     assert_eq!(rt; store.held_points(), 6);

@@ -1,16 +1,16 @@
 //! Copies of queries, in memory of their own.
 ghost use Rattle.std.specs.Prelude.{◌≡◌, IfOk};
 
-use super::{Column, Condition, Query};
+use super::{Projection, Condition, Query};
 use std::alloc::{AllocError, Allocator};
 use ts_core::copied_texts;
 
-impl<A: Allocator + Copy> Column<A> {
-    /// The same column.
-    fn copied(&self, alloc: A) -> Result<Column<A>, AllocError>
+impl<A: Allocator + Copy> Projection<A> {
+    /// The same projection.
+    fn copied(&self, alloc: A) -> Result<Projection<A>, AllocError>
         ensures { IfOk result (λ c. c ≡ self.now) }
     {
-        Ok(Column::new(self.function, String::from_str(alloc, self.name.as_str())?))
+        Ok(Projection::new(self.function, String::from_str(alloc, self.name.as_str())?))
     }
 }
 
@@ -27,11 +27,11 @@ impl<A: Allocator + Copy> Condition<A> {
     }
 }
 
-/// The same columns, in their order.
-fn copied_columns<A: Allocator + Copy>(
+/// The same projections, in their order.
+fn copied_projections<A: Allocator + Copy>(
     alloc: A,
-    columns: &[Column<A>],
-) -> Result<Vec<Column<A>, A>, AllocError>
+    columns: &[Projection<A>],
+) -> Result<Vec<Projection<A>, A>, AllocError>
     ensures { IfOk result (λ v. v.items ≡ columns.now) }
 {
     let mut all = Vec::new(alloc);
@@ -61,7 +61,7 @@ impl<A: Allocator + Copy> Query<A> {
         ensures { IfOk result (λ q. q ≡ self.now) }
     {
         Ok(Query {
-            columns: copied_columns(alloc, self.columns.as_slice())?,
+            columns: copied_projections(alloc, self.columns.as_slice())?,
             fill: self.fill,
             measurement: String::from_str(alloc, self.measurement.as_str())?,
             field: String::from_str(alloc, self.field.as_str())?,

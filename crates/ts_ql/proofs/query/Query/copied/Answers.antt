@@ -20,7 +20,7 @@ same f cs ds m n v w ks ls a b c d i j o p gs hs e1 e2 e3 e4 e5 e6 e7 e8 e9 =
 pub returns : goal.returns
 returns g c =
     let q = c.self.inside in
-    let columns = c.in_ok-copied_columns.ensures ∙ c.as_slice.ensures.value in
+    let columns = c.in_ok-copied_projections.ensures ∙ c.as_slice.ensures.value in
     let measurement = c.in_ok-from_str.ensures.ok ∙ c.as_str.ensures.value in
     let field = c.in_ok-from_str-2.ensures.ok ∙ c.as_str-2.ensures.value in
     let conditions = c.in_ok-copied_conditions.ensures ∙ c.as_slice-2.ensures.value in
