@@ -1,5 +1,5 @@
 //! Units of time, and the names of them that each place takes, side by side.
-ghost use Rattle.std.specs.Prelude.{◌≡◌, ◌≤ℤ◌, pos};
+ghost use Rattle.std.specs.Prelude.{◌≡◌};
 ghost use Rattle.ts_core.specs.TimeUnits.{nanoseconds_of, precision_of, duration_unit_of, moment_unit_of};
 
 /// A unit of time.

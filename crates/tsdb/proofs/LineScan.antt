@@ -1,13 +1,13 @@
 -- Lines and their parts.
-use Rattle.std.proofs.Common.{◌≡◌, ◌≢◌, ℕ, ◌≤◌, ◌^◌, List, [], ◌∷◌, ◌++◌, length, take, drop, Bool, true, false, Option, Some, None, refl, sym, ap, ◌∙◌, append_assoc, append-nil, arith, IfSome, subst, not}
+use Rattle.std.proofs.Common.{◌≡◌, ◌≢◌, ℕ, ◌≤◌, List, [], ◌∷◌, ◌++◌, length, take, drop, Bool, true, false, Option, Some, None, refl, sym, ap, ◌∙◌, append_assoc, append-nil, arith, IfSome, subst, not}
 use Rattle.std.proofs.lemmas.Bool.Decides.{nat_tests}
 use Rattle.std.specs.Io.KnownBytes.{Consumes, prepend_known, Keeps, IsAtEnd}
 use Rattle.ts_core.specs.Devices.{Input}
-use Rattle.tsdb.specs.Lines.{onto_first, lines_of}
+use Rattle.tsdb.specs.ScriptLines.{onto_first, lines_of, script_line_limit}
 use Rattle.tsdb.specs.HeldLine.{HeldLine}
 use Rattle.tsdb.specs.LineReading.{first_line, after_line, has_lf, LineIs, to_come, NextOf, next_of, last_of}
 use Rattle.tsdb.specs.declared.line_reader.Next.{Next}
-use Rattle.tsdb.specs.declared.line_reader.Next.TheVariants.{Line}
+use Rattle.tsdb.specs.declared.line_reader.Next.TheVariants.{Line, End}
 
 -- ---- one byte further
 
@@ -66,7 +66,7 @@ lines_of-more (b ∷ bs) h = lines_of-cons b bs
 -- the next of a whole line
 told : (all line bytes : List ℕ) (long : Bool) (left : Option (List ℕ)) → all ≢ [] → bytes ≡ first_line all → LineIs bytes line long → left ≡ Some (after_line all) → NextOf all (next_of long) line left
 told all line bytes true left some is kept rest = (after_line all, rest, bytes, lines_of-more all some ∙ ap (λ l. l ∷ lines_of (after_line all)) (sym is), kept)
-told all line bytes false left some is kept rest = (after_line all, rest, lines_of-more all some ∙ ap (λ l. l ∷ lines_of (after_line all)) (sym (kept.0 ∙ is)), subst (λ (l : List ℕ). length l ≤ 2 ^ 17) (sym kept.0) kept.1)
+told all line bytes false left some is kept rest = (after_line all, rest, lines_of-more all some ∙ ap (λ l. l ∷ lines_of (after_line all)) (sym (kept.0 ∙ is)), subst (λ (l : List ℕ). length l ≤ script_line_limit) (sym kept.0) kept.1)
 
 not_empty : (s t u : List ℕ) → has_lf t ≡ true → s ++ (t ++ u) ≢ []
 not_empty [] [] u h = λ e. cc
@@ -107,6 +107,11 @@ so_far_more all buffered remaining now bytes line line' long long' so lf kept ke
       before = rw f (consumed_more all remaining now bytes buffered so.before (kept_rest remaining now k));
       kept = kept;
     }
+
+-- an LF ends a line, and never the script
+pub next_is_some : (long : Bool) → next_of long ≡ End → ⊥
+next_is_some true e = cc
+next_is_some false e = cc
 
 last_of-cons : (b : ℕ) (line : List ℕ) → last_of (b ∷ line) false ≡ Line
 last_of-cons b line = grind (arith, nat_tests)

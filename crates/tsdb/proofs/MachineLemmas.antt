@@ -1,5 +1,5 @@
 -- What the machine does with a command, in whatever state it is.
-use Rattle.std.proofs.Common.{◌≡◌, ◌⊎◌, ⊎_elim, List, ℕ, ℤ, ◌≤◌, ◌^◌, [], length, codes, sym, ap, ◌∙◌, subst, Option, Some, None, Result, Ok, Err, OnOk, IfSome, IsNone, refl}
+use Rattle.std.proofs.Common.{◌≡◌, ◌⊎◌, ⊎_elim, List, ℕ, ℤ, ◌≤◌, [], length, codes, sym, ap, ◌∙◌, subst, Option, Some, None, Result, Ok, Err, OnOk, IfSome, IsNone, refl}
 use Rattle.std.specs.Fmt.{decimal}
 use Rattle.std.specs.Str.{IsUtf8}
 use Rattle.ts_core.specs.Facts.{Text, Series}
@@ -17,6 +17,7 @@ use Rattle.ts_line.specs.Lines.{line_of}
 use Rattle.ts_line.specs.FaultText.{fault_text}
 use Rattle.ts_line.specs.declared.fault.LineFault.{LineFault}
 use Rattle.ts_core.specs.declared.time_unit.TimeUnit.{TimeUnit}
+use Rattle.tsdb.specs.ScriptLines.{script_line_limit}
 use Rattle.tsdb.specs.Commands.{Nothing, At, SetPrecision, Write, Live, Count, CountFault, Unknown, command_of}
 use Rattle.ts_store.specs.declared.fault.WriteFault.{WriteFault}
 use Rattle.ts_store.specs.declared.fault.WriteFault.TheVariants as write
@@ -132,7 +133,7 @@ not_known s m i = (s, refuses_unknown, i)
 
 -- ---- lines
 
-pub did_it : (bytes answer : Text) (s : State) (m : Serving) → length bytes ≤ 2 ^ 17 → IsUtf8 bytes → Did (command_of bytes) s answer m → Stepped bytes s answer m
+pub did_it : (bytes answer : Text) (s : State) (m : Serving) → length bytes ≤ script_line_limit → IsUtf8 bytes → Did (command_of bytes) s answer m → Stepped bytes s answer m
 did_it bytes answer s m short text d = (d.0, does bytes answer d.0 short text d.1, d.2)
 
 pub was_no_text : (bytes : Text) (s : State) (m : Serving) → (IsUtf8 bytes → ⊥) → IsIn s m → Stepped bytes s (line (codes "fault 95")) m

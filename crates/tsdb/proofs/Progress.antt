@@ -6,7 +6,7 @@ use Rattle.std.proofs.KnownBytes.{Appends-trans, Appends-nil}
 use Rattle.std.proofs.lemmas.List.Folds.{concat-append}
 use Rattle.ts_core.specs.Facts.{Text}
 use Rattle.ts_core.specs.Devices.{AppendsFront}
-use Rattle.tsdb.specs.Lines.{lines_of}
+use Rattle.tsdb.specs.ScriptLines.{lines_of}
 use Rattle.tsdb.specs.LineReading.{NextOf}
 use Rattle.tsdb.specs.Machine.{State, start, Step, Run}
 use Rattle.tsdb.specs.Serving.{Serving, IsIn, IsAnswered}

@@ -53,8 +53,8 @@ count_between m f (Some a) None = CountFault
 count_between m f None b = CountFault
 
 -- count M F A B, parted by one space each: M and F aren't empty and stand as they are, without escapes; A and B are numbers of nanoseconds
-unfoldable pub count_of_parts : Text → Text → Text → Text → Command
-count_of_parts m f a b =
+unfoldable pub count_from_parts : Text → Text → Text → Text → Command
+count_from_parts m f a b =
     if not (length m == 0) && not (length f == 0) && is_number a && is_number b
     then count_between m f (moment_in (pos 1) a) (moment_in (pos 1) b) else Unknown
 
@@ -64,9 +64,9 @@ word = before_first is_space
 abbrev pub after_word : Text → Text
 after_word = after_first is_space
 
-unfoldable pub count_of : Text → Command
-count_of text =
-    count_of_parts (word text) (word (after_word text)) (word (after_word (after_word text))) (after_word (after_word (after_word text)))
+unfoldable pub count_from : Text → Command
+count_from text =
+    count_from_parts (word text) (word (after_word text)) (word (after_word (after_word text))) (after_word (after_word (after_word text)))
 
 -- a command's name and one space, and then its rest
 unfoldable pub command_of : Text → Command
@@ -76,5 +76,5 @@ command_of line =
     else if starts_with nat_eq line (codes "precision ") then precision_from (precision_of (drop 10 line))
     else if starts_with nat_eq line (codes "write ") then Write (drop 6 line)
     else if same_text line (codes "live") then Live
-    else if starts_with nat_eq line (codes "count ") then count_of (drop 6 line)
+    else if starts_with nat_eq line (codes "count ") then count_from (drop 6 line)
     else Unknown

@@ -1,12 +1,14 @@
-pub mod Script
-pub mod Machine
+-- What a script and a command line say, and how the program ends: these are what the program promises.
+pub mod ScriptLines
 pub mod Commands
 pub mod Moments
-pub mod Lines
+pub mod Machine
 pub mod Replies
+pub mod Script
 pub mod RunFaults
-pub mod Serving
-pub mod CommandParts
-pub mod LineReading
-pub mod HeldLine
 pub mod CommandLines
+-- What the code inside promises itself; nobody needs them to know what a script prints.
+pub mod CommandParts
+pub mod Serving
+pub mod HeldLine
+pub mod LineReading

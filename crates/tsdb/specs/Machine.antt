@@ -1,5 +1,5 @@
 -- The machine that a script runs: what each line prints, and what it changes. (Own rule.)
-use Rattle.std.specs.Prelude.{◌≡◌, ℤ, pos, ◌<◌, ◌≤◌, ◌^◌, List, [], ◌∷◌, length, codes, Option, Some, None, Result, Ok, Err}
+use Rattle.std.specs.Prelude.{◌≡◌, ℤ, pos, ◌<◌, ◌≤◌, List, [], ◌∷◌, length, codes, Option, Some, None, Result, Ok, Err}
 use Rattle.std.specs.Fmt.{decimal}
 use Rattle.std.specs.Str.{IsUtf8}
 use Rattle.ts_core.specs.Facts.{Text, Series}
@@ -18,6 +18,7 @@ use Rattle.ts_raw.specs.Numbered.{Gains}
 use Rattle.ts_store.specs.declared.fault.WriteFault.{WriteFault}
 use Rattle.ts_store.specs.Registered.{MayGain}
 use Rattle.ts_store.specs.Refusals.{write_fault}
+use Rattle.tsdb.specs.ScriptLines.{script_line_limit}
 use Rattle.tsdb.specs.Commands.{Command, Nothing, At, SetPrecision, Write, Live, Count, CountFault, Unknown, command_of}
 use Rattle.tsdb.specs.Replies.{line, write_fault_text}
 
@@ -82,9 +83,9 @@ pub data Does (old : State) : Command → Text → State → Type 0 where
 
 -- From `old` a line of a script may print this and leave that.
 pub data Step (old : State) : Text → Text → State → Type 0 where
-  too_long : (bytes : Text) → 2 ^ 17 < length bytes → Step old bytes (line (codes "fault 95")) old
+  too_long : (bytes : Text) → script_line_limit < length bytes → Step old bytes (line (codes "fault 95")) old
   no_text : (bytes : Text) → (IsUtf8 bytes → ⊥) → Step old bytes (line (codes "fault 95")) old
-  does : (bytes answer : Text) (new : State) → length bytes ≤ 2 ^ 17 → IsUtf8 bytes → Does old (command_of bytes) answer new → Step old bytes answer new
+  does : (bytes answer : Text) (new : State) → length bytes ≤ script_line_limit → IsUtf8 bytes → Does old (command_of bytes) answer new → Step old bytes answer new
 
 -- Lines may print these answers, one after another.
 abbrev pub Run : State → List Text → List Text → State → Type 0

@@ -1,5 +1,5 @@
 -- Moments as commands write them: a number, and perhaps its unit. (Own rule.)
-use Rattle.std.specs.Prelude.{ℕ, ℤ, take, drop, not, ◌||◌, ◌==◌, if◌then◌else◌, Option, Some, None, option_and_then}
+use Rattle.std.specs.Prelude.{ℕ, ℤ, take, drop, not, ◌||◌, ◌==◌, if◌then◌else◌, Option, None, option_and_then}
 use Rattle.std.specs.Char.{is_ascii_digit}
 use Rattle.std.specs.List.{position_or_len}
 use Rattle.ts_core.specs.Facts.{Text}

@@ -1,11 +1,14 @@
 -- What a script prints. (Own rule.)
-use Rattle.std.specs.Prelude.{◌≡◌, List, ◌++◌, Option, IfSome}
+use Rattle.std.specs.Prelude.{◌≡◌, ◌+◌, ◌≤◌, List, ◌++◌, Option, IfSome, Result, Err, OnOk, OnErr}
 use Rattle.std.specs.List.{concat}
 use Rattle.std.specs.Io.KnownBytes.{Appends}
 use Rattle.ts_core.specs.Facts.{Text}
-use Rattle.ts_core.specs.Devices.{AppendsFront}
-use Rattle.tsdb.specs.Lines.{lines_of}
+use Rattle.ts_core.specs.Devices.{Input, Output, AppendsFront}
+use Rattle.tsdb.specs.ScriptLines.{lines_of, turn_limit}
 use Rattle.tsdb.specs.Machine.{State, start, Run}
+use Rattle.tsdb.specs.RunFaults.{one_if_reader, one_if_writer}
+use Rattle.tsdb.specs.declared.run_fault.RunFault.{RunFault}
+use Rattle.tsdb.specs.declared.run_fault.RunFault.TheVariants.{OutOfMemory, Turns}
 
 -- the output is the answers to all lines of the input
 pub record IsScript (input output : Text) : Type 0 where
@@ -31,3 +34,18 @@ AnswersAll input old new = IfSome input (λ bytes. (output : Text) × IsScript b
 -- where the input is known, a beginning of such answers was written
 abbrev pub AnswersSome : Option Text → Option Text → Option Text → Type 0
 AnswersSome input old new = IfSome input (λ bytes. (output : Text) × IsScriptSoFar bytes output × AppendsFront old new output)
+
+-- what a replay does: from its devices as they were, with this result, to how it leaves them
+pub record IsReplay {T : Type 0} (source : Input) (sink : Output) (result : Result T RunFault) (source' : Input) (sink' : Output) : Type 0 where
+  -- all lines are answered, or a beginning of the answers went out
+  pub answered : OnOk result (AnswersAll source.remaining sink.contents sink'.contents)
+  pub begun : OnErr result (AnswersSome source.remaining sink.contents sink'.contents)
+  -- memory is wanted before anything is read or written, and not later
+  pub memory : result ≡ Err OutOfMemory → (source' ≡ source) × (sink' ≡ sink)
+  -- a device's fault is told, and only then
+  pub reader : source'.failures ≡ source.failures + one_if_reader result
+  pub writer : sink'.failures ≡ sink.failures + one_if_writer result
+  -- the end was read, or so many turns were taken
+  pub end : OnOk result (source'.ends ≡ source.ends + 1)
+  pub within : source'.turns ≤ source.turns + turn_limit
+  pub limit : result ≡ Err Turns → (source'.turns ≡ source.turns + turn_limit) × (source'.ends ≡ source.ends)

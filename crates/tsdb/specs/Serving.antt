@@ -9,7 +9,7 @@ use Rattle.ts_core.specs.StoreCodes.{coded_store_data}
 use Rattle.ts_line.specs.Parts.{Parts}
 use Rattle.ts_core.specs.declared.time_unit.TimeUnit.{TimeUnit}
 use Rattle.ts_core.specs.declared.time_unit.TimeUnit.TheVariants.{Nanoseconds, Microseconds, Milliseconds, Seconds, Minutes, Hours, Days, Weeks}
-use Rattle.tsdb.specs.Lines.{lines_of}
+use Rattle.tsdb.specs.ScriptLines.{lines_of}
 use Rattle.tsdb.specs.Commands.{Command}
 use Rattle.tsdb.specs.Machine.{State, Takes, Does, Step}
 

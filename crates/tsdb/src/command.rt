@@ -1,7 +1,7 @@
 //! The commands of a script and how they are read.
 ghost use Rattle.std.specs.Prelude.{◌≡◌, length, MatchOption, drop, true, false, nat_eq, ◌||◌};
 ghost use Rattle.std.specs.List.{starts_with};
-ghost use Rattle.tsdb.specs.Commands.{is_blank, is_comment, word, after_word, count_of, at_of, precision_from, command_of, count_between};
+ghost use Rattle.tsdb.specs.Commands.{is_blank, is_comment, word, after_word, count_from, at_of, precision_from, command_of, count_between};
 ghost use Rattle.ts_core.specs.TimeUnits.{precision_of};
 ghost use Rattle.tsdb.specs.Moments.{moment_of};
 ghost use Rattle.tsdb.specs.CommandParts.{command_view};
@@ -112,9 +112,9 @@ fn count_between<'a>(
     }
 }
 
-#[tactic(auto, unfolding(crate::specs::Commands::count_of, crate::specs::Commands::count_of_parts))]
+#[tactic(auto, unfolding(crate::specs::Commands::count_from, crate::specs::Commands::count_from_parts))]
 fn count(text: &str) -> Command<'_>
-    ensures { command_view result ≡ count_of text.now }
+    ensures { command_view result ≡ count_from text.now }
 {
     let (measurement, rest) = first_word(text);
     let (field, rest) = first_word(rest);

@@ -1,12 +1,12 @@
 //! The engine of `tsdb replay`: a script is read line by line, and each line is answered.
-ghost use Rattle.std.specs.Prelude.{◌≡◌, ◌≢◌, ◌+◌, ◌≤◌, ◌^◌, Option, length, OnOk, OnErr, Err};
+ghost use Rattle.std.specs.Prelude.{◌≢◌, ◌≤◌, Option, length};
 ghost use Rattle.ts_core.specs.Facts.{Text};
+ghost use Rattle.tsdb.specs.ScriptLines.{script_line_limit};
 ghost use Rattle.tsdb.specs.LineReading.{NextOf};
 ghost use Rattle.tsdb.specs.Replies.{text_of};
 ghost use Rattle.tsdb.specs.Machine.{State};
 ghost use Rattle.tsdb.specs.Serving.{IsIn, IsAnswered};
-ghost use Rattle.tsdb.specs.Script.{AnswersAll, AnswersSome};
-ghost use Rattle.tsdb.specs.RunFaults.{one_if_reader, one_if_writer};
+ghost use Rattle.tsdb.specs.Script.{IsReplay};
 
 use crate::line_reader::{LineReader, Next};
 use crate::machine::Machine;
@@ -18,7 +18,7 @@ use ts_core::{Sink, Source};
 
 /// Answers the line that came.
 fn answer<A: Allocator + Copy>(machine: &mut Machine<A>, next: Next, line: &[u8]) -> Reply
-    requires { length line.now ≤ 2 ^ 17 }
+    requires { length line.now ≤ script_line_limit }
     ensures { (bytes : Text) (left : Option Text) (s : State) → next ≢ Next.End → NextOf bytes next line.now left → IsIn s machine.old → IsAnswered bytes left s machine.new (text_of result) }
 {
     match next {
@@ -35,18 +35,7 @@ pub fn run<R: Read, W: Write, A: Allocator + Copy>(
     source: &mut Source<R>,
     sink: &mut Sink<W>,
 ) -> Result<(), RunFault>
-    // All lines are answered, or a beginning of the answers went out.
-    ensures answered { OnOk result (AnswersAll source.old.remaining sink.old.contents sink.new.contents) }
-    ensures begun { OnErr result (AnswersSome source.old.remaining sink.old.contents sink.new.contents) }
-    // Memory is wanted before anything is read or written, and not later.
-    ensures memory { result ≡ Err RunFault.OutOfMemory → (source.new ≡ source.old) × (sink.new ≡ sink.old) }
-    // A device's fault is told, and only then.
-    ensures reader { source.new.failures ≡ source.old.failures + one_if_reader result }
-    ensures writer { sink.new.failures ≡ sink.old.failures + one_if_writer result }
-    // The end was read, or so many turns were taken.
-    ensures end { OnOk result (source.new.ends ≡ source.old.ends + 1) }
-    ensures within { source.new.turns ≤ source.old.turns + 2 ^ 32 }
-    ensures limit { result ≡ Err RunFault.Turns → (source.new.turns ≡ source.old.turns + 2 ^ 32) × (source.new.ends ≡ source.old.ends) }
+    ensures { IsReplay source.old sink.old result source.new sink.new }
 {
     let mut machine = Machine::new(alloc)?;
     let mut lines = LineReader::new(alloc)?;

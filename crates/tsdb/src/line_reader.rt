@@ -1,9 +1,8 @@
 //! The lines of a script as they are read: each is held whole, up to a limit on its length.
-ghost use Rattle.std.specs.Prelude.{◌≡◌, ◌≢◌, ℕ, ◌+◌, ◌≤◌, ◌<◌, ◌^◌, ◌++◌, List, [], length, IfOk, OnOk, OnErr, IfSome, true, false, not};
-ghost use Rattle.std.specs.Io.KnownBytes.{Keeps};
-ghost use Rattle.ts_core.specs.ReadingAhead.{EndIsEnd, bit, one_if_device, weight};
-ghost use Rattle.ts_core.specs.declared.read_ahead.ReadFault.TheVariants as fault;
-ghost use Rattle.tsdb.specs.LineReading.{first_line, after_line, has_lf, LineIs, NextOf, next_of, last_of, to_come};
+ghost use Rattle.std.specs.Prelude.{◌≡◌, ◌≤◌, [], length, IfOk, false};
+ghost use Rattle.ts_core.specs.ReadingAhead.{EndIsEnd, nothing_ahead};
+ghost use Rattle.tsdb.specs.ScriptLines.{script_line_limit, turn_limit};
+ghost use Rattle.tsdb.specs.LineReading.{LineIs, IsTaken, IsLonger, IsAsked, IsReadOn, IsNext, GoesOn, next_of, last_of};
 
 use crate::chunk::{LINE_LIMIT, extend_line, line_end};
 use std::alloc::{AllocError, Allocator};
@@ -11,7 +10,7 @@ use std::io::Read;
 use std::marker::Model;
 use ts_core::{ReadAhead, ReadFault, Source};
 
-/// How often it reads at most.
+/// How many reads a script may take.
 const TURN_LIMIT: u64 = 4_294_967_296;
 
 /// What came next.
@@ -34,22 +33,21 @@ pub struct LineReader<A: Allocator + Copy> {
 }
 
 impl<A: Allocator + Copy> Model for LineReader<A> {
-    ghost use Rattle.std.specs.Prelude.{◌≡◌, ◌≤◌, ◌^◌, vec_len, vec_capacity};
+    ghost use Rattle.std.specs.Prelude.{◌≡◌, ◌≤◌, vec_len, vec_capacity};
+    ghost use Rattle.tsdb.specs.ScriptLines.{script_line_limit, turn_limit};
     ghost use Rattle.tsdb.specs.HeldLine.{HeldLine};
 
     ghost Value = { HeldLine };
 
     ghost view = { λ r. record { ahead = r.ahead; line = r.line.items; long = r.long } };
 
-    ghost invariant = { λ r. (r.ahead.limit ≡ 2 ^ 32) × (r.ahead.turns ≤ 2 ^ 32) × (2 ^ 17 ≤ vec_capacity r.line) × (vec_len r.line ≤ 2 ^ 17) };
+    ghost invariant = { λ r. (r.ahead.limit ≡ turn_limit) × (r.ahead.turns ≤ turn_limit) × (script_line_limit ≤ vec_capacity r.line) × (vec_len r.line ≤ script_line_limit) };
 }
 
 impl<A: Allocator + Copy> LineReader<A> {
     /// Takes all the memory that reading needs.
     pub fn new(alloc: A) -> Result<LineReader<A>, AllocError>
-        ensures buffered { IfOk result (λ r. r.ahead.buffered ≡ []) }
-        ensures turns { IfOk result (λ r. r.ahead.turns ≡ 0) }
-        ensures ended { IfOk result (λ r. r.ahead.ended ≡ false) }
+        ensures { IfOk result (λ r. r.ahead ≡ nothing_ahead turn_limit) }
     {
         Ok(LineReader {
             ahead: ReadAhead::new(alloc, TURN_LIMIT)?,
@@ -61,7 +59,7 @@ impl<A: Allocator + Copy> LineReader<A> {
     /// The line that `next` told of.
     pub fn line(&self) -> &[u8]
         ensures line { result.now ≡ self.now.line }
-        ensures short { length result.now ≤ 2 ^ 17 }
+        ensures short { length result.now ≤ script_line_limit }
     {
         self.line.as_slice()
     }
@@ -77,13 +75,8 @@ impl<A: Allocator + Copy> LineReader<A> {
 
     /// Moves what was read ahead to the line, up to an LF. Answers whether there was one.
     fn take_chunk(&mut self) -> bool
-        ensures found { result ≡ has_lf self.old.ahead.buffered }
-        ensures buffered { self.new.ahead.buffered ≡ after_line self.old.ahead.buffered }
-        ensures less { weight self.new.ahead + bit result ≤ weight self.old.ahead }
-        ensures line { (before : List ℕ) → LineIs before self.old.line self.old.long → LineIs (before ++ first_line self.old.ahead.buffered) self.new.line self.new.long }
-        ensures turns { self.new.ahead.turns ≡ self.old.ahead.turns }
-        ensures ended { self.new.ahead.ended ≡ self.old.ahead.ended }
-        ensures within { self.new.ahead.turns ≤ 2 ^ 32 }
+        ensures taken { IsTaken self.old result self.new }
+        ensures line { IsLonger self.old self.new }
     {
         let rest = self.ahead.buffered();
         let size = line_end(rest);
@@ -98,19 +91,8 @@ impl<A: Allocator + Copy> LineReader<A> {
     fn read_on<R: Read>(&mut self, source: &mut Source<R>) -> Result<bool, ReadFault>
         requires empty { self.old.ahead.buffered ≡ [] }
         requires going { self.old.ahead.ended ≡ false }
-        ensures bytes { Keeps (to_come self.old source.old) (to_come self.new source.new) }
-        ensures end { EndIsEnd self.new.ahead source.new }
-        ensures more { IfOk result (λ more. more ≡ not self.new.ahead.ended) }
-        ensures line { self.new.line ≡ self.old.line }
-        ensures long { self.new.long ≡ self.old.long }
-        ensures failures { source.new.failures ≡ source.old.failures + one_if_device result }
-        ensures turns { source.new.turns + self.old.ahead.turns ≡ source.old.turns + self.new.ahead.turns }
-        ensures turn { OnOk result (self.new.ahead.turns ≡ self.old.ahead.turns + 1) }
-        ensures within { self.new.ahead.turns ≤ 2 ^ 32 }
-        ensures ends { source.new.ends ≡ source.old.ends + bit self.new.ahead.ended }
-        ensures limit { result ≡ Err fault.Turns → self.new.ahead.turns ≡ 2 ^ 32 }
-        ensures stays { OnErr result (self.new.ahead.ended ≡ false) }
-        ensures less { OnOk result (weight self.new.ahead < weight self.old.ahead) }
+        ensures read { IsReadOn self.old source.old result self.new source.new }
+        ensures asked { IsAsked self.old.ahead source.old result self.new.ahead source.new }
     {
         self.ahead.fill(source)
     }
@@ -118,16 +100,9 @@ impl<A: Allocator + Copy> LineReader<A> {
     /// Reads the next line.
     pub fn next<R: Read>(&mut self, source: &mut Source<R>) -> Result<Next, ReadFault>
         requires { EndIsEnd self.old.ahead source.old }
-        ensures next { IfOk result (λ next. IfSome (to_come self.old source.old) (λ bytes. NextOf bytes next self.new.line (to_come self.new source.new))) }
-        ensures end { EndIsEnd self.new.ahead source.new }
-        ensures over { result ≡ Ok Next.End → self.new.ahead.ended ≡ true }
-        ensures within { self.new.ahead.turns ≤ 2 ^ 32 }
-        ensures less { IfOk result (λ next. next ≢ Next.End → weight self.new.ahead < weight self.old.ahead) }
-        ensures failures { source.new.failures ≡ source.old.failures + one_if_device result }
-        ensures turns { source.new.turns + self.old.ahead.turns ≡ source.old.turns + self.new.ahead.turns }
-        ensures ends { source.new.ends + bit self.old.ahead.ended ≡ source.old.ends + bit self.new.ahead.ended }
-        ensures limit { result ≡ Err fault.Turns → self.new.ahead.turns ≡ 2 ^ 32 }
-        ensures stays { OnErr result (self.new.ahead.ended ≡ false) }
+        ensures next { IfOk result (λ next. IsNext self.old source.old next self.new source.new) }
+        ensures goes_on { IfOk result (λ next. GoesOn self.old.ahead next self.new.ahead) }
+        ensures asked { IsAsked self.old.ahead source.old result self.new.ahead source.new }
     {
         if self.ahead.has_ended() {
             return Ok(Next::End);

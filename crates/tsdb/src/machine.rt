@@ -1,6 +1,7 @@
 //! The machine that a script runs.
-ghost use Rattle.std.specs.Prelude.{◌≡◌, ◌≤◌, ◌^◌, length, IfOk};
+ghost use Rattle.std.specs.Prelude.{◌≡◌, ◌≤◌, length, IfOk};
 ghost use Rattle.tsdb.specs.CommandParts.{command_view};
+ghost use Rattle.tsdb.specs.ScriptLines.{script_line_limit};
 ghost use Rattle.tsdb.specs.Machine.{State, start};
 ghost use Rattle.tsdb.specs.Commands.{Write as WriteCommand};
 ghost use Rattle.tsdb.specs.Replies.{text_of, refusal_of};
@@ -50,7 +51,7 @@ impl<A: Allocator + Copy> Machine<A> {
     /// Answers a line of a script. Where no memory is found, no fact is accepted; the line's series may be
     /// registered.
     pub fn serve(&mut self, line: &[u8]) -> Reply
-        requires { length line.now ≤ 2 ^ 17 }
+        requires { length line.now ≤ script_line_limit }
         ensures { (s : State) → IsIn s self.old → Stepped line.now s (text_of result) self.new }
     {
         match str::from_utf8(line) {

@@ -1,6 +1,7 @@
-use Rattle.std.proofs.Common.{◌≡◌, ◌+◌, ◌≤◌, ◌^◌, string_capacity}
+use Rattle.std.proofs.Common.{◌≡◌, ◌+◌, ◌≤◌, string_capacity}
 use Rattle.tsdb.specs.declared.reply.TheConstants.{TEXT_ROOM}
 use Rattle.ts_core.specs.ReadingAhead.{EndIsEnd, bit, weight}
+use Rattle.tsdb.specs.ScriptLines.{turn_limit}
 use Rattle.tsdb.specs.LineReading.{to_come}
 use Rattle.tsdb.proofs.Progress.{Progress}
 use Rattle.tsdb.proofs.engine.run.Given as goal
@@ -10,7 +11,7 @@ invariant-loop-text g l = record {
   progress : Progress l.initial.source.remaining (to_come l.lines l.source) l.initial.sink.contents l.sink.contents l.machine;
   end : EndIsEnd l.lines.ahead l.source;
   turns : l.source.turns ≡ l.initial.source.turns + l.lines.ahead.turns;
-  within : l.lines.ahead.turns ≤ 2 ^ 32;
+  within : l.lines.ahead.turns ≤ turn_limit;
   ends : l.source.ends ≡ l.initial.source.ends + bit l.lines.ahead.ended;
   reader : l.source.failures ≡ l.initial.source.failures;
   writer : l.sink.failures ≡ l.initial.sink.failures;

@@ -1,5 +1,6 @@
-use Rattle.std.proofs.Common.{◌≡◌, ℕ, ◌+◌, ◌-◌, ◌≤◌, ◌^◌, List, false}
+use Rattle.std.proofs.Common.{◌≡◌, ℕ, ◌+◌, ◌-◌, ◌≤◌, List, false}
 use Rattle.ts_core.specs.ReadingAhead.{weight}
+use Rattle.tsdb.specs.ScriptLines.{turn_limit}
 use Rattle.tsdb.specs.LineReading.{to_come}
 use Rattle.tsdb.proofs.LineScan.{SoFar}
 use Rattle.tsdb.proofs.line_reader.LineReader.next.Given as goal
@@ -8,6 +9,7 @@ abbrev pub invariant-loop-self : goal.invariant-loop-self
 invariant-loop-self g l = record {
   so_far : (bytes : List ℕ) × SoFar (to_come l.initial.self l.initial.source) (to_come l.self l.source) bytes l.self.line l.self.long;
   going : l.self.ahead.ended ≡ false;
+  began : l.initial.self.ahead.ended ≡ false;
   less : weight l.self.ahead ≤ weight l.initial.self.ahead;
   failures : l.source.failures ≡ l.initial.source.failures;
   turns : l.source.turns + l.initial.self.ahead.turns ≡ l.initial.source.turns + l.self.ahead.turns;
@@ -15,4 +17,4 @@ invariant-loop-self g l = record {
 }
 
 abbrev pub decreases-loop-self : goal.decreases-loop-self
-decreases-loop-self g l = 2 ^ 32 - l.self.ahead.turns
+decreases-loop-self g l = turn_limit - l.self.ahead.turns

@@ -6,6 +6,14 @@ abbrev pub onto_first : ℕ → List (List ℕ) → List (List ℕ)
 onto_first b [] = (b ∷ []) ∷ []
 onto_first b (line ∷ lines) = (b ∷ line) ∷ lines
 
+-- how many bytes a line has at most: 128 KiB
+abbrev pub script_line_limit : ℕ
+script_line_limit = 131072
+
+-- how many reads a script may take
+abbrev pub turn_limit : ℕ
+turn_limit = 4294967296
+
 abbrev pub lines_of : List ℕ → List (List ℕ)
 lines_of [] = []
 lines_of (b ∷ bs) = if b == 10 then [] ∷ lines_of bs else onto_first b (lines_of bs)
