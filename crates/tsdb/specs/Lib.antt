@@ -7,6 +7,7 @@ pub mod Replies
 pub mod Script
 pub mod RunFaults
 pub mod CommandLines
+pub mod Outcomes
 -- What the code inside promises itself; nobody needs them to know what a script prints.
 pub mod CommandParts
 pub mod Serving

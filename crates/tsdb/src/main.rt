@@ -22,6 +22,9 @@ mod machine;
 #[cfg(test)]
 mod memory_tests;
 mod moment;
+mod outcome;
+#[cfg(test)]
+mod outcome_tests;
 mod reply;
 mod run_fault;
 #[cfg(test)]
@@ -31,39 +34,39 @@ mod store_tests;
 
 use clap::Error;
 use command_line::Told;
-use run_fault::RunFault;
+use outcome::Outcome;
 use std::process::ExitCode;
 use std::rt::Env;
 use std::{env, io};
 use ts_core::{Sink, Source};
 
 fn main(rt: HostRuntime) -> ExitCode {
-    match read_command_line(&rt) {
+    let outcome = match read_command_line(&rt) {
         Ok(()) => replay(&rt),
-        Err(Told::Done) => ExitCode::SUCCESS,
-        Err(Told::Device) => ExitCode::FAILURE,
-        Err(Told::Wrong) => ExitCode::from(2),
-        Err(Told::OutOfMemory) => ExitCode::from(3),
+        Err(outcome) => outcome,
+    };
+    if let Some(line) = outcome.error_line() {
+        let _ = eprintln!(rt; "{line}");
     }
+    outcome.exit_code()
 }
 
 /// `Ok` where the command line asks for a replay. Where it doesn't, it is answered here.
-fn read_command_line(rt: &(impl Env + AllocGlobal + Print + Eprint)) -> Result<(), Told> {
+fn read_command_line(rt: &(impl Env + AllocGlobal + Print + Eprint)) -> Result<(), Outcome> {
     let args = match env::args(rt) {
         Ok(args) => args,
-        Err(error) if error.kind() == io::ErrorKind::OutOfMemory => return Err(Told::OutOfMemory),
-        Err(_) => {
-            let _ = eprintln!(rt; "tsdb: the command line can't be read as text");
-            return Err(Told::Wrong);
+        Err(error) if error.kind() == io::ErrorKind::OutOfMemory => {
+            return Err(Outcome::NoScript(Told::OutOfMemory));
         }
+        Err(_) => return Err(Outcome::NoText),
     };
     let words: Vec<String> = match args.collect(rt.alloc()) {
         Ok(words) => words,
-        Err(_) => return Err(Told::OutOfMemory),
+        Err(_) => return Err(Outcome::NoScript(Told::OutOfMemory)),
     };
     match command_line::parse(rt.alloc(), words.as_slice()) {
         Ok(()) => Ok(()),
-        Err(error) => Err(answer(rt, &error)),
+        Err(error) => Err(Outcome::NoScript(answer(rt, &error))),
     }
 }
 
@@ -78,28 +81,12 @@ fn answer(rt: &(impl Print + Eprint), error: &Error) -> Told {
     }
 }
 
-fn replay(rt: &(impl Input + Print + Eprint + AllocGlobal)) -> ExitCode {
+/// Answers the script on standard input.
+fn replay(rt: &(impl Input + Print + AllocGlobal)) -> Outcome {
     let mut source = Source::new(rt.reader());
     let mut sink = Sink::new(io::writer(rt));
     match engine::run(rt.alloc(), &mut source, &mut sink) {
-        Ok(()) => ExitCode::SUCCESS,
-        Err(fault) => {
-            tell(rt, fault);
-            match fault {
-                RunFault::OutOfMemory => ExitCode::from(3),
-                RunFault::Reader | RunFault::Writer | RunFault::Turns => ExitCode::FAILURE,
-            }
-        }
+        Ok(()) => Outcome::Answered,
+        Err(fault) => Outcome::Stopped(fault),
     }
-}
-
-/// One line on standard error: the fault's text, and what it means.
-fn tell(rt: &impl Eprint, fault: RunFault) {
-    let meaning = match fault {
-        RunFault::Reader => "standard input could not be read",
-        RunFault::Writer => "standard output could not be written",
-        RunFault::Turns => "standard input did not end within 4294967296 reads",
-        RunFault::OutOfMemory => "there is no memory for reading the script",
-    };
-    let _ = eprintln!(rt; "{}: {meaning}", fault.text());
 }

@@ -1,0 +1,41 @@
+-- How the program ends: its exit status, and its line on standard error. (Own rule.)
+use Rattle.std.specs.Prelude.{ℕ, ◌++◌, codes, Option, Some, None}
+use Rattle.ts_core.specs.Facts.{Text}
+use Rattle.tsdb.specs.RunFaults.{run_fault_text}
+use Rattle.tsdb.specs.declared.command_line.Told.{Told}
+use Rattle.tsdb.specs.declared.command_line.Told.TheVariants as told
+use Rattle.tsdb.specs.declared.run_fault.RunFault.{RunFault}
+use Rattle.tsdb.specs.declared.run_fault.RunFault.TheVariants.{OutOfMemory, Reader, Writer, Turns}
+use Rattle.tsdb.specs.declared.outcome.Outcome.{Outcome}
+use Rattle.tsdb.specs.declared.outcome.Outcome.TheVariants.{Answered, Stopped, NoScript, NoText}
+
+-- 0: done; 1: a device, or an input without an end; 2: the command line; 3: no memory
+abbrev pub status_of : Outcome → ℕ
+status_of Answered = 0
+status_of (NoScript told.Done) = 0
+status_of (NoScript told.Device) = 1
+status_of (Stopped Reader) = 1
+status_of (Stopped Writer) = 1
+status_of (Stopped Turns) = 1
+status_of (NoScript told.Wrong) = 2
+status_of NoText = 2
+status_of (NoScript told.OutOfMemory) = 3
+status_of (Stopped OutOfMemory) = 3
+
+-- what a fault of a run means
+abbrev pub meaning_of : RunFault → Text
+meaning_of Reader = codes "standard input could not be read"
+meaning_of Writer = codes "standard output could not be written"
+meaning_of Turns = codes "standard input did not end within 4294967296 reads"
+meaning_of OutOfMemory = codes "there is no memory for reading the script"
+
+-- a fault's text, and what it means
+abbrev pub stopped_line : RunFault → Text
+stopped_line fault = run_fault_text fault ++ codes ": " ++ meaning_of fault
+
+-- the line for standard error, if any; what clap says of a command line isn't one
+abbrev pub error_line : Outcome → Option Text
+error_line Answered = None
+error_line (Stopped fault) = Some (stopped_line fault)
+error_line (NoScript said) = None
+error_line NoText = Some (codes "tsdb: the command line can't be read as text")

@@ -1,0 +1,65 @@
+//! How the program ends: its exit status, and its line on standard error.
+ghost use Rattle.std.specs.Prelude.{◌≡◌, None, Some, MatchOption};
+ghost use Rattle.std.specs.Process.{exit_status};
+ghost use Rattle.tsdb.specs.Outcomes.{status_of, stopped_line, error_line};
+
+use crate::command_line::Told;
+use crate::run_fault::RunFault;
+use std::process::ExitCode;
+
+/// How a call of the program came out.
+#[derive(Clone, Copy, Debug, Drop)]
+pub enum Outcome {
+    /// A script was answered to its end.
+    Answered,
+    /// A script was not answered to its end.
+    Stopped(RunFault),
+    /// The command line asked for no script.
+    NoScript(Told),
+    /// The command line can't be read as text.
+    NoText,
+}
+
+impl Outcome {
+    /// The exit status: 0 is done, 1 a device or an input without an end, 2 the command line, 3 no memory.
+    pub fn exit_code(self) -> ExitCode
+        ensures { exit_status result ≡ status_of self }
+    {
+        ExitCode::from(self.status())
+    }
+
+    pub(crate) fn status(self) -> u8
+        ensures { result ≡ status_of self }
+    {
+        match self {
+            Outcome::Answered | Outcome::NoScript(Told::Done) => 0,
+            Outcome::Stopped(RunFault::Reader | RunFault::Writer | RunFault::Turns)
+            | Outcome::NoScript(Told::Device) => 1,
+            Outcome::NoScript(Told::Wrong) | Outcome::NoText => 2,
+            Outcome::Stopped(RunFault::OutOfMemory) | Outcome::NoScript(Told::OutOfMemory) => 3,
+        }
+    }
+
+    /// The line for standard error, if any; what clap says of a command line isn't one.
+    pub fn error_line(self) -> Option<&'static str>
+        ensures { MatchOption result (error_line self ≡ None) (λ line. error_line self ≡ Some line.now) }
+    {
+        match self {
+            Outcome::Answered | Outcome::NoScript(_) => None,
+            Outcome::NoText => Some("tsdb: the command line can't be read as text"),
+            Outcome::Stopped(fault) => Some(stopped_line(fault)),
+        }
+    }
+}
+
+/// A fault's text, and what it means.
+fn stopped_line(fault: RunFault) -> &'static str
+    ensures { result.now ≡ stopped_line fault }
+{
+    match fault {
+        RunFault::Reader => "fault 96: standard input could not be read",
+        RunFault::Writer => "fault 97: standard output could not be written",
+        RunFault::Turns => "fault 98: standard input did not end within 4294967296 reads",
+        RunFault::OutOfMemory => "fault memory: there is no memory for reading the script",
+    }
+}
