@@ -2,17 +2,17 @@ use Rattle.std.proofs.Common.{rules, ◌≡◌, ◌∙◌, ap, ℤ, List, map, s
 use Rattle.ts_core.specs.Facts.{Text}
 use Rattle.ts_core.specs.Queries.{Condition}
 use Rattle.ts_core.specs.declared.fill.Fill.{Fill}
-use Rattle.ts_ql.specs.Selects.{Column, Select}
+use Rattle.ts_ql.specs.Selects.{Projection, Select}
 use Rattle.ts_ql.proofs.query.Query.copied.Goals as goal
 
-abbrev made : Fill → List Column → Text → Text → List Condition → ℤ → ℤ → ℤ → ℤ → List Text → Select
+abbrev made : Fill → List Projection → Text → Text → List Condition → ℤ → ℤ → ℤ → ℤ → List Text → Select
 made f cs m v ks a b i o gs = record {
   columns = cs;
   fill = f;
   query = record { measurement = m; field = v; conditions = ks; from = a; to = b; interval = i; offset = o; group_tags = gs };
 }
 
-same : (f : Fill) (cs ds : List Column) (m n v w : Text) (ks ls : List Condition) (a b c d i j o p : ℤ) (gs hs : List Text)
+same : (f : Fill) (cs ds : List Projection) (m n v w : Text) (ks ls : List Condition) (a b c d i j o p : ℤ) (gs hs : List Text)
     → cs ≡ ds → m ≡ n → v ≡ w → ks ≡ ls → a ≡ b → c ≡ d → i ≡ j → o ≡ p → gs ≡ hs → made f cs m v ks a c i o gs ≡ made f ds n w ls b d j p hs
 same f cs ds m n v w ks ls a b c d i j o p gs hs e1 e2 e3 e4 e5 e6 e7 e8 e9 =
     λ k. made f (e1 k) (e2 k) (e3 k) (e4 k) (e5 k) (e6 k) (e7 k) (e8 k) (e9 k)
