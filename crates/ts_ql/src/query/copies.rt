@@ -1,7 +1,7 @@
 //! Copies of queries, in memory of their own.
 ghost use Rattle.std.specs.Prelude.{◌≡◌, IfOk};
 
-use super::{Projection, Condition, Query};
+use super::{Condition, Projection, Query};
 use std::alloc::{AllocError, Allocator};
 use ts_core::copied_texts;
 
