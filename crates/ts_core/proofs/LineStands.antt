@@ -14,7 +14,7 @@ use Rattle.ts_core.specs.StoreData.{FrozenCells, StoreData, rules_of, state_of}
 use Rattle.ts_core.specs.StoreMoves.{HaveRoom, PutsFact, PutsFacts, put_facts}
 use Rattle.ts_core.proofs.MovesStand.{too, written_rules}
 
-length_before : (fs older : List Fact) → length (put_before fs older) ≡ length fs + length older
+pub length_before : (fs older : List Fact) → length (put_before fs older) ≡ length fs + length older
 length_before [] older = omega arith
 length_before (f ∷ fs) older = let h = length_before fs (f ∷ older) in omega arith
 

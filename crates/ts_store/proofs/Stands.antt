@@ -11,7 +11,7 @@ use Rattle.std.proofs.lemmas.List.{append-nil, append_assoc}
 use Rattle.ts_core.specs.Members.{Among, AllDistinct}
 use Rattle.ts_core.specs.Facts.{Text, Series, Column, Fact, series_cmp, is_asked, is_within}
 use Rattle.ts_core.specs.Settings.{Settings}
-use Rattle.ts_core.specs.History.{History, Line, MayBeTaken, accepted, put_before, raw_mark}
+use Rattle.ts_core.specs.History.{History, Line, MayBeTaken, accepted, raw_mark}
 use Rattle.ts_core.specs.Latest.{latest_of, count_of}
 use Rattle.ts_core.specs.Marks.{Marks}
 use Rattle.ts_core.specs.RawFacts.{same_column, raw_facts, is_waiting, kept_from}
@@ -27,7 +27,7 @@ use Rattle.ts_core.proofs.StateLemmas.{StandsFor-Holds, same_column-eq}
 use Rattle.ts_core.proofs.Shown.{stands_shows}
 use Rattle.ts_core.proofs.ColumnFacts.{facts_of-there, facts_of-here}
 use Rattle.ts_core.proofs.MovesStand.{grows}
-use Rattle.ts_core.proofs.LineStands.{line_put}
+use Rattle.ts_core.proofs.LineStands.{length_before, line_put}
 use Rattle.ts_core.specs.SettingsFaults.{unless}
 use Rattle.ts_line.specs.Parts.{Parts, series_of, facts_of as line_facts}
 use Rattle.ts_raw.specs.Numbered.{IsAt}
@@ -92,10 +92,6 @@ left_facts before after p g = ap facts_of g.columns.columns ∙ same_facts befor
 
 -- ---- a line
 
-pub length-put_before : (fs older : List Fact) → length (put_before fs older) ≡ length fs + length older
-length-put_before [] older = omega arith
-length-put_before (f ∷ fs) older = let e = length-put_before fs (f ∷ older) in omega (arith, e)
-
 puts_names : (before after : List ColumnPoints) (fs : List Fact) → PutsFacts before after fs → map column_of after ≡ map column_of before
 puts_names before after [] p = ap (map column_of) p
 puts_names before after (f ∷ fs) p = puts_names p.0 after fs p.2 ∙ p.1.0
@@ -130,7 +126,7 @@ write_stands opening h settings marks n before after fs puts known taken few st 
     let grown : StandsFor opening h (state_of (before_runs settings marks n mid)) = grown_stands opening h settings marks n before mid made refl
     (record { once = subst AllDistinct names known.once; registered = λ c a. known.registered c (subst (Among c) (sym names) a) }) st in
     let mark : marks.raw ≡ raw_mark opening h = ap (λ (m : Marks). m.raw) st.marks in
-    let more = length-put_before fs (accepted h) in
+    let more = length_before fs (accepted h) in
     line_put opening h (before_runs settings marks n mid) after.columns fs [] grown tt (λ f a. column_new before.columns fs f a) puts
     (st.lawful, subst (λ (m : ℤ). AllByRecursion (MayBeTaken m) fs) mark taken, omega (arith, st.accepted, more, few))
 
