@@ -57,3 +57,4 @@ pub mod StepStands
 pub mod MovesStand
 pub mod LineStands
 pub mod StoreNew
+pub mod FaultTextLemmas

@@ -5,6 +5,9 @@ use Rattle.std.specs.Int.{int_rem_euclid}
 use Rattle.std.specs.List.{list_any, list_all}
 pub use Rattle.ts_core.specs.declared.fault.Fault.{Fault}
 pub use Rattle.ts_core.specs.declared.fault.Fault.TheVariants.{Gap, BelowMark, NoSuchRule, OtherMeasurement, OffBoundary, BelowLow, Straddles, TagNotKept}
+use Rattle.ts_core.specs.declared.fault_code.FaultCode.{FaultCode}
+use Rattle.ts_core.specs.declared.fault_code.FaultCode.TheVariants as coded
+use Rattle.ts_core.specs.FaultCodes.{code_number}
 use Rattle.ts_core.specs.Facts.{Text, same_text}
 use Rattle.ts_core.specs.Settings.{Rule, Settings}
 use Rattle.ts_core.specs.SettingsFaults.{unless}
@@ -13,22 +16,26 @@ use Rattle.ts_core.specs.Marks.{Marks, index_of}
 use Rattle.ts_core.specs.Queries.{Query}
 use Rattle.ts_core.specs.Pieces.{Source, Raw, Rollup, Piece, MarkedRule, Asked, asked, rule_named, start_of, tags_of}
 
+-- each in the table of all faults
+abbrev pub piece_fault_code : Fault → FaultCode
+-- the pieces don't lead from the start of the range to its end
+piece_fault_code Gap = coded.Gap
+-- a raw piece starts below the raw mark
+piece_fault_code BelowMark = coded.BelowMark
+piece_fault_code NoSuchRule = coded.NoSuchRule
+piece_fault_code OtherMeasurement = coded.OtherMeasurement
+-- an end isn't a boundary of the rule
+piece_fault_code OffBoundary = coded.OffBoundary
+-- the first bucket lies below the rule's low index
+piece_fault_code BelowLow = coded.BelowLow
+-- the rule's buckets don't fit the query's
+piece_fault_code Straddles = coded.Straddles
+-- the rule doesn't keep a tag that the query names
+piece_fault_code TagNotKept = coded.TagNotKept
+
 -- the number that a fault is answered by
 abbrev pub fault_number : Fault → ℕ
--- the pieces don't lead from the start of the range to its end
-fault_number Gap = 82
--- a raw piece starts below the raw mark
-fault_number BelowMark = 83
-fault_number NoSuchRule = 84
-fault_number OtherMeasurement = 85
--- an end isn't a boundary of the rule
-fault_number OffBoundary = 86
--- the first bucket lies below the rule's low index
-fault_number BelowLow = 87
--- the rule's buckets don't fit the query's
-fault_number Straddles = 88
--- the rule doesn't keep a tag that the query names
-fault_number TagNotKept = 89
+fault_number fault = code_number (piece_fault_code fault)
 
 -- ---- of one piece
 

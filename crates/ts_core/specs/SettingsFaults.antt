@@ -6,6 +6,10 @@ use Rattle.ts_core.specs.declared.settings_fault.RuleFault.TheVariants.{BadName,
 use Rattle.ts_core.specs.declared.settings_fault.SettingsFault.{SettingsFault}
 use Rattle.ts_core.specs.declared.settings_fault.SettingsFault.TheVariants.{TooManyRules, OfRule}
 use Rattle.ts_core.specs.Facts.{Text, same_text}
+use Rattle.ts_core.specs.declared.fault_code.FaultCode.{FaultCode}
+use Rattle.ts_core.specs.declared.fault_code.FaultCode.TheVariants as coded
+use Rattle.ts_core.specs.declared.fault_text.FaultDetail.TheVariants as detailed
+use Rattle.ts_core.specs.FaultTexts.{fault_text}
 use Rattle.ts_core.specs.Settings.{Rule, Settings}
 
 -- ---- names, intervals, tags and durations
@@ -49,13 +53,17 @@ outlasts long short = long == 0 || (nat_lt 0 short && nat_le short long)
 abbrev pub unless : {F : Type 0} → Bool → F → Option F → Option F
 unless well fault next = if well then next else Some fault
 
--- the number that a rule's fault is answered by
-abbrev pub rule_fault_number : RuleFault → ℕ
-rule_fault_number Interval = 1
-rule_fault_number Duration = 2
-rule_fault_number RepeatedName = 3
-rule_fault_number BadName = 4
-rule_fault_number KeptTags = 6
+-- each in the table of all faults
+abbrev pub rule_fault_code : RuleFault → FaultCode
+rule_fault_code Interval = coded.IntervalRange
+rule_fault_code Duration = coded.KeptTooShortly
+rule_fault_code RepeatedName = coded.RepeatedRuleName
+rule_fault_code BadName = coded.BadRuleName
+rule_fault_code KeptTags = coded.BadKeptTags
+
+abbrev pub settings_fault_text : SettingsFault → Text
+settings_fault_text TooManyRules = fault_text coded.TooManyRules detailed.Alone
+settings_fault_text (OfRule fault place) = fault_text (rule_fault_code fault) (detailed.OfRule place)
 
 -- of a rule behind others
 abbrev pub fault_of_rule : ℕ → List Rule → Rule → Option RuleFault

@@ -1,6 +1,8 @@
 //! What is wrong with pieces.
 ghost use Rattle.std.specs.Prelude.{◌≡◌};
-ghost use Rattle.ts_core.specs.Faults.{fault_number};
+ghost use Rattle.ts_core.specs.Faults.{piece_fault_code, fault_number};
+
+use crate::fault_code::FaultCode;
 
 /// What is wrong with a list of pieces that is to stand for all points of a query.
 #[derive(Clone, Copy, Debug, PartialEq, Eq)]
@@ -24,19 +26,26 @@ pub enum Fault {
 }
 
 impl Fault {
+    /// The fault in the table of all faults.
+    pub fn code(self) -> FaultCode
+        ensures { result ≡ piece_fault_code self }
+    {
+        match self {
+            Fault::Gap => FaultCode::Gap,
+            Fault::BelowMark => FaultCode::BelowMark,
+            Fault::NoSuchRule => FaultCode::NoSuchRule,
+            Fault::OtherMeasurement => FaultCode::OtherMeasurement,
+            Fault::OffBoundary => FaultCode::OffBoundary,
+            Fault::BelowLow => FaultCode::BelowLow,
+            Fault::Straddles => FaultCode::Straddles,
+            Fault::TagNotKept => FaultCode::TagNotKept,
+        }
+    }
+
     /// The number that it is answered by.
     pub fn number(self) -> u8
         ensures { result ≡ fault_number self }
     {
-        match self {
-            Fault::Gap => 82,
-            Fault::BelowMark => 83,
-            Fault::NoSuchRule => 84,
-            Fault::OtherMeasurement => 85,
-            Fault::OffBoundary => 86,
-            Fault::BelowLow => 87,
-            Fault::Straddles => 88,
-            Fault::TagNotKept => 89,
-        }
+        self.code().number()
     }
 }

@@ -1,11 +1,14 @@
 //! What is wrong with settings.
-ghost use Rattle.std.specs.Prelude.{◌≡◌, map, [], string_bytes};
+ghost use Rattle.std.specs.Prelude.{◌≡◌, ◌+◌, ◌≤◌, ◌++◌, map, [], length, IsOk, OnOk, OnErr, string_bytes, string_len, string_capacity};
 ghost use Rattle.std.specs.List.{list_all};
-ghost use Rattle.ts_core.specs.SettingsFaults.{is_name_byte, is_rule_name, is_named, is_interval, are_distinct, are_kept_tags, outlasts, fault_of_rule, rules_fault, settings_fault, rule_fault_number};
+ghost use Rattle.ts_core.specs.FaultTexts.{EndsEarly};
+ghost use Rattle.ts_core.specs.SettingsFaults.{is_name_byte, is_rule_name, is_named, is_interval, are_distinct, are_kept_tags, outlasts, fault_of_rule, rules_fault, settings_fault, rule_fault_code, settings_fault_text};
 
+use crate::fault_code::FaultCode;
+use crate::fault_text::FaultDetail;
 use crate::settings::Rule;
 use crate::texts::is_among;
-use std::alloc::Allocator;
+use std::alloc::{AllocError, Allocator};
 
 /// What is wrong with a rule.
 #[derive(Clone, Copy, Debug, PartialEq, Eq)]
@@ -132,16 +135,35 @@ pub(crate) fn settings_fault<A: Allocator>(raw: u64, rules: &[Rule<A>]) -> Optio
 }
 
 impl RuleFault {
-    /// The number that it is answered by.
-    pub fn number(self) -> u8
-        ensures { result ≡ rule_fault_number self }
+    /// The fault in the table of all faults.
+    pub fn code(self) -> FaultCode
+        ensures { result ≡ rule_fault_code self }
     {
         match self {
-            RuleFault::Interval => 1,
-            RuleFault::Duration => 2,
-            RuleFault::RepeatedName => 3,
-            RuleFault::BadName => 4,
-            RuleFault::KeptTags => 6,
+            RuleFault::Interval => FaultCode::IntervalRange,
+            RuleFault::Duration => FaultCode::KeptTooShortly,
+            RuleFault::RepeatedName => FaultCode::RepeatedRuleName,
+            RuleFault::BadName => FaultCode::BadRuleName,
+            RuleFault::KeptTags => FaultCode::BadKeptTags,
+        }
+    }
+}
+
+impl SettingsFault {
+    /// Appends its text, or a beginning of it where memory is wanted. Where the room is there, none is.
+    pub fn text_to<A: Allocator>(&self, text: &mut String<A>) -> Result<(), AllocError>
+        ensures ok { OnOk result (string_bytes text.new ≡ string_bytes text.old ++ settings_fault_text self.now) }
+        ensures err { OnErr result (EndsEarly (settings_fault_text self.now) (string_bytes text.old) (string_bytes text.new)) }
+        ensures room { string_len text.old + length (settings_fault_text self.now) ≤ string_capacity text.old → IsOk result }
+    {
+        match *self {
+            SettingsFault::TooManyRules => FaultCode::TooManyRules.text_to(
+                FaultDetail::Alone,
+                text,
+            ),
+            SettingsFault::OfRule(fault, place) => fault
+                .code()
+                .text_to(FaultDetail::OfRule(place), text),
         }
     }
 }

@@ -159,7 +159,7 @@ fn settings(
 fn first_fault(alloc: Global, raw: u32, rules: &[Parts]) -> Result<Option<(u8, usize)>, Fail> {
     match settings(alloc, raw, rules)? {
         Ok(_) => Ok(None),
-        Err(SettingsFault::OfRule(fault, place)) => Ok(Some((fault.number(), place))),
+        Err(SettingsFault::OfRule(fault, place)) => Ok(Some((fault.code().number(), place))),
         Err(SettingsFault::TooManyRules) => Err("too many rules")?,
     }
 }

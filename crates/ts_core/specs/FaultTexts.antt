@@ -1,0 +1,44 @@
+-- The text of a fault: its number, and what stands behind it. (Own rules.)
+use Rattle.std.specs.Borrow.{Bor}
+use Rattle.std.specs.Prelude.{◌≡◌, ℕ, List, [], ◌∷◌, ◌++◌, codes}
+use Rattle.std.specs.Fmt.{decimal, signed_decimal}
+use Rattle.ts_core.specs.Facts.{Text}
+use Rattle.ts_core.specs.declared.fault_code.FaultCode.{FaultCode}
+use Rattle.ts_core.specs.FaultCodes.{code_number}
+use Rattle.ts_core.specs.declared.fault_text.FaultDetail.{FaultDetail}
+use Rattle.ts_core.specs.declared.fault_text.FaultDetail.TheVariants.{Alone, At, AtToken, OfRule, OfPiece, Mark}
+
+-- a place in a text or a file, in bytes from 0
+abbrev pub at_place : ℕ → Text
+at_place offset = codes " at " ++ decimal offset
+
+-- a place, and the token that stands there
+abbrev pub at_token : ℕ → Text → Text
+at_token offset token = codes " at " ++ (decimal offset ++ (codes " " ++ token))
+
+-- what stands behind the number
+abbrev pub detail_text : FaultDetail → Text
+detail_text Alone = []
+detail_text (At offset) = at_place offset
+detail_text (AtToken offset token) = at_token offset token.now
+detail_text (OfRule place) = codes " rule " ++ decimal place
+detail_text (OfPiece place) = codes " piece " ++ decimal place
+detail_text (Mark nanos) = codes " mark " ++ signed_decimal nanos
+
+abbrev pub numbered_text : FaultCode → Text → Text
+numbered_text code detail = codes "fault " ++ (decimal (code_number code) ++ detail)
+
+abbrev pub fault_text : FaultCode → FaultDetail → Text
+fault_text code detail = numbered_text code (detail_text detail)
+
+-- words one behind another
+abbrev pub words_joined : List (Bor Text) → Text
+words_joined [] = []
+words_joined (word ∷ words) = word.now ++ words_joined words
+
+-- behind what there was stands a beginning of the text
+pub record EndsEarly (text old new : Text) : Type 0 where
+  pub written : Text
+  pub missing : Text
+  pub stands : new ≡ old ++ written
+  pub whole : text ≡ written ++ missing

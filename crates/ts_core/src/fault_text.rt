@@ -1,0 +1,99 @@
+//! Texts of faults: `fault`, the number, and what stands behind it.
+ghost use Rattle.std.specs.Prelude.{◌≡◌, ◌+◌, ◌≤◌, ◌<◌, ◌^◌, ◌++◌, length, IsOk, OnOk, OnErr, string_bytes, string_len, string_capacity};
+ghost use Rattle.ts_core.specs.FaultTexts.{fault_text, words_joined, EndsEarly};
+
+use crate::fault_code::FaultCode;
+use itoa::Buffer;
+use std::alloc::{AllocError, Allocator};
+
+/// What stands behind a fault's number.
+#[derive(Clone, Copy, Debug, PartialEq, Eq)]
+pub enum FaultDetail<'a> {
+    /// Nothing.
+    Alone,
+    /// Its place in a text or a file, in bytes from 0.
+    At(usize),
+    /// Its place in a text, and the token that stands there.
+    AtToken(usize, &'a str),
+    /// The place of a rule among those of the settings, from 0.
+    OfRule(usize),
+    /// The place of a piece in a plan, from 0.
+    OfPiece(usize),
+    /// The raw mark, in nanoseconds of the Unix epoch.
+    Mark(i64),
+}
+
+impl FaultDetail<'static> {
+    /// A place in a text or a file, in bytes from 0.
+    pub fn at(offset: usize) -> FaultDetail<'static>
+        ensures value { result ≡ FaultDetail.At offset }
+        ensures fits { offset < 2 ^ 64 }
+    {
+        FaultDetail::At(offset)
+    }
+
+    /// The place of a piece in a plan, from 0.
+    pub fn of_piece(place: usize) -> FaultDetail<'static>
+        ensures value { result ≡ FaultDetail.OfPiece place }
+        ensures fits { place < 2 ^ 64 }
+    {
+        FaultDetail::OfPiece(place)
+    }
+}
+
+/// Appends words one behind another, or a beginning of them where memory is wanted. Where the room is there, none is.
+pub fn append_words<A: Allocator>(text: &mut String<A>, words: &[&str]) -> Result<(), AllocError>
+    ensures ok { OnOk result (string_bytes text.new ≡ string_bytes text.old ++ words_joined words.now) }
+    ensures err { OnErr result (EndsEarly (words_joined words.now) (string_bytes text.old) (string_bytes text.new)) }
+    ensures room { string_len text.old + length (words_joined words.now) ≤ string_capacity text.old → IsOk result }
+    ensures capacity { string_capacity text.old ≤ string_capacity text.new }
+{
+    match words.split_first() {
+        None => Ok(()),
+        Some((first, others)) => {
+            text.push_str(first)?;
+            append_words(text, others)
+        }
+    }
+}
+
+impl FaultCode {
+    /// Appends the fault's text, or a beginning of it where memory is wanted. Where the room is there, none is.
+    pub fn text_to<A: Allocator>(
+        self,
+        detail: FaultDetail<'_>,
+        text: &mut String<A>,
+    ) -> Result<(), AllocError>
+        ensures ok { OnOk result (string_bytes text.new ≡ string_bytes text.old ++ fault_text self detail.entry) }
+        ensures err { OnErr result (EndsEarly (fault_text self detail.entry) (string_bytes text.old) (string_bytes text.new)) }
+        ensures room { string_len text.old + length (fault_text self detail.entry) ≤ string_capacity text.old → IsOk result }
+        ensures capacity { string_capacity text.old ≤ string_capacity text.new }
+    {
+        let mut number = Buffer::new();
+        let mut place = Buffer::new();
+        let number = number.format(self.number());
+        match detail {
+            FaultDetail::Alone => append_words(text, &["fault ", number]),
+            FaultDetail::At(offset) => append_words(
+                text,
+                &["fault ", number, " at ", place.format(offset)],
+            ),
+            FaultDetail::AtToken(offset, token) => append_words(
+                text,
+                &["fault ", number, " at ", place.format(offset), " ", token],
+            ),
+            FaultDetail::OfRule(rule) => append_words(
+                text,
+                &["fault ", number, " rule ", place.format(rule)],
+            ),
+            FaultDetail::OfPiece(piece) => append_words(
+                text,
+                &["fault ", number, " piece ", place.format(piece)],
+            ),
+            FaultDetail::Mark(mark) => append_words(
+                text,
+                &["fault ", number, " mark ", place.format(mark)],
+            ),
+        }
+    }
+}
