@@ -5,7 +5,8 @@ use Rattle.std.proofs.lemmas.Bool.Decides.{nat_tests}
 use Rattle.std.proofs.lemmas.Slice.Eq.{bytes_eq-Decides}
 use Rattle.ts_core.specs.Facts.{Text}
 use Rattle.ts_line.specs.declared.fault.LineFault.{LineFault}
-use Rattle.ts_line.specs.declared.fault.LineFault.TheVariants.{OverLimit}
+use Rattle.ts_line.specs.declared.fault.LineFaultKind.TheVariants.{OverLimit}
+use Rattle.ts_line.specs.FaultText.{fault_at}
 use Rattle.ts_core.specs.Members.{Among, AllDistinct}
 use Rattle.ts_line.specs.Parts.{Piece, AreFields, field_text}
 use Rattle.ts_line.specs.declared.fault.ReadLineError.{ReadLineError}
@@ -38,11 +39,11 @@ fields_ended n before line at f end total lt comma read so_far =
     let one : fields_at (256 - n) before line at ≡ Ok (with_field before f, end) = rw (k, read, no) refl in
     sym so_far ∙ one
 
-pub too_many : (n : ℕ) (before : List (Piece × ℤ)) (line : Text) (at : ℕ) (total : Result (List (Piece × ℤ) × ℕ) LineFault) → 256 ≤ n → fields_at (256 - n) before line at ≡ total → total ≡ Err (OverLimit at)
+pub too_many : (n : ℕ) (before : List (Piece × ℤ)) (line : Text) (at : ℕ) (total : Result (List (Piece × ℤ) × ℕ) LineFault) → 256 ≤ n → fields_at (256 - n) before line at ≡ total → total ≡ Err (fault_at OverLimit at)
 unfolding fields_at
 too_many n before line at total le so_far =
     let k : 256 - n ≡ 0 = omega arith in
-    let one : fields_at (256 - n) before line at ≡ Err (OverLimit at) = rw k refl in
+    let one : fields_at (256 - n) before line at ≡ Err (fault_at OverLimit at) = rw k refl in
     sym so_far ∙ one
 
 pub field_fails : (n : ℕ) (before : List (Piece × ℤ)) (line : Text) (at : ℕ) (e : ReadLineError) (total : Result (List (Piece × ℤ) × ℕ) LineFault) → n < 256

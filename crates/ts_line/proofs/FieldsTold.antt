@@ -9,7 +9,8 @@ use Rattle.std.proofs.lemmas.Option.{cond_some}
 use Rattle.std.proofs.lemmas.Slice.Eq.{bytes_eq-Decides}
 use Rattle.ts_core.specs.Facts.{Text}
 use Rattle.ts_line.specs.declared.fault.LineFault.{LineFault}
-use Rattle.ts_line.specs.declared.fault.LineFault.TheVariants.{BadField, FieldType, ReservedKey}
+use Rattle.ts_line.specs.declared.fault.LineFaultKind.TheVariants.{BadField, FieldType, ReservedKey}
+use Rattle.ts_line.specs.FaultText.{fault_at}
 use Rattle.ts_line.specs.declared.scan.Stops.TheVariants.{Equals, Plain}
 use Rattle.ts_line.specs.Numbers.{is_number, is_from_to, whole_of}
 use Rattle.ts_line.specs.Parts.{Piece}
@@ -56,8 +57,8 @@ faulty false x y v e = absurd cc
 value_by : (start : ℕ) (text : Text) (value : ℤ) (b : Bool) → is_integer text ≡ b → value_of start text ≡ Ok value → IsValue text value
 unfolding value_of
 value_by start text value false e done =
-    let no : cond (is_unsigned text || is_boolean text || is_float text) (Err (FieldType start)) (Err (BadField start)) ≡ Ok value = rw e at done in
-    absurd (faulty (is_unsigned text || is_boolean text || is_float text) (FieldType start) (BadField start) value no)
+    let no : cond (is_unsigned text || is_boolean text || is_float text) (Err (fault_at FieldType start)) (Err (fault_at BadField start)) ≡ Ok value = rw e at done in
+    absurd (faulty (is_unsigned text || is_boolean text || is_float text) (fault_at FieldType start) (fault_at BadField start) value no)
 value_by start text value true e done =
     let read : integer_by start (whole_of (take (length text - 1) text)) ≡ Ok value = rw e at done in
     let is = integer_text text e in
@@ -104,8 +105,8 @@ plain_told start line n value end le e done =
 value_at_by : (start : ℕ) (line : Text) (n : ℕ) (v : ℤ × ℕ) (quote : Bool) → eqb (slice_index line n) 34 ≡ quote → n ≤ length line → value_at start line n ≡ Ok v → IsValueAt line n v.0 v.1
 unfolding value_at
 value_at_by start line n v true e le done =
-    let no : cond (then_is (behind_quotes false (drop (n + 1) line)) is_value_end) (Err (FieldType start)) (Err (BadField start)) ≡ Ok v = rw e at done in
-    absurd (faulty (then_is (behind_quotes false (drop (n + 1) line)) is_value_end) (FieldType start) (BadField start) v no)
+    let no : cond (then_is (behind_quotes false (drop (n + 1) line)) is_value_end) (Err (fault_at FieldType start)) (Err (fault_at BadField start)) ≡ Ok v = rw e at done in
+    absurd (faulty (then_is (behind_quotes false (drop (n + 1) line)) is_value_end) (fault_at FieldType start) (fault_at BadField start) v no)
 value_at_by start line n v false e le done =
     let read : (value_of start (slice_range line n (end_of Plain line n)) >>= λ x. Ok (x, end_of Plain line n)) ≡ Ok v = rw e at done in
     let b = bind_ok (value_of start (slice_range line n (end_of Plain line n))) (λ x. Ok (x, end_of Plain line n)) v read in
@@ -150,8 +151,8 @@ unfolding next_field
 field_told line n g le e =
     let key_end = end_of Equals line n in
     let key = piece_at Equals line n key_end in
-    let a = not_err (eqb key_end n || not (eqb (slice_index line key_end) 61)) (BadField n) _ g e in
-    let b = not_err (bytes_eq key.text (codes "time")) (ReservedKey n) _ g a.1 in
+    let a = not_err (eqb key_end n || not (eqb (slice_index line key_end) 61)) (fault_at BadField n) _ g e in
+    let b = not_err (bytes_eq key.text (codes "time")) (fault_at ReservedKey n) _ g a.1 in
     let v = bind_ok (value_at n line (key_end + 1)) _ g b.1 in
     let p = or_parts (eqb key_end n) (not (eqb (slice_index line key_end) 61)) a.0 in
     let equals : slice_index line key_end ≡ 61 = eqb-true (slice_index line key_end) 61 (not-false (eqb (slice_index line key_end) 61) p.1) in

@@ -8,7 +8,8 @@ use Rattle.std.proofs.lemmas.List.Folds.{list_all-append}
 use Rattle.std.proofs.lemmas.Option.{cond_some}
 use Rattle.ts_core.specs.Facts.{Text}
 use Rattle.ts_core.specs.Times.{least_time, greatest_time}
-use Rattle.ts_line.specs.declared.fault.LineFault.TheVariants.{BadTimestamp}
+use Rattle.ts_line.specs.declared.fault.LineFaultKind.TheVariants.{BadTimestamp}
+use Rattle.ts_line.specs.FaultText.{fault_at}
 use Rattle.ts_line.specs.Numbers.{is_number, is_from_to}
 use Rattle.ts_line.specs.Scan.{spaces, spaces_end}
 use Rattle.ts_line.specs.Lines.{is_bare_space, trimmed, without_return, content, time_of, time_by, time_at}
@@ -64,7 +65,7 @@ stamp_told unit gap number stamp time spelled gap_is number_is e =
     let c = cond_some (is_from_to least_time greatest_time (signed_digits_value 10 number *ℤ unit)) (signed_digits_value 10 number *ℤ unit) time e in
     record { gap = gap; number = number; spelled = spelled; gap_is = gap_is; number_is = number_is; counted = sym c.1; valid = rw (← c.1) (within_time (signed_digits_value 10 number *ℤ unit) c.0) }
 
-number_by : (unit : ℤ) (start : ℕ) (number : Text) (time : ℤ) (b : Bool) → is_number number ≡ b → cond b (time_by start (time_of unit number)) (Err (BadTimestamp start)) ≡ Ok time → (is_number number ≡ true) × (time_of unit number ≡ Some time)
+number_by : (unit : ℤ) (start : ℕ) (number : Text) (time : ℤ) (b : Bool) → is_number number ≡ b → cond b (time_by start (time_of unit number)) (Err (fault_at BadTimestamp start)) ≡ Ok time → (is_number number ≡ true) × (time_of unit number ≡ Some time)
 number_by unit start number time true is e = (is, stamp_by unit start number time (time_of unit number) refl e)
 number_by unit start number time false is e = absurd cc
 
@@ -80,7 +81,7 @@ time_by_end unit now line n time true whole le space e =
 time_by_end unit now line n time false more le space e =
     let start = spaces_end line n in
     let number = slice_range line start (length line) in
-    let read : cond (is_number number) (time_by start (time_of unit number)) (Err (BadTimestamp start)) ≡ Ok time = rw more at e in
+    let read : cond (is_number number) (time_by start (time_of unit number)) (Err (fault_at BadTimestamp start)) ≡ Ok time = rw more at e in
     let is = number_by unit start number time (is_number number) refl read in
     let inside = spaces_within line n le in
     let lt : n < length line = grind (arith, nat_tests) in

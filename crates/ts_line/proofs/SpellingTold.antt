@@ -5,7 +5,8 @@ use Rattle.std.proofs.lemmas.Bool.{or_parts, and_from, both_ways, ltb-false, eqb
 use Rattle.std.proofs.lemmas.Bool.Decides.{nat_tests}
 use Rattle.ts_core.specs.Facts.{Text}
 use Rattle.ts_line.specs.declared.fault.LineFault.{LineFault}
-use Rattle.ts_line.specs.declared.fault.LineFault.TheVariants.{NoMeasurement, NoField, OverLimit}
+use Rattle.ts_line.specs.declared.fault.LineFaultKind.TheVariants.{NoMeasurement, NoField, OverLimit}
+use Rattle.ts_line.specs.FaultText.{fault_at}
 use Rattle.ts_line.specs.declared.scan.Stops.TheVariants.{Space, Comma}
 use Rattle.ts_line.specs.Parts.{Piece, Parts}
 use Rattle.ts_line.specs.Scan.{is_stop, end_of, spaces_end}
@@ -44,8 +45,8 @@ unfolding measurement_at
 measurement_told line n m le e =
     let end = end_of Comma line n in
     let raw = slice_range line n end in
-    let a = not_err (ltb (n + 4096) (end_of Space line n)) (OverLimit (n + 4096)) _ m e in
-    let b = not_err (eqb end n) (NoMeasurement n) _ m a.1 in
+    let a = not_err (ltb (n + 4096) (end_of Space line n)) (fault_at OverLimit (n + 4096)) _ m e in
+    let b = not_err (eqb end n) (fault_at NoMeasurement n) _ m a.1 in
     let inside = end_within Comma line n le in
     let some : n < end = let ne = b.0 in grind (arith, nat_tests) in
     let len : length raw ≡ end - n = slice_len line n end inside.0 inside.1 in
@@ -126,8 +127,8 @@ unfolding parts_at
 parts_told unit now line n parts le e =
     let m = bind_ok (measurement_at line n) _ parts e in
     let tags = bind_ok (tags_at 65 [] line m.0.1) _ parts m.2 in
-    let fields = bind_ok (cond (eqb (spaces_end line tags.0.1) (length line)) (Err (NoField tags.0.1)) (fields_at 256 [] line (spaces_end line tags.0.1))) _ parts tags.2 in
-    let more = not_err (eqb (spaces_end line tags.0.1) (length line)) (NoField tags.0.1) (fields_at 256 [] line (spaces_end line tags.0.1)) fields.0 fields.1 in
+    let fields = bind_ok (cond (eqb (spaces_end line tags.0.1) (length line)) (Err (fault_at NoField tags.0.1)) (fields_at 256 [] line (spaces_end line tags.0.1))) _ parts tags.2 in
+    let more = not_err (eqb (spaces_end line tags.0.1) (length line)) (fault_at NoField tags.0.1) (fields_at 256 [] line (spaces_end line tags.0.1)) fields.0 fields.1 in
     let time = bind_ok (time_at unit now line fields.0.1) _ parts fields.2 in
     let told : record { measurement = m.0.0; tags = tags.0.0; fields = fields.0.0; time = time.0 } ≡ parts = let all = time.2 in cc in
     tags_gap unit now line n parts m.0 tags.0 fields.0 time.0 (measurement_told line n m.0 le m.1) tags.1 more.0 more.1 time.1 (sym told)
@@ -232,7 +233,7 @@ unfolding line_of
 spelling_told unit now source parts e =
     let line = content source in
     let start = spaces_end line 0 in
-    let short = not_err (ltb 65536 (length source)) (OverLimit 65536) _ (Some parts) e in
+    let short = not_err (ltb 65536 (length source)) (fault_at OverLimit 65536) _ (Some parts) e in
     let some = not_none (eqb start (length line) || eqb (slice_index line start) 35) _ parts short.1 in
     let b = or_parts (eqb start (length line)) (eqb (slice_index line start) 35) some.0 in
     let p = bind_ok (parts_at unit now line start) _ (Some parts) some.1 in

@@ -6,7 +6,8 @@ use Rattle.std.proofs.lemmas.List.{map_push}
 use Rattle.std.proofs.lemmas.Slice.Eq.{bytes_eq-Decides}
 use Rattle.ts_core.specs.Facts.{Text}
 use Rattle.ts_core.specs.Members.{Among, AllDistinct}
-use Rattle.ts_line.specs.declared.fault.LineFault.TheVariants.{BadTag, RepeatedTagKey, OverLimit, ReservedKey}
+use Rattle.ts_line.specs.declared.fault.LineFaultKind.TheVariants.{BadTag, RepeatedTagKey, OverLimit, ReservedKey}
+use Rattle.ts_line.specs.FaultText.{fault_at}
 use Rattle.ts_line.specs.declared.scan.Stops.TheVariants.{Equals}
 use Rattle.ts_line.specs.Parts.{Piece}
 use Rattle.ts_line.specs.Scan.{is_stop, end_of}
@@ -52,7 +53,7 @@ pair_told line n t end le e =
     let value_end = end_of Equals line (key_end + 1) in
     let key = slice_range line n key_end in
     let value = slice_range line (key_end + 1) value_end in
-    let all = not_err (eqb key_end n || not (eqb (slice_index line key_end) 61) || eqb value_end (key_end + 1) || eqb (slice_index line value_end) 61) (BadTag n) _ (t, end) e in
+    let all = not_err (eqb key_end n || not (eqb (slice_index line key_end) 61) || eqb value_end (key_end + 1) || eqb (slice_index line value_end) 61) (fault_at BadTag n) _ (t, end) e in
     let a = or_parts (eqb key_end n || not (eqb (slice_index line key_end) 61) || eqb value_end (key_end + 1)) (eqb (slice_index line value_end) 61) all.0 in
     let b = or_parts (eqb key_end n || not (eqb (slice_index line key_end) 61)) (eqb value_end (key_end + 1)) a.0 in
     let c = or_parts (eqb key_end n) (not (eqb (slice_index line key_end) 61)) b.0 in
@@ -118,9 +119,9 @@ pub tag_is : (before : Tags) (line : Text) (n : ℕ) (t : (Piece × Piece) × �
 unfolding next_tag
 tag_is before line n t le e =
     let p = bind_ok (pair_at line n) _ t e in
-    let room = not_err (leb 64 (length before)) (OverLimit n) _ t p.2 in
-    let other = not_err (bytes_eq p.0.0.0.text (codes "time")) (ReservedKey n) _ t room.1 in
-    let new = not_err (has_key before p.0.0.0.text) (RepeatedTagKey n) _ t other.1 in
+    let room = not_err (leb 64 (length before)) (fault_at OverLimit n) _ t p.2 in
+    let other = not_err (bytes_eq p.0.0.0.text (codes "time")) (fault_at ReservedKey n) _ t room.1 in
+    let new = not_err (has_key before p.0.0.0.text) (fault_at RepeatedTagKey n) _ t other.1 in
     let same : p.0 ≡ t = let all = new.1 in cc in
     let less : length before < 64 = let r = room.0 in grind (arith, nat_tests) in
     subst (λ (x : (Piece × Piece) × ℕ). IsTag before line n x.0 x.1) same (record { pair = pair_told line n p.0.0 p.0.1 le p.1; room = less; other = other.0; new = new.0 })

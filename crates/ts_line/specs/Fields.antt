@@ -2,7 +2,8 @@
 use Rattle.std.specs.Prelude.{ℕ, ℤ, zero, suc, ◌+◌, List, [], ◌∷◌, not, ◌||◌, ◌==◌, if◌then◌else◌, slice_index, Option, Some, None, Result, Ok, Err, bytes_eq, codes}
 use Rattle.ts_core.specs.Facts.{Text}
 use Rattle.ts_line.specs.declared.fault.LineFault.{LineFault}
-use Rattle.ts_line.specs.declared.fault.LineFault.TheVariants.{BadField, OverLimit, ReservedKey}
+use Rattle.ts_line.specs.declared.fault.LineFaultKind.TheVariants.{BadField, OverLimit, ReservedKey}
+use Rattle.ts_line.specs.FaultText.{fault_at}
 use Rattle.ts_line.specs.declared.scan.Stops.TheVariants.{Equals}
 use Rattle.ts_line.specs.Parts.{Piece}
 use Rattle.ts_line.specs.Scan.{end_of}
@@ -15,8 +16,8 @@ unfoldable pub next_field : Text → ℕ → Result ((Piece × ℤ) × ℕ) Line
 next_field line start =
     let key_end = end_of Equals line start in
     let key = piece_at Equals line start key_end in
-    if key_end == start || not (slice_index line key_end == 61) then Err (BadField start) else
-    (if bytes_eq key.text (codes "time") then Err (ReservedKey start) else
+    if key_end == start || not (slice_index line key_end == 61) then Err (fault_at BadField start) else
+    (if bytes_eq key.text (codes "time") then Err (fault_at ReservedKey start) else
     (value_at start line (key_end + 1) >>= λ v. Ok ((key, v.0), v.1)))
 
 -- the place of the first field of a name, where the first field is at `at`
@@ -31,6 +32,6 @@ with_field (g ∷ gs) f = if bytes_eq g.0.text f.0.text then ((g.0, f.1) ∷ gs)
 
 -- the fields from `at` on, with commas between them, put behind others, and the end of the last; so many are taken
 unfoldable pub fields_at : ℕ → List (Piece × ℤ) → Text → ℕ → Result (List (Piece × ℤ) × ℕ) LineFault
-fields_at zero before line at = Err (OverLimit at)
+fields_at zero before line at = Err (fault_at OverLimit at)
 fields_at (suc n) before line at = next_field line at >>= λ f.
     if slice_index line f.1 == 44 then fields_at n (with_field before f.0) line (f.1 + 1) else Ok (with_field before f.0, f.1)

@@ -5,7 +5,8 @@ use Rattle.std.specs.Str.Parse.{signed_digits_value}
 use Rattle.ts_core.specs.Facts.{Text}
 use Rattle.ts_core.specs.Times.{least_time, greatest_time}
 use Rattle.ts_line.specs.declared.fault.LineFault.{LineFault}
-use Rattle.ts_line.specs.declared.fault.LineFault.TheVariants.{NoMeasurement, NoField, BadTimestamp, TimestampRange, OverLimit}
+use Rattle.ts_line.specs.declared.fault.LineFaultKind.TheVariants.{NoMeasurement, NoField, BadTimestamp, TimestampRange, OverLimit}
+use Rattle.ts_line.specs.FaultText.{fault_at}
 use Rattle.ts_line.specs.declared.scan.Stops.TheVariants.{Space, Comma}
 use Rattle.ts_line.specs.Parts.{Piece, Parts}
 use Rattle.ts_line.specs.Numbers.{is_number, is_from_to}
@@ -35,15 +36,15 @@ content source = take (trimmed source (without_return source)) source
 -- the measurement, and its end; with the tags it has no more than 4,096 bytes
 unfoldable pub measurement_at : Text → ℕ → Result (Piece × ℕ) LineFault
 measurement_at line start =
-    if nat_lt (start + 4096) (end_of Space line start) then Err (OverLimit (start + 4096)) else
-    (if end_of Comma line start == start then Err (NoMeasurement start) else Ok (piece_at Comma line start (end_of Comma line start), end_of Comma line start))
+    if nat_lt (start + 4096) (end_of Space line start) then Err (fault_at OverLimit (start + 4096)) else
+    (if end_of Comma line start == start then Err (fault_at NoMeasurement start) else Ok (piece_at Comma line start (end_of Comma line start), end_of Comma line start))
 
 -- the time of so many units
 unfoldable pub time_of : ℤ → Text → Option ℤ
 time_of unit number = if is_from_to least_time greatest_time (signed_digits_value 10 number *ℤ unit) then Some (signed_digits_value 10 number *ℤ unit) else None
 
 abbrev pub time_by : ℕ → Option ℤ → Result ℤ LineFault
-time_by start None = Err (TimestampRange start)
+time_by start None = Err (fault_at TimestampRange start)
 time_by start (Some t) = Ok t
 
 -- the time, or the moment at hand
@@ -51,21 +52,21 @@ unfoldable pub time_at : ℤ → ℤ → Text → ℕ → Result ℤ LineFault
 time_at unit now line at =
     let start = spaces_end line at in
     let number = slice_range line start (length line) in
-    if start == length line then Ok now else (if is_number number then time_by start (time_of unit number) else Err (BadTimestamp start))
+    if start == length line then Ok now else (if is_number number then time_by start (time_of unit number) else Err (fault_at BadTimestamp start))
 
 -- the parts of a line from `start` on
 unfoldable pub parts_at : ℤ → ℤ → Text → ℕ → Result Parts LineFault
 parts_at unit now line start =
     measurement_at line start >>= λ m.
     tags_at 65 [] line m.1 >>= λ tags.
-    (if spaces_end line tags.1 == length line then Err (NoField tags.1) else fields_at 256 [] line (spaces_end line tags.1)) >>= λ fields.
+    (if spaces_end line tags.1 == length line then Err (fault_at NoField tags.1) else fields_at 256 [] line (spaces_end line tags.1)) >>= λ fields.
     time_at unit now line fields.1 >>= λ time.
     Ok (record { measurement = m.0; tags = tags.0; fields = fields.0; time = time })
 
 -- what a line says, given without its line feed: its parts, nothing for a comment or a blank line, or its first fault
 unfoldable pub line_of : ℤ → ℤ → Text → Result (Option Parts) LineFault
 line_of unit now source =
-    if nat_lt 65536 (length source) then Err (OverLimit 65536) else
+    if nat_lt 65536 (length source) then Err (fault_at OverLimit 65536) else
     (let line = content source in
     let start = spaces_end line 0 in
     if start == length line || slice_index line start == 35 then Ok None else (parts_at unit now line start >>= λ p. Ok (Some p)))

@@ -3,7 +3,8 @@ use Rattle.std.specs.Prelude.{ℕ, zero, suc, ◌+◌, List, [], ◌∷◌, ◌+
 use Rattle.std.specs.List.{list_any}
 use Rattle.ts_core.specs.Facts.{Text}
 use Rattle.ts_line.specs.declared.fault.LineFault.{LineFault}
-use Rattle.ts_line.specs.declared.fault.LineFault.TheVariants.{BadTag, RepeatedTagKey, OverLimit, ReservedKey}
+use Rattle.ts_line.specs.declared.fault.LineFaultKind.TheVariants.{BadTag, RepeatedTagKey, OverLimit, ReservedKey}
+use Rattle.ts_line.specs.FaultText.{fault_at}
 use Rattle.ts_line.specs.declared.scan.Stops.TheVariants.{Equals}
 use Rattle.ts_line.specs.Parts.{Piece}
 use Rattle.ts_line.specs.Scan.{end_of}
@@ -16,7 +17,7 @@ pair_at line start =
     let key_end = end_of Equals line start in
     let value_end = end_of Equals line (key_end + 1) in
     if key_end == start || not (slice_index line key_end == 61) || value_end == key_end + 1 || slice_index line value_end == 61
-    then Err (BadTag start)
+    then Err (fault_at BadTag start)
     else Ok ((piece_at Equals line start key_end, piece_at Equals line (key_end + 1) value_end), value_end)
 
 abbrev pub has_key : List (Piece × Piece) → Text → Bool
@@ -25,9 +26,9 @@ has_key tags key = list_any (λ t. bytes_eq t.0.text key) tags
 -- the tag that begins at `start`, behind others
 unfoldable pub next_tag : List (Piece × Piece) → Text → ℕ → Result ((Piece × Piece) × ℕ) LineFault
 next_tag before line start = pair_at line start >>= λ t.
-    if nat_le 64 (length before) then Err (OverLimit start) else
-    (if bytes_eq t.0.0.text (codes "time") then Err (ReservedKey start) else
-    (if has_key before t.0.0.text then Err (RepeatedTagKey start) else Ok t))
+    if nat_le 64 (length before) then Err (fault_at OverLimit start) else
+    (if bytes_eq t.0.0.text (codes "time") then Err (fault_at ReservedKey start) else
+    (if has_key before t.0.0.text then Err (fault_at RepeatedTagKey start) else Ok t))
 
 -- The tags from `at` on, each behind a comma, put behind others, and the end of the last. So many are looked at:
 -- no more than 64 are taken, and the one behind them is a fault.

@@ -3,7 +3,8 @@ use Rattle.std.specs.Prelude.{ℕ, ℤ, ◌+◌, ◌-◌, [], ◌∷◌, length,
 use Rattle.std.specs.Char.{is_ascii_digit}
 use Rattle.ts_core.specs.Facts.{Text}
 use Rattle.ts_line.specs.declared.fault.LineFault.{LineFault}
-use Rattle.ts_line.specs.declared.fault.LineFault.TheVariants.{BadField, FieldType, IntegerRange}
+use Rattle.ts_line.specs.declared.fault.LineFaultKind.TheVariants.{BadField, FieldType, IntegerRange}
+use Rattle.ts_line.specs.FaultText.{fault_at}
 use Rattle.ts_line.specs.declared.scan.Stops.TheVariants.{Plain}
 use Rattle.ts_line.specs.Numbers.{are_digits, is_number, without_minus, whole_of}
 use Rattle.ts_line.specs.Scan.{end_of}
@@ -67,18 +68,18 @@ is_value_end (b ∷ bs) = b == 44 || b == 32
 -- ---- values
 
 abbrev pub integer_by : ℕ → Option ℤ → Result ℤ LineFault
-integer_by start None = Err (IntegerRange start)
+integer_by start None = Err (fault_at IntegerRange start)
 integer_by start (Some n) = Ok n
 
 -- the value of a field that starts there; it is an integer, or a fault
 unfoldable pub value_of : ℕ → Text → Result ℤ LineFault
 value_of start text =
     if is_integer text then integer_by start (whole_of (take (length text - 1) text)) else
-    (if is_unsigned text || is_boolean text || is_float text then Err (FieldType start) else Err (BadField start))
+    (if is_unsigned text || is_boolean text || is_float text then Err (fault_at FieldType start) else Err (fault_at BadField start))
 
 -- the value that begins at `at`, and its end
 unfoldable pub value_at : ℕ → Text → ℕ → Result (ℤ × ℕ) LineFault
 value_at start line at =
     if slice_index line at == 34
-    then (if then_is (behind_quotes false (drop (at + 1) line)) is_value_end then Err (FieldType start) else Err (BadField start))
+    then (if then_is (behind_quotes false (drop (at + 1) line)) is_value_end then Err (fault_at FieldType start) else Err (fault_at BadField start))
     else (value_of start (slice_range line at (end_of Plain line at)) >>= λ n. Ok (n, end_of Plain line at))

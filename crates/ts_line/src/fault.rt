@@ -1,103 +1,106 @@
 //! Why a line is refused.
 ghost use Rattle.std.specs.Prelude.{◌≡◌, ◌+◌, ◌≤◌, ◌++◌, length, IsOk, OnOk, OnErr, string_bytes, string_len, string_capacity};
-ghost use Rattle.ts_line.specs.FaultText.{number_of, offset_of, fault_text, BeginsFault};
+ghost use Rattle.ts_core.specs.FaultTexts.{EndsEarly};
+ghost use Rattle.ts_line.specs.FaultText.{fault_at, line_fault_code, line_fault_text};
 ghost use Rattle.ts_line.specs.declared.fault.ReadLineError.TheVariants as errors;
 
-use itoa::Buffer;
 use std::alloc::{AllocError, AllocFailed, Allocator};
+use thiserror::Error;
+use ts_core::{FaultCode, FaultDetail};
 
-/// Why a line is refused, each with a place in the text that `read_line` was given: of a byte, counted from 0, or
-/// of the end where no byte is left.
+/// What is wrong with a line.
 #[derive(Clone, Copy, Debug, PartialEq, Eq)]
-pub enum LineFault {
+pub enum LineFaultKind {
     /// The measurement is empty (number 11). The place is where it would begin.
-    NoMeasurement(usize),
+    NoMeasurement,
     /// A tag has no equals sign, more than one, or an empty side (number 12). The place is the tag's first byte.
-    BadTag(usize),
+    BadTag,
     /// A tag key stands a second time (number 13). The place is the first byte of the later tag.
-    RepeatedTagKey(usize),
+    RepeatedTagKey,
     /// No field is there (number 14). The place is right behind the measurement and its tags.
-    NoField(usize),
+    NoField,
     /// A field isn't of the form (number 15). The place is the field's first byte.
-    BadField(usize),
+    BadField,
     /// A field is a float, a string, a boolean or unsigned (number 16). The place is the field's first byte.
-    FieldType(usize),
+    FieldType,
     /// An integer doesn't fit 64 bits (number 17). The place is the first byte of its field.
-    IntegerRange(usize),
+    IntegerRange,
     /// The timestamp is no number (number 18). The place is the timestamp's first byte.
-    BadTimestamp(usize),
+    BadTimestamp,
     /// The timestamp isn't a valid time (number 19). The place is the timestamp's first byte.
-    TimestampRange(usize),
+    TimestampRange,
     /// The line or its key part is too long, or its tags or its fields are too many (number 20). The place is the first
     /// byte past the limit, or the first byte of the first tag or field past it.
-    OverLimit(usize),
+    OverLimit,
     /// A tag key or a field key is `time` (number 21). The place is the first byte of that tag or field.
-    ReservedKey(usize),
+    ReservedKey,
+}
+
+/// Why a line is refused, and where.
+#[derive(Clone, Copy, Debug, PartialEq, Eq, Error)]
+#[error("{}, at byte {at}", words(*.kind))]
+pub struct LineFault {
+    /// What is wrong.
+    pub kind: LineFaultKind,
+    /// The place in the text that `read_line` was given: of a byte, counted from 0, or of the end where no byte is left.
+    pub at: usize,
+}
+
+/// A fault in words.
+fn words(kind: LineFaultKind) -> &'static str {
+    kind.code().words()
+}
+
+impl LineFaultKind {
+    /// The fault at that place.
+    pub(crate) fn at(self, at: usize) -> LineFault
+        ensures { result ≡ fault_at self at }
+    {
+        LineFault { kind: self, at }
+    }
+
+    /// The fault in the table of all faults.
+    pub fn code(self) -> FaultCode
+        ensures { result ≡ line_fault_code self }
+    {
+        match self {
+            LineFaultKind::NoMeasurement => FaultCode::NoMeasurement,
+            LineFaultKind::BadTag => FaultCode::BadTag,
+            LineFaultKind::RepeatedTagKey => FaultCode::RepeatedTagKey,
+            LineFaultKind::NoField => FaultCode::NoField,
+            LineFaultKind::BadField => FaultCode::BadField,
+            LineFaultKind::FieldType => FaultCode::FieldType,
+            LineFaultKind::IntegerRange => FaultCode::IntegerRange,
+            LineFaultKind::BadTimestamp => FaultCode::BadTimestamp,
+            LineFaultKind::TimestampRange => FaultCode::TimestampRange,
+            LineFaultKind::OverLimit => FaultCode::OverLimit,
+            LineFaultKind::ReservedKey => FaultCode::ReservedKey,
+        }
+    }
 }
 
 impl LineFault {
-    /// Its number.
-    pub fn number(self) -> u8
-        ensures { result ≡ number_of self }
-    {
-        match self {
-            LineFault::NoMeasurement(_) => 11,
-            LineFault::BadTag(_) => 12,
-            LineFault::RepeatedTagKey(_) => 13,
-            LineFault::NoField(_) => 14,
-            LineFault::BadField(_) => 15,
-            LineFault::FieldType(_) => 16,
-            LineFault::IntegerRange(_) => 17,
-            LineFault::BadTimestamp(_) => 18,
-            LineFault::TimestampRange(_) => 19,
-            LineFault::OverLimit(_) => 20,
-            LineFault::ReservedKey(_) => 21,
-        }
-    }
-
-    /// Its place, as said at each fault.
-    pub fn offset(self) -> usize
-        ensures { result ≡ offset_of self }
-    {
-        match self {
-            LineFault::NoMeasurement(at)
-            | LineFault::BadTag(at)
-            | LineFault::RepeatedTagKey(at)
-            | LineFault::NoField(at)
-            | LineFault::BadField(at)
-            | LineFault::FieldType(at)
-            | LineFault::IntegerRange(at)
-            | LineFault::BadTimestamp(at)
-            | LineFault::TimestampRange(at)
-            | LineFault::OverLimit(at)
-            | LineFault::ReservedKey(at) => at,
-        }
-    }
-
     /// Appends its text, or a beginning of it where memory is wanted. Where the room is there, none is.
-    #[tactic(auto, using(crate::proofs::FaultLemmas::fault_text_short), unfolding(crate::specs::FaultText::fault_text))]
+    #[tactic(auto, using(crate::proofs::FaultLemmas::line_fault_text_short), unfolding(crate::specs::FaultText::line_fault_text))]
     pub fn text_to<A: Allocator>(&self, text: &mut String<A>) -> Result<(), AllocError>
-        ensures ok { OnOk result (string_bytes text.new ≡ string_bytes text.old ++ fault_text self.now) }
-        ensures err { OnErr result (BeginsFault self.now (string_bytes text.old) (string_bytes text.new)) }
-        ensures room { string_len text.old + length (fault_text self.now) ≤ string_capacity text.old → IsOk result }
-        ensures short { length (fault_text self.now) ≤ 32 }
+        ensures ok { OnOk result (string_bytes text.new ≡ string_bytes text.old ++ line_fault_text self.now) }
+        ensures err { OnErr result (EndsEarly (line_fault_text self.now) (string_bytes text.old) (string_bytes text.new)) }
+        ensures room { string_len text.old + length (line_fault_text self.now) ≤ string_capacity text.old → IsOk result }
+        ensures short { length (line_fault_text self.now) ≤ 32 }
         ensures capacity { string_capacity text.old ≤ string_capacity text.new }
     {
-        let number = self.number();
-        let offset = self.offset();
-        text.push_str("fault ")?;
-        text.push_str(Buffer::new().format(number))?;
-        text.push_str(" at ")?;
-        text.push_str(Buffer::new().format(offset))
+        self.kind.code().text_to(FaultDetail::at(self.at), text)
     }
 }
 
 /// Why no line was read.
-#[derive(Clone, Copy, Debug, PartialEq, Eq)]
+#[derive(Clone, Copy, Debug, PartialEq, Eq, Error)]
 pub enum ReadLineError {
     /// The text is at fault.
+    #[error(transparent)]
     Fault(LineFault),
     /// No memory was found.
+    #[error("out of memory")]
     OutOfMemory,
 }
 

@@ -4,7 +4,7 @@ ghost use Rattle.std.specs.Str.{IsCharBoundary};
 ghost use Rattle.ts_line.specs.Steps.{GivesIfRoom};
 ghost use Rattle.ts_line.specs.Fields.{next_field, place_from, with_field, fields_at};
 
-use crate::fault::{LineFault, ReadLineError};
+use crate::fault::{LineFaultKind, ReadLineError};
 use crate::line::Field;
 use crate::part::part_at;
 use crate::scan::{Stops, after, byte_at, end_at};
@@ -27,11 +27,11 @@ fn next<'a, A: Allocator + Copy>(
 {
     let key_end = end_at(line, start, Stops::Equals);
     if key_end.at == start || byte_at(line, key_end.at) != b'=' {
-        return Err(ReadLineError::Fault(LineFault::BadField(start)));
+        return Err(ReadLineError::Fault(LineFaultKind::BadField.at(start)));
     }
     let key = part_at(alloc, line, start, key_end, Stops::Equals)?;
     if key.text() == "time" {
-        return Err(ReadLineError::Fault(LineFault::ReservedKey(start)));
+        return Err(ReadLineError::Fault(LineFaultKind::ReservedKey.at(start)));
     }
     let (value, end) = value_at(start, line, after(line, key_end.at))?;
     Ok((Field::new(key, value), end))
@@ -87,5 +87,5 @@ pub fn fields<'a, A: Allocator + Copy>(
         }
         at = after(line, end);
     }
-    Err(ReadLineError::Fault(LineFault::OverLimit(at)))
+    Err(ReadLineError::Fault(LineFaultKind::OverLimit.at(at)))
 }

@@ -13,7 +13,7 @@ mod scan;
 mod tag;
 mod value;
 
-pub use fault::{LineFault, ReadLineError};
+pub use fault::{LineFault, LineFaultKind, ReadLineError};
 pub use line::{Field, Line, Part, Tag};
 pub use number::{is_number, moment};
 pub use read::read_line;

@@ -9,7 +9,7 @@ ghost use Rattle.ts_line.specs.Steps.{GivesIfRoom};
 ghost use Rattle.ts_core.specs.TimeUnits.{nanoseconds_of};
 ghost use Rattle.ts_line.specs.Lines.{is_bare_space, trimmed, without_return, content, measurement_at, time_at, parts_at, line_of};
 
-use crate::fault::{LineFault, ReadLineError};
+use crate::fault::{LineFault, LineFaultKind, ReadLineError};
 use crate::field::fields;
 use crate::line::{Line, Part};
 use crate::number::{is_number, moment};
@@ -59,7 +59,7 @@ fn whole_line<A: Allocator + Copy>(
     ensures { GivesIfRoom (λ o. o) result (line_of (nanoseconds_of precision) now text.now) }
 {
     if text.len() > LINE_LIMIT {
-        return Err(ReadLineError::Fault(LineFault::OverLimit(LINE_LIMIT)));
+        return Err(ReadLineError::Fault(LineFaultKind::OverLimit.at(LINE_LIMIT)));
     }
     let line = content(text);
     let start = after_spaces(line, 0);
@@ -127,11 +127,11 @@ fn measurement<'a, A: Allocator>(
 {
     let limit = start + KEY_LIMIT;
     if line.len() > limit && end_at(line, start, Stops::Space).at > limit {
-        return Err(ReadLineError::Fault(LineFault::OverLimit(limit)));
+        return Err(ReadLineError::Fault(LineFaultKind::OverLimit.at(limit)));
     }
     let end = end_at(line, start, Stops::Comma);
     if end.at == start {
-        return Err(ReadLineError::Fault(LineFault::NoMeasurement(start)));
+        return Err(ReadLineError::Fault(LineFaultKind::NoMeasurement.at(start)));
     }
     Ok((part_at(alloc, line, start, end, Stops::Comma)?, end.at))
 }
@@ -148,9 +148,9 @@ fn time(line: &str, at: usize, precision: TimeUnit, now: Time) -> Result<Time, L
     }
     let number = &line[start..];
     if !is_number(number.as_bytes()) {
-        return Err(LineFault::BadTimestamp(start));
+        return Err(LineFaultKind::BadTimestamp.at(start));
     }
-    moment(number, precision.nanoseconds()).ok_or(LineFault::TimestampRange(start))
+    moment(number, precision.nanoseconds()).ok_or(LineFaultKind::TimestampRange.at(start))
 }
 
 /// The parts of a line from `start` on.
@@ -170,7 +170,7 @@ fn parts<A: Allocator + Copy>(
     let (tags, end) = tags(alloc, line, end)?;
     let start = after_spaces(line, end);
     if start == line.len() {
-        return Err(ReadLineError::Fault(LineFault::NoField(end)));
+        return Err(ReadLineError::Fault(LineFaultKind::NoField.at(end)));
     }
     let (fields, end) = fields(alloc, line, start)?;
     let time = time(line, end, precision, now)?;

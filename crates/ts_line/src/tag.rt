@@ -4,7 +4,7 @@ ghost use Rattle.std.specs.Str.{IsCharBoundary};
 ghost use Rattle.ts_line.specs.Steps.{GivesIfRoom};
 ghost use Rattle.ts_line.specs.Tags.{has_key, next_tag, tags_at};
 
-use crate::fault::{LineFault, ReadLineError};
+use crate::fault::{LineFaultKind, ReadLineError};
 use crate::line::{TAG_LIMIT, Tag};
 use crate::part::part_at;
 use crate::scan::{Stops, after, byte_at, end_at};
@@ -33,22 +33,22 @@ fn next<'a, A: Allocator + Copy>(
 {
     let key_end = end_at(line, start, Stops::Equals);
     if key_end.at == start || byte_at(line, key_end.at) != b'=' {
-        return Err(ReadLineError::Fault(LineFault::BadTag(start)));
+        return Err(ReadLineError::Fault(LineFaultKind::BadTag.at(start)));
     }
     let value_start = after(line, key_end.at);
     let value_end = end_at(line, value_start, Stops::Equals);
     if value_end.at == value_start || byte_at(line, value_end.at) == b'=' {
-        return Err(ReadLineError::Fault(LineFault::BadTag(start)));
+        return Err(ReadLineError::Fault(LineFaultKind::BadTag.at(start)));
     }
     if before.len() >= TAG_LIMIT {
-        return Err(ReadLineError::Fault(LineFault::OverLimit(start)));
+        return Err(ReadLineError::Fault(LineFaultKind::OverLimit.at(start)));
     }
     let key = part_at(alloc, line, start, key_end, Stops::Equals)?;
     if key.text() == "time" {
-        return Err(ReadLineError::Fault(LineFault::ReservedKey(start)));
+        return Err(ReadLineError::Fault(LineFaultKind::ReservedKey.at(start)));
     }
     if has_key(before, key.text()) {
-        return Err(ReadLineError::Fault(LineFault::RepeatedTagKey(start)));
+        return Err(ReadLineError::Fault(LineFaultKind::RepeatedTagKey.at(start)));
     }
     let value = part_at(alloc, line, value_start, value_end, Stops::Equals)?;
     Ok((Tag::new(key, value), value_end.at))

@@ -1,10 +1,11 @@
 //! The values of fields, told by their shape.
 ghost use Rattle.std.specs.Prelude.{◌≡◌, ◌≤◌, IfOk, option_map, if◌then◌else◌, false};
 ghost use Rattle.std.specs.Str.{IsCharBoundary};
+ghost use Rattle.ts_line.specs.FaultText.{fault_at};
 ghost use Rattle.ts_line.specs.Numbers.{are_digits};
 ghost use Rattle.ts_line.specs.Values.{is_unsigned, is_boolean, is_float, behind_digits, behind_fraction, is_exponent, without_sign, behind_quotes, is_value_end, then_is, value_of, value_at};
 
-use crate::fault::LineFault;
+use crate::fault::{LineFault, LineFaultKind};
 use crate::number::{after_minus, are_digits, is_number, whole};
 use crate::scan::{Stops, byte_at, end_at};
 
@@ -119,23 +120,23 @@ fn value_of(start: usize, text: &str) -> Result<i64, LineFault>
     if let [.., b'i'] = bytes {
         let number = &text[..text.len() - 1];
         if is_number(number.as_bytes()) {
-            return whole(number).ok_or(LineFault::IntegerRange(start));
+            return whole(number).ok_or(LineFaultKind::IntegerRange.at(start));
         }
     }
     if is_unsigned(bytes) || is_boolean(text) || is_float(bytes) {
-        return Err(LineFault::FieldType(start));
+        return Err(LineFaultKind::FieldType.at(start));
     }
-    Err(LineFault::BadField(start))
+    Err(LineFaultKind::BadField.at(start))
 }
 
 /// The fault of a field whose value is a text in double quotes.
 #[cold]
 fn quoted(start: usize, text: &[u8]) -> LineFault
-    ensures { result ≡ (if then_is (behind_quotes false text.now) is_value_end then LineFault.FieldType start else LineFault.BadField start) }
+    ensures { result ≡ (if then_is (behind_quotes false text.now) is_value_end then fault_at LineFaultKind.FieldType start else fault_at LineFaultKind.BadField start) }
 {
     match behind_quotes(text) {
-        Some(rest) if is_value_end(rest) => LineFault::FieldType(start),
-        _ => LineFault::BadField(start),
+        Some(rest) if is_value_end(rest) => LineFaultKind::FieldType.at(start),
+        _ => LineFaultKind::BadField.at(start),
     }
 }
 

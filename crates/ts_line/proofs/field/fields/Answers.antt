@@ -1,4 +1,4 @@
-use Rattle.std.proofs.Common.{◌≡◌, ◌+◌, [], sym, ◌∙◌, slice_index}
+use Rattle.std.proofs.Common.{◌≡◌, ◌+◌, [], sym, ap, Err, ◌∙◌, slice_index}
 use Rattle.std.proofs.lemmas.Result.{err_from_is_err_and}
 use Rattle.ts_line.specs.Fields.{fields_at}
 use Rattle.ts_line.proofs.FieldLemmas.{field_taken, field_fails, fields_ended, too_many}
@@ -25,3 +25,4 @@ loop-preserved g c =
 pub returns-clause-value : goal.returns-clause-value
 returns-clause-value g c =
     too_many c.loop.counter c.loop.fields.items c.args.line.now c.loop.at (fields_at 256 [] c.args.line.now c.args.start) c.loop-test.false c.loop.invariant.value
+    ∙ ap Err (sym c.at.ensures)
