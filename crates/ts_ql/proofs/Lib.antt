@@ -32,4 +32,5 @@ pub mod DateBounds
 pub mod LexingLemmas
 pub mod GroupLemmas
 pub mod StatementLemmas
-pub mod FaultTextLemmas
+pub mod BucketLimitsLemmas
+pub mod CountingLemmas

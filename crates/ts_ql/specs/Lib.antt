@@ -9,12 +9,14 @@ pub mod Words
 pub mod QueryFaults
 pub mod QueryFaultText
 pub mod Selects
+pub mod BucketLimits
 pub mod Ranges
 pub mod Grammar
 pub mod Statements
 pub mod Meanings
 pub mod Productions
 pub mod Laws
+pub mod Counting
 -- What only the proofs of the code need: the machine that reads a text token by token.
 pub mod SelectSteps
 pub mod MomentSteps

@@ -1,53 +1,37 @@
--- The numbers and texts of the faults of texts of queries. (Own numbers.)
-use Rattle.std.specs.Borrow.{Bor}
-use Rattle.std.specs.Prelude.{◌≡◌, ℕ, List, [], ◌∷◌, ◌++◌, codes}
-use Rattle.std.specs.Fmt.{decimal}
+-- The faults of texts of queries in the table of all faults, and their texts. (Own rules.)
+use Rattle.std.specs.Prelude.{ℕ, codes}
 use Rattle.ts_core.specs.Facts.{Text}
+use Rattle.ts_core.specs.declared.fault_code.FaultCode.{FaultCode}
+use Rattle.ts_core.specs.declared.fault_code.FaultCode.TheVariants as coded
+use Rattle.ts_core.specs.FaultTexts.{at_place, at_token, numbered_text}
 use Rattle.ts_ql.specs.declared.fault.ParseError.{ParseError}
 use Rattle.ts_ql.specs.declared.fault.ParseError.TheVariants as errors
 use Rattle.ts_ql.specs.QueryFaults.{Fault, Syntax, OutOfProfile, NoLowerBound, OutOfRange, RepeatedColumn, TooManyStatements, TooManyBuckets, BucketBeforeLeastTime, as_fault}
 
-abbrev pub query_fault_number : Fault → ℕ
-query_fault_number (Syntax at) = 71
-query_fault_number (OutOfProfile at token) = 72
-query_fault_number (NoLowerBound at) = 73
-query_fault_number (OutOfRange at) = 74
-query_fault_number (RepeatedColumn at) = 75
-query_fault_number (TooManyStatements at) = 76
-query_fault_number (TooManyBuckets at) = 77
-query_fault_number (BucketBeforeLeastTime at) = 78
+abbrev pub query_fault_code : Fault → FaultCode
+query_fault_code (Syntax at) = coded.Syntax
+query_fault_code (OutOfProfile at token) = coded.OutOfProfile
+query_fault_code (NoLowerBound at) = coded.NoLowerBound
+query_fault_code (OutOfRange at) = coded.OutOfRange
+query_fault_code (RepeatedColumn at) = coded.RepeatedColumn
+query_fault_code (TooManyStatements at) = coded.TooManyStatements
+query_fault_code (TooManyBuckets at) = coded.TooManyBuckets
+query_fault_code (BucketBeforeLeastTime at) = coded.BucketBeforeLeastTime
 
--- the place in the text, in bytes from 0
-abbrev pub query_fault_offset : Fault → ℕ
-query_fault_offset (Syntax at) = at
-query_fault_offset (OutOfProfile at token) = at
-query_fault_offset (NoLowerBound at) = at
-query_fault_offset (OutOfRange at) = at
-query_fault_offset (RepeatedColumn at) = at
-query_fault_offset (TooManyStatements at) = at
-query_fault_offset (TooManyBuckets at) = at
-query_fault_offset (BucketBeforeLeastTime at) = at
-
--- what the profile leaves out stands behind the place
-abbrev pub token_behind : Fault → Text
-token_behind (OutOfProfile at token) = codes " " ++ (token ++ [])
-token_behind fault = []
+-- its place in the text, and behind it what the profile leaves out
+abbrev pub query_fault_detail : Fault → Text
+query_fault_detail (Syntax at) = at_place at
+query_fault_detail (OutOfProfile at token) = at_token at token
+query_fault_detail (NoLowerBound at) = at_place at
+query_fault_detail (OutOfRange at) = at_place at
+query_fault_detail (RepeatedColumn at) = at_place at
+query_fault_detail (TooManyStatements at) = at_place at
+query_fault_detail (TooManyBuckets at) = at_place at
+query_fault_detail (BucketBeforeLeastTime at) = at_place at
 
 abbrev pub query_fault_text : Fault → Text
-query_fault_text fault = codes "fault " ++ (decimal (query_fault_number fault) ++ (codes " at " ++ (decimal (query_fault_offset fault) ++ token_behind fault)))
+query_fault_text fault = numbered_text (query_fault_code fault) (query_fault_detail fault)
 
 abbrev pub error_text : ParseError → Text
 error_text errors.OutOfMemory = codes "fault memory"
 error_text (errors.Fault fault) = query_fault_text (as_fault fault)
-
--- words one behind another
-abbrev pub words_joined : List (Bor Text) → Text
-words_joined [] = []
-words_joined (word ∷ words) = word.now ++ words_joined words
-
--- behind what there was stands a beginning of the text
-pub record EndsEarly (text old new : Text) : Type 0 where
-  pub written : Text
-  pub missing : Text
-  pub stands : new ≡ old ++ written
-  pub whole : text ≡ written ++ missing

@@ -1,12 +1,13 @@
 //! Why a text says no queries.
 ghost use Rattle.std.specs.Prelude.{◌≡◌, ◌+◌, ◌≤◌, ◌++◌, length, IsOk, OnOk, OnErr, string_bytes, string_len, string_capacity};
 ghost use Rattle.ts_ql.specs.QueryFaults.{as_fault, fault_at};
-ghost use Rattle.ts_ql.specs.QueryFaultText.{query_fault_number, query_fault_text, error_text, words_joined, EndsEarly};
+ghost use Rattle.ts_core.specs.FaultTexts.{detail_text, EndsEarly};
+ghost use Rattle.ts_ql.specs.QueryFaultText.{query_fault_code, query_fault_detail, query_fault_text, error_text};
 ghost use Rattle.ts_ql.specs.declared.fault.ParseError.TheVariants as errors;
 
-use itoa::Buffer;
 use std::alloc::{AllocError, AllocFailed, Allocator};
 use thiserror::Error;
+use ts_core::{FaultCode, FaultDetail, append_words};
 
 /// What is wrong with a text of queries.
 #[derive(Clone, Copy, Debug, PartialEq, Eq, Error)]
@@ -73,21 +74,6 @@ impl<'a, T: Drop> From<AllocFailed<T>> for ParseError<'a> {
     }
 }
 
-/// Appends words one behind another, or a beginning of them where memory is wanted.
-fn push_all<A: Allocator + Copy>(text: &mut String<A>, words: &[&str]) -> Result<(), AllocError>
-    ensures ok { OnOk result (string_bytes text.new ≡ string_bytes text.old ++ words_joined words.now) }
-    ensures err { OnErr result (EndsEarly (words_joined words.now) (string_bytes text.old) (string_bytes text.new)) }
-    ensures room { string_len text.old + length (words_joined words.now) ≤ string_capacity text.old → IsOk result }
-{
-    match words.split_first() {
-        None => Ok(()),
-        Some((first, others)) => {
-            text.push_str(first)?;
-            push_all(text, others)
-        }
-    }
-}
-
 impl<'a> QlFaultKind<'a> {
     /// The fault at that place.
     pub(crate) fn at(self, at: usize) -> QlFault<'a>
@@ -98,50 +84,51 @@ impl<'a> QlFaultKind<'a> {
 }
 
 impl<'a> QlFault<'a> {
-    /// Its number.
-    pub fn number(&self) -> u8
-        ensures { result ≡ query_fault_number (as_fault self.now) }
+    /// The fault in the table of all faults.
+    pub fn code(&self) -> FaultCode
+        ensures { result ≡ query_fault_code (as_fault self.now) }
     {
         match self.kind {
-            QlFaultKind::Syntax => 71,
-            QlFaultKind::OutOfProfile(_) => 72,
-            QlFaultKind::NoLowerBound => 73,
-            QlFaultKind::OutOfRange => 74,
-            QlFaultKind::RepeatedColumn => 75,
-            QlFaultKind::TooManyStatements => 76,
-            QlFaultKind::TooManyBuckets => 77,
-            QlFaultKind::BucketBeforeLeastTime => 78,
+            QlFaultKind::Syntax => FaultCode::Syntax,
+            QlFaultKind::OutOfProfile(_) => FaultCode::OutOfProfile,
+            QlFaultKind::NoLowerBound => FaultCode::NoLowerBound,
+            QlFaultKind::OutOfRange => FaultCode::OutOfRange,
+            QlFaultKind::RepeatedColumn => FaultCode::RepeatedColumn,
+            QlFaultKind::TooManyStatements => FaultCode::TooManyStatements,
+            QlFaultKind::TooManyBuckets => FaultCode::TooManyBuckets,
+            QlFaultKind::BucketBeforeLeastTime => FaultCode::BucketBeforeLeastTime,
+        }
+    }
+
+    /// Its place in the text, and what the profile leaves out there.
+    fn detail(&self) -> FaultDetail<'a>
+        ensures { detail_text result ≡ query_fault_detail (as_fault self.now) }
+    {
+        match self.kind {
+            QlFaultKind::OutOfProfile(token) => FaultDetail::AtToken(self.at, token),
+            _ => FaultDetail::At(self.at),
         }
     }
 
     /// Appends its text, or a beginning of it where memory is wanted. Where the room is there, none is.
-    pub fn text_to<A: Allocator + Copy>(&self, text: &mut String<A>) -> Result<(), AllocError>
+    pub fn text_to<A: Allocator>(&self, text: &mut String<A>) -> Result<(), AllocError>
         ensures ok { OnOk result (string_bytes text.new ≡ string_bytes text.old ++ query_fault_text (as_fault self.now)) }
         ensures err { OnErr result (EndsEarly (query_fault_text (as_fault self.now)) (string_bytes text.old) (string_bytes text.new)) }
         ensures room { string_len text.old + length (query_fault_text (as_fault self.now)) ≤ string_capacity text.old → IsOk result }
     {
-        let mut number = Buffer::new();
-        let mut place = Buffer::new();
-        let number = number.format(self.number());
-        let place = place.format(self.at);
-        match self.kind {
-            QlFaultKind::OutOfProfile(token) => {
-                push_all(text, &["fault ", number, " at ", place, " ", token])
-            }
-            _ => push_all(text, &["fault ", number, " at ", place]),
-        }
+        self.code().text_to(self.detail(), text)
     }
 }
 
 impl<'a> ParseError<'a> {
     /// Appends its text, or a beginning of it where memory is wanted. Where the room is there, none is.
-    pub fn text_to<A: Allocator + Copy>(&self, text: &mut String<A>) -> Result<(), AllocError>
+    pub fn text_to<A: Allocator>(&self, text: &mut String<A>) -> Result<(), AllocError>
         ensures ok { OnOk result (string_bytes text.new ≡ string_bytes text.old ++ error_text self.now) }
         ensures err { OnErr result (EndsEarly (error_text self.now) (string_bytes text.old) (string_bytes text.new)) }
         ensures room { string_len text.old + length (error_text self.now) ≤ string_capacity text.old → IsOk result }
     {
         match self {
-            ParseError::OutOfMemory => push_all(text, &["fault memory"]),
+            ParseError::OutOfMemory => append_words(text, &["fault memory"]),
             ParseError::Fault(fault) => fault.text_to(text),
         }
     }

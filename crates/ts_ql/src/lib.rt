@@ -24,7 +24,7 @@ mod unit;
 mod words;
 
 pub use fault::{ParseError, QlFault, QlFaultKind};
-pub use query::{Condition, Projection, Query};
+pub use query::{Condition, Projection, Query, count_query};
 pub use reader::parse;
 
 #[cfg(test)]

@@ -9,6 +9,9 @@ use std::marker::Model;
 use ts_core::{Fill, Function};
 
 mod copies;
+mod count;
+
+pub use count::count_query;
 
 /// A column of the answer: a function under a name.
 #[derive(Drop)]
@@ -114,7 +117,8 @@ pub struct Query<A: Allocator> {
 }
 
 impl<A: Allocator> Model for Query<A> {
-    ghost use Rattle.std.specs.Prelude.{string_bytes, ◌≤ℤ◌, pos};
+    ghost use Rattle.std.specs.Prelude.{string_bytes};
+    ghost use Rattle.ts_ql.specs.BucketLimits.{IsLimited};
     ghost use Rattle.ts_ql.specs.Selects.{Select, texts};
 
     ghost Value = { Select };
@@ -134,7 +138,16 @@ impl<A: Allocator> Model for Query<A> {
       };
     } };
 
-    ghost invariant = { λ q. (pos 1 ≤ℤ q.interval) × (q.from ≤ℤ q.to) };
+    ghost invariant = { λ q. IsLimited (record {
+      measurement = string_bytes q.measurement;
+      field = string_bytes q.field;
+      conditions = q.conditions.items;
+      from = q.from;
+      to = q.to;
+      interval = q.interval;
+      offset = q.offset;
+      group_tags = texts q.group_tags.items;
+    }) };
 }
 
 /// A range of time: from a nanosecond on, and before one.
@@ -146,6 +159,7 @@ pub(crate) struct Span {
 
 impl<A: Allocator> Query<A> {
     ghost use Rattle.std.specs.Prelude.{◌≡◌, ◌≤ℤ◌, pos, string_bytes};
+    ghost use Rattle.ts_ql.specs.BucketLimits.{IsLimited};
     ghost use Rattle.ts_ql.specs.Selects.{texts};
 
     /// A query of these parts, over a span.
@@ -158,7 +172,16 @@ impl<A: Allocator> Query<A> {
         fill: Fill,
         span: Span,
     ) -> Query<A>
-        requires { span.from ≤ℤ span.to }
+        requires { IsLimited (record {
+          measurement = string_bytes selection.measurement;
+          field = string_bytes field;
+          conditions = filter.conditions.items;
+          from = span.from;
+          to = span.to;
+          interval = buckets.interval;
+          offset = buckets.offset;
+          group_tags = texts group_tags.items;
+        }) }
         ensures { result ≡ record {
           columns = selection.columns.items;
           fill = fill;
@@ -227,6 +250,7 @@ impl<A: Allocator> Query<A> {
     pub fn from(&self) -> i64
         ensures value { result ≡ self.now.query.from }
         ensures range { self.now.query.from ≤ℤ self.now.query.to }
+        ensures limits { IsLimited self.now.query }
     {
         self.from
     }

@@ -3,7 +3,7 @@ ghost use Rattle.std.specs.Prelude.{◌≡◌, ◌&&◌};
 ghost use Rattle.ts_ql.specs.QueryFaults.{Gives};
 ghost use Rattle.ts_ql.specs.Laws.{ReadsText, IsDecided, LiteralsCount};
 ghost use Rattle.ts_ql.specs.MomentSteps.{HasRoom};
-ghost use Rattle.ts_ql.specs.Reading.{next_clause, may_end, is_end, progress, start_progress, Leaves, begun, ended, step, queries_of};
+ghost use Rattle.ts_ql.specs.Reading.{next_clause, may_end, is_end, after_end, progress, start_progress, Leaves, begun, ended, step, queries_of};
 ghost use Rattle.ts_ql.specs.Tokens.{lexeme};
 
 use crate::fault::{ParseError, QlFaultKind};
@@ -65,6 +65,16 @@ fn ends(place: Place, kind: Kind) -> bool
     }
 }
 
+/// The place behind a statement that such a token ends.
+fn after_end(kind: Kind) -> Place
+    ensures { result ≡ after_end kind }
+{
+    match kind {
+        Kind::Semicolon => Place::Statement,
+        _ => Place::Done,
+    }
+}
+
 impl<A: Allocator + Copy> Reader<A> {
     /// Nothing yet.
     fn new(alloc: A) -> Reader<A>
@@ -115,10 +125,8 @@ impl<A: Allocator + Copy> Reader<A> {
         let draft = mem::replace(&mut self.draft, Draft::new(alloc));
         let query = draft.query(alloc, self.start, now)?;
         self.queries.push(query)?;
-        self.place = match kind {
-            Kind::Semicolon => Place::Statement,
-            _ => Place::Done,
-        };
+        let place = after_end(kind);
+        self.place = place;
         Ok(())
     }
 

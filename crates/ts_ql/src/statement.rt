@@ -2,6 +2,7 @@
 ghost use Rattle.std.specs.Prelude.{◌≡◌, ◌≤ℤ◌, ◌≤◌, ◌^◌, IfOk, IfSome, int_le, int_lt, pos, unsigned_abs};
 ghost use Rattle.ts_core.specs.Buckets.{bucket_of};
 ghost use Rattle.ts_core.specs.Times.{least_time};
+ghost use Rattle.ts_ql.specs.BucketLimits.{IsLimited};
 ghost use Rattle.ts_ql.specs.QueryFaults.{Gives, GivesWith, option_as_fault};
 ghost use Rattle.ts_ql.specs.MomentSteps.{HasRoom};
 ghost use Rattle.ts_ql.specs.Reading.{settle_step, draft_step};
@@ -150,6 +151,7 @@ impl<A: Allocator + Copy> Draft<A> {
         let Some(span) = span_of(&self.range, now) else {
             return Err(ParseError::Fault(QlFaultKind::NoLowerBound.at(start)));
         };
+        let _interval = buckets.interval();
         match span_fault(start, buckets, &span) {
             Some(fault) => Err(ParseError::Fault(fault)),
             None => Ok(self.over(alloc, buckets, span)?),
@@ -158,7 +160,7 @@ impl<A: Allocator + Copy> Draft<A> {
 
     /// The query over a span.
     fn over(self, alloc: A, buckets: Buckets, span: Span) -> Result<Query<A>, AllocError>
-        requires { span.from ≤ℤ span.to }
+        requires { IsLimited (query_of (meaning (drafted self)) buckets span).query }
         ensures { IfOk result (λ query. query ≡ query_of (meaning (drafted self)) buckets span) }
     {
         let mut selection = self.selection;

@@ -1,5 +1,5 @@
 //! Texts and what they say, at the moment 0.
-use crate::{ParseError, Projection, QlFaultKind, Query, parse};
+use crate::{ParseError, Projection, QlFaultKind, Query, count_query, parse};
 use std::alloc::{AllocError, Global};
 use std::test::Fail;
 use ts_core::{Fill, Function, Time};
@@ -151,6 +151,50 @@ const RANGES: [(&str, (i64, i64, i64, i64)); 9] = [
 fn ranges_are_read(rt: HostRuntime) -> Result<(), Fail> {
     for (text, range) in RANGES {
         assert!(rt; times(rt.alloc(), text) == Some(range), "at {text}");
+    }
+    Ok(())
+}
+
+/// The text of the query that counts between two nanoseconds: its range, interval and offset, or its fault.
+fn counted(alloc: Global, from: i64, to: i64) -> Result<String, Fail> {
+    let from = Time::new(from).ok_or("no time")?;
+    let to = Time::new(to).ok_or("no time")?;
+    if from >= to {
+        Err("no range")?;
+    }
+    match count_query(alloc, "m", "f", from, to) {
+        Ok(query) => Ok(format!(in alloc;
+            "{} {} {} {} {} {}",
+            query.measurement(),
+            query.field(),
+            query.from(),
+            query.to(),
+            query.interval(),
+            query.offset()
+        )?),
+        Err(error) => {
+            let mut words = String::new(alloc);
+            error.text_to(&mut words)?;
+            Ok(words)
+        }
+    }
+}
+
+/// Two nanoseconds, and the query that counts between them.
+const COUNTED: [(i64, i64, &str); 3] = [
+    (-5, 7, "m f -5 7 12 -5"),
+    (
+        -1,
+        9223372036854775806,
+        "m f -1 9223372036854775806 9223372036854775807 -1",
+    ),
+    (-2, 9223372036854775806, "fault 74 at 0"),
+];
+
+#[test]
+fn counts_have_one_bucket(rt: HostRuntime) -> Result<(), Fail> {
+    for (from, to, text) in COUNTED {
+        assert_eq!(rt; counted(rt.alloc(), from, to)?.as_str(), text);
     }
     Ok(())
 }

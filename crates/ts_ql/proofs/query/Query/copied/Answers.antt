@@ -1,8 +1,9 @@
-use Rattle.std.proofs.Common.{rules, ◌≡◌, ◌∙◌, ap, ℤ, List, map, string_bytes, to_z, of_z, w64}
+use Rattle.std.proofs.Common.{rules, ◌≡◌, ◌∙◌, ap, sym, ℤ, List, map, string_bytes, to_z, of_z, w64}
 use Rattle.ts_core.specs.Facts.{Text}
 use Rattle.ts_core.specs.Queries.{Condition}
 use Rattle.ts_core.specs.declared.fill.Fill.{Fill}
 use Rattle.ts_ql.specs.Selects.{Projection, Select}
+use Rattle.ts_ql.proofs.BucketLimitsLemmas.{limited_as}
 use Rattle.ts_ql.proofs.query.Query.copied.Goals as goal
 
 abbrev made : Fill → List Projection → Text → Text → List Condition → ℤ → ℤ → ℤ → ℤ → List Text → Select
@@ -30,3 +31,12 @@ returns g c =
     let interval : to_z w64 (of_z w64 q.interval) ≡ q.interval = search rules in
     let offset : to_z w64 (of_z w64 q.offset) ≡ q.offset = search rules in
     same q.fill _ _ _ _ _ _ _ _ _ _ _ _ _ _ _ _ _ _ columns measurement field conditions from to interval offset tags ∙ c.self.view_is
+
+pub invariant_of-result : goal.invariant_of-result
+invariant_of-result g c =
+    let q = c.self.inside in
+    let from : to_z w64 (of_z w64 q.from) ≡ q.from = search rules in
+    let to : to_z w64 (of_z w64 q.to) ≡ q.to = search rules in
+    let interval : to_z w64 (of_z w64 q.interval) ≡ q.interval = search rules in
+    let offset : to_z w64 (of_z w64 q.offset) ≡ q.offset = search rules in
+    limited_as _ _ (sym from) (sym to) (sym interval) (sym offset) c.self.invariant

@@ -1,0 +1,50 @@
+//! Queries that count in one bucket.
+ghost use Rattle.std.specs.Prelude.{◌≡◌, ◌∷◌, [], ◌<ℤ◌, IfOk};
+ghost use Rattle.ts_core.specs.declared.value.Function.TheVariants as functions;
+ghost use Rattle.ts_ql.specs.Counting.{IsCountQuery};
+ghost use Rattle.ts_ql.specs.Selects.{function_name};
+
+use super::{Projection, Query};
+use crate::fault::{ParseError, QlFaultKind};
+use crate::words::function_name;
+use std::alloc::{AllocError, Allocator};
+use ts_core::{Fill, Function, Time};
+
+/// The one column `count`.
+fn count_column<A: Allocator + Copy>(alloc: A) -> Result<Vec<Projection<A>, A>, AllocError>
+    ensures { IfOk result (λ v. v.items ≡ record { function = functions.Count; name = function_name functions.Count } ∷ []) }
+{
+    let name = String::from_str(alloc, function_name(Function::Count))?;
+    let mut columns = Vec::new(alloc);
+    columns.push(Projection::new(Function::Count, name))?;
+    Ok(columns)
+}
+
+/// The query that counts the values of a field from one time on and before another (nanoseconds of the Unix
+/// epoch), in one bucket. A range of more than 2^63 - 1 nanoseconds is no interval (number 74, at 0).
+pub fn count_query<A: Allocator + Copy>(
+    alloc: A,
+    measurement: &str,
+    field: &str,
+    from: Time,
+    to: Time,
+) -> Result<Query<A>, ParseError<'static>>
+    requires { from <ℤ to }
+    ensures { IsCountQuery measurement.now field.now from to result }
+{
+    let Some(interval) = to.nanos().checked_sub(from.nanos()) else {
+        return Err(ParseError::Fault(QlFaultKind::OutOfRange.at(0)));
+    };
+    Ok(Query {
+        columns: count_column(alloc)?,
+        fill: Fill::Null,
+        measurement: String::from_str(alloc, measurement)?,
+        field: String::from_str(alloc, field)?,
+        conditions: Vec::new(alloc),
+        from: from.nanos(),
+        to: to.nanos(),
+        interval,
+        offset: from.nanos(),
+        group_tags: Vec::new(alloc),
+    })
+}
