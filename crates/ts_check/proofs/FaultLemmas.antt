@@ -1,14 +1,13 @@
--- The text of a plan's fault: it is short, and what it begins with.
-use Rattle.std.proofs.Common.{◌≡◌, ◌∙◌, ap, ◌<◌, ◌≤◌, ◌^◌, ◌++◌, length, codes, arith, length-append}
-use Rattle.std.proofs.lemmas.List.{append_assoc}
+-- The texts of faults are short.
+use Rattle.std.proofs.Common.{◌<◌, ◌≤◌, ◌^◌, length, arith, length-append}
 use Rattle.std.specs.Fmt.{decimal}
 use Rattle.std.proofs.lemmas.Fmt.{length-decimal-le}
-use Rattle.ts_core.specs.Facts.{Text}
 use Rattle.ts_core.specs.declared.fault.Fault.{Fault}
 use Rattle.ts_core.specs.declared.fault.Fault.TheVariants.{Gap, BelowMark, NoSuchRule, OtherMeasurement, OffBoundary, BelowLow, Straddles, TagNotKept}
 use Rattle.ts_core.specs.Faults.{fault_number}
 use Rattle.ts_check.specs.declared.fault.CheckFault.{CheckFault}
-use Rattle.ts_check.specs.CheckTexts.{check_fault_text, BeginsCheckFault}
+use Rattle.ts_check.specs.declared.certificate_fault.CertificateFault.{CertificateFault}
+use Rattle.ts_check.specs.CheckTexts.{check_fault_text, certificate_fault_text}
 
 number-small : (f : Fault) → fault_number f < 100
 number-small Gap = omega arith
@@ -28,17 +27,9 @@ check_fault_text_short f h =
     let piece : length (decimal f.piece) ≤ 20 = length-decimal-le 20 f.piece (omega arith) (omega arith) h in
     simp length-append (omega (arith, number, piece))
 
-pub begins_word : (f : CheckFault) (old new : Text) → new ≡ old ++ codes "fault " → BeginsCheckFault f old new
-unfolding check_fault_text
-begins_word f old new e =
-    let word : Text = codes "fault " in
-    let number : Text = decimal (fault_number f.kind) in
-    let place : Text = codes " piece " ++ decimal f.piece in
-    (word, number ++ place, e, append_assoc (word ++ number) (codes " piece ") (decimal f.piece) ∙ append_assoc word number place)
-
-pub begins_number : (f : CheckFault) (old middle new : Text) → middle ≡ old ++ codes "fault " → new ≡ middle ++ decimal (fault_number f.kind) → BeginsCheckFault f old new
-unfolding check_fault_text
-begins_number f old middle new e d =
-    let word : Text = codes "fault " in
-    let number : Text = decimal (fault_number f.kind) in
-    (word ++ number, codes " piece " ++ decimal f.piece, d ∙ ap (λ (t : Text). t ++ number) e ∙ append_assoc old word number, append_assoc (word ++ number) (codes " piece ") (decimal f.piece))
+pub certificate_fault_text_short : (f : CertificateFault) → f.at < 2 ^ 64 → length (certificate_fault_text f) ≤ 32
+unfolding certificate_fault_text
+certificate_fault_text_short f h =
+    let number : length (decimal 81) ≤ 2 = length-decimal-le 2 81 (omega arith) (omega arith) (omega arith) in
+    let place : length (decimal f.at) ≤ 20 = length-decimal-le 20 f.at (omega arith) (omega arith) h in
+    simp length-append (omega (arith, number, place))

@@ -1,13 +1,14 @@
--- The text of a plan's fault. (Own rule.)
-use Rattle.std.specs.Prelude.{◌≡◌, ◌++◌, codes}
-use Rattle.std.specs.Fmt.{decimal}
+-- The texts of faults: of a plan's, and of a certificate's text. (Own rules.)
 use Rattle.ts_core.specs.Facts.{Text}
-use Rattle.ts_core.specs.Faults.{fault_number}
+use Rattle.ts_core.specs.declared.fault_code.FaultCode.TheVariants.{BadCertificate}
+use Rattle.ts_core.specs.declared.fault_text.FaultDetail.TheVariants.{At, OfPiece}
+use Rattle.ts_core.specs.Faults.{piece_fault_code}
+use Rattle.ts_core.specs.FaultTexts.{fault_text}
 use Rattle.ts_check.specs.declared.fault.CheckFault.{CheckFault}
+use Rattle.ts_check.specs.declared.certificate_fault.CertificateFault.{CertificateFault}
 
 unfoldable pub check_fault_text : CheckFault → Text
-check_fault_text fault = codes "fault " ++ decimal (fault_number fault.kind) ++ codes " piece " ++ decimal fault.piece
+check_fault_text fault = fault_text (piece_fault_code fault.kind) (OfPiece fault.piece)
 
--- behind what there was stands a beginning of the fault's text
-abbrev pub BeginsCheckFault : CheckFault → Text → Text → Type 0
-BeginsCheckFault fault old new = (more : Text) × (rest : Text) × (new ≡ old ++ more) × (check_fault_text fault ≡ more ++ rest)
+unfoldable pub certificate_fault_text : CertificateFault → Text
+certificate_fault_text fault = fault_text BadCertificate (At fault.at)

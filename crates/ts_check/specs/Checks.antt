@@ -1,14 +1,19 @@
 -- What a check says of a plan: yes, or its first fault. (Own rules.)
-use Rattle.std.specs.Prelude.{◌≡◌, ℕ, List, Option, Some, None, Result, Ok, Err}
+use Rattle.std.specs.Prelude.{◌≡◌, ℕ, pos, ◌≤ℤ◌, List, Option, Some, None, Result, Ok, Err}
+use Rattle.std.specs.List.{AllByRecursion}
 use Rattle.ts_core.specs.Settings.{Settings}
 use Rattle.ts_core.specs.Marks.{Marks}
-use Rattle.ts_core.specs.Pieces.{Piece, IsValid}
+use Rattle.ts_core.specs.Pieces.{Piece, MarkedRule, Asked, IsValid}
 use Rattle.ts_core.specs.declared.fault.Fault.{Fault}
 use Rattle.ts_core.specs.Faults.{first_fault}
 use Rattle.ts_ql.specs.Selects.{Select}
-use Rattle.ts_check.specs.declared.fault.CheckFault.{CheckFault}
 use Rattle.ts_check.specs.declared.fault.CheckError.{CheckError}
 use Rattle.ts_check.specs.declared.fault.CheckError.TheVariants as errors
+
+-- no interval is empty, of the query or of a rule
+pub record HasIntervals (t : Asked) : Type 0 where
+  pub query : pos 1 ≤ℤ t.query.interval
+  pub rules : AllByRecursion (λ (r : MarkedRule). pos 1 ≤ℤ r.rule.interval) t.rules
 
 -- a query with the pieces of a plan, and what a store still knows
 pub record Plan : Type 0 where

@@ -1,12 +1,12 @@
 //! Why pieces are no plan of a query.
 ghost use Rattle.std.specs.Prelude.{◌≡◌, ◌+◌, ◌≤◌, ◌++◌, length, IsOk, OnOk, OnErr, string_bytes, string_len, string_capacity};
-ghost use Rattle.ts_check.specs.CheckTexts.{check_fault_text, BeginsCheckFault};
+ghost use Rattle.ts_core.specs.FaultTexts.{EndsEarly};
+ghost use Rattle.ts_check.specs.CheckTexts.{check_fault_text};
 ghost use Rattle.ts_check.specs.declared.fault.CheckError.TheVariants as errors;
 
-use itoa::Buffer;
 use std::alloc::{AllocError, Allocator};
 use thiserror::Error;
-use ts_core::Fault;
+use ts_core::{Fault, FaultDetail};
 
 /// What is wrong with a list of pieces that is to stand for all points of a query.
 #[derive(Clone, Copy, Debug, PartialEq, Eq, Error)]
@@ -20,16 +20,7 @@ pub struct CheckFault {
 
 /// A fault in words.
 fn words(kind: Fault) -> &'static str {
-    match kind {
-        Fault::Gap => "the pieces don't lead from the start of the range to its end",
-        Fault::BelowMark => "raw points below the raw mark",
-        Fault::NoSuchRule => "no rule of this name",
-        Fault::OtherMeasurement => "a rule of another measurement",
-        Fault::OffBoundary => "an end that isn't a boundary of the rule",
-        Fault::BelowLow => "a bucket below the rule's low index",
-        Fault::Straddles => "buckets that don't fit the query's",
-        Fault::TagNotKept => "a tag that the rule doesn't keep",
-    }
+    kind.code().words()
 }
 
 impl CheckFault {
@@ -37,17 +28,14 @@ impl CheckFault {
     #[tactic(auto, using(crate::proofs::FaultLemmas::check_fault_text_short), unfolding(crate::specs::CheckTexts::check_fault_text))]
     pub fn text_to<A: Allocator>(&self, text: &mut String<A>) -> Result<(), AllocError>
         ensures ok { OnOk result (string_bytes text.new ≡ string_bytes text.old ++ check_fault_text self.now) }
-        ensures err { OnErr result (BeginsCheckFault self.now (string_bytes text.old) (string_bytes text.new)) }
+        ensures err { OnErr result (EndsEarly (check_fault_text self.now) (string_bytes text.old) (string_bytes text.new)) }
         ensures room { string_len text.old + length (check_fault_text self.now) ≤ string_capacity text.old → IsOk result }
         ensures short { length (check_fault_text self.now) ≤ 35 }
         ensures capacity { string_capacity text.old ≤ string_capacity text.new }
     {
-        let number = self.kind.number();
-        let piece = self.piece;
-        text.push_str("fault ")?;
-        text.push_str(Buffer::new().format(number))?;
-        text.push_str(" piece ")?;
-        text.push_str(Buffer::new().format(piece))
+        self.kind
+            .code()
+            .text_to(FaultDetail::of_piece(self.piece), text)
     }
 }
 

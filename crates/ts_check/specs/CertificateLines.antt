@@ -1,0 +1,61 @@
+-- Reading the lines of a certificate. (Own rules.)
+use Rattle.std.specs.Prelude.{◌≡◌, ◌⊎◌, ℕ, ℤ, ◌<◌, ◌≢◌, List, ◌++◌, length, codes, Option, Some, None, Result, Ok, Err, FitsSigned, slice_index}
+use Rattle.std.specs.Fmt.{signed_decimal}
+use Rattle.std.specs.Int.{w64}
+use Rattle.ts_core.specs.Facts.{Text}
+use Rattle.ts_core.specs.Pieces.{Source, Piece}
+use Rattle.ts_check.specs.CertificateTexts.{IsNamed, HasSpelling, source_text, range_text, piece_text, piece_line, IsCertificate, IsFirstFault}
+use Rattle.ts_check.specs.declared.certificate_fault.ReadCertificateError.{ReadCertificateError}
+use Rattle.ts_check.specs.declared.certificate_fault.ReadCertificateError.TheVariants as errors
+
+-- what is read is spelled so, and nothing is read only where nothing is
+abbrev pub Reads : {A : Type 0} → (A → Type 0) → Option A → Type 0
+Reads IsSpelled (Some x) = IsSpelled x
+Reads IsSpelled None = (x : _) → IsSpelled x → ⊥
+
+-- the byte stands nowhere in the text
+abbrev pub Lacks : ℕ → Text → Type 0
+Lacks byte text = (i : ℕ) → i < length text → slice_index text i ≢ byte
+
+-- the text is a number
+pub record IsNumber (text : Text) (n : ℤ) : Type 0 where
+  pub fits : FitsSigned w64 n
+  pub spelled : text ≡ signed_decimal n
+
+-- it is two numbers
+pub record IsRange (text : Text) (range : ℤ × ℤ) : Type 0 where
+  pub from : FitsSigned w64 range.0
+  pub to : FitsSigned w64 range.1
+  pub spelled : text ≡ range_text range.0 range.1
+
+-- it is a source, a space, and what follows
+pub record IsSource (text : Text) (found : Source × Text) : Type 0 where
+  pub named : IsNamed found.0
+  pub spelled : text ≡ source_text found.0 ++ (codes " " ++ found.1)
+
+-- it is a piece
+pub record IsPiece (text : Text) (p : Piece) : Type 0 where
+  pub has : HasSpelling p
+  pub spelled : text ≡ piece_text p
+
+-- ---- lines
+
+-- the text begins with the line of a piece, and with what follows
+pub record HasPiece (text : Text) (p : Piece) (more : Text) : Type 0 where
+  pub has : HasSpelling p
+  pub spelled : text ≡ piece_line p ++ more
+
+-- no line of a certificate stands at its beginning
+pub record IsOff (text : Text) : Type 0 where
+  pub no_piece : (p : Piece) (more : Text) → HasPiece text p more → ⊥
+  pub no_end : (more : Text) → text ≡ codes "end\n" ++ more → ⊥
+
+-- no certificate goes on so from `at` on: no line of one stands there, or the last one stands before it
+abbrev pub Stops : Text → Text → Type 0
+Stops text at = (IsOff text × (at ≡ text)) ⊎ ((text ≡ codes "end\n" ++ at) × (0 < length at))
+
+-- a reading, but that memory may run out for any text
+abbrev pub IsReadingIfRoom : Text → Result (List Piece) ReadCertificateError → Type 0
+IsReadingIfRoom text (Ok ps) = IsCertificate text ps
+IsReadingIfRoom text (Err (errors.Fault fault)) = IsFirstFault text fault.at
+IsReadingIfRoom text (Err errors.OutOfMemory) = Unit {0}

@@ -1,0 +1,74 @@
+//! Why a text is no certificate.
+ghost use Rattle.std.specs.Prelude.{◌≡◌, ◌+◌, ◌≤◌, ◌++◌, length, IsOk, OnOk, OnErr, string_bytes, string_len, string_capacity};
+ghost use Rattle.ts_core.specs.FaultTexts.{EndsEarly};
+ghost use Rattle.ts_check.specs.CheckTexts.{certificate_fault_text};
+ghost use Rattle.ts_check.specs.declared.certificate_fault.ReadCertificateError.TheVariants as errors;
+
+use std::alloc::{AllocError, AllocFailed, Allocator};
+use thiserror::Error;
+use ts_core::{FaultCode, FaultDetail};
+
+/// A text that is no certificate (number 81).
+#[derive(Clone, Copy, Debug, PartialEq, Eq, Error)]
+#[error("no certificate goes on so, at byte {at}")]
+pub struct CertificateFault {
+    /// The place of the first line that isn't of the form, or of the end where whole lines end before the
+    /// last one of a certificate, in bytes from 0.
+    pub at: usize,
+}
+
+impl CertificateFault {
+    /// The fault in the table of all faults.
+    pub fn code(&self) -> FaultCode
+        ensures { result ≡ FaultCode.BadCertificate }
+    {
+        FaultCode::BadCertificate
+    }
+
+    /// Appends its text, or a beginning of it where memory is wanted. Where the room is there, none is.
+    #[tactic(auto, using(crate::proofs::FaultLemmas::certificate_fault_text_short), unfolding(crate::specs::CheckTexts::certificate_fault_text))]
+    pub fn text_to<A: Allocator>(&self, text: &mut String<A>) -> Result<(), AllocError>
+        ensures ok { OnOk result (string_bytes text.new ≡ string_bytes text.old ++ certificate_fault_text self.now) }
+        ensures err { OnErr result (EndsEarly (certificate_fault_text self.now) (string_bytes text.old) (string_bytes text.new)) }
+        ensures room { string_len text.old + length (certificate_fault_text self.now) ≤ string_capacity text.old → IsOk result }
+        ensures short { length (certificate_fault_text self.now) ≤ 32 }
+        ensures capacity { string_capacity text.old ≤ string_capacity text.new }
+    {
+        self.code().text_to(FaultDetail::at(self.at), text)
+    }
+}
+
+/// Why no certificate was read.
+#[derive(Clone, Copy, Debug, PartialEq, Eq, Error)]
+pub enum ReadCertificateError {
+    /// The text is no certificate.
+    #[error(transparent)]
+    Fault(CertificateFault),
+    /// No memory was found.
+    #[error("out of memory")]
+    OutOfMemory,
+}
+
+impl From<CertificateFault> for ReadCertificateError {
+    ghost from_gives = { λ f e. e ≡ errors.Fault f };
+
+    fn from(fault: CertificateFault) -> ReadCertificateError {
+        ReadCertificateError::Fault(fault)
+    }
+}
+
+impl From<AllocError> for ReadCertificateError {
+    ghost from_gives = { λ _ e. e ≡ errors.OutOfMemory };
+
+    fn from(_failed: AllocError) -> ReadCertificateError {
+        ReadCertificateError::OutOfMemory
+    }
+}
+
+impl<T: Drop> From<AllocFailed<T>> for ReadCertificateError {
+    ghost from_gives = { λ _ e. e ≡ errors.OutOfMemory };
+
+    fn from(_failed: AllocFailed<T>) -> ReadCertificateError {
+        ReadCertificateError::OutOfMemory
+    }
+}

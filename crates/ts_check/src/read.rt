@@ -1,0 +1,198 @@
+//! Reading a certificate.
+ghost use Rattle.std.specs.Prelude.{◌≡◌, ◌+◌, ◌<◌, ◌≤◌, List, ◌∷◌, ◌++◌, codes, length, IfOk, IfErr, IfSome, IfNone, option_map};
+ghost use Rattle.std.specs.List.{list_all};
+ghost use Rattle.ts_core.specs.Pieces.{Piece as PieceValue};
+ghost use Rattle.ts_core.specs.SettingsFaults.{is_name_byte, is_rule_name};
+ghost use Rattle.ts_check.specs.Certificates.{source_of};
+ghost use Rattle.ts_check.specs.CertificateTexts.{IsCertificate, IsFirstFault, IsReadingOf, IsReadAs, IsOneCertificate, AreDecimals};
+ghost use Rattle.ts_check.specs.CertificateLines.{Reads, Lacks, IsNumber, IsRange, IsSource, IsPiece, HasPiece, Stops, IsReadingIfRoom};
+
+use crate::certificate::{Certificate, Piece, PieceSource};
+use crate::certificate_fault::{CertificateFault, ReadCertificateError};
+use itoa::Buffer;
+use std::alloc::Allocator;
+
+/// A text before and behind its first separator, an ASCII character.
+fn cut(text: &str, separator: char) -> Option<(&str, &str)>
+    requires { separator < 128 }
+    ensures found { IfSome result (λ x. text.now ≡ x.0.now ++ (separator ∷ x.1.now)) }
+    ensures first { IfSome result (λ x. Lacks separator x.0.now) }
+    ensures none { IfNone result (Lacks separator text.now) }
+{
+    text.split_once(separator)
+}
+
+/// The number that a text spells.
+fn number(text: &str) -> Option<i64>
+    ensures { Reads (IsNumber text.now) result }
+{
+    let number = match text.parse::<i64>() {
+        Ok(number) => number,
+        Err(_) => return None,
+    };
+    if Buffer::new().format(number) == text {
+        Some(number)
+    } else {
+        None
+    }
+}
+
+/// The two numbers that a text spells, with a space between them.
+fn range(text: &str) -> Option<(i64, i64)>
+    ensures { Reads (IsRange text.now) result }
+{
+    let (from, to) = cut(text, ' ')?;
+    Some((number(from)?, number(to)?))
+}
+
+fn is_name_byte(byte: u8) -> bool
+    ensures { result ≡ is_name_byte byte }
+{
+    matches!(byte, b'a'..=b'z' | b'0'..=b'9' | b'_')
+}
+
+fn are_name_bytes(bytes: &[u8]) -> bool
+    ensures { result ≡ list_all is_name_byte bytes.now }
+{
+    bytes.iter().all(|byte| is_name_byte(*byte))
+}
+
+fn is_name(name: &str) -> bool
+    ensures { result ≡ is_rule_name name.now }
+{
+    (1 <= name.len() && name.len() <= 32) && are_name_bytes(name.as_bytes())
+}
+
+/// The source that a line tells first, and what stands behind it and a space.
+fn source(line: &str) -> Option<(PieceSource<'_>, &str)>
+    ensures { Reads (IsSource line.now) (option_map (λ x. (source_of x.0, x.1.now)) result) }
+{
+    let (word, rest) = cut(line, ' ')?;
+    match word {
+        "raw" => Some((PieceSource::Raw, rest)),
+        "rollup" => {
+            let (name, rest) = cut(rest, ' ')?;
+            if is_name(name) {
+                Some((PieceSource::Rollup(name), rest))
+            } else {
+                None
+            }
+        }
+        _ => None,
+    }
+}
+
+/// The piece that a line spells, without its line feed.
+fn piece(line: &str) -> Option<Piece<'_>>
+    ensures { Reads (IsPiece line.now) result }
+{
+    let (source, rest) = source(line)?;
+    let (from, to) = range(rest)?;
+    Some(Piece { source, from, to })
+}
+
+/// What stands behind the first line of a certificate.
+fn after_first(text: &str) -> Option<&str>
+    ensures found { IfSome result (λ rest. text.now ≡ codes "plan 1\n" ++ rest.now) }
+    ensures none { IfNone result (IsFirstFault text.now 0) }
+{
+    let (line, rest) = cut(text, '\n')?;
+    if line == "plan 1" { Some(rest) } else { None }
+}
+
+/// The next piece of a certificate and what stands behind its line; nothing at the last line; or the rest of
+/// the text that begins with what is at fault.
+fn next<'a>(rest: &'a str) -> Result<Option<(Piece<'a>, &'a str)>, &'a str>
+    ensures piece { IfOk result (λ next. IfSome next (λ x. HasPiece rest.now x.0 x.1.now)) }
+    ensures last { IfOk result (λ next. IfNone next (rest.now ≡ codes "end\n")) }
+    ensures fault { IfErr result (λ at. Stops rest.now at.now) }
+{
+    let Some((line, behind)) = cut(rest, '\n') else {
+        return Err(rest);
+    };
+    if line == "end" {
+        return if behind.is_empty() {
+            Ok(None)
+        } else {
+            Err(behind)
+        };
+    }
+    match piece(line) {
+        Some(piece) => Ok(Some((piece, behind))),
+        None => Err(rest),
+    }
+}
+
+/// The fault whose place begins a rest of the text.
+fn fault_at(text: &str, rest: &str) -> CertificateFault
+    requires { length rest.now ≤ length text.now }
+    ensures { result.at + length rest.now ≡ length text.now }
+{
+    CertificateFault {
+        at: text.len() - rest.len(),
+    }
+}
+
+/// Whether a text is a certificate.
+fn checked(text: &str) -> Result<(), CertificateFault>
+    ensures ok { IfOk result (λ _. (ps : List PieceValue) × IsCertificate text.now ps) }
+    ensures err { IfErr result (λ fault. IsFirstFault text.now fault.at) }
+{
+    let mut rest = match after_first(text) {
+        Some(rest) => rest,
+        None => return Err(CertificateFault { at: 0 }),
+    };
+    'lines: loop {
+        match next(rest) {
+            Ok(Some((_, behind))) => rest = behind,
+            Ok(None) => return Ok(()),
+            Err(at) => return Err(fault_at(text, at)),
+        }
+    }
+}
+
+/// Reads a certificate, and wants memory before a fault is found.
+fn read_lines<A: Allocator + Copy>(
+    alloc: A,
+    text: &str,
+) -> Result<Certificate<'_, A>, ReadCertificateError>
+    ensures { IsReadingIfRoom text.now result }
+{
+    let mut pieces = Vec::new(alloc);
+    let mut rest = match after_first(text) {
+        Some(rest) => rest,
+        None => return Err(ReadCertificateError::Fault(CertificateFault { at: 0 })),
+    };
+    'lines: loop {
+        match next(rest) {
+            Ok(Some((piece, behind))) => {
+                pieces.push(piece)?;
+                rest = behind;
+            }
+            Ok(None) => return Ok(Certificate::new(pieces)),
+            Err(at) => return Err(ReadCertificateError::Fault(fault_at(text, at))),
+        }
+    }
+}
+
+/// Reads a certificate, whose pieces lend their names from the text. A fault is found before memory is wanted.
+/// (In a script `;` stands for a line feed: the text is handed in with line feeds, and places are the same.)
+pub fn read_certificate<A: Allocator + Copy>(
+    alloc: A,
+    text: &str,
+) -> Result<Certificate<'_, A>, ReadCertificateError>
+    // what is read is spelled so, and a fault is the first one
+    ensures value { IsReadingOf text.now result }
+
+    // what is spelled so is read
+    ensures only { (ps : List PieceValue) → IsCertificate text.now ps → IsReadAs ps result }
+
+    // no certificate begins another one, and each has one reading
+    ensures one { IsOneCertificate }
+
+    // the decimal of a number is digits that don't begin with 0, or 0 alone
+    ensures numbers { AreDecimals }
+{
+    checked(text)?;
+    read_lines(alloc, text)
+}
