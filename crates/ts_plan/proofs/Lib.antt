@@ -1,3 +1,15 @@
 pub mod WalkSteps
 pub mod TooMany
 pub mod Planned
+pub mod Plannable
+pub mod RuleNumbers
+pub mod ListLemmas
+pub mod BucketStarts
+pub mod BucketTests
+pub mod Scans
+pub mod Sweeps
+pub mod Searches
+pub mod StepMoves
+pub mod StepWalks
+pub mod StepPlans
+pub mod WalkEnds

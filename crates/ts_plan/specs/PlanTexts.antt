@@ -1,9 +1,15 @@
 -- The texts of a query's faults that has no plan. (Own rule.)
-use Rattle.std.specs.Prelude.{codes}
 use Rattle.ts_core.specs.Facts.{Text}
+use Rattle.ts_core.specs.declared.fault_code.FaultCode.{FaultCode}
+use Rattle.ts_core.specs.declared.fault_code.FaultCode.TheVariants as coded
+use Rattle.ts_core.specs.declared.fault_text.FaultDetail.TheVariants.{Alone}
+use Rattle.ts_core.specs.FaultTexts.{fault_text}
 use Rattle.ts_plan.specs.declared.fault.PlanFault.{PlanFault}
 use Rattle.ts_plan.specs.declared.fault.PlanFault.TheVariants.{NoPlan, TooManyBuckets}
 
+abbrev pub plan_fault_code : PlanFault → FaultCode
+plan_fault_code NoPlan = coded.NoPlan
+plan_fault_code TooManyBuckets = coded.TooManyRuleBuckets
+
 unfoldable pub plan_fault_text : PlanFault → Text
-plan_fault_text NoPlan = codes "fault 91"
-plan_fault_text TooManyBuckets = codes "fault 92"
+plan_fault_text fault = fault_text (plan_fault_code fault) Alone

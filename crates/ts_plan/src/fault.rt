@@ -1,10 +1,12 @@
 //! Why a query has no plan.
 ghost use Rattle.std.specs.Prelude.{◌≡◌, ◌+◌, ◌≤◌, ◌++◌, length, IsOk, OnOk, OnErr, string_bytes, string_len, string_capacity};
-ghost use Rattle.ts_plan.specs.PlanTexts.{plan_fault_text};
+ghost use Rattle.ts_core.specs.FaultTexts.{EndsEarly};
+ghost use Rattle.ts_plan.specs.PlanTexts.{plan_fault_code, plan_fault_text};
 ghost use Rattle.ts_plan.specs.declared.fault.PlanError.TheVariants as errors;
 
 use std::alloc::{AllocError, Allocator};
 use thiserror::Error;
+use ts_core::{FaultCode, FaultDetail};
 
 /// Why a query has no plan.
 #[derive(Clone, Copy, Debug, PartialEq, Eq, Error)]
@@ -18,18 +20,25 @@ pub enum PlanFault {
 }
 
 impl PlanFault {
-    /// Appends its text, or nothing where memory is wanted. Where the room is there, none is.
+    /// The fault in the table of all faults.
+    pub fn code(self) -> FaultCode
+        ensures { result ≡ plan_fault_code self }
+    {
+        match self {
+            PlanFault::NoPlan => FaultCode::NoPlan,
+            PlanFault::TooManyBuckets => FaultCode::TooManyRuleBuckets,
+        }
+    }
+
+    /// Appends its text, or a beginning of it where memory is wanted. Where the room is there, none is.
     #[tactic(auto, unfolding(crate::specs::PlanTexts::plan_fault_text))]
     pub fn text_to<A: Allocator>(&self, text: &mut String<A>) -> Result<(), AllocError>
         ensures ok { OnOk result (string_bytes text.new ≡ string_bytes text.old ++ plan_fault_text self.now) }
-        ensures err { OnErr result (string_bytes text.new ≡ string_bytes text.old) }
+        ensures err { OnErr result (EndsEarly (plan_fault_text self.now) (string_bytes text.old) (string_bytes text.new)) }
         ensures room { string_len text.old + length (plan_fault_text self.now) ≤ string_capacity text.old → IsOk result }
         ensures capacity { string_capacity text.old ≤ string_capacity text.new }
     {
-        match self {
-            PlanFault::NoPlan => text.push_str("fault 91"),
-            PlanFault::TooManyBuckets => text.push_str("fault 92"),
-        }
+        self.code().text_to(FaultDetail::Alone, text)
     }
 }
 

@@ -5,12 +5,19 @@
 #![tactic(auto)]
 
 mod fault;
+mod place;
 mod planner;
+mod serving;
+mod steps;
+mod sweep;
+mod task;
 mod too_many;
 mod walk;
 
 pub use fault::{PlanError, PlanFault};
 pub use planner::plan;
 
+#[cfg(test)]
+mod plain;
 #[cfg(test)]
 mod tests;

@@ -1,132 +1,155 @@
-//! The walk of a plan over good places. It tries each rule at each place, and so takes time that grows with a
-//! power of the number of places.
-ghost use Rattle.std.specs.Prelude.{◌≡◌, ℤ, pos, ◌+ℤ◌, ◌≤ℤ◌, ◌<ℤ◌, [], ◌∷◌, IfOk, IfSome, IfNone, MatchOption};
-ghost use Rattle.ts_core.specs.Pieces.{IsValidPiece};
-ghost use Rattle.ts_core.proofs.Intervals.{IsWide};
-ghost use Rattle.ts_core.specs.Plans.{IsGood, raw_piece, rollup_piece, LeadsOn, NoneBefore, IsWalk};
+//! The walk over the steps that lead to the end, with neighbours joined.
+ghost use Rattle.std.specs.Prelude.{◌≡◌, List, [], ◌++◌, ◌∷◌, IfOk};
+ghost use Rattle.std.specs.List.{AllByRecursion};
+ghost use Rattle.ts_core.specs.Pieces.{Piece as PieceValue};
+ghost use Rattle.ts_core.specs.Plans.{joined, joined_onto};
+ghost use Rattle.ts_plan.specs.Steps.{IsPlannable, IsStep, bucket_piece, walked};
+ghost use Rattle.ts_plan.specs.Joins.{held_piece, held_pieces, joins, joined_after, IsHeld, AreHeld};
 
+use crate::place::Place;
+use crate::serving::divides;
+use crate::steps::Step;
+use crate::task::Task;
 use std::alloc::{AllocError, Allocator};
-use ts_check::{Asked, MarkedRule, Piece, PieceSource};
-use ts_core::Rule;
+use ts_check::{Piece, PieceSource};
 
-/// Where the bucket of a rule that starts at a place ends, unless that is after `end`.
-fn bucket_end<A: Allocator>(rule: &Rule<A>, from: i64, end: i64) -> Option<i64>
-    requires { pos 1 ≤ℤ rule.now.interval }
-    ensures { MatchOption result (end <ℤ (from +ℤ rule.now.interval)) (λ to. (to ≡ from +ℤ rule.now.interval) × (to ≤ℤ end)) }
-{
-    let to = i128::from(from) + i128::from(rule.interval());
-    if to > i128::from(end) {
-        None
-    } else {
-        Some(to as i64)
-    }
+/// A piece that the next bucket may join.
+#[derive(Clone, Copy)]
+pub(crate) struct Held {
+    /// The number of its rule.
+    rule: usize,
+    /// Whether the buckets of its rule nest in those of the query.
+    nests: bool,
+    from: Place,
+    to: Place,
 }
 
-fn rollup_piece<'a, A: Allocator>(marked: &MarkedRule<'a, A>, from: i64, to: i64) -> Piece<'a>
-    ensures { result ≡ rollup_piece marked.now.rule.name from to }
-{
-    Piece {
-        source: PieceSource::Rollup(marked.rule.name()),
-        from,
-        to,
-    }
-}
-
-/// The bucket of a rule that starts at a place, where it is a valid piece that ends in the range.
-fn bucket_at<'a, A: Allocator>(
-    asked: &Asked<'a, A>,
-    marked: &MarkedRule<'a, A>,
-    from: i64,
-) -> Option<Piece<'a>>
-    requires asked { IsWide asked.now }
-    requires rule { pos 1 ≤ℤ marked.now.rule.interval }
-    ensures piece { IfSome result (λ p. p ≡ rollup_piece marked.now.rule.name from (from +ℤ marked.now.rule.interval)) }
-    ensures valid { IfSome result (IsValidPiece asked.now) }
-    ensures inside { IfSome result (λ p. p.to ≤ℤ asked.now.query.to) }
-    ensures none { IfNone result (IsGood asked.now (from +ℤ marked.now.rule.interval) → IsValidPiece asked.now (rollup_piece marked.now.rule.name from (from +ℤ marked.now.rule.interval)) → ⊥) }
-{
-    let Some(to) = bucket_end(marked.rule, from, asked.end()) else {
-        return None;
-    };
-    let bucket = rollup_piece(marked, from, to);
-    match asked.piece_fault(&bucket) {
-        None => Some(bucket),
-        Some(_) => None,
-    }
-}
-
-/// A list of one piece.
-pub(crate) fn only<'a, A: Allocator>(
-    alloc: A,
-    piece: Piece<'a>,
-) -> Result<Vec<Piece<'a>, A>, AllocError>
-    ensures { IfOk result (λ pieces. pieces.items ≡ piece.entry ∷ []) }
-{
-    let mut pieces = Vec::new(alloc);
-    pieces.push(piece)?;
-    Ok(pieces)
-}
-
-fn raw_piece<'a>(from: i64, to: i64) -> Piece<'a>
-    ensures { result ≡ raw_piece from to }
-{
-    Piece {
-        source: PieceSource::Raw,
-        from,
-        to,
-    }
-}
-
-/// The walk from a place by the bucket of rule `number`, where that bucket leads on to a good place.
-#[cycle(walk)]
-fn lead<'a, A: Allocator + Copy>(
-    alloc: A,
-    asked: &Asked<'a, A>,
-    from: i64,
-    number: usize,
-) -> Result<Option<Vec<Piece<'a>, A>>, AllocError>
-    requires asked { IsWide asked.now }
-    requires below { from <ℤ asked.now.mark }
-    requires before { from <ℤ asked.now.query.to }
-    ensures { IfOk result (λ walk. MatchOption walk ((end : ℤ) → LeadsOn asked.now number from end → ⊥) (λ pieces. NoneBefore asked.now from number → IsWalk asked.now from pieces.items)) }
-{
-    let Some(marked) = asked.rule_at(number) else {
-        return Ok(None);
-    };
-    let Some(bucket) = bucket_at(asked, &marked, from) else {
-        return Ok(None);
-    };
-    let Some(mut pieces) = walk(alloc, asked, bucket.to)? else {
-        return Ok(None);
-    };
-    pieces.insert(0, bucket)?;
-    Ok(Some(pieces))
-}
-
-/// The walk from a place to the end of the range, or `None` where the place isn't good.
-#[cycle(walk)]
-pub(crate) fn walk<'a, A: Allocator + Copy>(
-    alloc: A,
-    asked: &Asked<'a, A>,
-    from: i64,
-) -> Result<Option<Vec<Piece<'a>, A>>, AllocError>
-    requires { IsWide asked.now }
-    ensures { IfOk result (λ walk. MatchOption walk (IsGood asked.now from → ⊥) (λ pieces. IsWalk asked.now from pieces.items)) }
-{
-    let end = asked.end();
-    if from > end {
-        return Ok(None);
-    }
-    if from == end {
-        return Ok(Some(Vec::new(alloc)));
-    }
-    if from >= asked.mark() {
-        return Ok(Some(only(alloc, raw_piece(from, end))?));
-    }
-    for number in 0..asked.rule_count() {
-        if let Some(pieces) = lead(alloc, asked, from, number)? {
-            return Ok(Some(pieces));
+impl Held {
+    /// The bucket of a step.
+    fn of_step<A: Allocator>(task: &Task<'_, A>, step: &Step) -> Held
+        requires plannable { IsPlannable task.now }
+        requires step { IsStep task.now step.now }
+        ensures piece { held_piece task.now result ≡ bucket_piece task.now step.now }
+        ensures held { IsHeld task.now result }
+    {
+        let marked = task.rule_at(step.rule).unwrap();
+        Held {
+            rule: step.rule,
+            nests: divides(marked.rule, task.query()),
+            from: step.from,
+            to: step.to,
         }
     }
-    Ok(None)
+
+    fn piece<'a, A: Allocator>(&self, task: &Task<'a, A>) -> Piece<'a>
+        requires { IsHeld task.now self.now }
+        ensures { result ≡ held_piece task.now self.now }
+    {
+        let marked = task.rule_at(self.rule).unwrap();
+        Piece {
+            source: PieceSource::Rollup(marked.rule.name()),
+            from: self.from.nanos(),
+            to: self.to.nanos(),
+        }
+    }
+
+    /// Whether the bucket of a step joins it: both are of one rule, and what they make together is valid.
+    fn joins<A: Allocator>(&self, task: &Task<'_, A>, step: &Step) -> bool
+        requires plannable { IsPlannable task.now }
+        requires held { IsHeld task.now self.now }
+        requires step { IsStep task.now step.now }
+        ensures { result ≡ joins task.now (held_piece task.now self.now) (bucket_piece task.now step.now) }
+    {
+        self.rule == step.rule && (self.nests || task.is_in_one_bucket(self.from, step.to))
+    }
+}
+
+/// The piece that is held once a step follows it.
+fn follow<'a, A: Allocator>(
+    task: &Task<'a, A>,
+    pieces: &mut Vec<Piece<'a>, A>,
+    held: Option<Held>,
+    step: &Step,
+) -> Result<Held, AllocError>
+    requires plannable { IsPlannable task.now }
+    requires held { AreHeld task.now held }
+    requires step { IsStep task.now step.now }
+    ensures held { IfOk result (IsHeld task.now) }
+    ensures pieces { IfOk result (λ h. (bs : List PieceValue) → pieces.new.items ++ joined_onto task.now (held_piece task.now h) bs ≡ pieces.old.items ++ joined_after task.now held (bucket_piece task.now step.now ∷ bs)) }
+{
+    match held {
+        None => Ok(Held::of_step(task, step)),
+        Some(held) => {
+            if held.joins(task, step) {
+                Ok(Held {
+                    to: step.to,
+                    ..held
+                })
+            } else {
+                pieces.push(held.piece(task))?;
+                Ok(Held::of_step(task, step))
+            }
+        }
+    }
+}
+
+/// Adds the piece that is held, if there is one.
+fn push_held<'a, A: Allocator>(
+    task: &Task<'a, A>,
+    pieces: &mut Vec<Piece<'a>, A>,
+    held: Option<Held>,
+) -> Result<(), AllocError>
+    requires { AreHeld task.now held }
+    ensures { IfOk result (λ _. pieces.new.items ≡ pieces.old.items ++ held_pieces task.now held) }
+{
+    if let Some(held) = held {
+        pieces.push(held.piece(task))?;
+    }
+    Ok(())
+}
+
+/// Ends the walk at a place: there, or by the raw rest.
+fn end_walk<'a, A: Allocator>(
+    task: &Task<'a, A>,
+    pieces: &mut Vec<Piece<'a>, A>,
+    held: Option<Held>,
+    at: Place,
+) -> Result<(), AllocError>
+    requires { AreHeld task.now held }
+    ensures { IfOk result (λ _. pieces.new.items ≡ pieces.old.items ++ joined_after task.now held (walked task.now at [])) }
+{
+    push_held(task, pieces, held)?;
+    let end = task.end();
+    if at == end {
+        return Ok(());
+    }
+    pieces.push(Piece {
+        source: PieceSource::Raw,
+        from: at.nanos(),
+        to: end.nanos(),
+    })?;
+    Ok(())
+}
+
+/// The walk over the steps that lead to the end, with neighbours joined.
+pub(crate) fn walk<'a, A: Allocator + Copy>(
+    alloc: A,
+    task: &Task<'a, A>,
+    steps: &[Step],
+) -> Result<Vec<Piece<'a>, A>, AllocError>
+    requires plannable { IsPlannable task.now }
+    requires steps { AllByRecursion (IsStep task.now) steps.now }
+    ensures { IfOk result (λ pieces. pieces.items ≡ joined task.now (walked task.now task.now.query.from steps.now)) }
+{
+    let mut pieces = Vec::new(alloc);
+    let mut held = None;
+    let mut at = task.start();
+    for step in steps {
+        if step.from == at {
+            held = Some(follow(task, &mut pieces, held, step)?);
+            at = step.to;
+        }
+    }
+    end_walk(task, &mut pieces, held, at)?;
+    Ok(pieces)
 }

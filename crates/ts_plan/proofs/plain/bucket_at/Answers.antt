@@ -4,7 +4,7 @@ use Rattle.ts_core.specs.Pieces.{MarkedRule, IsValidPiece}
 use Rattle.ts_core.specs.Plans.{rollup_piece}
 use Rattle.ts_core.proofs.GoodPlaces.{good_within}
 use Rattle.ts_plan.proofs.WalkSteps.{no_fault-valid, fault-not_valid}
-use Rattle.ts_plan.proofs.walk.bucket_at.Goals as goal
+use Rattle.ts_plan.proofs.plain.bucket_at.Goals as goal
 
 pub piece_fault-requires : goal.piece_fault-requires
 piece_fault-requires g c = c.requires.asked.rules

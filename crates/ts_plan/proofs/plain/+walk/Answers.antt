@@ -5,7 +5,7 @@ use Rattle.ts_core.specs.Plans.{rollup_piece, NoneBefore, IsWalk}
 use Rattle.ts_core.proofs.GoodPlaces.{good_within, rule_wide}
 use Rattle.ts_core.proofs.Plannable.{one_more}
 use Rattle.ts_plan.proofs.WalkSteps.{le_not, before_end, falls_on, bucket_walk, no_lead}
-use Rattle.ts_plan.proofs.walk.+walk.Goals as goal
+use Rattle.ts_plan.proofs.plain.+walk.Goals as goal
 
 pub lead-walk-requires : goal.lead-walk-requires
 lead-walk-requires g t c κs within =

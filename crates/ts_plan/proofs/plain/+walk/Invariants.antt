@@ -1,6 +1,6 @@
 use Rattle.std.proofs.Common.{◌+◌, ◌*◌, ◌-ℤ◌, unsigned_abs}
 use Rattle.ts_core.specs.Plans.{NoneBefore}
-use Rattle.ts_plan.proofs.walk.+walk.Given as goal
+use Rattle.ts_plan.proofs.plain.+walk.Given as goal
 
 abbrev pub decreases-lead : goal.decreases-lead
 decreases-lead g l = 2 * unsigned_abs (l.asked.now.query.to -ℤ l.from)

@@ -1,0 +1,28 @@
+-- Where names differ, rules of one name have one number.
+use Rattle.std.proofs.Common.{◌≡◌, ℕ, suc, zero, refl, sym, ap, ◌∙◌, subst, List, [], ◌∷◌, map, Some, None, inl, inr}
+use Rattle.std.specs.Prelude.{slice_get}
+use Rattle.ts_core.specs.Members.{Among, AllDistinct}
+use Rattle.ts_core.specs.Pieces.{MarkedRule}
+use Rattle.ts_core.proofs.RuleNames.{name_of}
+
+name_there : (rs : List MarkedRule) (n : ℕ) (r : MarkedRule) → slice_get rs n ≡ Some r → Among (name_of r) (map name_of rs)
+name_there [] n r e = absurd (let q : None ≡ Some r = e in cc)
+name_there (x ∷ rs) zero r e = let q : Some x ≡ Some r = e in let k : x ≡ r = cc in inl (ap name_of (sym k))
+name_there (x ∷ rs) (suc n) r e = inr (name_there rs n r e)
+
+-- the first name stands at number 0 alone
+first_alone : (x : MarkedRule) (rs : List MarkedRule) (n : ℕ) (r u : MarkedRule) → AllDistinct (map name_of (x ∷ rs)) → Some x ≡ Some r → slice_get rs n ≡ Some u → name_of r ≡ name_of u → ⊥
+first_alone x rs n r u d e f same =
+    let k : x ≡ r = cc in
+    d.0 (subst (λ z. Among z (map name_of rs)) (sym (ap name_of k ∙ same)) (name_there rs n u f))
+
+pub same_number : (rs : List MarkedRule) (m n : ℕ) (r u : MarkedRule) → AllDistinct (map name_of rs) → slice_get rs m ≡ Some r → slice_get rs n ≡ Some u → name_of r ≡ name_of u → m ≡ n
+same_number [] m n r u d e f same = absurd (let q : None ≡ Some r = e in cc)
+same_number (x ∷ rs) zero zero r u d e f same = refl
+same_number (x ∷ rs) zero (suc n) r u d e f same = absurd (first_alone x rs n r u d e f same)
+same_number (x ∷ rs) (suc m) zero r u d e f same = absurd (first_alone x rs m u r d f e (sym same))
+same_number (x ∷ rs) (suc m) (suc n) r u d e f same = ap suc (same_number rs m n r u d.1 e f same)
+
+-- a number has one rule
+pub same_rule : (rs : List MarkedRule) (m n : ℕ) (r u : MarkedRule) → m ≡ n → slice_get rs m ≡ Some r → slice_get rs n ≡ Some u → u ≡ r
+same_rule rs m n r u e a b = let q : Some u ≡ Some r = sym b ∙ ap (slice_get rs) (sym e) ∙ a in cc

@@ -1,0 +1,33 @@
+-- Pieces that the next bucket may join. (Own rules.)
+use Rattle.std.specs.Prelude.{◌≡◌, Bool, ◌&&◌, List, [], ◌∷◌, Option, Some, None, slice_get}
+use Rattle.ts_core.specs.Pieces.{Piece, MarkedRule, Asked, RuleServes}
+use Rattle.ts_core.specs.Faults.{piece_fault, divides}
+use Rattle.ts_core.specs.Plans.{rollup_piece, is_same_rule, is_faultless, drawn, joined_onto, joined}
+use Rattle.ts_plan.specs.Steps.{name_or_none}
+use Rattle.ts_plan.specs.declared.walk.Held.{Held}
+
+abbrev pub held_piece : Asked → Held → Piece
+held_piece t h = rollup_piece (name_or_none (slice_get t.rules h.rule)) h.from h.to
+
+abbrev pub held_pieces : Asked → Option Held → List Piece
+held_pieces t None = []
+held_pieces t (Some h) = held_piece t h ∷ []
+
+-- the bucket joins the piece: both are of one rule, and what they make together is valid
+abbrev pub joins : Asked → Piece → Piece → Bool
+joins t p b = is_same_rule p.source b.source && is_faultless (piece_fault t (drawn p b))
+
+abbrev pub joined_after : Asked → Option Held → List Piece → List Piece
+joined_after t None bs = joined t bs
+joined_after t (Some h) bs = joined_onto t (held_piece t h) bs
+
+-- a piece of a rule, which is valid
+pub record IsHeld (t : Asked) (h : Held) : Type 0 where
+  pub rule : MarkedRule
+  pub there : slice_get t.rules h.rule ≡ Some rule
+  pub nests : h.nests ≡ divides rule.rule t.query
+  pub serves : RuleServes t.query rule h.from h.to
+
+abbrev pub AreHeld : Asked → Option Held → Type 0
+AreHeld t None = Unit {0}
+AreHeld t (Some h) = IsHeld t h

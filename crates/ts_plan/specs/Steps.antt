@@ -1,0 +1,107 @@
+-- Single buckets as the steps of a walk, and which of them lead to the end. (Own rules.)
+use Rattle.std.specs.Prelude.{◌≡◌, ℕ, ◌≤◌, ℤ, ◌+ℤ◌, ◌≤ℤ◌, ◌<ℤ◌, int_le, Bool, false, ◌&&◌, ◌||◌, List, [], ◌∷◌, ◌++◌, map, Option, Some, None, MatchOption, slice_get, if◌then◌else◌}
+use Rattle.std.specs.Ordering.{int_eq}
+use Rattle.std.specs.List.{AllByRecursion, list_all}
+use Rattle.ts_core.specs.Members.{Among, AllDistinct}
+use Rattle.ts_core.specs.Facts.{Text, same_text}
+use Rattle.ts_core.specs.Settings.{Rule}
+use Rattle.ts_core.specs.Marks.{index_of}
+use Rattle.ts_core.specs.Queries.{Query}
+use Rattle.ts_core.specs.Pieces.{Piece, MarkedRule, Asked, IsBoundary, tags_of, RuleServes}
+use Rattle.ts_core.specs.Faults.{divides, is_in_one_bucket, keeps}
+use Rattle.ts_core.specs.Plans.{rollup_piece, raw_piece}
+use Rattle.ts_core.proofs.Intervals.{IsWide}
+use Rattle.ts_plan.specs.declared.steps.Step.{Step}
+
+-- no interval is empty, and each rule has a name of its own
+pub record IsPlannable (t : Asked) : Type 0 where
+  pub wide : IsWide t
+  pub named : AllDistinct (map (λ (r : MarkedRule). r.rule.name) t.rules)
+
+-- ---- steps
+
+-- the rule is of the query's measurement, and keeps every tag that it names
+abbrev pub has_columns : Query → Rule → Bool
+has_columns q r = same_text r.measurement q.measurement && list_all (keeps r) (tags_of q)
+
+-- the bucket from a to b is whole still, and lies in buckets of the query as it has to
+abbrev pub bucket_serves : Query → MarkedRule → ℤ → ℤ → Bool
+bucket_serves q r a b = int_le r.low (index_of r.rule a) && (divides r.rule q || is_in_one_bucket q a b)
+
+-- one bucket of a rule that is a valid piece, in the range and below the mark
+pub record IsStep (t : Asked) (s : Step) : Type 0 where
+  pub from : t.query.from ≤ℤ s.from
+  pub below : s.from <ℤ t.mark
+  pub inside : s.to ≤ℤ t.query.to
+  pub rule : MarkedRule
+  pub there : slice_get t.rules s.rule ≡ Some rule
+  pub one : s.to ≡ s.from +ℤ rule.rule.interval
+  pub serves : RuleServes t.query rule s.from s.to
+
+-- s is not after x
+pub record Upto (s x : Step) : Type 0 where
+  pub from : s.from ≤ℤ x.from
+  pub rule : s.from ≡ x.from → s.rule ≤ x.rule
+
+abbrev pub Ascends : List Step → Type 0
+Ascends [] = Unit {0}
+Ascends (s ∷ ss) = AllByRecursion (λ (x : Step). Upto s x) ss × Ascends ss
+
+-- ---- the steps of one rule, bucket by bucket
+
+-- where the first bucket of the rule from a on starts, if that is no later than b
+abbrev pub IsFirstStart : Rule → ℤ → ℤ → Option ℤ → Type 0
+IsFirstStart r a b start = MatchOption start ((x : ℤ) → IsBoundary r x → a ≤ℤ x → b <ℤ x) (λ p. IsBoundary r p × (a ≤ℤ p) × (p ≤ℤ b) × ((x : ℤ) → IsBoundary r x → a ≤ℤ x → p ≤ℤ x))
+
+-- the end of the bucket at p, where it is in the range
+abbrev pub IsNext : Asked → MarkedRule → ℤ → Option ℤ → Type 0
+IsNext t r p q = MatchOption q (t.query.to <ℤ (p +ℤ r.rule.interval)) (λ e. (e ≡ p +ℤ r.rule.interval) × (e ≤ℤ t.query.to))
+
+abbrev pub step_of : ℤ → ℕ → ℤ → Step
+step_of p n e = record { from = p; rule = n; to = e }
+
+-- with the step of rule number n from p to e, where that is a valid piece
+abbrev pub with_step : Asked → MarkedRule → ℕ → ℤ → Option ℤ → List Step → List Step
+with_step t r n p None ss = ss
+with_step t r n p (Some e) ss = if bucket_serves t.query r p e then (ss ++ step_of p n e ∷ []) else ss
+
+-- the steps of rule n come in, and nothing else
+pub record Adds (t : Asked) (n : ℕ) (old new : List Step) : Type 0 where
+  pub sound : AllByRecursion (IsStep t) old → AllByRecursion (IsStep t) new
+  pub complete : (x : Step) → IsStep t x → x.rule ≡ n → Among x new
+  pub before : (x : Step) → Among x old → Among x new
+
+-- ---- the sweep
+
+abbrev pub starts_at : ℤ → List Step → Bool
+starts_at e [] = false
+starts_at e (s ∷ ss) = int_eq s.from e || starts_at e ss
+
+abbrev pub starts_first : ℤ → List Step → Bool
+starts_first e [] = false
+starts_first e (s ∷ ss) = int_eq s.from e
+
+-- the end, a place at or above the mark, or one where a step starts
+abbrev pub leads_on : Asked → List Step → ℤ → Bool
+leads_on t gs e = int_eq e t.query.to || (int_le t.mark e || starts_at e gs)
+
+abbrev pub kept_if : Bool → Step → List Step → List Step
+kept_if b s gs = if b then (s ∷ gs) else gs
+
+-- the steps that lead on, of steps that ascend
+abbrev pub kept_steps : Asked → List Step → List Step
+kept_steps t [] = []
+kept_steps t (s ∷ ss) = kept_if (leads_on t (kept_steps t ss) s.to) s (kept_steps t ss)
+
+-- ---- the walk over the steps that are kept
+
+abbrev pub name_or_none : Option MarkedRule → Text
+name_or_none None = []
+name_or_none (Some r) = r.rule.name
+
+abbrev pub bucket_piece : Asked → Step → Piece
+bucket_piece t s = rollup_piece (name_or_none (slice_get t.rules s.rule)) s.from s.to
+
+abbrev pub walked : Asked → ℤ → List Step → List Piece
+walked t p [] = if int_eq p t.query.to then [] else (raw_piece p t.query.to ∷ [])
+walked t p (g ∷ gs) = if int_eq g.from p then (bucket_piece t g ∷ walked t g.to gs) else walked t p gs

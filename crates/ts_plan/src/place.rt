@@ -1,0 +1,54 @@
+//! Places of a query's range where pieces may start and end.
+ghost use Rattle.std.specs.Prelude.{◌≡◌, ◌+ℤ◌, ◌<ℤ◌, ◌≤ℤ◌, pos, ◌^◌, MatchOption};
+ghost use Rattle.ts_plan.specs.Places.{IsPlace};
+
+use std::marker::Model;
+
+/// A place: a moment, in nanoseconds of the Unix epoch.
+#[derive(Clone, Copy, Debug, PartialEq, Eq, PartialOrd, Ord)]
+pub(crate) struct Place {
+    nanos: i64,
+}
+
+impl Model for Place {
+    ghost use Rattle.std.specs.Prelude.{ℤ};
+    ghost use Rattle.ts_plan.specs.Places.{IsPlace};
+
+    ghost Value = { ℤ };
+
+    ghost view = { λ p. p.nanos };
+
+    ghost invariant = { λ p. IsPlace p.nanos };
+
+    ghost inverse = { λ z. record { nanos = z } };
+}
+
+impl Place {
+    pub(crate) fn new(nanos: i64) -> Place
+        ensures { result ≡ nanos }
+    {
+        Place { nanos }
+    }
+
+    /// The moment, in nanoseconds.
+    pub(crate) fn nanos(self) -> i64
+        ensures value { result ≡ self }
+        ensures range { IsPlace result }
+    {
+        self.nanos
+    }
+
+    /// The place that is later by `width` nanoseconds, unless that is after `end`.
+    pub(crate) fn later(self, width: i128, end: Place) -> Option<Place>
+        requires forward { pos 0 ≤ℤ width }
+        requires bound { width ≤ℤ pos (2 ^ 64) }
+        ensures { MatchOption result (end <ℤ (self +ℤ width)) (λ p. (p ≡ self +ℤ width) × (p ≤ℤ end)) }
+    {
+        let at = i128::from(self.nanos) + width;
+        if at > i128::from(end.nanos) {
+            None
+        } else {
+            Some(Place { nanos: at as i64 })
+        }
+    }
+}

@@ -1,0 +1,155 @@
+//! The single buckets below the raw mark that are valid pieces.
+ghost use Rattle.std.specs.Prelude.{◌≡◌, ◌-ℤ◌, ◌≤ℤ◌, pos, int_le, ◌&&◌, ◌||◌, Some, slice_get, IfOk};
+ghost use Rattle.std.specs.Int.{int_rem_euclid};
+ghost use Rattle.std.specs.List.{AllByRecursion};
+ghost use Rattle.ts_core.specs.Faults.{divides, is_in_one_bucket};
+ghost use Rattle.ts_core.specs.Marks.{index_of};
+ghost use Rattle.ts_core.specs.Members.{Among};
+ghost use Rattle.ts_plan.specs.declared.steps.Step.{Step};
+ghost use Rattle.ts_plan.specs.Steps.{IsPlannable, IsStep, Ascends, IsFirstStart, IsNext, with_step, Adds};
+
+use crate::place::Place;
+use crate::serving::{divides, has_columns};
+use crate::task::Task;
+use std::alloc::{AllocError, Allocator};
+use ts_check::MarkedRule;
+use ts_core::{Rule, index_of};
+
+/// One bucket of a rule.
+#[derive(Clone, Copy, PartialEq, Eq, PartialOrd, Ord)]
+pub(crate) struct Step {
+    /// Where it starts.
+    pub from: Place,
+    /// The number of the rule.
+    pub rule: usize,
+    /// Where it ends.
+    pub to: Place,
+}
+
+/// How far a place is into its bucket.
+fn past<A: Allocator>(rule: &Rule<A>, at: Place) -> i128
+    requires { pos 1 ≤ℤ rule.now.interval }
+    ensures { result ≡ int_rem_euclid (at -ℤ rule.now.offset) rule.now.interval }
+{
+    (i128::from(at.nanos()) - i128::from(rule.offset())).rem_euclid(i128::from(rule.interval()))
+}
+
+/// The first start of a bucket from a place on, up to an end.
+fn first_boundary<A: Allocator>(rule: &Rule<A>, from: Place, end: Place) -> Option<Place>
+    requires { pos 1 ≤ℤ rule.now.interval }
+    ensures { IsFirstStart rule.now from end result }
+{
+    let past = past(rule, from);
+    if past == 0 {
+        return from.later(past, end);
+    }
+    let ahead = i128::from(rule.interval()) - past;
+    from.later(ahead, end)
+}
+
+/// Whether a bucket of a rule is whole still, and lies in buckets of the query as it has to.
+fn bucket_serves<A: Allocator>(
+    task: &Task<'_, A>,
+    marked: &MarkedRule<'_, A>,
+    nests: bool,
+    step: &Step,
+) -> bool
+    requires { pos 1 ≤ℤ marked.now.rule.interval }
+    ensures { result ≡ (int_le marked.now.low (index_of marked.now.rule step.now.from) && (nests || is_in_one_bucket task.now.query step.now.from step.now.to)) }
+{
+    if index_of(marked.rule, i128::from(step.from.nanos())) < marked.low {
+        return false;
+    }
+    nests || task.is_in_one_bucket(step.from, step.to)
+}
+
+/// Adds the step of the bucket that starts at a place, if it is a valid piece, and says where the next bucket
+/// starts.
+fn push_step<A: Allocator>(
+    steps: &mut Vec<Step, A>,
+    task: &Task<'_, A>,
+    number: usize,
+    marked: &MarkedRule<'_, A>,
+    nests: bool,
+    from: Place,
+) -> Result<Option<Place>, AllocError>
+    requires rule { pos 1 ≤ℤ marked.now.rule.interval }
+    requires nests { nests ≡ divides marked.now.rule task.now.query }
+    ensures next { IfOk result (λ next. IsNext task.now marked.now from next) }
+    ensures steps { IfOk result (λ next. steps.new.items ≡ with_step task.now marked.now number from next steps.old.items) }
+{
+    let width = i128::from(marked.rule.interval());
+    match from.later(width, task.end()) {
+        None => Ok(None),
+        Some(to) => {
+            let step = Step {
+                from,
+                rule: number,
+                to,
+            };
+            if bucket_serves(task, marked, nests, &step) {
+                steps.push(step)?;
+            }
+            Ok(Some(to))
+        }
+    }
+}
+
+/// Adds the steps of one rule.
+fn push_steps<A: Allocator>(
+    steps: &mut Vec<Step, A>,
+    task: &Task<'_, A>,
+    number: usize,
+    marked: &MarkedRule<'_, A>,
+) -> Result<(), AllocError>
+    requires plannable { IsPlannable task.now }
+    requires rule { slice_get task.now.rules number ≡ Some marked.now }
+    ensures { IfOk result (λ _. Adds task.now number steps.old.items steps.new.items) }
+{
+    if !has_columns(marked.rule, task.query()) {
+        return Ok(());
+    }
+    let nests = divides(marked.rule, task.query());
+    let mark = task.mark();
+    let mut next = first_boundary(marked.rule, task.start(), task.end());
+    while let Some(from) = next {
+        if from >= mark {
+            break;
+        }
+        next = push_step(steps, task, number, marked, nests, from)?;
+    }
+    Ok(())
+}
+
+/// Adds the steps of the rule of a number, if there is one.
+fn push_rule<A: Allocator>(
+    steps: &mut Vec<Step, A>,
+    task: &Task<'_, A>,
+    number: usize,
+) -> Result<(), AllocError>
+    requires { IsPlannable task.now }
+    ensures { IfOk result (λ _. Adds task.now number steps.old.items steps.new.items) }
+{
+    match task.rule_at(number) {
+        None => Ok(()),
+        Some(marked) => push_steps(steps, task, number, &marked),
+    }
+}
+
+/// The steps of all rules, the earliest first, and those of one place in the order of the rules.
+pub(crate) fn all_steps<A: Allocator + Copy>(
+    alloc: A,
+    task: &Task<'_, A>,
+) -> Result<Vec<Step, A>, AllocError>
+    requires { IsPlannable task.now }
+    ensures sound { IfOk result (λ steps. AllByRecursion (IsStep task.now) steps.items) }
+    ensures complete { IfOk result (λ steps. (x : Step) → IsStep task.now x → Among x steps.items) }
+    ensures order { IfOk result (λ steps. Ascends steps.items) }
+{
+    let mut steps = Vec::new(alloc);
+    for number in 0..task.rule_count() {
+        push_rule(&mut steps, task, number)?;
+    }
+    steps.sort()?;
+    Ok(steps)
+}

@@ -1,0 +1,102 @@
+//! What is planned.
+ghost use Rattle.std.specs.Prelude.{◌≡◌, ◌≤◌, ◌≤ℤ◌, length, slice_get};
+ghost use Rattle.ts_core.specs.Pieces.{asked};
+ghost use Rattle.ts_core.specs.Faults.{is_in_one_bucket};
+ghost use Rattle.ts_plan.specs.Steps.{IsPlannable};
+
+use crate::place::Place;
+use std::alloc::Allocator;
+use std::marker::Model;
+use ts_check::{Asked, MarkedRule};
+use ts_core::{Marks, Settings, bucket_index};
+use ts_ql::Query;
+
+/// A query to be planned, with what a store still knows.
+#[derive(Drop)]
+pub(crate) struct Task<'a, A: Allocator> {
+    asked: Asked<'a, A>,
+    query: &'a Query<A>,
+}
+
+impl<'a, A: Allocator> Model for Task<'a, A> {
+    ghost use Rattle.std.specs.Prelude.{◌≡◌};
+    ghost use Rattle.ts_core.specs.Pieces.{Asked as AskedValue};
+
+    ghost Value = { AskedValue };
+
+    ghost view = { λ t. t.asked };
+
+    ghost invariant = { λ t. t.query.now.query ≡ t.asked.query };
+}
+
+impl<'a, A: Allocator> Task<'a, A> {
+    pub(crate) fn new(
+        settings: &'a Settings<A>,
+        marks: &'a Marks<A>,
+        query: &'a Query<A>,
+    ) -> Task<'a, A>
+        requires { length marks.now.lows ≡ length settings.now.rules }
+        ensures value { result ≡ asked settings.now marks.now query.now.query }
+        ensures plannable { IsPlannable result }
+    {
+        let _rules = settings.rules();
+        Task {
+            asked: Asked::new(settings, marks, query),
+            query,
+        }
+    }
+
+    /// The query.
+    pub(crate) fn query(&self) -> &'a Query<A>
+        ensures { result.now.query ≡ self.now.query }
+    {
+        self.query
+    }
+
+    /// From when on the query asks.
+    pub(crate) fn start(&self) -> Place
+        ensures value { result ≡ self.now.query.from }
+        ensures range { self.now.query.from ≤ℤ self.now.query.to }
+    {
+        Place::new(self.query.from())
+    }
+
+    /// Before when the query asks.
+    pub(crate) fn end(&self) -> Place
+        ensures { result ≡ self.now.query.to }
+    {
+        Place::new(self.asked.end())
+    }
+
+    /// The raw mark.
+    pub(crate) fn mark(&self) -> Place
+        ensures { result ≡ self.now.mark }
+    {
+        Place::new(self.asked.mark())
+    }
+
+    /// At least how many rules there are.
+    pub(crate) fn rule_count(&self) -> usize
+        ensures { length self.now.rules ≤ result }
+    {
+        self.asked.rule_count()
+    }
+
+    /// The rule of this number, from 0.
+    pub(crate) fn rule_at(&self, number: usize) -> Option<MarkedRule<'a, A>>
+        ensures { result ≡ slice_get self.now.rules number }
+    {
+        self.asked.rule_at(number)
+    }
+
+    /// Whether all from one place to before another lies in one bucket of the query.
+    pub(crate) fn is_in_one_bucket(&self, from: Place, to: Place) -> bool
+        ensures { result ≡ is_in_one_bucket self.now.query from to }
+    {
+        let interval = self.query.interval();
+        let offset = self.query.offset();
+        let first = bucket_index(i128::from(from.nanos()), interval, offset);
+        let last = bucket_index(i128::from(to.nanos()) - 1, interval, offset);
+        first == last
+    }
+}
