@@ -1,0 +1,130 @@
+-- The numbers of lanes in the lanes' order: what a search finds, and one more.
+use Rattle.std.proofs.Common.{◌≡◌, ℕ, zero, suc, ◌<◌, ◌≤◌, true, false, cond, T, List, [], ◌∷◌, ◌++◌, length, length-append, get_or, insert, refl, sym, ◌∙◌, ap, ap₂, subst, Some, None, ⊎_elim, is_eq, arith, Less, Equal, Greater, HoldsAt}
+use Rattle.std.specs.Ordering.{ordering_index, eq_by_cmp}
+use Rattle.std.specs.Cmp.{IsTotalOrder}
+use Rattle.std.specs.Cmp.Lexicographic.{slice_cmp}
+use Rattle.std.specs.List.{slice_get}
+use Rattle.std.specs.List.Sorted.{IsPartitionPoint, IsNonDecreasingBy}
+use Rattle.std.specs.FinMap.{find, put, is_sorted, slice_cmp-IsAntisymmetric}
+use Rattle.std.specs.FinMap.Entries.{is_sorted-put, find-put}
+use Rattle.std.proofs.lemmas.Cmp.{on_total, then_total, lists_total, nat_list_cmp_total, tied_itself}
+use Rattle.std.proofs.lemmas.Map.Lookups.{CmpEqualImpliesEq, exact_pairs, exact_bytes}
+use Rattle.std.proofs.lemmas.List.{get_or_append_left}
+use Rattle.std.proofs.lemmas.Option.{slice_get-get_or}
+use Rattle.std.proofs.lemmas.Bool.{cases_lt}
+use Rattle.std.proofs.Math.Seq.{get_or-append_seam}
+use Rattle.ts_core.specs.Members.{Among}
+use Rattle.ts_core.specs.Facts.{Text, text_cmp}
+use Rattle.ts_core.proofs.Ids.{equal_of}
+use Rattle.ts_core.proofs.Places.{rises, put_between}
+use Rattle.ts_cells.specs.Grids.{Lane, no_lane, IsAt}
+use Rattle.ts_cells.specs.Lanes.{lane_cmp, found_cmp, numbered, AreInside, IsOrdered}
+use Rattle.ts_cells.proofs.Searches.{missing}
+use Rattle.ts_cells.proofs.GridLemmas.{get_among, has_lane}
+use Rattle.ts_cells.proofs.GridMoves.{all_at, all_insert}
+
+pub lanes_total : IsTotalOrder lane_cmp
+lanes_total = then_total (on_total (λ (l : Lane). l.field) nat_list_cmp_total) (on_total (λ (l : Lane). l.group) (lists_total nat_list_cmp_total))
+
+pub exact_lanes : CmpEqualImpliesEq lane_cmp
+exact_lanes a b h =
+    let parts = exact_pairs {A = Text} {B = List Text} text_cmp (slice_cmp text_cmp) exact_bytes (slice_cmp-IsAntisymmetric exact_bytes) (a.field, a.group) (b.field, b.group) h in
+    λ i. record { field = (parts i).0; group = (parts i).1 }
+
+found_inside : (ls : List Lane) (n : ℕ) (l : Lane) → n < length ls → found_cmp (slice_get ls n) l ≡ lane_cmp (get_or ls n no_lane) l
+found_inside ls n l h = ap (λ o. found_cmp o l) (slice_get-get_or ls n no_lane h)
+
+-- the lane at a place of the order
+entry_at : (ls : List Lane) (order : List ℕ) (i d : ℕ) (e : Lane × ℕ) → i < length order → get_or (numbered ls order) i e ≡ (get_or ls (get_or order i d) no_lane, get_or order i d)
+entry_at ls [] i d e h = absurd (omega arith)
+entry_at ls (n ∷ ns) zero d e h = refl
+entry_at ls (n ∷ ns) (suc i) d e h = entry_at ls ns i d e (omega arith)
+
+length-numbered : (ls : List Lane) (order : List ℕ) → length (numbered ls order) ≡ length order
+length-numbered ls [] = refl
+length-numbered ls (n ∷ ns) = ap suc (length-numbered ls ns)
+
+module _ (ls : List Lane) (order : List ℕ) (is : IsOrdered ls order) (l : Lane) where
+  -- what the search compares at a place
+  compared : (i d : ℕ) (e : Lane × ℕ) → i < length order → found_cmp (slice_get ls (get_or order i d)) l ≡ lane_cmp (get_or (numbered ls order) i e).0 l
+  compared i d e h =
+      found_inside ls (get_or order i d) l (all_at (λ n. n < length ls) order i d h is.inside)
+      ∙ ap (λ (x : Lane × ℕ). lane_cmp x.0 l) (sym (entry_at ls order i d e h))
+
+  pub order_rises : IsNonDecreasingBy (λ n. ordering_index (found_cmp (slice_get ls n) l)) order
+  order_rises i j d a b =
+      let e : Lane × ℕ = (no_lane, d) in
+      let up = rises lanes_total (numbered ls order) is.rising l i j e a (let n = length-numbered ls order in omega arith) in
+      subst (λ x. ordering_index x ≤ ordering_index (found_cmp (slice_get ls (get_or order j d)) l)) (sym (compared i d e (omega arith)))
+      (subst (λ x. ordering_index (lane_cmp (get_or (numbered ls order) i e).0 l) ≤ ordering_index x) (sym (compared j d e b)) up)
+
+  pub order_found : (at : ℕ) → at < length order → HoldsAt (λ n. found_cmp (slice_get ls n) l ≡ Equal) order at → (d : ℕ) → IsAt ls (get_or order at d) l
+  order_found at h e d =
+      let n : ℕ = get_or order at d in
+      let within : n < length ls = all_at (λ n. n < length ls) order at d h is.inside in
+      let same : get_or ls n no_lane ≡ l = exact_lanes (get_or ls n no_lane) l (sym (found_inside ls n l within) ∙ e d) in
+      slice_get-get_or ls n no_lane within ∙ ap Some same
+
+  -- where it would stand between others
+  between : (at : ℕ) → at ≤ length order → IsPartitionPoint (λ n. found_cmp (slice_get ls n) l ≡ Less) (λ n. found_cmp (slice_get ls n) l ≡ Greater) order at
+      → IsPartitionPoint (λ (e : Lane × ℕ). lane_cmp e.0 l ≡ Less) (λ (e : Lane × ℕ). lane_cmp e.0 l ≡ Greater) (numbered ls order) at
+  between at h p = (
+    λ k e a b. sym (compared k 0 e (omega arith)) ∙ p.0 k 0 a b,
+    λ k e a b. let n = length-numbered ls order in let m : k < length order = omega arith in sym (compared k 0 e m) ∙ p.1 k 0 a m,
+  )
+
+  pub order_absent : (at : ℕ) → at ≤ length order → IsPartitionPoint (λ n. found_cmp (slice_get ls n) l ≡ Less) (λ n. found_cmp (slice_get ls n) l ≡ Greater) order at → Among l ls → ⊥
+  order_absent at h p a =
+      ⊎_elim {C = ⊥}
+      (λ q.
+      let none : find lane_cmp l (numbered ls order) ≡ None = missing lanes_total (numbered ls order) l at (let n = length-numbered ls order in omega arith) (between at h p) in
+      let some : find lane_cmp l (numbered ls order) ≡ Some q.0 = subst (λ (x : Lane). find lane_cmp x (numbered ls order) ≡ Some q.0) q.2 (is.all q.0 q.1) in
+      let both : None ≡ Some q.0 = sym none ∙ some in cc)
+      (λ n. n a) (has_lane l ls)
+
+-- ---- one more lane
+
+numbered_wider : (ls : List Lane) (l : Lane) (order : List ℕ) → AreInside ls order → numbered (ls ++ l ∷ []) order ≡ numbered ls order
+numbered_wider ls l [] a = refl
+numbered_wider ls l (n ∷ ns) a = ap₂ (λ (m : Lane) es. (m, n) ∷ es) (get_or_append_left ls (l ∷ []) no_lane n a.0) (numbered_wider ls l ns a.1)
+
+numbered_more : (ls : List Lane) (l : Lane) (order : List ℕ) (at : ℕ) → at ≤ length order → AreInside ls order → numbered (ls ++ l ∷ []) (insert order at (length ls)) ≡ insert (numbered ls order) at (l, length ls)
+numbered_more ls l order zero h a = ap₂ (λ (m : Lane) es. (m, length ls) ∷ es) (get_or-append_seam ls l [] no_lane) (numbered_wider ls l order a)
+numbered_more ls l [] (suc at) h a = absurd (omega arith)
+numbered_more ls l (n ∷ ns) (suc at) h a = ap₂ (λ (m : Lane) es. (m, n) ∷ es) (get_or_append_left ls (l ∷ []) no_lane n a.0) (numbered_more ls l ns at (omega arith) a.1)
+
+inside_wider : (ls : List Lane) (l : Lane) (order : List ℕ) → AreInside ls order → AreInside (ls ++ l ∷ []) order
+inside_wider ls l [] a = tt
+inside_wider ls l (n ∷ ns) a = ((let h = a.0 in let m = length-append ls (l ∷ []) in omega arith), inside_wider ls l ns a.1)
+
+other_lane : (a b : Lane) → (a ≡ b → ⊥) → eq_by_cmp lane_cmp a b ≡ false
+other_lane a b n =
+    elim (eq_by_cmp lane_cmp a b) as (λ x. eq_by_cmp lane_cmp a b ≡ x → x ≡ false) [
+      | true ↦ λ e. absurd (n (exact_lanes a b (equal_of (lane_cmp a b) e)))
+      | false ↦ λ e. refl
+    ] refl
+
+pub order_more : (ls : List Lane) (order : List ℕ) (l : Lane) (at : ℕ) → IsOrdered ls order → at ≤ length order
+    → IsPartitionPoint (λ n. found_cmp (slice_get ls n) l ≡ Less) (λ n. found_cmp (slice_get ls n) l ≡ Greater) order at → IsOrdered (ls ++ l ∷ []) (insert order at (length ls))
+order_more ls order l at is h p =
+    let es : List (Lane × ℕ) = numbered ls order in
+    let n : ℕ = length ls in
+    let here : at ≤ length es = let k = length-numbered ls order in omega arith in
+    let after : numbered (ls ++ l ∷ []) (insert order at n) ≡ put lane_cmp l n es = numbered_more ls l order at h is.inside ∙ sym (put_between lanes_total es l n at here (between ls order is l at h p)) in
+    let absent : Among l ls → ⊥ = order_absent ls order is l at h p in
+    record {
+      rising = subst (λ xs. T (is_sorted lane_cmp xs)) (sym after) (is_sorted-put lane_cmp lanes_total l n es is.rising);
+      inside = all_insert (λ k. k < length (ls ++ l ∷ [])) order at n h (inside_wider ls l order is.inside) (let m = length-append ls (l ∷ []) in omega arith);
+      all = λ j w.
+          ap (find lane_cmp (get_or (ls ++ l ∷ []) j no_lane)) after ∙ find-put lane_cmp lanes_total (get_or (ls ++ l ∷ []) j no_lane) l n es
+          ∙ ⊎_elim {C = cond (eq_by_cmp lane_cmp (get_or (ls ++ l ∷ []) j no_lane) l) (Some n) (find lane_cmp (get_or (ls ++ l ∷ []) j no_lane) es) ≡ Some j}
+          (λ (k : j < n).
+          let same : get_or (ls ++ l ∷ []) j no_lane ≡ get_or ls j no_lane = get_or_append_left ls (l ∷ []) no_lane j k in
+          ap (λ (x : Lane). cond (eq_by_cmp lane_cmp x l) (Some n) (find lane_cmp x es)) same
+          ∙ ap (λ b. cond b (Some n) (find lane_cmp (get_or ls j no_lane) es)) (other_lane (get_or ls j no_lane) l (λ e. absent (subst (λ (x : Lane). Among x ls) e (get_among ls j k)))) ∙ is.all j k)
+          (λ (k : n ≤ j).
+          let last : j ≡ n = let m = length-append ls (l ∷ []) in omega arith in
+          let same : get_or (ls ++ l ∷ []) j no_lane ≡ l = ap (λ x. get_or (ls ++ l ∷ []) x no_lane) last ∙ get_or-append_seam ls l [] no_lane in
+          ap (λ (x : Lane). cond (eq_by_cmp lane_cmp x l) (Some n) (find lane_cmp x es)) same ∙ ap (λ r. cond (is_eq r) (Some n) (find lane_cmp l es)) (tied_itself lanes_total l) ∙ ap Some (sym last))
+          (cases_lt j n);
+    }

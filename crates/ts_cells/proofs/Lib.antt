@@ -1,0 +1,9 @@
+pub mod Searches
+pub mod GridLemmas
+pub mod GridMoves
+pub mod LaneLemmas
+pub mod LaneOrder
+pub mod RowLemmas
+pub mod RowRanges
+pub mod ExpiryLemmas
+pub mod WalkLemmas

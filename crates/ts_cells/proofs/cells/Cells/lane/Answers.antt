@@ -1,0 +1,15 @@
+use Rattle.std.proofs.Common.{◌∙◌, ap}
+use Rattle.std.specs.FinMap.{from_entries}
+use Rattle.ts_core.specs.Cells.{cell_cmp}
+use Rattle.ts_cells.specs.Grids.{Grid, lane_named}
+use Rattle.ts_cells.proofs.LaneLemmas.{gained_grid, gained_entries}
+use Rattle.ts_cells.proofs.cells.Cells.lane.Goals as goal
+
+pub invariant_of-self-2 : goal.invariant_of-self-2
+invariant_of-self-2 g c =
+    gained_grid c.self.inside.lanes c.register.new.self (lane_named c.args.field.now c.args.group.now) c.self.inside.rows.items c.self.invariant c.in_ok-number.ensures.ok
+
+pub returns-clause-cells : goal.returns-clause-cells
+returns-clause-cells g c =
+    ap (from_entries {R = cell_cmp}) (gained_entries c.self.inside.lanes c.register.new.self (lane_named c.args.field.now c.args.group.now) c.self.inside.rows.items c.self.invariant c.in_ok-number.ensures.ok)
+    ∙ ap (λ (s : Grid g.row.P.Denot). s.cells) c.self.view_is

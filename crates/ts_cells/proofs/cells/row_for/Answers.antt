@@ -1,0 +1,33 @@
+use Rattle.std.proofs.Common.{◌≡◌, List, [], get_or, insert, sym, ◌∙◌, ap, subst, int_cmp}
+use Rattle.std.specs.Cmp.{int_cmp_total}
+use Rattle.std.proofs.lemmas.Cmp.{tied_itself}
+use Rattle.std.proofs.lemmas.List.Edits.{get_or-insert_at}
+use Rattle.ts_cells.specs.Grids.{RowOf}
+use Rattle.ts_cells.proofs.GridMoves.{RowPut, row_new, cells_missing, row_unseen}
+use Rattle.ts_cells.proofs.cells.row_for.Given.{Over}
+use Rattle.ts_cells.proofs.cells.row_for.Goals as goal
+
+items : (g : Over) (c : goal.In_ok-insert-in-Err g) → c.insert.new.self.items ≡ insert c.args.rows.now.items c.in-Err.at (c.args.index.now, [])
+items g c = c.in_ok-insert-in-Err.ensures.items ∙ ap (insert c.args.rows.now.items c.in-Err.at) c.new-row.ensures
+
+row : (g : Over) (c : goal.In_ok-insert-in-Err g) → RowPut c.args.rows.now.items c.insert.new.self.items c.args.index.now []
+row g c =
+    let rows : List (RowOf g.row.P.Denot) = c.args.rows.now.items in
+    let bound = rw c.as_slice.ensures.value at c.in-Err.ensures.bound in
+    let place = rw c.as_slice.ensures.value at c.in-Err.ensures.place in
+    subst (λ rs. RowPut rows rs c.args.index.now []) (sym (items g c)) (row_new rows c.args.index.now c.in-Err.at [] c.requires bound place)
+
+pub returns-in_ok-insert-in-Err-clause-rising : goal.returns-in_ok-insert-in-Err-clause-rising
+returns-in_ok-insert-in-Err-clause-rising g c = (row g c).rising
+
+pub returns-in_ok-insert-in-Err-clause-place : goal.returns-in_ok-insert-in-Err-clause-place
+returns-in_ok-insert-in-Err-clause-place g c = λ d.
+    let bound = rw c.as_slice.ensures.value at c.in-Err.ensures.bound in
+    ap (λ (rs : List (RowOf g.row.P.Denot)). int_cmp (get_or rs c.in-Err.at d).0 c.args.index.now) (items g c)
+    ∙ ap (λ (r : RowOf g.row.P.Denot). int_cmp r.0 c.args.index.now) (get_or-insert_at c.args.rows.now.items c.in-Err.at (c.args.index.now, []) d bound) ∙ tied_itself int_cmp_total c.args.index.now
+
+pub returns-in_ok-insert-in-Err-clause-cells : goal.returns-in_ok-insert-in-Err-clause-cells
+returns-in_ok-insert-in-Err-clause-cells g c = λ i.
+    let bound = rw c.as_slice.ensures.value at c.in-Err.ensures.bound in
+    let place = rw c.as_slice.ensures.value at c.in-Err.ensures.place in
+    row_unseen c.args.rows.now.items c.insert.new.self.items c.args.index.now (cells_missing c.args.rows.now.items c.args.index.now c.in-Err.at bound place) (row g c) i

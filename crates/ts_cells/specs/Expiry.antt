@@ -1,0 +1,29 @@
+-- Cells below an index are removed. (Own rules.)
+use Rattle.std.specs.Prelude.{◌≡◌, ◌≢◌, ℕ, zero, suc, ℤ, ◌<ℤ◌, ◌≤ℤ◌, ◌==◌, ◌&&◌, List, None, if◌then◌else◌}
+use Rattle.std.specs.Ordering.{int_cmp, eq_by_cmp}
+use Rattle.std.specs.FinMap as finmap
+use Rattle.std.specs.FinMap.{FinMap}
+use Rattle.ts_core.specs.Cells.{Cell, cell_cmp}
+use Rattle.ts_cells.specs.Grids.{RowOf, held, cells_at}
+
+-- rows lost the cell of one lane of one bucket below an index, and no other
+pub record LosesOne {P : Type 0} (low : ℤ) (before after : List (RowOf P)) : Type 0 where
+  pub index : ℤ
+  pub lane : ℕ
+  pub below : index <ℤ low
+  pub was : held (cells_at before index) lane ≢ None
+  pub cells : (i : ℤ) (j : ℕ) → held (cells_at after i) j ≡ (if eq_by_cmp int_cmp i index && (j == lane) then None else held (cells_at before i) j)
+
+-- no cell is below the index, and none was removed
+pub record AreAbove {P : Type 0} (low : ℤ) (before after : List (RowOf P)) : Type 0 where
+  pub above : (i : ℤ) (j : ℕ) → held (cells_at after i) j ≢ None → low ≤ℤ i
+  pub cells : (i : ℤ) (j : ℕ) → held (cells_at after i) j ≡ held (cells_at before i) j
+
+-- one cell below the index is removed
+abbrev pub RemovesOne : {P : Type 0} → ℤ → FinMap cell_cmp P → FinMap cell_cmp P → Type 0
+RemovesOne low m n = (k : Cell) × (k.index <ℤ low) × (finmap.get m k ≢ None) × (n ≡ finmap.remove m k)
+
+-- so many are, one after another
+abbrev pub Removes : {P : Type 0} → ℤ → ℕ → FinMap cell_cmp P → FinMap cell_cmp P → Type 0
+Removes low zero m n = n ≡ m
+Removes {P} low (suc count) m n = (between : FinMap cell_cmp P) × Removes low count m between × RemovesOne low between n

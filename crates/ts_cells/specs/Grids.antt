@@ -1,0 +1,100 @@
+-- Cells kept by buckets and lanes: a lane is a field with a group, named by its number. (Own rules.)
+use Rattle.std.specs.Prelude.{◌≡◌, ℕ, ℤ, ◌≤◌, T, List, [], ◌∷◌, ◌++◌, length, get_or, Option, Some, None, refl, ◌≢◌, ◌==◌, if◌then◌else◌, ◌⊎◌, slice_get, map}
+use Rattle.std.specs.Ordering.{int_cmp}
+use Rattle.std.specs.List.{AllByRecursion}
+use Rattle.std.specs.FinMap as finmap
+use Rattle.std.specs.FinMap.{FinMap, is_sorted, find, from_entries}
+use Rattle.std.specs.Coded.{Coded, code_by, coded×, coded_list}
+use Rattle.ts_core.specs.Members.{Among, AllDistinct}
+use Rattle.std.specs.Borrow.{Bor}
+use Rattle.ts_core.specs.Facts.{Text}
+use Rattle.ts_core.specs.Cells.{Cell, cell_cmp}
+use Rattle.ts_core.specs.Changes.{or_else}
+use Rattle.ts_core.specs.StoreCodes.{coded_text, coded_cell}
+
+-- what the cells of one field and one group share
+pub record Lane : Type 0 where
+  pub field : Text
+  pub group : List Text
+
+abbrev pub no_lane : Lane
+no_lane = record { field = []; group = [] }
+
+-- what is lent, by its values
+abbrev pub lent : List (Bor Text) → List Text
+lent xs = map (λ (x : Bor Text). x.now) xs
+
+abbrev pub lane_named : Text → List (Bor Text) → Lane
+lane_named field group = record { field = field; group = lent group }
+
+-- x has the number n
+abbrev pub IsAt : {X : Type 0} → List X → ℕ → X → Type 0
+IsAt xs n x = slice_get xs n ≡ Some x
+
+-- x is there as it was, or is added behind all others
+abbrev pub Gains : {X : Type 0} → List X → List X → X → Type 0
+Gains before after x = (Among x before × (after ≡ before)) ⊎ ((Among x before → ⊥) × (after ≡ before ++ x ∷ []))
+
+abbrev pub lane_of : Cell → Lane
+lane_of k = record { field = k.field; group = k.group }
+
+abbrev pub cell_at : ℤ → Lane → Cell
+cell_at index l = record { index = index; field = l.field; group = l.group }
+
+-- the cell of a bucket in the lane of a number
+abbrev pub cell_in : List Lane → ℤ → ℕ → Cell
+cell_in lanes index lane = cell_at index (get_or lanes lane no_lane)
+
+-- the lanes in the order of making, and the cells with what each holds
+pub record Grid (P : Type 0) : Type 0 where
+  pub lanes : List Lane
+  pub cells : FinMap cell_cmp P
+
+-- ---- rows
+
+-- a bucket's index, with its cells by the numbers of their lanes
+abbrev pub RowOf : Type 0 → Type 0
+RowOf P = ℤ × List (Option P)
+
+abbrev pub held : {P : Type 0} → List (Option P) → ℕ → Option P
+held cells lane = get_or cells lane None
+
+abbrev pub row_entries : {P : Type 0} → ℤ → List Lane → List (Option P) → List (Cell × P)
+row_entries i [] cs = []
+row_entries i (l ∷ ls) [] = []
+row_entries i (l ∷ ls) (None ∷ cs) = row_entries i ls cs
+row_entries i (l ∷ ls) (Some p ∷ cs) = (cell_at i l, p) ∷ row_entries i ls cs
+
+abbrev pub entries_of : {P : Type 0} → List Lane → List (RowOf P) → List (Cell × P)
+entries_of ls [] = []
+entries_of ls (r ∷ rs) = row_entries r.0 ls r.1 ++ entries_of ls rs
+
+abbrev pub grid_of : {P : Type 0} → List Lane → List (RowOf P) → Grid P
+grid_of ls rows = record { lanes = ls; cells = from_entries (entries_of ls rows) }
+
+abbrev pub IsRising : {P : Type 0} → List (RowOf P) → Type 0
+IsRising rows = T (is_sorted int_cmp rows)
+
+pub record IsGrid {P : Type 0} (ls : List Lane) (rows : List (RowOf P)) : Type 0 where
+  pub once : AllDistinct ls
+  pub rising : IsRising rows
+  pub narrow : AllByRecursion (λ (r : RowOf P). length r.1 ≤ length ls) rows
+
+-- what a bucket's cells are
+abbrev pub cells_at : {P : Type 0} → List (RowOf P) → ℤ → List (Option P)
+cells_at rows index = or_else [] (find int_cmp index rows)
+
+-- a row lost the cell of one lane, and no other
+pub record HasLost {P : Type 0} (before after : List (Option P)) : Type 0 where
+  pub lane : ℕ
+  pub was : held before lane ≢ None
+  pub cells : (j : ℕ) → held after j ≡ (if j == lane then None else held before j)
+
+-- ---- codes
+
+abbrev pub coded_lane : Coded Lane
+coded_lane = code_by (Text × List Text) (coded× coded_text (coded_list coded_text)) (λ l. (l.field, l.group)) (λ p. record { field = p.0; group = p.1 }) (λ _. refl)
+
+abbrev pub coded_grid : {P : Type 0} → Coded P → Coded (Grid P)
+coded_grid {P} c =
+    code_by (List Lane × FinMap cell_cmp P) (coded× (coded_list coded_lane) (finmap.code coded_cell c)) (λ g. (g.lanes, g.cells)) (λ p. record { lanes = p.0; cells = p.1 }) (λ _. refl)

@@ -1,0 +1,33 @@
+-- The lanes of a rule, numbered in the order of making, and in order of their texts. (Own rules.)
+use Rattle.std.specs.Prelude.{◌≡◌, ℕ, ◌<◌, T, List, map, length, get_or, Option, Some, None}
+use Rattle.std.specs.declared.cmp.Ordering.{Ordering}
+use Rattle.std.specs.declared.cmp.Ordering.TheVariants.{Less}
+use Rattle.std.specs.Ordering.{ordering_then}
+use Rattle.std.specs.Cmp.Lexicographic.{slice_cmp}
+use Rattle.std.specs.List.{AllByRecursion}
+use Rattle.std.specs.FinMap.{is_sorted, find}
+use Rattle.ts_core.specs.Facts.{text_cmp}
+use Rattle.ts_cells.specs.Grids.{Lane, no_lane}
+
+-- lanes stand in order of field, group
+abbrev pub lane_cmp : Lane → Lane → Ordering
+lane_cmp a b = ordering_then (text_cmp a.field b.field) (slice_cmp text_cmp a.group b.group)
+
+-- what is looked up compares with a lane; what isn't there comes first
+abbrev pub found_cmp : Option Lane → Lane → Ordering
+found_cmp None l = Less
+found_cmp (Some m) l = lane_cmp m l
+
+-- the lanes of some numbers, with these
+abbrev pub numbered : List Lane → List ℕ → List (Lane × ℕ)
+numbered lanes order = map (λ (n : ℕ). (get_or lanes n no_lane, n)) order
+
+-- the numbers are those of lanes
+abbrev pub AreInside : List Lane → List ℕ → Type 0
+AreInside lanes order = AllByRecursion (λ (n : ℕ). n < length lanes) order
+
+-- the numbers of all lanes, in the order of the lanes
+pub record IsOrdered (lanes : List Lane) (order : List ℕ) : Type 0 where
+  pub rising : T (is_sorted lane_cmp (numbered lanes order))
+  pub inside : AreInside lanes order
+  pub all : (j : ℕ) → j < length lanes → find lane_cmp (get_or lanes j no_lane) (numbered lanes order) ≡ Some j

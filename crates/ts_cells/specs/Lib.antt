@@ -1,0 +1,6 @@
+pub mod Changes
+pub mod Grids
+pub mod Lanes
+pub mod Rows
+pub mod Expiry
+pub mod Walks

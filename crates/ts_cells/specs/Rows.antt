@@ -1,0 +1,22 @@
+-- The cells of one bucket in the order of making, with the place of each lane's cell. (Own rules.)
+use Rattle.std.specs.Prelude.{◌≡◌, ℕ, ◌<◌, ◌≤◌, List, length, get_or, map, Option, slice_get}
+
+-- stands where a lane has no cell
+abbrev pub no_place : ℕ
+no_place = 4294967295
+
+-- the place of a lane's cell
+abbrev pub place_of : List ℕ → ℕ → ℕ
+place_of places lane = get_or places lane no_place
+
+-- what is kept of each lane
+abbrev pub by_lane : {P : Type 0} → List P → List ℕ → List (Option P)
+by_lane parts places = map (slice_get parts) places
+
+-- each cell stands at the place of its lane, and at no other's
+pub record IsPlaced (places lanes : List ℕ) (count : ℕ) : Type 0 where
+  pub few : count ≤ no_place
+  pub as_many : length lanes ≡ count
+  pub there : (n : ℕ) → n < count → place_of places (get_or lanes n 0) ≡ n
+  pub back : (j : ℕ) → place_of places j < count → get_or lanes (place_of places j) 0 ≡ j
+  pub none : (j : ℕ) → count ≤ place_of places j → place_of places j ≡ no_place

@@ -1,0 +1,44 @@
+-- A walk over cells in order of index, field and group. (Own rules.)
+use Rattle.std.specs.Prelude.{ℕ, ℤ, List, [], ◌∷◌, ◌++◌, filter, Option, Some, None, refl}
+use Rattle.std.specs.FinMap as finmap
+use Rattle.std.specs.FinMap.{FinMap}
+use Rattle.std.specs.Coded.{Coded, code_by, coded×, coded_ℕ}
+use Rattle.ts_core.specs.Facts.{is_within}
+use Rattle.ts_core.specs.Cells.{Cell, cell_cmp}
+use Rattle.ts_core.specs.StoreCodes.{coded_cell}
+use Rattle.ts_cells.specs.Grids.{Lane, cell_in, RowOf, held}
+
+-- a cell that is kept, with the number of its lane
+pub record KeptCell (P : Type 0) : Type 0 where
+  pub lane : ℕ
+  pub cell : Cell
+  pub part : P
+
+abbrev pub entry_of : {P : Type 0} → KeptCell P → Cell × P
+entry_of k = (k.cell, k.part)
+
+-- the cells from an index on, before another, in their order
+abbrev pub entries_within : {P : Type 0} → ℤ → ℤ → FinMap cell_cmp P → List (Cell × P)
+entries_within {P} from to m = filter (λ (e : Cell × P). is_within from to e.0.index) (finmap.entries m)
+
+-- ---- what a walk has left
+
+-- a cell that is there comes before others
+abbrev pub with_kept : {P : Type 0} → Option P → ℕ → Cell → List (KeptCell P) → List (KeptCell P)
+with_kept None n k rest = rest
+with_kept (Some p) n k rest = record { lane = n; cell = k; part = p } ∷ rest
+
+-- the cells of a bucket in the lanes of some numbers
+abbrev pub row_left : {P : Type 0} → List Lane → ℤ → List (Option P) → List ℕ → List (KeptCell P)
+row_left lanes i cs [] = []
+row_left lanes i cs (n ∷ ns) = with_kept (held cs n) n (cell_in lanes i n) (row_left lanes i cs ns)
+
+-- those of the first row in the lanes that are left, and those of the other rows in all lanes
+abbrev pub walk_left : {P : Type 0} → List Lane → List ℕ → List (RowOf P) → List ℕ → List (KeptCell P)
+walk_left lanes order [] left = []
+walk_left lanes order (r ∷ rs) left = row_left lanes r.0 r.1 left ++ walk_left lanes order rs order
+
+-- ---- codes
+
+abbrev pub coded_kept : {P : Type 0} → Coded P → Coded (KeptCell P)
+coded_kept {P} c = code_by (ℕ × (Cell × P)) (coded× coded_ℕ (coded× coded_cell c)) (λ k. (k.lane, (k.cell, k.part))) (λ p. record { lane = p.0; cell = p.1.0; part = p.1.1 }) (λ _. refl)

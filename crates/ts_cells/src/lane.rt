@@ -1,0 +1,120 @@
+//! What the cells of one field and one group share.
+ghost use Rattle.std.specs.Prelude.{◌≡◌, IfOk, map, string_bytes};
+ghost use Rattle.std.specs.Cmp.Lexicographic.{slice_cmp};
+ghost use Rattle.ts_core.specs.Facts.{text_cmp};
+ghost use Rattle.ts_cells.specs.Grids.{lent, lane_named};
+ghost use Rattle.ts_cells.specs.Lanes.{lane_cmp};
+
+use std::alloc::{AllocError, Allocator};
+use std::cmp::Ordering;
+use std::marker::Model;
+
+/// A lane, by its number: the first made has 0.
+#[derive(Clone, Copy, Debug, PartialEq, Eq)]
+pub struct LaneId {
+    number: u32,
+}
+
+impl LaneId {
+    /// The lane of a number.
+    pub(crate) fn of(number: u32) -> LaneId
+        ensures { result ≡ number }
+    {
+        LaneId { number }
+    }
+
+    /// How many lanes were made before it.
+    pub fn number(self) -> u32
+        ensures { result ≡ self }
+    {
+        self.number
+    }
+}
+
+impl Model for LaneId {
+    ghost use Rattle.std.specs.Prelude.{ℕ};
+
+    ghost Value = { ℕ };
+
+    ghost view = { λ id. id.number };
+
+    ghost inverse = { λ n. record { number = n } };
+}
+
+/// A field with a group: the values of a rule's kept tags.
+#[derive(Drop)]
+pub(crate) struct Lane<A: Allocator> {
+    field: String<A>,
+    group: Vec<String<A>, A>,
+}
+
+impl<A: Allocator> Model for Lane<A> {
+    ghost use Rattle.std.specs.Prelude.{string_bytes, map};
+    ghost use Rattle.ts_cells.specs.Grids.{Lane as LaneValue, coded_lane};
+
+    ghost Value = { LaneValue };
+
+    ghost coded = { coded_lane };
+
+    ghost view = { λ l. record { field = string_bytes l.field; group = map string_bytes l.group.items } };
+}
+
+fn owned<A: Allocator + Copy>(alloc: A, texts: &[&str]) -> Result<Vec<String<A>, A>, AllocError>
+    ensures { IfOk result (λ v. map string_bytes v.items ≡ lent texts.now) }
+{
+    let mut all = Vec::new(alloc);
+    for text in texts {
+        all.push(String::from_str(alloc, text)?)?;
+    }
+    Ok(all)
+}
+
+/// The order of texts, each by its bytes.
+fn compare_texts<A: Allocator>(texts: &[String<A>], others: &[&str]) -> Ordering
+    ensures { result ≡ slice_cmp text_cmp (map string_bytes texts.now) (lent others.now) }
+{
+    match (texts.split_first(), others.split_first()) {
+        (None, None) => Ordering::Equal,
+        (None, Some(_)) => Ordering::Less,
+        (Some(_), None) => Ordering::Greater,
+        (Some((text, texts)), Some((other, others))) => match text.as_str().cmp(other) {
+            Ordering::Equal => compare_texts(texts, others),
+            order => order,
+        },
+    }
+}
+
+impl<A: Allocator + Copy> Lane<A> {
+    pub(crate) fn new(alloc: A, field: &str, group: &[&str]) -> Result<Lane<A>, AllocError>
+        ensures { IfOk result (λ l. l ≡ lane_named field.now group.now) }
+    {
+        Ok(Lane {
+            field: String::from_str(alloc, field)?,
+            group: owned(alloc, group)?,
+        })
+    }
+
+    /// The field.
+    pub(crate) fn field(&self) -> &str
+        ensures { result.now ≡ self.now.field }
+    {
+        self.field.as_str()
+    }
+
+    /// The group.
+    pub(crate) fn group(&self) -> &[String<A>]
+        ensures { map string_bytes result.now ≡ self.now.group }
+    {
+        self.group.as_slice()
+    }
+
+    /// The order of this lane and the one of a field and a group.
+    pub(crate) fn compare(&self, field: &str, group: &[&str]) -> Ordering
+        ensures { result ≡ lane_cmp self.now (lane_named field.now group.now) }
+    {
+        match self.field.as_str().cmp(&field) {
+            Ordering::Equal => compare_texts(self.group.as_slice(), group),
+            order => order,
+        }
+    }
+}

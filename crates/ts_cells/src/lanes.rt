@@ -1,0 +1,116 @@
+//! The lanes of a rule.
+ghost use Rattle.std.specs.Prelude.{◌≡◌, [], length, MatchResult, IfOk, OnOk, OnErr, slice_get};
+ghost use Rattle.std.specs.declared.cmp.Ordering.{Ordering};
+ghost use Rattle.std.specs.List.{HoldsAt};
+ghost use Rattle.std.specs.List.Sorted.{IsPartitionPoint, IsSearchInRange};
+ghost use Rattle.ts_cells.specs.Grids.{lane_named, IsAt, Gains};
+ghost use Rattle.ts_cells.specs.Lanes.{found_cmp, IsOrdered};
+
+use crate::lane::Lane;
+use std::alloc::{AllocError, Allocator};
+use std::cmp::Ordering;
+use std::marker::Model;
+
+/// Lanes, numbered in the order of making.
+#[derive(Drop)]
+pub(crate) struct Lanes<A: Allocator> {
+    lanes: Vec<Lane<A>, A>,
+    /// The numbers of all lanes, in order of field and group.
+    order: Vec<u32, A>,
+}
+
+impl<A: Allocator> Model for Lanes<A> {
+    ghost use Rattle.std.specs.Prelude.{List};
+    ghost use Rattle.std.specs.Coded.{coded_list};
+    ghost use Rattle.ts_cells.specs.Grids.{Lane as LaneValue, coded_lane};
+    ghost use Rattle.ts_cells.specs.Lanes.{IsOrdered};
+
+    ghost Value = { List LaneValue };
+
+    ghost coded = { coded_list coded_lane };
+
+    ghost view = { λ s. s.lanes.items };
+
+    ghost invariant = { λ s. IsOrdered s.lanes.items s.order.items };
+}
+
+/// The order of the lane of a number and the one of a field and a group. One that isn't there comes first.
+fn compare_at<A: Allocator + Copy>(
+    lanes: &[Lane<A>],
+    number: u32,
+    field: &str,
+    group: &[&str],
+) -> Ordering
+    ensures { result ≡ found_cmp (slice_get lanes.now number) (lane_named field.now group.now) }
+{
+    match lanes.get(number as usize) {
+        Some(lane) => lane.compare(field, group),
+        None => Ordering::Less,
+    }
+}
+
+/// Where the number of a lane stands in the order of fields and groups, or where it would go.
+fn place_in_order<A: Allocator + Copy>(
+    lanes: &[Lane<A>],
+    order: &[u32],
+    field: &str,
+    group: &[&str],
+) -> Result<usize, usize>
+    requires { IsOrdered lanes.now order.now }
+    ensures bound { IsSearchInRange result (length order.now) }
+    ensures place { MatchResult result (HoldsAt (λ n. found_cmp (slice_get lanes.now n) (lane_named field.now group.now) ≡ Ordering.Equal) order.now) (IsPartitionPoint (λ n. found_cmp (slice_get lanes.now n) (lane_named field.now group.now) ≡ Ordering.Less) (λ n. found_cmp (slice_get lanes.now n) (lane_named field.now group.now) ≡ Ordering.Greater) order.now) }
+{
+    order.binary_search_by(|number| compare_at(lanes, *number, field, group))
+}
+
+/// The number of one lane more. One that needs more than 32 bits is told as want of memory.
+fn next_number(count: usize) -> Result<u32, AllocError>
+    ensures { IfOk result (λ number. number ≡ count) }
+{
+    u32::try_from(count).map_err(|_| AllocError)
+}
+
+impl<A: Allocator + Copy> Lanes<A> {
+    /// No lanes. It takes no memory.
+    pub(crate) fn new(alloc: A) -> Lanes<A>
+        ensures { result ≡ [] }
+    {
+        Lanes {
+            lanes: Vec::new(alloc),
+            order: Vec::new(alloc),
+        }
+    }
+
+    /// The lanes by number.
+    pub(crate) fn as_slice(&self) -> &[Lane<A>]
+        ensures { result.now ≡ self.now }
+    {
+        self.lanes.as_slice()
+    }
+
+    /// The numbers of all lanes, in order of field and group.
+    pub(crate) fn order(&self) -> &[u32]
+        ensures { IsOrdered self.now result.now }
+    {
+        self.order.as_slice()
+    }
+
+    /// The number of the lane of a field and a group, which is made where there is none.
+    pub(crate) fn register(&mut self, field: &str, group: &[&str]) -> Result<u32, AllocError>
+        ensures number { IfOk result (λ n. IsAt self.new n (lane_named field.now group.now)) }
+        ensures ok { OnOk result (Gains self.old self.new (lane_named field.now group.now)) }
+        ensures err { OnErr result (self.new ≡ self.old) }
+    {
+        match place_in_order(self.lanes.as_slice(), self.order.as_slice(), field, group) {
+            Ok(at) => Ok(self.order[at]),
+            Err(at) => {
+                let number = next_number(self.lanes.len())?;
+                let lane = Lane::new(*self.lanes.allocator(), field, group)?;
+                self.order.reserve(1)?;
+                self.lanes.push(lane)?;
+                self.order.insert(at, number).unwrap();
+                Ok(number)
+            }
+        }
+    }
+}
