@@ -1,11 +1,8 @@
--- What the facts of columns become by one more point in one of them, and how many of them are asked for.
-use Rattle.std.proofs.Common.{◌≡◌, ℕ, zero, suc, ℤ, ◌+◌, Bool, true, false, cond, List, [], ◌∷◌, ◌++◌, length, map, filter, set, get_or, refl, sym, ◌∙◌, ap, subst, inl, inr, ◌⊎◌, ⊎_elim, arith, ◌&&◌, Some, is_eq, T}
+-- What the facts of columns become by one more point in one of them.
+use Rattle.std.proofs.Common.{◌≡◌, ℕ, zero, suc, ℤ, ◌+◌, true, false, cond, List, [], ◌∷◌, ◌++◌, length, map, set, get_or, refl, sym, ◌∙◌, ap, subst, inl, inr, ◌⊎◌, ⊎_elim, arith, Some, is_eq, T}
 use Rattle.std.specs.Ordering.{int_cmp, ordering_then, eq_by_cmp}
-use Rattle.std.specs.List.{slice_get, sum_by}
-use Rattle.std.proofs.lemmas.List.Elements.{filter-append}
-use Rattle.std.proofs.lemmas.List.{length-append, length-map, nil_from_length}
-use Rattle.std.proofs.lemmas.List.Sums.{sum_by-cons}
-use Rattle.std.proofs.Math.Numerals.{add-one}
+use Rattle.std.specs.List.{slice_get}
+use Rattle.std.proofs.lemmas.List.{length-map, nil_from_length}
 use Rattle.std.specs.Cmp.{int_cmp_total}
 use Rattle.std.specs.FinMap as finmap
 use Rattle.std.specs.FinMap.{find, is_sorted, entries, entries-insert, entries_sorted, len-entries, len-empty, int_cmp-IsAntisymmetric}
@@ -13,14 +10,13 @@ use Rattle.std.specs.FinMap.Entries.{find-put}
 use Rattle.std.proofs.lemmas.Cmp.{tied_itself}
 use Rattle.std.proofs.lemmas.Option.{none-some, same_Some}
 use Rattle.ts_core.specs.Members.{Among, AllDistinct}
-use Rattle.ts_core.specs.Facts.{Text, Column, Fact, Id, id_of, same_id, is_of, is_within, is_asked}
+use Rattle.ts_core.specs.Facts.{Column, Fact, Id, id_of, same_id}
 use Rattle.ts_core.proofs.MembersLemmas.{Among-left, Among-right, Among-append, AllDistinct-append}
 use Rattle.ts_core.proofs.Ids.{columns_total, equal_of, other_id}
 use Rattle.ts_core.proofs.Sorted.{sorted-distinct, found_among, among_found}
 use Rattle.ts_core.specs.StoreMoves.{Puts}
 use Rattle.ts_raw.specs.Columns.{PointMap, ColumnState}
 use Rattle.ts_raw.specs.Indexed.{Indexed}
-use Rattle.ts_raw.specs.Numbered.{numbers_from, numbers_where}
 use Rattle.ts_raw.proofs.NumberedLemmas.{at_among}
 use Rattle.ts_core.specs.StoreStates.{ColumnPoints, column_of, fact_at}
 use Rattle.ts_store.specs.ColumnsKept.{facts_in, points_of, with_points, columns_in, facts_of_columns, held_of, AreKnown, IsHeld}
@@ -176,64 +172,3 @@ grown_behind [] [] c l = ap (λ (ps : List (ℤ × ℤ)). record { column = c; p
 grown_behind [] (m ∷ ms) c l = absurd (omega (arith, l))
 grown_behind (b ∷ cs) [] c l = absurd (omega (arith, l))
 grown_behind (b ∷ cs) (m ∷ ms) c l = ap (λ (ds : List ColumnPoints). record { column = b; points = entries m } ∷ ds) (grown_behind cs ms c (omega (arith, l)))
-
--- ---- how many are asked for
-
-within : (a b : ℤ) (c : Column) (points : List (ℤ × ℤ)) → length (filter (λ (x : Fact). is_within a b x.time) (map (fact_at c) points)) ≡ length (filter (λ (p : ℤ × ℤ). is_within a b p.0) points)
-within a b c [] = refl
-within a b c (p ∷ points) =
-    elim (is_within a b p.0) as (λ o. length (cond o (fact_at c p ∷ filter (λ (x : Fact). is_within a b x.time) (map (fact_at c) points)) (filter (λ (x : Fact). is_within a b x.time) (map (fact_at c) points)))
-    ≡ length (cond o (p ∷ filter (λ (p : ℤ × ℤ). is_within a b p.0) points) (filter (λ (p : ℤ × ℤ). is_within a b p.0) points))) [
-      | true ↦ ap suc (within a b c points)
-      | false ↦ within a b c points
-    ]
-
-none_asked : (c : Column) (points : List (ℤ × ℤ)) → length (filter (λ (x : Fact). false) (map (fact_at c) points)) ≡ 0
-none_asked c [] = refl
-none_asked c (p ∷ points) = none_asked c points
-
-of_column : (m f : Text) (a b : ℤ) (c : Column) (points : List (ℤ × ℤ)) → filter (is_asked m f a b) (map (fact_at c) points) ≡ filter (λ (x : Fact). is_of m f c && is_within a b x.time) (map (fact_at c) points)
-of_column m f a b c [] = refl
-of_column m f a b c (p ∷ points) = ap (λ (xs : List Fact). cond (is_of m f c && is_within a b p.0) (fact_at c p ∷ xs) xs) (of_column m f a b c points)
-
-asked_in : (m f : Text) (a b : ℤ) (c : Column) (points : List (ℤ × ℤ))
-    → length (filter (is_asked m f a b) (map (fact_at c) points)) ≡ cond (is_of m f c) (length (filter (λ (p : ℤ × ℤ). is_within a b p.0) points)) 0
-asked_in m f a b c points = ap length (of_column m f a b c points)
-    ∙ elim (is_of m f c) as (λ o. length (filter (λ (x : Fact). o && is_within a b x.time) (map (fact_at c) points)) ≡ cond o (length (filter (λ (p : ℤ × ℤ). is_within a b p.0) points)) 0) [
-      | true ↦ within a b c points
-      | false ↦ none_asked c points
-    ]
-
-abbrev pub asked_of : List PointMap → ℤ → ℤ → ℕ → ℕ
-asked_of ms a b n = length (filter (λ (p : ℤ × ℤ). is_within a b p.0) (entries (get_or ms n finmap.empty)))
-
-numbers_later : {X : Type 0} (p : X → Bool) (n : ℕ) (xs : List X) → numbers_from p (n + 1) xs ≡ map suc (numbers_from p n xs)
-numbers_later p n [] = refl
-numbers_later p n (x ∷ xs) =
-    elim (p x) as (λ b. cond b ((n + 1) ∷ numbers_from p (n + 1 + 1) xs) (numbers_from p (n + 1 + 1) xs) ≡ map suc (cond b (n ∷ numbers_from p (n + 1) xs) (numbers_from p (n + 1) xs))) [
-      | true ↦ ap (λ k. k ∷ numbers_from p (n + 1 + 1) xs) (add-one n) ∙ ap (λ ns. suc n ∷ ns) (numbers_later p (n + 1) xs)
-      | false ↦ numbers_later p (n + 1) xs
-    ]
-
-sum_later : (m : PointMap) (ms : List PointMap) (a b : ℤ) (ns : List ℕ) → sum_by (asked_of (m ∷ ms) a b) (map suc ns) ≡ sum_by (asked_of ms a b) ns
-sum_later m ms a b [] = refl
-sum_later m ms a b (n ∷ ns) =
-    sum_by-cons (asked_of (m ∷ ms) a b) (suc n) (map suc ns) ∙ ap (λ k. asked_of ms a b n + k) (sum_later m ms a b ns) ∙ sym (sum_by-cons (asked_of ms a b) n ns)
-
--- what is asked for is found column by column
-pub asked_by_columns : (m f : Text) (a b : ℤ) (cs : List Column) (ms : List PointMap) → length ms ≡ length cs
-    → length (filter (is_asked m f a b) (facts_of_columns cs ms)) ≡ sum_by (asked_of ms a b) (numbers_where (is_of m f) cs)
-asked_by_columns m f a b [] ms l = refl
-asked_by_columns m f a b (c ∷ cs) [] l = absurd (omega (arith, l))
-asked_by_columns m f a b (c ∷ cs) (x ∷ ms) l =
-    let p : Fact → Bool = is_asked m f a b in
-    let later : List ℕ = numbers_from (is_of m f) (0 + 1) cs in
-    let rest : sum_by (asked_of (x ∷ ms) a b) later ≡ length (filter p (facts_of_columns cs ms)) =
-    ap (sum_by (asked_of (x ∷ ms) a b)) (numbers_later (is_of m f) 0 cs) ∙ sum_later x ms a b (numbers_where (is_of m f) cs) ∙ sym (asked_by_columns m f a b cs ms (omega (arith, l))) in
-    ap length (filter-append p (facts_in c x) (facts_of_columns cs ms))
-    ∙ length-append (filter p (facts_in c x)) (filter p (facts_of_columns cs ms))
-    ∙ ap (λ k. k + length (filter p (facts_of_columns cs ms))) (asked_in m f a b c (entries x))
-    ∙ elim (is_of m f c) as (λ o. cond o (asked_of (x ∷ ms) a b 0) 0 + length (filter p (facts_of_columns cs ms)) ≡ sum_by (asked_of (x ∷ ms) a b) (cond o (0 ∷ later) later)) [
-      | true ↦ ap (λ k. asked_of (x ∷ ms) a b 0 + k) (sym rest) ∙ sym (sum_by-cons (asked_of (x ∷ ms) a b) 0 later)
-      | false ↦ zero_plus (length (filter p (facts_of_columns cs ms))) ∙ sym rest
-    ]

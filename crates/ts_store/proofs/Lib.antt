@@ -3,3 +3,4 @@ pub mod ColumnsReads
 pub mod PutsLengths
 pub mod ColumnsAside
 pub mod Stands
+pub mod SeatLemmas

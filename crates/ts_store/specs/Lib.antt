@@ -1,3 +1,4 @@
+pub mod Seats
 pub mod PointsRead
 pub mod ColumnsKept
 pub mod Registered

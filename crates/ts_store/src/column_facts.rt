@@ -1,24 +1,23 @@
 //! Facts in columns that are found through an index.
-ghost use Rattle.std.specs.Prelude.{◌≡◌, ◌≤◌, ◌<◌, ◌+◌, ◌*◌, ◌^◌, [], false, length, filter, map, OnOk, OnErr};
+ghost use Rattle.std.specs.Prelude.{◌≡◌, ◌≤◌, ◌<◌, ◌+◌, ◌*◌, ◌^◌, [], false, length, OnOk, OnErr};
 ghost use Rattle.std.specs.List.{AllByRecursion};
 ghost use Rattle.ts_core.specs.Times.{least_time};
-ghost use Rattle.ts_core.specs.Facts.{is_of, is_asked};
+ghost use Rattle.ts_core.specs.Facts.{is_of};
 ghost use Rattle.ts_core.specs.History.{MayBeTaken};
-ghost use Rattle.ts_core.specs.StoreStates.{ColumnPoints, column_of, facts_of as facts_in};
+ghost use Rattle.ts_core.specs.StoreStates.{facts_of as facts_in};
 ghost use Rattle.ts_core.specs.Texts.{lent_pairs, lent_series, IsTagSet};
 ghost use Rattle.ts_line.specs.Parts.{series_of, facts_of};
-ghost use Rattle.ts_raw.specs.Numbered.{IsAt, numbers_where};
 ghost use Rattle.ts_raw.specs.PlainColumns.{IsRising};
 ghost use Rattle.ts_store.specs.ColumnsKept.{AreKnown};
 ghost use Rattle.ts_store.specs.Refusals.{is_too_many};
-ghost use Rattle.ts_store.specs.PointsRead.{points_between};
+ghost use Rattle.ts_store.specs.Seats.{seats_where, points_at};
 ghost use Rattle.ts_store.specs.LinesPut.{Puts, Grows};
 
-use crate::column_reads::{count_asked, held_points, raw_points, raw_range};
+use crate::column_reads::{held_points, raw_points, raw_range};
 use crate::columns::{commit_all, prepare_line};
+use crate::columns_seen::Columns;
 use std::alloc::{AllocError, Allocator};
 use std::marker::Model;
-use ts_core::Time;
 use ts_line::Line;
 use ts_raw::{ColumnId, Index, PlainColumn, Points, SERIES_LIMIT};
 
@@ -91,15 +90,6 @@ impl<A: Allocator + Copy> ColumnFacts<A> {
         Ok(())
     }
 
-    /// How many facts there are of a measurement and a field, from a time on and before another.
-    pub(crate) fn count(&self, measurement: &str, field: &str, from: Time, to: Time) -> u64
-        requires { length (facts_in self.now.columns) ≤ 2 ^ 62 }
-        ensures { result ≡ length (filter (is_asked measurement.now field.now from to) (facts_in self.now.columns)) }
-    {
-        let columns = self.columns.as_slice();
-        count_asked(&self.index, columns, measurement, field, from, to)
-    }
-
     /// How many facts there are.
     pub(crate) fn raw_points(&self) -> u64
         requires { length (facts_in self.now.columns) ≤ 2 ^ 62 }
@@ -118,16 +108,16 @@ impl<A: Allocator + Copy> ColumnFacts<A> {
     }
 
     /// The columns of a measurement and a field, in the order of making.
-    pub(crate) fn columns_of(&self, measurement: &str, field: &str) -> &[ColumnId]
-        ensures { result.now ≡ numbers_where (is_of measurement.now field.now) (map column_of self.now.columns) }
+    pub(crate) fn columns_of(&self, measurement: &str, field: &str) -> Columns<'_, A>
+        ensures { result ≡ seats_where (is_of measurement.now field.now) self.now.columns }
     {
-        self.index.columns_of(measurement, field)
+        Columns::of(self.index.columns_of(measurement, field), &self.index)
     }
 
     /// The points of a column, from a time on and before another (nanoseconds).
     pub(crate) fn raw_range(&self, column: ColumnId, from: i64, to: i64) -> Points<'_>
         requires { column < length self.now.columns }
-        ensures points { (s : ColumnPoints) → IsAt self.now.columns column s → result ≡ points_between from to s.points }
+        ensures points { result ≡ points_at self.now.columns column from to }
         ensures rising { IsRising result }
     {
         raw_range(self.columns.as_slice(), column.number(), from, to)

@@ -1,21 +1,24 @@
 //! The store.
 ghost use Rattle.std.specs.Prelude.{◌≡◌, ◌⊎◌, ◌+◌, ◌*◌, ◌<◌, ◌≤◌, [], length, map, OnOk, IfOk, IfSome, IsNone, Ok, Err};
-ghost use Rattle.ts_core.specs.Facts.{is_of};
 ghost use Rattle.ts_core.specs.History.{accepted};
-ghost use Rattle.ts_core.specs.Latest.{count_of};
 ghost use Rattle.ts_core.specs.RawFacts.{raw_facts};
-ghost use Rattle.ts_core.specs.StoreStates.{ColumnPoints, column_of, StandsFor, facts_of as facts_in};
+ghost use Rattle.ts_core.specs.StoreStates.{ColumnPoints, StandsFor, facts_of as facts_in};
 ghost use Rattle.ts_core.specs.StoreData.{state_of, new_data, OfEachHistory, ShowsEach};
 ghost use Rattle.ts_core.specs.Texts.{lent_pairs};
 ghost use Rattle.ts_line.specs.Parts.{series_of};
-ghost use Rattle.ts_raw.specs.Numbered.{IsAt, numbers_where};
+ghost use Rattle.ts_core.specs.Views.{seen_of, seen_rule};
+ghost use Rattle.ts_raw.specs.Numbered.{IsAt};
 ghost use Rattle.ts_raw.specs.PlainColumns.{IsRising};
-ghost use Rattle.ts_store.specs.PointsRead.{points_between, AreLatestOf};
+ghost use Rattle.ts_store.specs.PointsRead.{AreLatestOf};
+ghost use Rattle.ts_store.specs.Seats.{points_at};
 ghost use Rattle.ts_store.specs.Refusals.{write_fault};
 ghost use Rattle.ts_store.specs.LinesPut.{Accepts, Leaves};
 
+use crate::cell_walk::CellWalk;
 use crate::column_facts::ColumnFacts;
+use crate::columns_seen::Columns;
 use crate::fault::WriteFault;
+use crate::view::View;
 use std::alloc::{AllocError, Allocator};
 use std::marker::Model;
 use ts_core::{Marks, Settings, Time};
@@ -39,7 +42,7 @@ impl<A: Allocator> Model for Store<A> {
     ghost use Rattle.ts_core.specs.StoreStates.{facts_of};
     ghost use Rattle.ts_core.specs.StoreData.{StoreData};
     ghost use Rattle.ts_core.specs.StoreCodes.{coded_store_data};
-    ghost use Rattle.ts_store.specs.Registered.{IsCounted};
+    ghost use Rattle.ts_store.specs.Registered.{IsKept};
 
     ghost Value = { StoreData };
 
@@ -47,7 +50,7 @@ impl<A: Allocator> Model for Store<A> {
 
     ghost view = { λ s. record { settings = s.settings; marks = s.marks; running = false; waiting = []; series = s.facts.series; columns = s.facts.columns; accepted = s.accepted; cells = [] } };
 
-    ghost invariant = { λ s. IsCounted s.marks s.accepted (facts_of s.facts.columns) };
+    ghost invariant = { λ s. IsKept s.settings s.marks s.accepted (facts_of s.facts.columns) };
 }
 
 impl<A: Allocator + Copy> Store<A> {
@@ -97,36 +100,12 @@ impl<A: Allocator + Copy> Store<A> {
         None
     }
 
-    /// The settings.
-    pub fn settings(&self) -> &Settings<A>
-        ensures value { result.now ≡ self.now.settings }
-        ensures shows { ShowsEach self.now }
-    {
-        &self.settings
-    }
-
-    /// From where on it still knows everything.
-    pub fn marks(&self) -> &Marks<A>
-        ensures value { result.now ≡ self.now.marks }
-        ensures shows { ShowsEach self.now }
-    {
-        &self.marks
-    }
-
     /// How many facts were accepted, repeats counted.
     pub fn accepted(&self) -> u64
         ensures value { result ≡ self.now.accepted }
         ensures facts { OfEachHistory self.now (λ opening h. result ≡ length (accepted h)) }
     {
         self.accepted
-    }
-
-    /// How many facts there are of a measurement and a field, of each id the latest, from a time on and
-    /// before another. It walks the columns of that measurement and that field.
-    pub fn count(&self, measurement: &str, field: &str, from: Time, to: Time) -> u64
-        ensures { OfEachHistory self.now (λ opening h. result ≡ count_of h measurement.now field.now from to) }
-    {
-        self.facts.count(measurement, field, from, to)
     }
 
     /// How many raw facts are kept: of each id the latest, from the raw mark on.
@@ -144,21 +123,45 @@ impl<A: Allocator + Copy> Store<A> {
     {
         self.facts.held_points()
     }
+}
 
-    /// The columns of a measurement and a field, in the order of making.
-    pub fn columns_of(&self, measurement: &str, field: &str) -> &[ColumnId]
-        ensures { result.now ≡ numbers_where (is_of measurement.now field.now) (map column_of self.now.columns) }
+impl<A: Allocator + Copy> View<A> for Store<A> {
+    ghost seen = { λ s. seen_of (state_of s) };
+
+    /// The settings. What stands for a history shows it.
+    fn settings(&self) -> &Settings<A>
+        ensures value { result.now ≡ self.now.settings }
+        ensures rules { map seen_rule (seen_of (state_of self.now)).rules ≡ self.now.settings.rules }
+        ensures shows { ShowsEach self.now }
     {
+        &self.settings
+    }
+
+    /// The marks, with a low index for each rule.
+    fn marks(&self) -> &Marks<A>
+        ensures value { result.now ≡ self.now.marks }
+        ensures lows { length self.now.marks.lows ≡ length self.now.settings.rules }
+    {
+        &self.marks
+    }
+
+    fn columns_of(&self, measurement: &str, field: &str) -> Columns<'_, A> {
         self.facts.columns_of(measurement, field)
     }
 
-    /// The raw points of a column, from a time on and before another (nanoseconds), in the order of time.
-    pub fn raw_range(&self, column: ColumnId, from: i64, to: i64) -> Points<'_>
+    /// The points of a column, from a time on and before another (nanoseconds), in the order of time.
+    fn raw_range(&self, column: ColumnId, from: i64, to: i64) -> Points<'_>
         requires { column < length self.now.columns }
-        ensures points { (s : ColumnPoints) → IsAt self.now.columns column s → result ≡ points_between from to s.points }
+        ensures points { result ≡ points_at self.now.columns column from to }
         ensures facts { (s : ColumnPoints) → IsAt self.now.columns column s → OfEachHistory self.now (AreLatestOf s.column from to result) }
         ensures rising { IsRising result }
     {
         self.facts.raw_range(column, from, to)
+    }
+
+    /// There are no rules yet, and so no cells.
+    fn cell_walk(&self, _rule: usize, _from: &i128, _to: &i128) -> CellWalk<'_, A> {
+        prove!(self.settings.rules().is_empty());
+        CellWalk::of(&[])
     }
 }

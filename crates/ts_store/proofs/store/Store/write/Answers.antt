@@ -14,7 +14,7 @@ use Rattle.ts_store.proofs.store.Store.write.Goals as goal
 pub invariant_of-self : goal.invariant_of-self
 invariant_of-self g c =
     let same = left_facts c.self.inside.facts c.put_line.new.self c.args.line.now c.in_err-put_line.ensures.err in
-    record { mark = c.self.invariant.mark; few = c.self.invariant.few; kept = subst (λ (fs : List Fact). length fs ≤ c.self.inside.accepted) (sym same) c.self.invariant.kept }
+    record { no_rules = c.self.invariant.no_rules; no_lows = c.self.invariant.no_lows; mark = c.self.invariant.mark; few = c.self.invariant.few; kept = subst (λ (fs : List Fact). length fs ≤ c.self.inside.accepted) (sym same) c.self.invariant.kept }
 
 pub returns-in_err-put_line-clause-taken : goal.returns-in_err-put_line-clause-taken
 returns-in_err-put_line-clause-taken g c = λ none.
@@ -33,7 +33,7 @@ invariant_of-self-2 g c =
     let none : write_fault c.self.inside.facts.series c.self.inside.accepted line ≡ None = ap (λ (k : StoreData). write_fault k.series k.accepted line) c.self.view_is ∙ sym c.refusal.ensures ∙ c.in_default.is in
     let few = (not_refused c.self.inside.facts.series c.self.inside.accepted line none).1 in
     let kept = kept_few c.self.inside.accepted c.self.inside.facts c.put_line.new.self line c.in_ok-put_line.ensures.ok c.self.invariant.kept in
-    record { mark = c.self.invariant.mark; few = omega (arith, many, few); kept = omega (arith, many, kept) }
+    record { no_rules = c.self.invariant.no_rules; no_lows = c.self.invariant.no_lows; mark = c.self.invariant.mark; few = omega (arith, many, few); kept = omega (arith, many, kept) }
 
 pub returns-clause-ok : goal.returns-clause-ok
 returns-clause-ok g c =

@@ -1,0 +1,59 @@
+//! What an executor sees of a store.
+ghost use Rattle.std.specs.Prelude.{◌≡◌, ◌<◌, length, map};
+ghost use Rattle.std.specs.Iterator.{YieldsFirst, item_count};
+ghost use Rattle.ts_core.specs.Facts.{is_of};
+ghost use Rattle.ts_core.specs.Views.{Seen, seen_rule};
+ghost use Rattle.ts_store.specs.Seats.{seats_where, points_at, cells_at};
+
+use crate::cell_walk::CellWalk;
+use crate::columns_seen::Columns;
+use std::alloc::Allocator;
+use std::marker::Model;
+use ts_core::{Key, Marks, Settings};
+use ts_raw::{ColumnId, Points};
+
+/// A column by its number, with the key of its series.
+#[derive(Drop)]
+pub struct ColumnSeen<'a, A: Allocator> {
+    /// Its number.
+    pub id: ColumnId,
+    /// The key of its series.
+    pub key: &'a Key<A>,
+}
+
+impl<'a, A: Allocator> Model for ColumnSeen<'a, A> {
+    ghost use Rattle.ts_store.specs.Seats.{Seat};
+
+    ghost Value = { Seat };
+
+    ghost view = { λ c. record { number = c.id; series = c.key.now } };
+}
+
+/// What an executor sees of a store: its settings, its marks, and from there on its raw points and its cells.
+pub trait View<A: Allocator> {
+    // All that is seen.
+    ghost seen: { Self → Seen };
+
+    /// The settings. Of each of their rules cells are shown, in their order.
+    fn settings(&self) -> &Settings<A>
+        ensures value { result.now ≡ (seen self.now).settings }
+        ensures rules { map seen_rule (seen self.now).rules ≡ (seen self.now).settings.rules };
+
+    /// The marks.
+    fn marks(&self) -> &Marks<A>
+        ensures { result.now ≡ (seen self.now).marks };
+
+    /// The columns of a measurement and a field, in the order of making.
+    fn columns_of(&self, measurement: &str, field: &str) -> Columns<'_, A>
+        ensures { result ≡ seats_where (is_of measurement.now field.now) (seen self.now).columns };
+
+    /// The points of a column, from a time on and before another (nanoseconds).
+    fn raw_range(&self, column: ColumnId, from: i64, to: i64) -> Points<'_>
+        requires { column < length (seen self.now).columns }
+        ensures { result ≡ points_at (seen self.now).columns column from to };
+
+    /// The cells of a rule, by its number, from a bucket's index on and before another.
+    fn cell_walk(&self, rule: usize, from: &i128, to: &i128) -> CellWalk<'_, A>
+        requires { rule < length (seen self.now).rules }
+        ensures { result ≡ cells_at (seen self.now).rules rule from.now to.now };
+}
