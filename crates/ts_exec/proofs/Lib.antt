@@ -1,0 +1,12 @@
+pub mod LentLemmas
+mod Slotted
+mod Shares
+mod Entries
+mod Linked
+mod Given
+mod Spans
+mod Seated
+mod Widths
+mod Walked
+mod NamedRules
+pub mod FillSteps

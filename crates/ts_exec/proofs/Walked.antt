@@ -1,0 +1,65 @@
+-- The cells of a walk stand at indices of its range, and their buckets start near it.
+use Rattle.std.proofs.Common.{◌≡◌, ℤ, pos, negsuc, ◌+ℤ◌, ◌*ℤ◌, ◌≤ℤ◌, true, false, not, ◌&&◌, ◌==◌, cond, refl, List, [], ◌∷◌, map, filter, arith, SFits, w64}
+use Rattle.std.specs.Int.{w128}
+use Rattle.std.proofs.lemmas.Int.{ints, fits_signed_from_abs}
+use Rattle.std.specs.List.{AllByRecursion}
+use Rattle.std.proofs.lemmas.Bool.{and_parts}
+use Rattle.ts_core.specs.Facts.{Fact, is_within}
+use Rattle.ts_core.specs.Settings.{Rule}
+use Rattle.ts_core.specs.Marks.{index_of}
+use Rattle.ts_core.specs.Queries.{Query, is_selected, matches}
+use Rattle.ts_core.specs.Assembly.{stand_in}
+use Rattle.ts_core.specs.Pieces.{start_of}
+use Rattle.ts_core.specs.Aggregates.{Aggregate}
+use Rattle.ts_core.specs.Cells.{Cell}
+use Rattle.ts_core.specs.Views.{RuleTotals}
+use Rattle.ts_core.proofs.Boundaries.{within_parts}
+use Rattle.ts_core.proofs.BucketsOrder.{bucket_is, one_more, times_le}
+use Rattle.ts_store.specs.Seats.{CellTotal, with_total, cells_within}
+use Rattle.ts_exec.specs.Tables.{is_cell_taken}
+
+all_within : (total : Cell → Aggregate) (a b : ℤ) (ks : List Cell) → AllByRecursion (λ (c : CellTotal). is_within a b c.cell.index ≡ true) (map (with_total total) (filter (λ (k : Cell). is_within a b k.index) ks))
+all_within total a b [] = tt
+all_within total a b (k ∷ ks) =
+    elim (is_within a b k.index) as (λ z. is_within a b k.index ≡ z → AllByRecursion (λ (c : CellTotal). is_within a b c.cell.index ≡ true) (map (with_total total) (cond z (k ∷ filter (λ (x : Cell). is_within a b x.index) ks) (filter (λ (x : Cell). is_within a b x.index) ks)))) [
+      | true ↦ λ e. (e, all_within total a b ks)
+      | false ↦ λ e. all_within total a b ks
+    ] refl
+
+pub cells-within : (r : RuleTotals) (a b : ℤ) → AllByRecursion (λ (c : CellTotal). is_within a b c.cell.index ≡ true) (cells_within r a b)
+cells-within r a b = all_within r.total a b r.cells
+
+-- what is computed of a cell's start fits 128 bits
+pub record StartFits (r : Rule) (k : ℤ) : Type 0 where
+  pub product : SFits w128 (k *ℤ r.interval)
+  pub start : SFits w128 (start_of r k)
+
+pub start_fits : (r : Rule) (a b k : ℤ) → pos 1 ≤ℤ r.interval → SFits w64 r.interval → SFits w64 r.offset → SFits w64 a → SFits w64 b → is_within (index_of r a) (index_of r b) k ≡ true → StartFits r k
+start_fits r a b k h i o fa fb w =
+    let within = within_parts (index_of r a) (index_of r b) k w in
+    let first = bucket_is a r.interval r.offset h in
+    let end = bucket_is b r.interval r.offset h in
+    let first_end = first.before_end in
+    let end_start = end.from_start in
+    let below : (k +ℤ pos 1) ≤ℤ index_of r b = let u = within.1 in omega (arith, ints) in
+    let low = times_le (index_of r a) k r.interval h within.0 in
+    let high = times_le (k +ℤ pos 1) (index_of r b) r.interval h below in
+    let one = one_more (index_of r a) r.interval in
+    let more = one_more k r.interval in
+    record {
+      product = fits_signed_from_abs w128 (k *ℤ r.interval) (omega (arith, ints));
+      start = fits_signed_from_abs w128 ((k *ℤ r.interval) +ℤ r.offset) (omega (arith, ints));
+    }
+
+-- a moment between two that fit 64 bits fits them
+pub within_fits : (a b t : ℤ) → SFits w64 a → SFits w64 b → is_within a b t ≡ true → SFits w64 t
+within_fits a b (pos n) fa fb w = let within = within_parts a b (pos n) w in let high = within.1 in record { sfits = omega (arith, ints) }
+within_fits a b (negsuc n) fa fb w = let within = within_parts a b (negsuc n) w in let low = within.0 in record { sfits = omega (arith, ints) }
+
+-- a cell that is taken starts in the query's range and in the piece
+pub taken-within : (q : Query) (r : Rule) (a b : ℤ) (c : CellTotal) → is_cell_taken q r a b c ≡ true → (is_within q.from q.to (start_of r c.cell.index) ≡ true) × (is_within a b (start_of r c.cell.index) ≡ true)
+taken-within q r a b c e =
+    let f : Fact = stand_in r c.cell in
+    let both = and_parts (matches q f && is_within a b f.time) (not (c.total.count == 0)) e in
+    let parts = and_parts (matches q f) (is_within a b f.time) both.0 in
+    ((and_parts (is_selected q f.column) (is_within q.from q.to f.time) parts.0).1, parts.1)

@@ -1,0 +1,16 @@
+use Rattle.std.proofs.Common.{rules, ◌≡◌, [], ◌∙◌, subst, sym}
+use Rattle.std.specs.List.{AllByRecursion}
+use Rattle.std.proofs.lemmas.Result.{IfOk-weaker}
+use Rattle.ts_core.specs.Views.{Seen}
+use Rattle.ts_core.specs.Queries.{Query}
+use Rattle.ts_exec.specs.Answered.{HasRows}
+use Rattle.ts_exec.specs.Tables.{with_pieces, width}
+use Rattle.ts_exec.proofs.Given.{given-rows}
+use Rattle.ts_exec.proofs.executor.groups_given.Goals as goal
+
+pub returns-clause-rows : goal.returns-clause-rows
+returns-clause-rows g c =
+    let q : Query = c.args.query.now.query in
+    let seen : Seen = g.V.View.seen c.args.view.now in
+    let put : c.add_pieces.new.groups ≡ with_pieces seen q c.args.pieces.now [] = search rules in
+    IfOk-weaker c.into_groups.result _ _ (λ v e. subst (AllByRecursion (HasRows (width q))) (sym (e ∙ put)) (given-rows seen q c.args.pieces.now)) c.into_groups.ensures

@@ -1,0 +1,14 @@
+-- An answer beside the query that it answers. (InfluxData 1.8, InfluxQL: the GROUP BY clause.)
+use Rattle.std.specs.Prelude.{◌≡◌, ℕ, List, length}
+use Rattle.ts_core.specs.Facts.{Text}
+use Rattle.ts_core.specs.Aggregates.{Aggregate}
+use Rattle.ts_core.specs.Answers.{Group}
+use Rattle.ts_ql.specs.Selects.{Select}
+
+pub record Answered : Type 0 where
+  pub select : Select
+  pub groups : List Group
+
+-- a group has that many rows
+abbrev pub HasRows : ℕ → List Text × List Aggregate → Type 0
+HasRows n group = length group.1 ≡ n

@@ -1,0 +1,29 @@
+-- What an execution of a checked plan answers. (Own rules.)
+use Rattle.std.specs.Prelude.{◌≡◌, Result, Ok, Err}
+use Rattle.ts_core.specs.Answers.{answer_of}
+use Rattle.ts_core.specs.History.{History}
+use Rattle.ts_core.specs.Latest.{latest_of}
+use Rattle.ts_core.specs.Settings.{Settings}
+use Rattle.ts_core.specs.Views.{Seen, Shows}
+use Rattle.ts_check.specs.Checks.{Plan}
+use Rattle.ts_exec.specs.declared.fault.ExecFault.{ExecFault}
+use Rattle.ts_exec.specs.declared.fault.ExecFault.TheVariants as errors
+use Rattle.ts_exec.specs.Answered.{Answered}
+use Rattle.ts_exec.specs.Tables.{given}
+
+-- a view has the settings and marks that a plan was checked for
+pub record IsFresh (seen : Seen) (p : Plan) : Type 0 where
+  pub settings : seen.settings ≡ p.settings
+  pub marks : seen.marks ≡ p.marks
+
+-- what a plan gives of a view: of one that shows a history, the answer over all points ever accepted
+pub record IsAnswer (seen : Seen) (p : Plan) (a : Answered) : Type 0 where
+  pub select : a.select ≡ p.select
+  pub exact : a.groups ≡ given seen p.select.query p.pieces
+  pub answer : (opening : Settings) (h : History) → Shows opening h seen → a.groups ≡ answer_of (latest_of h) p.select.query
+
+-- the answer; or that the plan is stale, just where the view has other settings or marks, which are told; or that memory ran out
+abbrev pub IsExecutionOf : {A : Type 0} → Seen → Plan → Result Answered (ExecFault A) → Type 0
+IsExecutionOf seen p (Ok answered) = IsFresh seen p × IsAnswer seen p answered
+IsExecutionOf seen p (Err (errors.Stale settings marks)) = (settings.now ≡ seen.settings) × (marks.now ≡ seen.marks) × (IsFresh seen p → ⊥)
+IsExecutionOf seen p (Err errors.OutOfMemory) = IsFresh seen p

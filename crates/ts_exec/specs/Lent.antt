@@ -1,0 +1,6 @@
+-- What is lent, by its values. (Own rule.)
+use Rattle.std.specs.Prelude.{List, map}
+use Rattle.std.specs.Borrow.{Bor}
+
+abbrev pub lent : {X : Type 0} → List (Bor X) → List X
+lent {X} xs = map (λ (x : Bor X). x.now) xs

@@ -1,0 +1,11 @@
+pub mod Parts
+pub mod Tables
+pub mod Slots
+pub mod Searches
+pub mod Shares
+pub mod FirstOf
+pub mod Lent
+pub mod Answered
+pub mod ExecTexts
+pub mod Executions
+pub mod Fillings

@@ -1,0 +1,64 @@
+-- What pieces give, share by share: a part for a bucket of a group. (Own rules.)
+use Rattle.std.specs.Prelude.{ℕ, ◌==◌, ℤ, Bool, ◌&&◌, List, [], ◌∷◌, ◌++◌, map, filter, Option, Some, None, if◌then◌else◌}
+use Rattle.std.specs.List.{list_all}
+use Rattle.ts_core.specs.Facts.{Text, is_of}
+use Rattle.ts_core.specs.Partials.{fold_by}
+use Rattle.ts_core.specs.Aggregates.{Aggregate, empty_aggregate, aggregate_of_one, merged}
+use Rattle.ts_core.specs.Marks.{index_of}
+use Rattle.ts_core.specs.Settings.{Rule}
+use Rattle.ts_core.specs.Tags.{tag_values}
+use Rattle.ts_core.specs.Queries.{Query, meets, group_of}
+use Rattle.ts_core.specs.Answers.{same_group}
+use Rattle.ts_core.specs.Pieces.{Source, Raw, Rollup, Piece, start_of}
+use Rattle.ts_core.specs.StoreStates.{ColumnPoints}
+use Rattle.ts_core.specs.Views.{RuleTotals, Seen}
+use Rattle.ts_core.specs.Assembly.{stand_in, rule_shown}
+use Rattle.ts_store.specs.Seats.{Seat, seats_where, points_at, CellTotal, cells_within}
+use Rattle.ts_exec.specs.Parts.{Grid, grid_of, place_at}
+use Rattle.ts_exec.specs.Tables.{Table, with_cell_part, is_cell_taken}
+
+pub record Share : Type 0 where
+  pub group : List Text
+  pub place : ℕ
+  pub part : Aggregate
+
+abbrev pub group_in : Share → List Text
+group_in s = s.group
+
+abbrev pub with_shares : ℕ → List Share → Table → Table
+with_shares n [] t = t
+with_shares n (s ∷ ss) t = with_shares n ss (with_cell_part n s.group s.place s.part t)
+
+abbrev pub is_share : List Text → ℕ → Share → Bool
+is_share g j s = same_group g s.group && (s.place == j)
+
+-- what the shares of a bucket of a group add up to
+abbrev pub total_at : List Text → ℕ → List Share → Aggregate
+total_at g j ss = fold_by empty_aggregate merged (λ (s : Share). s.part) (filter (is_share g j) ss)
+
+-- ---- of points and cells
+
+abbrev pub point_share : Grid → List Text → ℤ × ℤ → Share
+point_share grid g p = record { group = g; place = place_at grid p.0; part = aggregate_of_one p.0 p.1 }
+
+abbrev pub seat_shares : Query → List ColumnPoints → ℤ → ℤ → Seat → List Share
+seat_shares q cs a b s = if list_all (meets s.series) q.conditions then map (point_share (grid_of q) (tag_values q.group_tags s.series)) (points_at cs s.number a b) else []
+
+abbrev pub seats_shares : Query → List ColumnPoints → ℤ → ℤ → List Seat → List Share
+seats_shares q cs a b [] = []
+seats_shares q cs a b (s ∷ ss) = seat_shares q cs a b s ++ seats_shares q cs a b ss
+
+abbrev pub cell_share : Query → Rule → CellTotal → Share
+cell_share q r c = record { group = group_of q (stand_in r c.cell); place = place_at (grid_of q) (start_of r c.cell.index); part = c.total }
+
+abbrev pub rule_shares : Query → ℤ → ℤ → Option RuleTotals → List Share
+rule_shares q a b None = []
+rule_shares q a b (Some r) = map (cell_share q r.rule) (filter (is_cell_taken q r.rule a b) (cells_within r (index_of r.rule a) (index_of r.rule b)))
+
+abbrev pub source_shares : Seen → Query → Source → ℤ → ℤ → List Share
+source_shares seen q Raw a b = seats_shares q seen.columns a b (seats_where (is_of q.measurement q.field) seen.columns)
+source_shares seen q (Rollup name) a b = rule_shares q a b (rule_shown name seen.rules)
+
+abbrev pub pieces_shares : Seen → Query → List Piece → List Share
+pieces_shares seen q [] = []
+pieces_shares seen q (p ∷ ps) = source_shares seen q p.source p.from p.to ++ pieces_shares seen q ps

@@ -1,0 +1,23 @@
+-- Groups that are expected, in byte order of their values, each with its rows once it has data. (Own rules.)
+use Rattle.std.specs.Prelude.{T, List, [], ◌∷◌, Option, Some, None}
+use Rattle.std.specs.FinMap.{is_sorted}
+use Rattle.ts_core.specs.Facts.{Text}
+use Rattle.ts_core.specs.Aggregates.{Aggregate}
+use Rattle.ts_core.specs.Answers.{group_cmp}
+use Rattle.ts_exec.specs.Tables.{Table}
+
+abbrev pub Slots : Type 0
+Slots = List (List Text × Option (List Aggregate))
+
+abbrev pub AreSlots : Slots → Type 0
+AreSlots slots = T (is_sorted group_cmp slots)
+
+-- a group before others, if it has data
+abbrev pub with_made : List Text → Option (List Aggregate) → Table → Table
+with_made g None t = t
+with_made g (Some rows) t = (g, rows) ∷ t
+
+-- the groups that have data
+abbrev pub made : Slots → Table
+made [] = []
+made (slot ∷ slots) = with_made slot.0 slot.1 (made slots)

@@ -1,0 +1,53 @@
+//! Why a plan wasn't executed.
+ghost use Rattle.std.specs.Prelude.{◌≡◌, ◌+◌, ◌≤◌, ◌++◌, length, IsOk, OnOk, OnErr, string_bytes, string_len, string_capacity};
+ghost use Rattle.ts_exec.specs.ExecTexts.{exec_fault_text};
+ghost use Rattle.ts_exec.specs.declared.fault.ExecFault.TheVariants as errors;
+
+use std::alloc::{AllocError, Allocator};
+use std::fmt;
+use thiserror::Error;
+use ts_core::{Marks, Settings};
+
+/// Why a plan wasn't executed.
+#[derive(Drop, Error)]
+pub enum ExecFault<'a, A: Allocator> {
+    /// The plan is stale: the settings or marks are these, and not those that it was checked for (number 93).
+    #[error("a stale plan: the settings or marks are others than it was checked for")]
+    Stale(&'a Settings<A>, &'a Marks<A>),
+    /// No memory was found.
+    #[error("out of memory")]
+    OutOfMemory,
+}
+
+impl<'a, A: Allocator> fmt::Debug for ExecFault<'a, A> {
+    fn fmt<W: fmt::Write>(&self, f: &mut fmt::Formatter<W>) -> fmt::Result {
+        match self {
+            ExecFault::Stale(_, _) => f.write_str("Stale"),
+            ExecFault::OutOfMemory => f.write_str("OutOfMemory"),
+        }
+    }
+}
+
+impl<'a, A: Allocator> ExecFault<'a, A> {
+    /// Appends its text, or nothing where memory is wanted. Where the room is there, none is.
+    #[tactic(auto, unfolding(crate::specs::ExecTexts::exec_fault_text))]
+    pub fn text_to<B: Allocator>(&self, text: &mut String<B>) -> Result<(), AllocError>
+        ensures ok { OnOk result (string_bytes text.new ≡ string_bytes text.old ++ exec_fault_text self.now) }
+        ensures err { OnErr result (string_bytes text.new ≡ string_bytes text.old) }
+        ensures room { string_len text.old + length (exec_fault_text self.now) ≤ string_capacity text.old → IsOk result }
+        ensures capacity { string_capacity text.old ≤ string_capacity text.new }
+    {
+        match self {
+            ExecFault::Stale(_, _) => text.push_str("fault 93"),
+            ExecFault::OutOfMemory => text.push_str("fault memory"),
+        }
+    }
+}
+
+impl<'a, A: Allocator> From<AllocError> for ExecFault<'a, A> {
+    ghost from_gives = { λ _ e. e ≡ errors.OutOfMemory };
+
+    fn from(_failed: AllocError) -> ExecFault<'a, A> {
+        ExecFault::OutOfMemory
+    }
+}

@@ -1,0 +1,285 @@
+//! The rows of a filled answer, given one by one. None of it takes memory.
+ghost use Rattle.std.specs.Prelude.{◌≡◌, filter};
+ghost use Rattle.std.specs.Iterator.{YieldsFirst, item_count};
+ghost use Rattle.ts_core.specs.Fills.{has_data, last_data, filled_rows};
+ghost use Rattle.ts_exec.specs.Fillings.{EndsFit, functions_of, rows_at, shown_by, shown_rows, shown_value};
+
+use std::alloc::Allocator;
+use std::marker::Model;
+use ts_core::{Agg, Fill, Function, Partial, Value};
+use ts_ql::Projection;
+
+/// What a row shows.
+#[derive(Clone, Copy, Debug)]
+pub(crate) enum Shown {
+    /// Data: that of its bucket, or of an earlier one.
+    Data(Agg),
+    /// A number in place of data.
+    Number(i64),
+    /// Nulls, for there is no data yet.
+    Nothing,
+}
+
+impl Shown {
+    /// What a row shows that has this data of its own, where `latest` is the last data up to it.
+    fn by(fill: Fill, latest: Option<Agg>, own: Agg) -> Shown
+        ensures { result ≡ shown_by fill latest own }
+    {
+        match fill {
+            Fill::Null | Fill::None => Shown::Data(own),
+            Fill::Previous => match latest {
+                None => Shown::Nothing,
+                Some(data) => Shown::Data(data),
+            },
+            Fill::Number(number) => {
+                if own.count() == 0 {
+                    Shown::Number(number)
+                } else {
+                    Shown::Data(own)
+                }
+            }
+        }
+    }
+
+    /// The value of a column.
+    fn value(&self, function: Function) -> Value
+        ensures { result ≡ shown_value self.now function }
+    {
+        match self {
+            Shown::Data(data) => function.value_of(data),
+            Shown::Number(number) => function.number_value(*number),
+            Shown::Nothing => Value::Null,
+        }
+    }
+}
+
+/// The values of a row that are left to give, one for each column, seen as the list of them.
+#[derive(Drop)]
+pub struct Values<'a, A: Allocator> {
+    shown: Shown,
+    left: &'a [Projection<A>],
+}
+
+impl<'a, A: Allocator> Model for Values<'a, A> {
+    ghost use Rattle.std.specs.Prelude.{List, map};
+    ghost use Rattle.ts_core.specs.declared.value.Value.{Value as ColumnValue};
+    ghost use Rattle.ts_exec.specs.Fillings.{functions_of, shown_value};
+
+    ghost Value = { List ColumnValue };
+
+    ghost view = { λ v. map (shown_value v.shown) (functions_of v.left.now) };
+}
+
+impl<'a, A: Allocator> Iterator for Values<'a, A> {
+    type Item = Value;
+
+    ghost next_gives = { YieldsFirst (λ v. v) };
+
+    ghost remaining = { item_count (λ v. v) };
+
+    fn next(&mut self) -> Option<Value> {
+        let (first, others) = self.left.split_first()?;
+        self.left = others;
+        Some(self.shown.value(first.function()))
+    }
+}
+
+/// A row of a filled answer.
+#[derive(Drop)]
+pub struct FilledRow<'a, A: Allocator> {
+    start: i128,
+    shown: Shown,
+    columns: &'a [Projection<A>],
+}
+
+impl<'a, A: Allocator> Model for FilledRow<'a, A> {
+    ghost use Rattle.ts_core.specs.Fills.{FilledRow as RowValue};
+    ghost use Rattle.ts_exec.specs.Fillings.{functions_of, shown_row};
+
+    ghost Value = { RowValue };
+
+    ghost view = { λ r. shown_row r.shown (functions_of r.columns.now) r.start };
+}
+
+impl<'a, A: Allocator> FilledRow<'a, A> {
+    /// When its bucket begins, in nanoseconds of the Unix epoch.
+    pub fn start(&self) -> i128
+        ensures { result ≡ self.now.start }
+    {
+        self.start
+    }
+
+    /// Its values, one for each column of the query, in their order.
+    pub fn values(&self) -> Values<'a, A>
+        ensures { result ≡ self.now.values }
+    {
+        Values {
+            shown: self.shown,
+            left: self.columns,
+        }
+    }
+}
+
+/// A bucket with its data.
+#[derive(Drop)]
+pub(crate) struct BucketRow {
+    start: i128,
+    aggregate: Agg,
+}
+
+impl Model for BucketRow {
+    ghost use Rattle.ts_core.specs.Answers.{Row};
+
+    ghost Value = { Row };
+
+    ghost view = { λ r. record { start = r.start; aggregate = r.aggregate } };
+}
+
+impl BucketRow {
+    fn has_data(&self) -> bool
+        ensures { result ≡ has_data self.now }
+    {
+        self.aggregate.count() != 0
+    }
+}
+
+/// Buckets that are left to give, each right behind the one before, seen as the list of their rows.
+#[derive(Drop)]
+pub(crate) struct BucketRows<'a> {
+    start: i128,
+    interval: i64,
+    left: &'a [Agg],
+}
+
+impl<'a> Model for BucketRows<'a> {
+    ghost use Rattle.std.specs.Prelude.{List};
+    ghost use Rattle.ts_core.specs.Answers.{Row};
+    ghost use Rattle.ts_exec.specs.Fillings.{EndsFit, rows_at};
+
+    ghost Value = { List Row };
+
+    ghost view = { λ r. rows_at r.interval r.start r.left.now };
+
+    ghost invariant = { λ r. EndsFit r.interval (rows_at r.interval r.start r.left.now) };
+}
+
+impl<'a> BucketRows<'a> {
+    /// Rows of these aggregates, the first of a bucket that begins at `start`.
+    pub(crate) fn new(start: i128, interval: i64, aggregates: &'a [Agg]) -> BucketRows<'a>
+        requires { EndsFit interval (rows_at interval start aggregates.now) }
+        ensures { result ≡ rows_at interval start aggregates.now }
+    {
+        BucketRows {
+            start,
+            interval,
+            left: aggregates,
+        }
+    }
+}
+
+impl Iterator for BucketRows<'_> {
+    type Item = BucketRow;
+
+    ghost next_gives = { YieldsFirst (λ r. r) };
+
+    ghost remaining = { item_count (λ r. r) };
+
+    fn next(&mut self) -> Option<BucketRow> {
+        let (first, others) = self.left.split_first()?;
+        let start = self.start;
+        self.left = others;
+        self.start = start + i128::from(self.interval);
+        Some(BucketRow {
+            start,
+            aggregate: *first,
+        })
+    }
+}
+
+/// The first row with data; those before it are left out.
+fn next_with_data(rows: &mut BucketRows<'_>) -> Option<BucketRow>
+    ensures { YieldsFirst (filter has_data) rows.old result rows.new }
+{
+    while let Some(row) = rows.next() {
+        if row.has_data() {
+            return Some(row);
+        }
+    }
+    None
+}
+
+/// The next row that is shown at all.
+fn next_shown(rows: &mut BucketRows<'_>, fill: Fill) -> Option<BucketRow>
+    ensures { YieldsFirst (shown_rows fill) rows.old result rows.new }
+{
+    match fill {
+        Fill::None => next_with_data(rows),
+        _ => rows.next(),
+    }
+}
+
+/// The last data up to a row, where there is one.
+fn last_data(earlier: Option<Agg>, row: &BucketRow) -> Option<Agg>
+    ensures { result ≡ last_data earlier row.now }
+{
+    if row.has_data() {
+        Some(row.aggregate)
+    } else {
+        earlier
+    }
+}
+
+/// The rows of a group that are left to give, filled, seen as the list of them.
+#[derive(Drop)]
+pub struct FilledRows<'a, A: Allocator> {
+    rows: BucketRows<'a>,
+    fill: Fill,
+    latest: Option<Agg>,
+    columns: &'a [Projection<A>],
+}
+
+impl<'a, A: Allocator> Model for FilledRows<'a, A> {
+    ghost use Rattle.std.specs.Prelude.{List};
+    ghost use Rattle.ts_core.specs.Fills.{FilledRow as RowValue};
+    ghost use Rattle.ts_exec.specs.Fillings.{functions_of, rows_behind, shown_rows};
+
+    ghost Value = { List RowValue };
+
+    ghost view = { λ r. rows_behind r.fill (functions_of r.columns.now) r.latest (shown_rows r.fill r.rows) };
+}
+
+impl<'a, A: Allocator> FilledRows<'a, A> {
+    /// These rows, filled.
+    pub(crate) fn new(
+        rows: BucketRows<'a>,
+        fill: Fill,
+        columns: &'a [Projection<A>],
+    ) -> FilledRows<'a, A>
+        ensures { result ≡ filled_rows fill (functions_of columns.now) rows.entry }
+    {
+        FilledRows {
+            rows,
+            fill,
+            latest: None,
+            columns,
+        }
+    }
+}
+
+impl<'a, A: Allocator> Iterator for FilledRows<'a, A> {
+    type Item = FilledRow<'a, A>;
+
+    ghost next_gives = { YieldsFirst (λ r. r) };
+
+    ghost remaining = { item_count (λ r. r) };
+
+    fn next(&mut self) -> Option<FilledRow<'a, A>> {
+        let row = next_shown(&mut self.rows, self.fill)?;
+        self.latest = last_data(self.latest, &row);
+        Some(FilledRow {
+            start: row.start,
+            shown: Shown::by(self.fill, self.latest, row.aggregate),
+            columns: self.columns,
+        })
+    }
+}

@@ -1,0 +1,131 @@
+//! Buckets without data are filled.
+ghost use Rattle.std.specs.Prelude.{◌≡◌, ◌≤ℤ◌, pos};
+ghost use Rattle.std.specs.Iterator.{YieldsFirst, item_count};
+ghost use Rattle.ts_core.specs.Buckets.{bucket_of, bucket_start};
+ghost use Rattle.ts_exec.specs.Fillings.{AreNear, filled_answer};
+
+use crate::filled::{BucketRows, FilledRows};
+use crate::groups::GroupRows;
+use crate::table::Table;
+use std::alloc::Allocator;
+use std::marker::Model;
+use ts_core::{Fill, bucket_index};
+use ts_ql::{Projection, Query};
+
+/// An answer whose buckets without data are filled, beside its query.
+#[derive(Drop)]
+pub struct Rows<'a, A: Allocator> {
+    table: Table<'a, A>,
+    fill: Fill,
+}
+
+impl<'a, A: Allocator> Model for Rows<'a, A> {
+    ghost use Rattle.ts_exec.specs.Fillings.{FilledAnswer, filled_answer};
+
+    ghost Value = { FilledAnswer };
+
+    ghost view = { λ r. filled_answer r.fill r.table };
+}
+
+/// Fills the buckets without data. It takes no memory: rows are filled as they are given.
+pub fn fill<'a, A: Allocator>(table: Table<'a, A>, fill: Fill) -> Rows<'a, A>
+    ensures { result ≡ filled_answer fill table.entry }
+{
+    Rows { table, fill }
+}
+
+/// When the bucket of a time begins.
+fn bucket_begin(time: i64, interval: i64, offset: i64) -> i128
+    requires { pos 1 ≤ℤ interval }
+    ensures value { result ≡ bucket_start (bucket_of time interval offset) interval offset }
+    ensures near { AreNear result interval }
+{
+    let index = bucket_index(i128::from(time), interval, offset);
+    index * i128::from(interval) + i128::from(offset)
+}
+
+impl<'a, A: Allocator> Rows<'a, A> {
+    /// The query.
+    pub fn query(&self) -> &Query<A>
+        ensures { result.now ≡ self.now.select }
+    {
+        self.table.query()
+    }
+
+    /// The groups, in byte order of their values.
+    pub fn groups(&self) -> FilledGroups<'_, 'a, A>
+        ensures { result ≡ self.now.groups }
+    {
+        let query = self.table.query();
+        FilledGroups {
+            start: bucket_begin(query.from(), query.interval(), query.offset()),
+            interval: query.interval(),
+            fill: self.fill,
+            columns: query.columns(),
+            groups: self.table.groups(),
+            given: 0,
+        }
+    }
+}
+
+/// A group of a filled answer.
+#[derive(Drop)]
+pub struct FilledGroup<'r, 'a, A: Allocator> {
+    /// The values of the tags that the query groups by, in the order of the tags.
+    pub values: &'r [&'a str],
+    /// The rows, in the order of time.
+    pub rows: FilledRows<'r, A>,
+}
+
+impl<'r, 'a, A: Allocator> Model for FilledGroup<'r, 'a, A> {
+    ghost use Rattle.ts_core.specs.Fills.{FilledGroup as GroupValue};
+    ghost use Rattle.ts_exec.specs.Lent.{lent};
+
+    ghost Value = { GroupValue };
+
+    ghost view = { λ g. record { values = lent g.values.now; rows = g.rows } };
+}
+
+/// Groups that are left to give, filled, seen as the list of them.
+#[derive(Drop)]
+pub struct FilledGroups<'r, 'a, A: Allocator> {
+    start: i128,
+    interval: i64,
+    fill: Fill,
+    columns: &'r [Projection<A>],
+    groups: &'r [GroupRows<'a, A>],
+    given: usize,
+}
+
+impl<'r, 'a, A: Allocator> Model for FilledGroups<'r, 'a, A> {
+    ghost use Rattle.std.specs.Prelude.{List, map, drop};
+    ghost use Rattle.ts_core.specs.Fills.{FilledGroup as GroupValue};
+    ghost use Rattle.ts_exec.specs.Fillings.{functions_of, group_at, AreNear};
+
+    ghost Value = { List GroupValue };
+
+    ghost view = { λ g. map (group_at g.fill (functions_of g.columns.now) g.interval g.start) (drop g.given g.groups.now) };
+
+    ghost invariant = { λ g. AreNear g.start g.interval };
+}
+
+impl<'r, 'a, A: Allocator> Iterator for FilledGroups<'r, 'a, A> {
+    type Item = FilledGroup<'r, 'a, A>;
+
+    ghost next_gives = { YieldsFirst (λ g. g) };
+
+    ghost remaining = { item_count (λ g. g) };
+
+    fn next(&mut self) -> Option<FilledGroup<'r, 'a, A>> {
+        if self.given >= self.groups.len() {
+            return None;
+        }
+        let group = &self.groups[self.given];
+        self.given += 1;
+        let rows = BucketRows::new(self.start, self.interval, group.rows());
+        Some(FilledGroup {
+            values: group.values(),
+            rows: FilledRows::new(rows, self.fill, self.columns),
+        })
+    }
+}

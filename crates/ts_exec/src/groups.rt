@@ -1,0 +1,182 @@
+//! Groups with their rows.
+ghost use Rattle.std.specs.Prelude.{◌≡◌, true, [], length, OnOk, IfOk};
+ghost use Rattle.std.specs.List.Sorted.{IsSearchInRange};
+ghost use Rattle.ts_exec.specs.Lent.{lent};
+ghost use Rattle.ts_exec.specs.Searches.{IsPlaceOf, HoldsGroup};
+ghost use Rattle.ts_exec.specs.Slots.{AreSlots, made};
+ghost use Rattle.ts_exec.specs.Tables.{with_column, with_cell_part};
+
+use crate::buckets::Buckets;
+use crate::slot::Slot;
+use std::alloc::{AllocError, Allocator};
+use std::cmp::Ordering;
+use std::marker::Model;
+use ts_core::Agg;
+use ts_raw::Points;
+
+/// A group: its values of the tags that a query groups by, and a row for each bucket.
+#[derive(Drop)]
+pub struct GroupRows<'a, A: Allocator> {
+    values: Vec<&'a str, A>,
+    rows: Vec<Agg, A>,
+}
+
+impl<'a, A: Allocator> Model for GroupRows<'a, A> {
+    ghost use Rattle.std.specs.Prelude.{List};
+    ghost use Rattle.ts_core.specs.Aggregates.{Aggregate};
+    ghost use Rattle.ts_core.specs.Facts.{Text};
+    ghost use Rattle.ts_exec.specs.Lent.{lent};
+
+    ghost Value = { List Text × List Aggregate };
+
+    ghost view = { λ g. (lent g.values.items, g.rows.items) };
+}
+
+impl<'a, A: Allocator> GroupRows<'a, A> {
+    /// The values of the tags that the query groups by, in the order of the tags.
+    pub fn values(&self) -> &[&'a str]
+        ensures { lent result.now ≡ self.now.0 }
+    {
+        self.values.as_slice()
+    }
+
+    /// Its rows, one for each bucket.
+    pub fn rows(&self) -> &[Agg]
+        ensures { result.now ≡ self.now.1 }
+    {
+        self.rows.as_slice()
+    }
+}
+
+/// Where a group is, or where it would go.
+fn place_of<A: Allocator + Copy>(slots: &[Slot<'_, A>], values: &[&str]) -> Result<usize, usize>
+    requires { AreSlots slots.now }
+    ensures bound { IsSearchInRange result (length slots.now) }
+    ensures place { IsPlaceOf (lent values.now) slots.now result }
+{
+    slots.binary_search_by(|slot| slot.compare(values))
+}
+
+/// Whether the group of a place has these values.
+fn is_at<A: Allocator + Copy>(slots: &[Slot<'_, A>], at: usize, values: &[&str]) -> bool
+    ensures { result ≡ true → HoldsGroup (lent values.now) slots.now at }
+{
+    match slots.get(at) {
+        Some(slot) => slot.compare(values) == Ordering::Equal,
+        None => false,
+    }
+}
+
+/// Where a group is, from now on. The guess is looked at first; where the group isn't there, it is put in its
+/// place without data.
+fn expect<'a, A: Allocator + Copy>(
+    slots: &mut Vec<Slot<'a, A>, A>,
+    guess: usize,
+    values: &[&'a str],
+) -> Result<usize, AllocError>
+    requires { AreSlots slots.old.items }
+    ensures slots { AreSlots slots.new.items }
+    ensures made { made slots.new.items ≡ made slots.old.items }
+    ensures place { IfOk result (λ at. HoldsGroup (lent values.now) slots.new.items at) }
+{
+    if is_at(slots.as_slice(), guess, values) {
+        return Ok(guess);
+    }
+    match place_of(slots.as_slice(), values) {
+        Ok(at) => Ok(at),
+        Err(at) => {
+            let slot = Slot::new(*slots.allocator(), values)?;
+            slots.insert(at, slot)?;
+            Ok(at)
+        }
+    }
+}
+
+/// Groups in byte order of their values. Some may be only expected: those have no data yet, and don't count.
+#[derive(Drop)]
+pub(crate) struct Groups<'a, A: Allocator> {
+    // The group of the last cell.
+    last: usize,
+    slots: Vec<Slot<'a, A>, A>,
+}
+
+impl<'a, A: Allocator> Model for Groups<'a, A> {
+    ghost use Rattle.ts_exec.specs.Slots.{AreSlots, made};
+    ghost use Rattle.ts_exec.specs.Tables.{Table};
+
+    ghost Value = { Table };
+
+    ghost view = { λ g. made g.slots.items };
+
+    ghost invariant = { λ g. AreSlots g.slots.items };
+}
+
+impl<'a, A: Allocator + Copy> Groups<'a, A> {
+    /// No groups.
+    pub(crate) fn new(alloc: A) -> Groups<'a, A>
+        ensures { result ≡ [] }
+    {
+        Groups {
+            last: 0,
+            slots: Vec::new(alloc),
+        }
+    }
+
+    /// The groups that have data.
+    pub(crate) fn into_groups(self) -> Result<Vec<GroupRows<'a, A>, A>, AllocError>
+        ensures { IfOk result (λ v. v.items ≡ self.entry) }
+    {
+        let mut groups = Vec::new(*self.slots.allocator());
+        for slot in self.slots {
+            let Slot { values, rows } = slot;
+            if let Some(rows) = rows {
+                groups.push(GroupRows { values, rows })?;
+            }
+        }
+        Ok(groups)
+    }
+
+    /// Makes room for a group that may get data, and tells where.
+    pub(crate) fn expect(&mut self, values: &[&'a str]) -> Result<usize, AllocError>
+        ensures { self.new ≡ self.old }
+    {
+        // Groups that are told in their order come one behind another.
+        let guess = self.slots.len().saturating_sub(1);
+        expect(&mut self.slots, guess, values)
+    }
+
+    /// Adds a part to a bucket of a group.
+    pub(crate) fn add_part(
+        &mut self,
+        width: usize,
+        values: &[&'a str],
+        place: usize,
+        part: Agg,
+    ) -> Result<(), AllocError>
+        ensures { OnOk result (self.new ≡ with_cell_part width (lent values.now) place part self.old) }
+    {
+        // The groups of cells follow one another in every bucket.
+        let at = expect(&mut self.slots, self.last.saturating_add(1), values)?;
+        self.last = at;
+        self.slots[at].add_part(width, place, part)
+    }
+
+    /// Adds points to a group, which is probably where the guess says. No points make no group.
+    pub(crate) fn add_points(
+        &mut self,
+        guess: usize,
+        width: usize,
+        values: &[&'a str],
+        buckets: &mut Buckets,
+        mut points: Points<'_>,
+    ) -> Result<(), AllocError>
+        ensures value { OnOk result (self.new ≡ with_column buckets.old width (lent values.now) points.entry self.old) }
+        ensures same { buckets.new ≡ buckets.old }
+    {
+        let Some(first) = points.next() else {
+            return Ok(());
+        };
+        let at = expect(&mut self.slots, guess, values)?;
+        self.slots[at].add_points(width, buckets, first, points)
+    }
+}

@@ -1,0 +1,354 @@
+//! The pieces of a plan, each added to the groups.
+ghost use Rattle.std.specs.Prelude.{◌≡◌, ◌+◌, ◌^◌, ◌<◌, pos, ◌≤ℤ◌, true, option_map, zip, length, map, string_bytes, OnOk};
+ghost use Rattle.std.specs.List.{list_all};
+ghost use Rattle.ts_core.specs.Assembly.{stand_in};
+ghost use Rattle.ts_core.specs.Facts.{is_within};
+ghost use Rattle.ts_core.specs.Marks.{index_of};
+ghost use Rattle.ts_core.specs.Pieces.{Raw, start_of};
+ghost use Rattle.ts_core.specs.Queries.{meets, is_selected};
+ghost use Rattle.ts_core.specs.Tags.{tag_values, value_among};
+ghost use Rattle.ts_ql.specs.Selects.{texts};
+ghost use Rattle.ts_store.specs.Seats.{cells_at};
+ghost use Rattle.ts_exec.specs.FirstOf.{rule_from};
+ghost use Rattle.ts_exec.specs.Lent.{lent};
+ghost use Rattle.ts_exec.specs.Parts.{grid_of};
+ghost use Rattle.ts_exec.specs.Tables.{width, with_cell, with_cells, with_source, with_pieces, is_cell_taken};
+
+use crate::buckets::Buckets;
+use crate::groups::Groups;
+use std::alloc::{AllocError, Allocator};
+use ts_check::{Piece, PieceSource};
+use ts_core::{Key, Partial, Rule, bucket_index};
+use ts_ql::{Condition, Query};
+use ts_store::{CellSeen, View};
+
+/// What all pieces of a query share: the query, its buckets, and room for the values of one group.
+#[derive(Drop)]
+pub(crate) struct Scan<'a, 'q, A: Allocator> {
+    pub query: &'q Query<A>,
+    pub width: usize,
+    pub buckets: Buckets,
+    pub values: Vec<&'a str, A>,
+}
+
+fn is_met<A: Allocator + Copy>(key: &Key<A>, condition: &Condition<A>) -> bool
+    ensures { result ≡ meets key.now condition.now }
+{
+    let same = key.tag_value(condition.tag()) == condition.value();
+    if condition.differs() { !same } else { same }
+}
+
+/// Whether every condition holds of a series.
+fn are_met<A: Allocator + Copy>(key: &Key<A>, conditions: &[Condition<A>]) -> bool
+    ensures { result ≡ list_all (meets key.now) conditions.now }
+{
+    conditions.iter().all(|condition| is_met(key, condition))
+}
+
+/// The values of tags of a series, in place of others.
+fn read_values<'a, A: Allocator + Copy>(
+    values: &mut Vec<&'a str, A>,
+    key: &'a Key<A>,
+    tags: &[String<A>],
+) -> Result<(), AllocError>
+    ensures { OnOk result (lent values.new.items ≡ tag_values (texts tags.now) key.now) }
+{
+    values.clear();
+    for tag in tags {
+        values.push(key.tag_value(tag.as_str()))?;
+    }
+    Ok(())
+}
+
+/// The groups of the columns that a query selects, in byte order, each with the number of its column among these.
+fn expected_groups<'a, A: Allocator + Copy + 'a, V: View<A> + 'a>(
+    alloc: A,
+    query: &Query<A>,
+    view: &'a V,
+) -> Result<Vec<(Vec<&'a str, A>, usize), A>, AllocError> {
+    let mut expected: Vec<(Vec<&'a str, A>, usize), A> = Vec::new(alloc);
+    for column in view.columns_of(query.measurement(), query.field()) {
+        if are_met(column.key, query.conditions()) {
+            let mut values = Vec::new(alloc);
+            read_values(&mut values, column.key, query.group_tags())?;
+            let number = expected.len();
+            expected.push((values, number))?;
+        }
+    }
+    expected.sort()?;
+    Ok(expected)
+}
+
+/// Tells the groups of the columns that a query selects, in byte order, so that none is put before many others
+/// later. Where each is to come, by its column.
+fn expect_groups<'a, A: Allocator + Copy + 'a, V: View<A> + 'a>(
+    groups: &mut Groups<'a, A>,
+    alloc: A,
+    query: &Query<A>,
+    view: &'a V,
+) -> Result<Vec<usize, A>, AllocError>
+    ensures { groups.new ≡ groups.old }
+{
+    let expected = expected_groups(alloc, query, view)?;
+    let mut places = Vec::from_elem(alloc, 0usize, expected.len())?;
+    for (values, number) in &expected {
+        let at = groups.expect(values.as_slice())?;
+        if let Some(place) = places.get_mut(*number) {
+            *place = at;
+        }
+    }
+    Ok(places)
+}
+
+/// Adds the raw points from a time on and before another.
+fn add_raw<'a, A: Allocator + Copy + 'a, V: View<A> + 'a>(
+    groups: &mut Groups<'a, A>,
+    scan: &mut Scan<'a, '_, A>,
+    view: &'a V,
+    from: i64,
+    to: i64,
+) -> Result<(), AllocError>
+    requires width { scan.old.width ≡ width scan.old.query.now.query }
+    requires grid { scan.old.buckets ≡ grid_of scan.old.query.now.query }
+    ensures value { OnOk result (groups.new ≡ with_source (V.seen view.now) scan.old.query.now.query Raw from to groups.old) }
+    ensures width { scan.new.width ≡ scan.old.width }
+    ensures grid { scan.new.buckets ≡ scan.old.buckets }
+    ensures query { scan.new.query ≡ scan.old.query }
+{
+    let alloc = *scan.values.allocator();
+    let places = expect_groups(groups, alloc, scan.query, view)?;
+    let mut number: usize = 0;
+    for column in view.columns_of(scan.query.measurement(), scan.query.field()) {
+        if are_met(column.key, scan.query.conditions()) {
+            read_values(&mut scan.values, column.key, scan.query.group_tags())?;
+            let guess = places.get(number).copied().unwrap_or(0);
+            number = number.saturating_add(1);
+            let points = view.raw_range(column.id, from, to);
+            groups.add_points(guess, scan.width, &scan.values, &mut scan.buckets, points)?;
+        }
+    }
+    Ok(())
+}
+
+/// The value that a cell has of a tag: the empty text, where the rule doesn't keep it.
+fn kept_value<'a, A: Allocator>(kept: &[String<A>], group: &'a [String<A>], tag: &str) -> &'a str
+    ensures { result.now ≡ value_among (zip (map string_bytes kept.now) (map string_bytes group.now)) tag.now }
+{
+    match (kept.split_first(), group.split_first()) {
+        (Some((first, kept)), Some((value, group))) => {
+            if first.as_str() == tag {
+                value.as_str()
+            } else {
+                kept_value(kept, group, tag)
+            }
+        }
+        _ => "",
+    }
+}
+
+/// Whether a condition holds of a cell.
+fn is_met_by<A: Allocator>(rule: &Rule<A>, cell: &CellSeen<'_, A>, condition: &Condition<A>) -> bool
+    ensures { result ≡ meets (stand_in rule.now cell.now.cell).column.series condition.now }
+{
+    let same = kept_value(rule.kept_tags(), cell.group, condition.tag()) == condition.value();
+    if condition.differs() { !same } else { same }
+}
+
+/// Whether every condition holds of a cell.
+fn are_met_by<A: Allocator>(
+    rule: &Rule<A>,
+    cell: &CellSeen<'_, A>,
+    conditions: &[Condition<A>],
+) -> bool
+    ensures { result ≡ list_all (meets (stand_in rule.now cell.now.cell).column.series) conditions.now }
+{
+    conditions
+        .iter()
+        .all(|condition| is_met_by(rule, cell, condition))
+}
+
+/// Whether a moment lies from one on and before another.
+fn is_within(from: i64, to: i64, moment: &i128) -> bool
+    ensures { result ≡ is_within from to moment.now }
+{
+    i128::from(from) <= *moment && *moment < i128::from(to)
+}
+
+/// Whether a cell is of a series and a field that are asked for.
+fn is_selected<A: Allocator>(rule: &Rule<A>, query: &Query<A>, cell: &CellSeen<'_, A>) -> bool
+    ensures { result ≡ is_selected query.now.query (stand_in rule.now cell.now.cell).column }
+{
+    rule.measurement() == query.measurement()
+        && cell.field == query.field()
+        && are_met_by(rule, cell, query.conditions())
+}
+
+/// Whether a cell that starts at a moment has data and is asked for.
+fn is_taken<A: Allocator>(
+    rule: &Rule<A>,
+    query: &Query<A>,
+    from: i64,
+    to: i64,
+    start: &i128,
+    cell: &CellSeen<'_, A>,
+) -> bool
+    requires { start.now ≡ start_of rule.now cell.now.cell.index }
+    ensures { result ≡ is_cell_taken query.now.query rule.now from to cell.now }
+{
+    if !is_selected(rule, query, cell) {
+        return false;
+    }
+    if !is_within(query.from(), query.to(), start) {
+        return false;
+    }
+    if !is_within(from, to, start) {
+        return false;
+    }
+    cell.total.count() != 0
+}
+
+/// The values that a cell has of tags, in place of others.
+fn read_kept_values<'a, A: Allocator + Copy>(
+    values: &mut Vec<&'a str, A>,
+    kept: &[String<A>],
+    group: &'a [String<A>],
+    tags: &[String<A>],
+) -> Result<(), AllocError>
+    ensures { OnOk result (lent values.new.items ≡ map (value_among (zip (map string_bytes kept.now) (map string_bytes group.now))) (texts tags.now)) }
+{
+    values.clear();
+    for tag in tags {
+        values.push(kept_value(kept, group, tag.as_str()))?;
+    }
+    Ok(())
+}
+
+/// Where the bucket of an index starts, of those that a walk from one moment on and before another gives.
+fn bucket_start<A: Allocator>(rule: &Rule<A>, from: i64, to: i64, index: &i128) -> i128
+    requires interval { pos 1 ≤ℤ rule.now.interval }
+    requires within { is_within (index_of rule.now from) (index_of rule.now to) index.now ≡ true }
+    ensures { result ≡ start_of rule.now index.now }
+{
+    let interval = i128::from(rule.interval());
+    let offset = i128::from(rule.offset());
+    *index * interval + offset
+}
+
+/// Adds a cell of a walk, where it is asked for.
+fn add_cell<'a, A: Allocator + Copy>(
+    groups: &mut Groups<'a, A>,
+    scan: &mut Scan<'a, '_, A>,
+    rule: &Rule<A>,
+    from: i64,
+    to: i64,
+    cell: CellSeen<'a, A>,
+) -> Result<(), AllocError>
+    requires interval { pos 1 ≤ℤ rule.now.interval }
+    requires within { is_within (index_of rule.now from) (index_of rule.now to) cell.cell.index ≡ true }
+    requires width { scan.old.width ≡ width scan.old.query.now.query }
+    requires grid { scan.old.buckets ≡ grid_of scan.old.query.now.query }
+    ensures value { OnOk result (groups.new ≡ with_cell scan.old.query.now.query rule.now from to cell.entry groups.old) }
+    ensures width { scan.new.width ≡ scan.old.width }
+    ensures grid { scan.new.buckets ≡ scan.old.buckets }
+    ensures query { scan.new.query ≡ scan.old.query }
+{
+    let _interval = scan.query.interval();
+    let start = bucket_start(rule, from, to, &cell.index);
+    if !is_taken(rule, scan.query, from, to, &start, &cell) {
+        return Ok(());
+    }
+    read_kept_values(
+        &mut scan.values,
+        rule.kept_tags(),
+        cell.group,
+        scan.query.group_tags(),
+    )?;
+    let place = scan.buckets.place(start as i64);
+    groups.add_part(scan.width, &scan.values, place, cell.total)
+}
+
+/// Adds the cells of a rule from a time on and before another.
+fn add_cells<'a, A: Allocator + Copy + 'a, V: View<A> + 'a>(
+    groups: &mut Groups<'a, A>,
+    scan: &mut Scan<'a, '_, A>,
+    view: &'a V,
+    rule: &Rule<A>,
+    number: usize,
+    from: i64,
+    to: i64,
+) -> Result<(), AllocError>
+    requires number { number < length (V.seen view.now).rules }
+    requires interval { pos 1 ≤ℤ rule.now.interval }
+    requires width { scan.old.width ≡ width scan.old.query.now.query }
+    requires grid { scan.old.buckets ≡ grid_of scan.old.query.now.query }
+    ensures value { OnOk result (groups.new ≡ with_cells scan.old.query.now.query rule.now from to (cells_at (V.seen view.now).rules number (index_of rule.now from) (index_of rule.now to)) groups.old) }
+    ensures width { scan.new.width ≡ scan.old.width }
+    ensures grid { scan.new.buckets ≡ scan.old.buckets }
+    ensures query { scan.new.query ≡ scan.old.query }
+{
+    let first = bucket_index(i128::from(from), rule.interval(), rule.offset());
+    let end = bucket_index(i128::from(to), rule.interval(), rule.offset());
+    for cell in view.cell_walk(number, &first, &end) {
+        add_cell(groups, scan, rule, from, to, cell)?;
+    }
+    Ok(())
+}
+
+/// The first rule of a name, with its number, counted from one on.
+fn rule_from<'a, A: Allocator>(
+    number: usize,
+    rules: &'a [Rule<A>],
+    name: &str,
+) -> Option<(usize, &'a Rule<A>)>
+    requires { number + length rules.now < 2 ^ 64 }
+    ensures { option_map (λ p. (p.0, p.1.now)) result ≡ rule_from name.now number rules.now }
+{
+    let (rule, rules) = rules.split_first()?;
+    if rule.name() == name {
+        Some((number, rule))
+    } else {
+        rule_from(number + 1, rules, name)
+    }
+}
+
+/// Adds what a piece gives.
+fn add_piece<'a, A: Allocator + Copy + 'a, V: View<A> + 'a>(
+    groups: &mut Groups<'a, A>,
+    scan: &mut Scan<'a, '_, A>,
+    view: &'a V,
+    piece: &Piece<'_>,
+) -> Result<(), AllocError>
+    requires width { scan.old.width ≡ width scan.old.query.now.query }
+    requires grid { scan.old.buckets ≡ grid_of scan.old.query.now.query }
+    ensures value { OnOk result (groups.new ≡ with_source (V.seen view.now) scan.old.query.now.query piece.now.source piece.now.from piece.now.to groups.old) }
+    ensures width { scan.new.width ≡ scan.old.width }
+    ensures grid { scan.new.buckets ≡ scan.old.buckets }
+    ensures query { scan.new.query ≡ scan.old.query }
+{
+    match piece.source {
+        PieceSource::Raw => add_raw(groups, scan, view, piece.from, piece.to),
+        PieceSource::Rollup(name) => match rule_from(0, view.settings().rules(), name) {
+            Some((number, rule)) => add_cells(
+                groups, scan, view, rule, number, piece.from, piece.to,
+            ),
+            None => Ok(()),
+        },
+    }
+}
+
+/// Adds what the pieces give.
+pub(crate) fn add_pieces<'a, A: Allocator + Copy + 'a, V: View<A> + 'a>(
+    groups: &mut Groups<'a, A>,
+    scan: &mut Scan<'a, '_, A>,
+    view: &'a V,
+    pieces: &[Piece<'_>],
+) -> Result<(), AllocError>
+    requires width { scan.old.width ≡ width scan.old.query.now.query }
+    requires grid { scan.old.buckets ≡ grid_of scan.old.query.now.query }
+    ensures { OnOk result (groups.new ≡ with_pieces (V.seen view.now) scan.old.query.now.query pieces.now groups.old) }
+{
+    for piece in pieces {
+        add_piece(groups, scan, view, piece)?;
+    }
+    Ok(())
+}
