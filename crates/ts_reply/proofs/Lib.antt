@@ -1,0 +1,5 @@
+pub mod Floats
+pub mod Each
+pub mod Times
+pub mod Answered
+pub mod OneText

@@ -1,0 +1,6 @@
+pub mod TimeTexts
+pub mod Epochs
+pub mod Outcomes
+pub mod Told
+pub mod Replies
+pub mod Answering

@@ -1,0 +1,14 @@
+-- The text of a time: RFC 3339 in UTC, as 1970-01-01T00:00:01.5Z.
+-- (InfluxData 1.8, API reference: /query, timestamps are returned in RFC 3339 format. Own rule: zeros at the end of a fraction are left
+-- out, and the fraction with its point where it is 0.)
+use Rattle.std.specs.Prelude.{◌≡◌, ℤ, ◌++◌, codes}
+use Rattle.jiff.specs.Names.{iso_datetime_text}
+use Rattle.jiff_core.specs.DateTime.{civil_nanos}
+use Rattle.jiff_core.specs.declared.civil.datetime.DateTime.{DateTime}
+use Rattle.ts_core.specs.Facts.{Text}
+
+-- the date and the time of the day that a clock in UTC shows at that time, with a Z behind them
+pub record IsTimeText (t : ℤ) (text : Text) : Type 0 where
+  pub clock : DateTime
+  pub shows : civil_nanos clock ≡ t
+  pub written : text ≡ iso_datetime_text clock ++ codes "Z"

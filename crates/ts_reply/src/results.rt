@@ -1,0 +1,59 @@
+//! What is told of statements, as JSON.
+ghost use Rattle.std.specs.Prelude.{◌≡◌, codes, IfOk, string_bytes};
+ghost use Rattle.serde_json.specs.Data.{array, string, object};
+ghost use Rattle.serde_json.specs.View.{view, items_view};
+ghost use Rattle.serde_json.specs.Written.{compact_text};
+ghost use Rattle.ts_reply.specs.Replies.{refusal_data, result_of, statement_id};
+
+use serde_json::{Value, json};
+use std::alloc::{AllocError, Global};
+
+/// That a statement has no series.
+pub(crate) fn nothing_told(alloc: Global, number: usize) -> Result<Value, AllocError>
+    ensures { IfOk result (λ v. view v ≡ object (statement_id number)) }
+{
+    json!(in alloc; {"statement_id": number})
+}
+
+/// The series of a statement.
+pub(crate) fn series_told(
+    alloc: Global,
+    series: Vec<Value>,
+    number: usize,
+) -> Result<Value, AllocError>
+    ensures { IfOk result (λ v. view v ≡ result_of (codes "series") (array (items_view series.items)) number) }
+{
+    json!(in alloc; {"series": series, "statement_id": number})
+}
+
+/// A statement's fault.
+pub(crate) fn fault_told(alloc: Global, fault: &str, number: usize) -> Result<Value, AllocError>
+    ensures { IfOk result (λ v. view v ≡ result_of (codes "error") (string fault.now) number) }
+{
+    json!(in alloc; {"error": fault, "statement_id": number})
+}
+
+/// The certificate of a statement's plan.
+pub(crate) fn certificate_told(
+    alloc: Global,
+    text: &str,
+    number: usize,
+) -> Result<Value, AllocError>
+    ensures { IfOk result (λ v. view v ≡ result_of (codes "cert") (string text.now) number) }
+{
+    json!(in alloc; {"cert": text, "statement_id": number})
+}
+
+fn refusal_value(alloc: Global, fault: &str) -> Result<Value, AllocError>
+    ensures { IfOk result (λ v. view v ≡ refusal_data fault.now) }
+{
+    json!(in alloc; {"error": fault})
+}
+
+/// A reply that isn't good: the fault of all that was asked.
+pub(crate) fn refusal_json(alloc: Global, fault: &str) -> Result<String, AllocError>
+    ensures { IfOk result (λ s. string_bytes s ≡ compact_text (refusal_data fault.now)) }
+{
+    let value = refusal_value(alloc, fault)?;
+    value.to_string(alloc)
+}
