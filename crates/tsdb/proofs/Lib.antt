@@ -3,5 +3,7 @@ pub mod NumberLemmas
 pub mod CommandLemmas
 pub mod Progress
 pub mod MachineLemmas
+pub mod CountAnswers
+pub mod CountLemmas
 pub mod CommandLineLemmas
 pub mod CommandLineLaws

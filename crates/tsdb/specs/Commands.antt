@@ -1,10 +1,12 @@
 -- The commands of a script, by their lines. (Own rule.)
-use Rattle.std.specs.Prelude.{ℕ, ℤ, pos, ◌-ℤ◌, int_le, length, drop, Bool, not, ◌&&◌, ◌||◌, ◌==◌, nat_eq, if◌then◌else◌, Option, Some, None, codes}
+use Rattle.std.specs.Prelude.{ℕ, ℤ, pos, length, drop, Bool, not, ◌&&◌, ◌||◌, ◌==◌, nat_eq, if◌then◌else◌, Option, Some, None, codes}
 use Rattle.std.specs.List.{list_all, starts_with, before_first, after_first}
 use Rattle.ts_core.specs.Facts.{Text, same_text}
 use Rattle.ts_line.specs.Numbers.{is_number}
 use Rattle.ts_core.specs.TimeUnits.{precision_of}
 use Rattle.ts_core.specs.declared.time_unit.TimeUnit.{TimeUnit}
+use Rattle.ts_reply.specs.Epochs.{epoch_of}
+use Rattle.ts_reply.specs.declared.epoch.Epoch.{Epoch}
 use Rattle.tsdb.specs.Moments.{moment_in, moment_of}
 
 pub data Command : Type 0 where
@@ -14,13 +16,17 @@ pub data Command : Type 0 where
   At : ℤ → Command
   -- timestamps count units of this precision
   SetPrecision : TimeUnit → Command
+  -- replies tell times so
+  SetEpoch : Epoch → Command
   -- a line to be written
   Write : Text → Command
   -- how many raw facts are kept
   Live : Command
+  -- a text of queries
+  Query : Text → Command
   -- how many values of a measurement and a field stand from one time on and before another
   Count : Text → Text → ℤ → ℤ → Command
-  -- the same, with a time that isn't valid or a range that is too long
+  -- the same, with a time that isn't valid
   CountFault : Command
   -- any other line
   Unknown : Command
@@ -46,9 +52,13 @@ unfoldable pub precision_from : Option TimeUnit → Command
 precision_from (Some p) = SetPrecision p
 precision_from None = Unknown
 
--- a range has at most 2^63 - 1 nanoseconds
+-- epoch U
+unfoldable pub epoch_from : Option Epoch → Command
+epoch_from (Some e) = SetEpoch e
+epoch_from None = Unknown
+
 unfoldable pub count_between : Text → Text → Option ℤ → Option ℤ → Command
-count_between m f (Some a) (Some b) = if int_le (b -ℤ a) (pos 9223372036854775807) then Count m f a b else CountFault
+count_between m f (Some a) (Some b) = Count m f a b
 count_between m f (Some a) None = CountFault
 count_between m f None b = CountFault
 
@@ -74,7 +84,9 @@ command_of line =
     if is_blank line || is_comment line then Nothing
     else if starts_with nat_eq line (codes "at ") then at_of (moment_of (drop 3 line))
     else if starts_with nat_eq line (codes "precision ") then precision_from (precision_of (drop 10 line))
+    else if starts_with nat_eq line (codes "epoch ") then epoch_from (epoch_of (drop 6 line))
     else if starts_with nat_eq line (codes "write ") then Write (drop 6 line)
+    else if starts_with nat_eq line (codes "query ") then Query (drop 6 line)
     else if same_text line (codes "live") then Live
     else if starts_with nat_eq line (codes "count ") then count_from (drop 6 line)
     else Unknown

@@ -10,6 +10,7 @@ pub mod CommandLines
 pub mod Outcomes
 -- What the code inside promises itself; nobody needs them to know what a script prints.
 pub mod CommandParts
+pub mod Counted
 pub mod Serving
 pub mod HeldLine
 pub mod LineReading

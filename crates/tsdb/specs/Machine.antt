@@ -1,51 +1,66 @@
 -- The machine that a script runs: what each line prints, and what it changes. (Own rule.)
-use Rattle.std.specs.Prelude.{◌≡◌, ℤ, pos, ◌<◌, ◌≤◌, List, [], ◌∷◌, length, codes, Option, Some, None, Result, Ok, Err}
+use Rattle.std.specs.Prelude.{◌≡◌, ℤ, pos, ◌-ℤ◌, ◌≤ℤ◌, ◌<ℤ◌, ◌<◌, ◌≤◌, Bool, List, [], ◌∷◌, length, codes, Option, Some, None, Result, Ok, Err}
 use Rattle.std.specs.Fmt.{decimal}
 use Rattle.std.specs.Str.{IsUtf8}
 use Rattle.ts_core.specs.Facts.{Text, Series}
-use Rattle.ts_core.specs.Settings.{open_settings}
-use Rattle.ts_core.specs.History.{Line, History, accepted}
+use Rattle.ts_core.specs.Settings.{Settings, open_settings}
+use Rattle.ts_core.specs.History.{Line, History, accepted, settings_of}
 use Rattle.ts_core.specs.Latest.{count_of}
+use Rattle.ts_core.specs.Marks.{marks_of}
+use Rattle.ts_core.specs.Pieces.{Piece}
 use Rattle.ts_core.specs.RawFacts.{raw_facts}
 use Rattle.ts_line.specs.Parts.{Parts, series_of, facts_of}
 use Rattle.ts_core.specs.TimeUnits.{nanoseconds_of}
 use Rattle.ts_line.specs.Lines.{line_of}
-use Rattle.ts_line.specs.FaultText.{fault_text}
+use Rattle.ts_line.specs.FaultText.{line_fault_text}
 use Rattle.ts_line.specs.declared.fault.LineFault.{LineFault}
 use Rattle.ts_core.specs.declared.time_unit.TimeUnit.{TimeUnit}
 use Rattle.ts_core.specs.declared.time_unit.TimeUnit.TheVariants.{Nanoseconds}
+use Rattle.ts_plan.specs.Planning.{IsPlanFor}
+use Rattle.ts_plan.specs.PlanTexts.{plan_fault_text}
+use Rattle.ts_plan.specs.declared.fault.PlanError.{PlanError}
+use Rattle.ts_plan.specs.declared.fault.PlanError.TheVariants as errors
+use Rattle.ts_plan.specs.declared.fault.PlanFault.{PlanFault}
+use Rattle.ts_ql.specs.Counting.{count_select, IsInterval}
 use Rattle.ts_raw.specs.Numbered.{Gains}
+use Rattle.ts_reply.specs.Answering.{IsReply}
+use Rattle.ts_reply.specs.declared.epoch.Epoch.{Epoch}
+use Rattle.ts_reply.specs.declared.epoch.Epoch.TheVariants as epochs
 use Rattle.ts_store.specs.declared.fault.WriteFault.{WriteFault}
 use Rattle.ts_store.specs.Registered.{MayGain}
 use Rattle.ts_store.specs.Refusals.{write_fault}
 use Rattle.tsdb.specs.ScriptLines.{script_line_limit}
-use Rattle.tsdb.specs.Commands.{Command, Nothing, At, SetPrecision, Write, Live, Count, CountFault, Unknown, command_of}
+use Rattle.tsdb.specs.Commands.{Command, Nothing, At, SetPrecision, SetEpoch, Write, Query, Live, Count, CountFault, Unknown, command_of}
 use Rattle.tsdb.specs.Replies.{line, write_fault_text}
 
--- the moment that the script has set, in nanoseconds, the precision of its timestamps, the lines that were
--- accepted so far, and the series that are registered
+-- the moment that the script has set, in nanoseconds, the precision of its timestamps, how replies tell times,
+-- the lines that were accepted so far, and the series that are registered
 pub record State : Type 0 where
   pub moment : ℤ
   pub precision : TimeUnit
+  pub epoch : Epoch
   pub history : History
   pub series : List Series
 
 abbrev pub start : State
-start = record { moment = pos 0; precision = Nanoseconds; history = []; series = [] }
+start = record { moment = pos 0; precision = Nanoseconds; epoch = epochs.Text; history = []; series = [] }
 
 abbrev pub at_moment : ℤ → State → State
-at_moment t s = record { moment = t; precision = s.precision; history = s.history; series = s.series }
+at_moment t s = record s { moment = t }
 
 abbrev pub in_precision : TimeUnit → State → State
-in_precision p s = record { moment = s.moment; precision = p; history = s.history; series = s.series }
+in_precision p s = record s { precision = p }
+
+abbrev pub in_epoch : Epoch → State → State
+in_epoch e s = record s { epoch = e }
 
 -- these series are registered
 abbrev pub with_series : List Series → State → State
-with_series series s = record { moment = s.moment; precision = s.precision; history = s.history; series = series }
+with_series series s = record s { series = series }
 
 -- the line's facts are accepted, and these series are registered
 abbrev pub with_line : Parts → List Series → State → State
-with_line parts series s = record { moment = s.moment; precision = s.precision; history = Line (facts_of parts) ∷ s.history; series = series }
+with_line parts series s = record s { history = Line (facts_of parts) ∷ s.history; series = series }
 
 -- what a line says here: its parts, nothing, or a fault; without a time it has the script's moment
 abbrev pub line_in : State → Text → Result (Option Parts) LineFault
@@ -63,6 +78,20 @@ pub data Takes (old : State) (parts : Parts) : Text → State → Type 0 where
   -- there is no memory; its series may be registered
   found_no_memory : (series : List Series) → refusal_in old parts ≡ None → MayGain old.series series (series_of parts) → Takes old parts (line (codes "fault memory")) (with_series series old)
 
+-- what a planner answers for the query that counts
+abbrev pub CountIsPlanned : Settings → History → Text → Text → ℤ → ℤ → Result (List Piece) PlanError → Type 0
+CountIsPlanned opening h measurement field a b answer =
+    IsInterval (b -ℤ a) × IsPlanFor (settings_of opening h) (marks_of opening h) (count_select measurement field a b).query answer
+
+-- After a history a count over a range that isn't empty may print this.
+pub data Counts (opening : Settings) (h : History) (measurement field : Text) (a b : ℤ) : Text → Type 0 where
+  -- of all facts ever accepted, of each id the latest
+  counted : (plan : List Piece) → CountIsPlanned opening h measurement field a b (Ok plan) → Counts opening h measurement field a b (line (decimal (count_of h measurement field a b)))
+  has_no_plan : (fault : PlanFault) → CountIsPlanned opening h measurement field a b (Err (errors.Fault fault)) → Counts opening h measurement field a b (line (plan_fault_text fault))
+  is_too_long : (IsInterval (b -ℤ a) → ⊥) → Counts opening h measurement field a b (line (codes "fault 74 at 0"))
+  -- to plan and to execute may want memory that isn't there
+  counts_no_memory : IsInterval (b -ℤ a) → Counts opening h measurement field a b (line (codes "fault memory"))
+
 -- From `old` a command may print this and leave that.
 pub data Does (old : State) : Command → Text → State → Type 0 where
   skips : Does old Nothing [] old
@@ -71,13 +100,17 @@ pub data Does (old : State) : Command → Text → State → Type 0 where
   writes : (text answer : Text) (parts : Parts) (new : State) → line_in old text ≡ Ok (Some parts) → Takes old parts answer new → Does old (Write text) answer new
   -- a comment or a blank line
   passes_over : (text : Text) → line_in old text ≡ Ok None → Does old (Write text) (line (codes "none")) old
-  refuses : (text : Text) (fault : LineFault) → line_in old text ≡ Err fault → Does old (Write text) (line (fault_text fault)) old
+  refuses : (text : Text) (fault : LineFault) → line_in old text ≡ Err fault → Does old (Write text) (line (line_fault_text fault)) old
   -- to read a line may want memory that isn't there
   reads_no_memory : (text : Text) → Does old (Write text) (line (codes "fault memory")) old
+  shows : (e : Epoch) → Does old (SetEpoch e) [] (in_epoch e old)
+  -- the reply's body, be the reply good or not
+  replies : (text body : Text) (good : Bool) → IsReply open_settings old.history old.moment text old.epoch good body → Does old (Query text) (line body) old
+  replies_no_memory : (text : Text) → Does old (Query text) (line (codes "fault memory")) old
   -- how many of the latest facts have their raw points
   tells_live : Does old Live (line (decimal (length (raw_facts open_settings old.history)))) old
-  -- of all facts ever accepted, of each id the latest
-  counts : (measurement field : Text) (a b : ℤ) → Does old (Count measurement field a b) (line (decimal (count_of old.history measurement field a b))) old
+  counts : (measurement field answer : Text) (a b : ℤ) → a <ℤ b → Counts open_settings old.history measurement field a b answer → Does old (Count measurement field a b) answer old
+  counts_nothing : (measurement field : Text) (a b : ℤ) → b ≤ℤ a → Does old (Count measurement field a b) (line (codes "0")) old
   refuses_count : Does old CountFault (line (codes "fault 74 at 0")) old
   refuses_unknown : Does old Unknown (line (codes "fault 95")) old
 

@@ -2,7 +2,6 @@
 use Rattle.std.specs.Prelude.{ℕ, ◌++◌, codes, Option, Some, None}
 use Rattle.ts_core.specs.Facts.{Text}
 use Rattle.tsdb.specs.RunFaults.{run_fault_text}
-use Rattle.tsdb.specs.declared.command_line.Told.{Told}
 use Rattle.tsdb.specs.declared.command_line.Told.TheVariants as told
 use Rattle.tsdb.specs.declared.run_fault.RunFault.{RunFault}
 use Rattle.tsdb.specs.declared.run_fault.RunFault.TheVariants.{OutOfMemory, Reader, Writer, Turns}

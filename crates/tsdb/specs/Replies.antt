@@ -1,12 +1,13 @@
 -- The answers to commands, by their texts. (Own rule; a fault is told by its number.)
-use Rattle.std.specs.Prelude.{[], ◌∷◌, ◌++◌, codes}
+use Rattle.std.specs.Prelude.{[], ◌∷◌, ◌++◌, codes, string_bytes}
 use Rattle.std.specs.Fmt.{decimal}
 use Rattle.ts_core.specs.Facts.{Text}
-use Rattle.ts_line.specs.FaultText.{fault_text}
+use Rattle.ts_line.specs.FaultText.{line_fault_text}
+use Rattle.ts_plan.specs.PlanTexts.{plan_fault_text}
 use Rattle.ts_store.specs.declared.fault.WriteFault.{WriteFault}
 use Rattle.ts_store.specs.declared.fault.WriteFault.TheVariants as write
 use Rattle.tsdb.specs.declared.reply.Reply.{Reply}
-use Rattle.tsdb.specs.declared.reply.Reply.TheVariants.{Nothing, Done, NoLine, BadLine, Count, Unknown, BadRange, TooManySeries, TooManyFacts, OutOfMemory}
+use Rattle.tsdb.specs.declared.reply.Reply.TheVariants.{Nothing, Done, NoLine, BadLine, Count, Body, NoPlan, Unknown, BadRange, TooManySeries, TooManyFacts, OutOfMemory}
 
 -- a text with the LF that ends its line
 abbrev pub line : Text → Text
@@ -16,8 +17,10 @@ abbrev pub text_of : Reply → Text
 text_of Nothing = []
 text_of Done = line (codes "ok")
 text_of NoLine = line (codes "none")
-text_of (BadLine fault) = line (fault_text fault)
+text_of (BadLine fault) = line (line_fault_text fault)
 text_of (Count n) = line (decimal n)
+text_of (Body body) = string_bytes body
+text_of (NoPlan fault) = line (plan_fault_text fault)
 text_of Unknown = line (codes "fault 95")
 text_of BadRange = line (codes "fault 74 at 0")
 text_of TooManySeries = line (codes "fault 41")

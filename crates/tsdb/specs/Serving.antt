@@ -1,6 +1,6 @@
 -- A machine that serves a script, and the state that it is in. (Own rule.)
-use Rattle.std.specs.Prelude.{◌≡◌, ℕ, zero, suc, ℤ, ◌∷◌, Option, Some, refl}
-use Rattle.std.specs.Coded.{Coded, code_by, coded×, coded_ℕ, coded_ℤ}
+use Rattle.std.specs.Prelude.{◌≡◌, ℕ, zero, suc, ℤ, Bool, ◌∷◌, Option, Some, None, refl}
+use Rattle.std.specs.Coded.{Coded, code_by, coded×, coded_ℕ, coded_ℤ, coded_option}
 use Rattle.ts_core.specs.Facts.{Text}
 use Rattle.ts_core.specs.Settings.{open_settings}
 use Rattle.ts_core.specs.StoreStates.{StandsFor}
@@ -9,20 +9,30 @@ use Rattle.ts_core.specs.StoreCodes.{coded_store_data}
 use Rattle.ts_line.specs.Parts.{Parts}
 use Rattle.ts_core.specs.declared.time_unit.TimeUnit.{TimeUnit}
 use Rattle.ts_core.specs.declared.time_unit.TimeUnit.TheVariants.{Nanoseconds, Microseconds, Milliseconds, Seconds, Minutes, Hours, Days, Weeks}
+use Rattle.ts_reply.specs.Answering.{IsReply}
+use Rattle.ts_reply.specs.declared.epoch.Epoch.{Epoch}
+use Rattle.ts_reply.specs.declared.epoch.Epoch.TheVariants as epochs
 use Rattle.tsdb.specs.ScriptLines.{lines_of}
 use Rattle.tsdb.specs.Commands.{Command}
 use Rattle.tsdb.specs.Machine.{State, Takes, Does, Step}
+use Rattle.tsdb.specs.Replies.{line}
 
 pub record Serving : Type 0 where
   pub moment : ℤ
   pub precision : TimeUnit
+  pub epoch : Epoch
   pub kept : StoreData
 
 pub record IsIn (s : State) (m : Serving) : Type 0 where
   pub moment : m.moment ≡ s.moment
   pub precision : m.precision ≡ s.precision
+  pub epoch : m.epoch ≡ s.epoch
   pub stands : StandsFor open_settings s.history (state_of m.kept)
   pub series : m.kept.series ≡ s.series
+
+-- in this state a text of queries has a reply with this body, here with an LF
+abbrev pub Replied : State → Text → Text → Type 0
+Replied s text answer = (body : Text) × ((good : Bool) × IsReply open_settings s.history s.moment text s.epoch good body) × (answer ≡ line body)
 
 -- from this state a machine that was given a line of these parts is in a state that it may leave
 abbrev pub Took : Parts → State → Text → Serving → Type 0
@@ -78,5 +88,22 @@ numbered_unit-of Weeks = refl
 abbrev pub coded_unit : Coded TimeUnit
 coded_unit = code_by ℕ coded_ℕ unit_number numbered_unit numbered_unit-of
 
+abbrev pub epoch_unit : Epoch → Option TimeUnit
+epoch_unit epochs.Text = None
+epoch_unit (epochs.Units unit) = Some unit
+
+abbrev pub epoch_with : Option TimeUnit → Epoch
+epoch_with None = epochs.Text
+epoch_with (Some unit) = epochs.Units unit
+
+pub epoch_with-of : (e : Epoch) → epoch_with (epoch_unit e) ≡ e
+epoch_with-of epochs.Text = refl
+epoch_with-of (epochs.Units unit) = refl
+
+abbrev pub coded_epoch : Coded Epoch
+coded_epoch = code_by (Option TimeUnit) (coded_option coded_unit) epoch_unit epoch_with epoch_with-of
+
 abbrev pub coded_serving : Coded Serving
-coded_serving = code_by (ℤ × (TimeUnit × StoreData)) (coded× coded_ℤ (coded× coded_unit coded_store_data)) (λ m. (m.moment, (m.precision, m.kept))) (λ p. record { moment = p.0; precision = p.1.0; kept = p.1.1 }) (λ _. refl)
+coded_serving =
+    code_by (ℤ × (TimeUnit × (Epoch × StoreData))) (coded× coded_ℤ (coded× coded_unit (coded× coded_epoch coded_store_data))) (λ m. (m.moment, (m.precision, (m.epoch, m.kept))))
+    (λ p. record { moment = p.0; precision = p.1.0; epoch = p.1.1.0; kept = p.1.1.1 }) (λ _. refl)

@@ -1,14 +1,16 @@
 //! The commands of a script and how they are read.
 ghost use Rattle.std.specs.Prelude.{◌≡◌, length, MatchOption, drop, true, false, nat_eq, ◌||◌};
 ghost use Rattle.std.specs.List.{starts_with};
-ghost use Rattle.tsdb.specs.Commands.{is_blank, is_comment, word, after_word, count_from, at_of, precision_from, command_of, count_between};
+ghost use Rattle.tsdb.specs.Commands.{is_blank, is_comment, word, after_word, count_from, at_of, precision_from, epoch_from, command_of, count_between};
 ghost use Rattle.ts_core.specs.TimeUnits.{precision_of};
+ghost use Rattle.ts_reply.specs.Epochs.{epoch_of};
 ghost use Rattle.tsdb.specs.Moments.{moment_of};
 ghost use Rattle.tsdb.specs.CommandParts.{command_view};
 
 use crate::moment::{moment_in, moment_of};
 use ts_core::{Time, TimeUnit};
 use ts_line::is_number;
+use ts_reply::Epoch;
 
 /// What a line asks for.
 #[derive(Clone, Copy, Drop)]
@@ -19,8 +21,12 @@ pub enum Command<'a> {
     At(Time),
     /// To take timestamps in this unit from now on.
     SetPrecision(TimeUnit),
+    /// To tell times so in replies from now on.
+    SetEpoch(Epoch),
     /// To write this line.
     Write(&'a str),
+    /// To answer this text of queries.
+    Query(&'a str),
     /// To tell how many raw facts are kept.
     Live,
     /// To count the values of a measurement and a field from one time on and before another.
@@ -30,7 +36,7 @@ pub enum Command<'a> {
         from: Time,
         to: Time,
     },
-    /// The same, with a time that isn't valid or a range that is too long.
+    /// The same, with a time that isn't valid.
     CountFault,
     /// Nothing that is known.
     Unknown,
@@ -88,7 +94,17 @@ fn precision(text: &str) -> Command<'_>
     }
 }
 
-/// The count over a range, where both times are valid and it isn't too long.
+#[tactic(auto, unfolding(crate::specs::Commands::epoch_from))]
+fn epoch(text: &str) -> Command<'_>
+    ensures { command_view result ≡ epoch_from (epoch_of text.now) }
+{
+    match Epoch::named(text) {
+        Some(epoch) => Command::SetEpoch(epoch),
+        None => Command::Unknown,
+    }
+}
+
+/// The count over a range, where both times are valid.
 #[tactic(auto, unfolding(crate::specs::Commands::count_between))]
 fn count_between<'a>(
     measurement: &'a str,
@@ -101,9 +117,6 @@ fn count_between<'a>(
     let (Some(from), Some(to)) = (from, to) else {
         return Command::CountFault;
     };
-    if from < to && to.nanos().checked_sub(from.nanos()).is_none() {
-        return Command::CountFault;
-    }
     Command::Count {
         measurement,
         field,
@@ -149,8 +162,14 @@ impl<'a> Command<'a> {
         if let Some(rest) = rest_behind(line, "precision ") {
             return precision(rest);
         }
+        if let Some(rest) = rest_behind(line, "epoch ") {
+            return epoch(rest);
+        }
         if let Some(rest) = rest_behind(line, "write ") {
             return Command::Write(rest);
+        }
+        if let Some(rest) = rest_behind(line, "query ") {
+            return Command::Query(rest);
         }
         if line == "live" {
             return Command::Live;

@@ -18,11 +18,17 @@ Scripts have one command a line; blank lines and lines that begin with # are pas
   at N[UNIT]     sets the moment, at first 0. UNIT is ns, u, µ, ms, s, m, h, d or w; without
                  one N is in nanoseconds of the Unix epoch.
   precision P    sets the unit of timestamps, at first ns: ns, n, u, ms, s, m or h.
+  epoch U        sets how replies tell times: text (at first) is RFC 3339 in UTC; ns, n, u, µ, ms, s, m
+                 or h counts whole units of the Unix epoch.
   write LINE     accepts a line of line protocol, `M[,TAG=VALUE..] F=Vi[,F=Vi..] [T]`: measurement M,
                  fields F with integers V, time T. Without T it has the moment. Prints ok; none
                  for a comment or a blank line; a fault with its place, and then nothing is kept.
   live           prints how many raw points are kept, each field of a line counted: of a point that was
                  written again only the newer values.
+  query TEXT     prints the JSON reply to up to 16 statements of InfluxQL, parted by `;`:
+                 `SELECT FUNCTION(F)[ AS NAME][,..] FROM M WHERE time >= A [AND time < B] [AND TAG = 'V' ..]
+                 GROUP BY time(DURATION[, OFFSET])[, TAG ..] [fill(null|none|previous|N)]`, of one field F.
+                 The functions are COUNT, SUM, MIN, MAX, FIRST, LAST and MEAN.
   count M F A B  prints how many points field F of measurement M has from time A on and before
                  time B, in nanoseconds. A point that was written again counts once.
 

@@ -78,7 +78,7 @@ fn run_on(
         most,
         fails_in: failing_write,
     });
-    let result = run(alloc, &mut source, &mut sink);
+    let result = run(alloc, alloc, &mut source, &mut sink);
     (result, sink.into_inner().taken)
 }
 
@@ -122,6 +122,6 @@ fn a_writer_that_takes_nothing_is_told(rt: HostRuntime) {
         most: 0,
         fails_in: None,
     });
-    let result = run(rt.alloc(), &mut source, &mut sink);
+    let result = run(rt.alloc(), rt.alloc(), &mut source, &mut sink);
     assert!(rt; matches!(result, Err(RunFault::Writer)) && sink.into_inner().taken.is_empty());
 }

@@ -12,7 +12,7 @@ use crate::line_reader::{LineReader, Next};
 use crate::machine::Machine;
 use crate::reply::{Reply, TEXT_ROOM};
 use crate::run_fault::RunFault;
-use std::alloc::Allocator;
+use std::alloc::{Allocator, Global};
 use std::io::{Read, Write};
 use ts_core::{Sink, Source};
 
@@ -29,15 +29,17 @@ fn answer<A: Allocator + Copy>(machine: &mut Machine<A>, next: Next, line: &[u8]
 }
 
 /// Answers each line of a script on the sink, from an empty store and the moment 0 on. All memory of
-/// reading, and of the texts of faults, is taken before the first line.
+/// reading, and of the texts of faults, is taken before the first line. Replies are made in the memory of
+/// `json`, all else in that of `alloc`.
 pub fn run<R: Read, W: Write, A: Allocator + Copy>(
     alloc: A,
+    json: Global,
     source: &mut Source<R>,
     sink: &mut Sink<W>,
 ) -> Result<(), RunFault>
     ensures { IsReplay source.old sink.old result source.new sink.new }
 {
-    let mut machine = Machine::new(alloc)?;
+    let mut machine = Machine::new(alloc, json)?;
     let mut lines = LineReader::new(alloc)?;
     let mut text = String::with_capacity(alloc, TEXT_ROOM)?;
     loop {

@@ -1,27 +1,31 @@
 //! The machine that a script runs.
-ghost use Rattle.std.specs.Prelude.{◌≡◌, ◌≤◌, length, IfOk};
+ghost use Rattle.std.specs.Prelude.{◌≡◌, ◌≤◌, length, IfOk, string_bytes};
 ghost use Rattle.tsdb.specs.CommandParts.{command_view};
 ghost use Rattle.tsdb.specs.ScriptLines.{script_line_limit};
 ghost use Rattle.tsdb.specs.Machine.{State, start};
-ghost use Rattle.tsdb.specs.Commands.{Write as WriteCommand};
+ghost use Rattle.tsdb.specs.Commands.{Write as WriteCommand, Query as QueryCommand, Count as CountCommand};
 ghost use Rattle.tsdb.specs.Replies.{text_of, refusal_of};
-ghost use Rattle.tsdb.specs.Serving.{IsIn, Took, Did, Stepped};
+ghost use Rattle.tsdb.specs.Serving.{IsIn, Replied, Took, Did, Stepped};
 
 use crate::command::Command;
+use crate::count::count;
 use crate::reply::Reply;
-use std::alloc::{AllocError, Allocator};
+use std::alloc::{AllocError, Allocator, Global};
 use std::marker::Model;
 use std::str;
 use ts_core::{Settings, Time, TimeUnit};
 use ts_line::{Line, ReadLineError, read_line};
+use ts_reply::{Epoch, answer};
 use ts_store::{Store, WriteFault};
 
-/// The moment and the precision that a script has set, and its store.
+/// The moment, the precision and the epoch that a script has set, and its store.
 #[derive(Drop)]
 pub struct Machine<A: Allocator> {
     alloc: A,
+    json: Global,
     moment: Time,
     precision: TimeUnit,
+    epoch: Epoch,
     store: Store<A>,
 }
 
@@ -32,18 +36,21 @@ impl<A: Allocator> Model for Machine<A> {
 
     ghost coded = { coded_serving };
 
-    ghost view = { λ m. record { moment = m.moment; precision = m.precision; kept = m.store } };
+    ghost view = { λ m. record { moment = m.moment; precision = m.precision; epoch = m.epoch; kept = m.store } };
 }
 
 impl<A: Allocator + Copy> Machine<A> {
-    /// A machine with an empty store, at the moment 0, with timestamps in nanoseconds.
-    pub fn new(alloc: A) -> Result<Machine<A>, AllocError>
+    /// A machine with an empty store, at the moment 0, with timestamps in nanoseconds and times of replies as
+    /// text. Replies are made in the memory of `json`.
+    pub fn new(alloc: A, json: Global) -> Result<Machine<A>, AllocError>
         ensures { IfOk result (λ m. IsIn start m) }
     {
         Ok(Machine {
             alloc,
+            json,
             moment: Time::new(0).unwrap(),
             precision: TimeUnit::Nanoseconds,
+            epoch: Epoch::Text,
             store: Store::new(alloc, Settings::open(alloc))?,
         })
     }
@@ -74,16 +81,59 @@ impl<A: Allocator + Copy> Machine<A> {
                 self.precision = precision;
                 Reply::Nothing
             }
+            Command::SetEpoch(epoch) => {
+                self.epoch = epoch;
+                Reply::Nothing
+            }
             Command::Write(line) => self.write(line),
+            Command::Query(text) => self.query(text),
             Command::Live => Reply::Count(self.store.raw_points()),
             Command::Count {
                 measurement,
                 field,
                 from,
                 to,
-            } => Reply::Count(self.store.count(measurement, field, from, to)),
+            } => self.count(measurement, field, from, to),
             Command::CountFault => Reply::BadRange,
             Command::Unknown => Reply::Unknown,
+        }
+    }
+
+    /// Answers a text of queries.
+    fn query(&self, text: &str) -> Reply
+        ensures { (s : State) → IsIn s self.now → Did (QueryCommand text.now) s (text_of result) self.now }
+    {
+        match self.reply(text) {
+            Ok(body) => Reply::Body(body),
+            Err(_) => Reply::OutOfMemory,
+        }
+    }
+
+    /// The body of the reply to a text of queries, with an LF.
+    fn reply(&self, text: &str) -> Result<String, AllocError>
+        ensures { IfOk result (λ body. (s : State) → IsIn s self.now → Replied s text.now (string_bytes body)) }
+    {
+        let mut body = answer(
+            self.alloc,
+            self.json,
+            &self.store,
+            self.moment,
+            text,
+            self.epoch,
+        )?
+        .body;
+        body.push_str("\n")?;
+        Ok(body)
+    }
+
+    /// Counts the values of a field from one time on and before another.
+    fn count(&self, measurement: &str, field: &str, from: Time, to: Time) -> Reply
+        ensures { (s : State) → IsIn s self.now → Did (CountCommand measurement.now field.now from to) s (text_of result) self.now }
+    {
+        if from < to {
+            count(self.alloc, &self.store, measurement, field, from, to)
+        } else {
+            Reply::Count(0)
         }
     }
 

@@ -1,4 +1,4 @@
-//! The program `tsdb`. It runs scripts from standard input (`tsdb replay`), and stands on ts_store, ts_line and ts_core.
+//! The program `tsdb`. It runs scripts from standard input (`tsdb replay`), and stands on ts_reply, ts_store and what these stand on.
 //! It promises, on `engine::run`: what it prints is what the definitions of specs/ say of the script, from
 //! the bytes read to the bytes written; and where a device fails, a beginning of it.
 #![tactic(auto)]
@@ -10,6 +10,7 @@ mod command;
 mod command_line;
 #[cfg(test)]
 mod command_line_tests;
+mod count;
 #[cfg(test)]
 mod device_tests;
 mod engine;
@@ -25,6 +26,8 @@ mod moment;
 mod outcome;
 #[cfg(test)]
 mod outcome_tests;
+#[cfg(test)]
+mod query_tests;
 mod reply;
 mod run_fault;
 #[cfg(test)]
@@ -85,7 +88,7 @@ fn answer(rt: &(impl Print + Eprint), error: &Error) -> Told {
 fn replay(rt: &(impl Input + Print + AllocGlobal)) -> Outcome {
     let mut source = Source::new(rt.reader());
     let mut sink = Sink::new(io::writer(rt));
-    match engine::run(rt.alloc(), &mut source, &mut sink) {
+    match engine::run(rt.alloc(), rt.alloc(), &mut source, &mut sink) {
         Ok(()) => Outcome::Answered,
         Err(fault) => Outcome::Stopped(fault),
     }

@@ -3,7 +3,8 @@ ghost use Rattle.std.specs.Prelude.{◌≡◌, ◌+◌, ◌≤◌, IsOk, OnOk, O
 ghost use Rattle.std.specs.Fmt.{decimal};
 ghost use Rattle.std.specs.Io.KnownBytes.{Appends};
 ghost use Rattle.ts_core.specs.Devices.{AppendsFront, one_if_err};
-ghost use Rattle.ts_line.specs.FaultText.{fault_text};
+ghost use Rattle.ts_line.specs.FaultText.{line_fault_text};
+ghost use Rattle.ts_plan.specs.PlanTexts.{plan_fault_text};
 ghost use Rattle.tsdb.specs.Replies.{line, text_of};
 
 use itoa::write_digits;
@@ -11,9 +12,10 @@ use std::alloc::{AllocError, Allocator};
 use std::io::Write;
 use ts_core::{Refused, Sink};
 use ts_line::LineFault;
+use ts_plan::PlanFault;
 
 /// The answer to a line.
-#[derive(Clone, Copy, Debug, Drop)]
+#[derive(Debug, Drop)]
 pub enum Reply {
     /// Nothing is printed.
     Nothing,
@@ -25,6 +27,10 @@ pub enum Reply {
     BadLine(LineFault),
     /// So many values there are.
     Count(u64),
+    /// The body of a reply to queries, with its LF.
+    Body(String),
+    /// What is counted has no plan (numbers 91 and 92).
+    NoPlan(PlanFault),
     /// It is no command (number 95).
     Unknown,
     /// A time isn't valid, or a range is too long (number 74).
@@ -33,7 +39,7 @@ pub enum Reply {
     TooManySeries,
     /// The facts that were accepted would pass 2^62 (number 52).
     TooManyFacts,
-    /// No memory was found. No fact was accepted; the line's series may be registered.
+    /// No memory was found. No fact was accepted; a line's series may be registered.
     OutOfMemory,
 }
 
@@ -60,6 +66,8 @@ impl Reply {
             Reply::NoLine => sink.put(b"none\n"),
             Reply::BadLine(fault) => send_fault(text, sink, fault),
             Reply::Count(count) => send_count(sink, count),
+            Reply::Body(body) => sink.put(body.as_bytes()),
+            Reply::NoPlan(fault) => sink.put(plan_fault_line(fault)),
             Reply::Unknown => sink.put(b"fault 95\n"),
             Reply::BadRange => sink.put(b"fault 74 at 0\n"),
             Reply::TooManySeries => sink.put(b"fault 41\n"),
@@ -77,8 +85,8 @@ fn send_fault<W: Write, A: Allocator>(
 ) -> Result<(), Refused>
     requires { TEXT_ROOM ≤ string_capacity text.old }
     ensures room { TEXT_ROOM ≤ string_capacity text.new }
-    ensures ok { OnOk result (Appends sink.old.contents sink.new.contents (line (fault_text fault))) }
-    ensures err { OnErr result (AppendsFront sink.old.contents sink.new.contents (line (fault_text fault))) }
+    ensures ok { OnOk result (Appends sink.old.contents sink.new.contents (line (line_fault_text fault))) }
+    ensures err { OnErr result (AppendsFront sink.old.contents sink.new.contents (line (line_fault_text fault))) }
     ensures failures { sink.new.failures ≡ sink.old.failures + one_if_err result }
 {
     match fault_line(text, fault) {
@@ -91,12 +99,23 @@ fn send_fault<W: Write, A: Allocator>(
 fn fault_line<A: Allocator>(text: &mut String<A>, fault: LineFault) -> Result<(), AllocError>
     requires { TEXT_ROOM ≤ string_capacity text.old }
     ensures room { TEXT_ROOM ≤ string_capacity text.new }
-    ensures text { OnOk result (string_bytes text.new ≡ line (fault_text fault)) }
+    ensures text { OnOk result (string_bytes text.new ≡ line (line_fault_text fault)) }
     ensures done { IsOk result }
 {
     text.clear();
     fault.text_to(text)?;
     text.push_str("\n")
+}
+
+/// The text of the fault of a plan, with an LF.
+#[tactic(auto, unfolding(ts_plan::specs::PlanTexts::plan_fault_text))]
+fn plan_fault_line(fault: PlanFault) -> &'static [u8]
+    ensures { result.now ≡ line (plan_fault_text fault) }
+{
+    match fault {
+        PlanFault::NoPlan => b"fault 91\n",
+        PlanFault::TooManyBuckets => b"fault 92\n",
+    }
 }
 
 /// Writes a number with an LF, in one piece.

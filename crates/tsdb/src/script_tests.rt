@@ -8,7 +8,7 @@ use ts_core::{Sink, Source};
 pub(crate) fn answers(alloc: Global, script: &[u8]) -> Result<Vec<u8>, AllocError> {
     let mut source = Source::new(script);
     let mut sink = Sink::new(Vec::new(alloc));
-    match run(alloc, &mut source, &mut sink) {
+    match run(alloc, alloc, &mut source, &mut sink) {
         Ok(()) => Ok(sink.into_inner()),
         Err(_) => Err(AllocError),
     }

@@ -4,7 +4,7 @@ use std::alloc::Global;
 use std::test::Fail;
 use ts_core::{Settings, Time};
 use ts_line::{Precision, read_line};
-use ts_store::Store;
+use ts_store::{Store, View};
 
 /// Lines that are written, in another order than that of time.
 const LINES: [&str; 6] = [
@@ -16,17 +16,22 @@ const LINES: [&str; 6] = [
     "m,a=1 f=21i 2",
 ];
 
-/// A field, the number of its column, a range, and the points that it has.
-type Range = (&'static str, usize, i64, i64, &'static [(i64, i64)]);
+/// A field, a range, and the points that it has in each column of the field.
+type Range = (&'static str, i64, i64, &'static [&'static [(i64, i64)]]);
 
 const RANGES: [Range; 7] = [
-    ("f", 0, 0, 9, &[(1, 10), (2, 21)]),
-    ("f", 1, 0, 9, &[(2, 30), (4, 0), (5, 40)]),
-    ("f", 1, 2, 5, &[(2, 30), (4, 0)]),
-    ("g", 0, i64::MIN, i64::MAX, &[(5, 7)]),
-    ("f", 0, 2, 2, &[]),
-    ("f", 0, 9, 0, &[]),
-    ("g", 0, 6, 9, &[]),
+    (
+        "f",
+        0,
+        9,
+        &[&[(1, 10), (2, 21)], &[(2, 30), (4, 0), (5, 40)]],
+    ),
+    ("f", 2, 5, &[&[(2, 21)], &[(2, 30), (4, 0)]]),
+    ("g", i64::MIN, i64::MAX, &[&[(5, 7)]]),
+    ("f", 2, 2, &[&[], &[]]),
+    ("f", 9, 0, &[&[], &[]]),
+    ("g", 6, 9, &[&[]]),
+    ("h", 0, 9, &[]),
 ];
 
 fn written(alloc: Global) -> Result<Store<Global>, Fail> {
@@ -38,22 +43,23 @@ fn written(alloc: Global) -> Result<Store<Global>, Fail> {
     Ok(store)
 }
 
-/// Whether a column of a field has these points.
-fn has(
-    store: &Store<Global>,
-    field: &str,
-    number: usize,
-    from: i64,
-    to: i64,
-    expected: &[(i64, i64)],
-) -> bool {
-    let columns = store.columns_of("m", field);
-    number < columns.len() && gives(store.raw_range(columns[number], from, to), expected)
+/// Whether the columns of a field have these points, and there are no more columns.
+fn has(store: &Store<Global>, field: &str, from: i64, to: i64, expected: &[&[(i64, i64)]]) -> bool {
+    let mut columns = store.columns_of("m", field);
+    for points in expected {
+        let Some(column) = columns.next() else {
+            return false;
+        };
+        if !gives(store.raw_range(column.id, from, to), points) {
+            return false;
+        }
+    }
+    columns.next().is_none()
 }
 
 fn has_all(store: &Store<Global>, ranges: &[Range]) -> bool {
-    for &(field, number, from, to, expected) in ranges {
-        if !has(store, field, number, from, to, expected) {
+    for &(field, from, to, expected) in ranges {
+        if !has(store, field, from, to, expected) {
             return false;
         }
     }
@@ -61,7 +67,7 @@ fn has_all(store: &Store<Global>, ranges: &[Range]) -> bool {
 }
 
 #[test]
-fn a_range_is_of_its_column(rt: HostRuntime) -> Result<(), Fail> {
+fn a_range_is_of_its_columns(rt: HostRuntime) -> Result<(), Fail> {
     let store = written(rt.alloc())?;
     assert!(rt; has_all(&store, &RANGES));
     assert_eq!(rt; store.accepted(), 7);

@@ -1,11 +1,9 @@
-use Rattle.std.proofs.Common.{◌<◌, map, refl, subst}
-use Rattle.std.proofs.lemmas.List.{length-map}
-use Rattle.ts_core.specs.StoreStates.{column_of}
-use Rattle.ts_store.proofs.ColumnsReads.{number_there}
+use Rattle.std.proofs.Common.{◌<◌, length, List, subst, sym}
+use Rattle.std.specs.List.{AllByRecursion}
+use Rattle.ts_core.specs.Facts.{is_of}
+use Rattle.ts_store.specs.Seats.{Seat}
+use Rattle.ts_store.proofs.SeatLemmas.{seats-there}
 use Rattle.tsdb.proofs.store_tests.has.Goals as goal
 
-pub raw_range-requires : goal.raw_range-requires
-raw_range-requires c =
-    subst (λ n. c.index-columns-number.result < n) (length-map c.args.store.now.columns column_of)
-    (number_there _ (map column_of c.args.store.now.columns) c.columns_of-columns.result.now c.args.number c.index-columns-number.result c.index-columns-number.result
-    c.columns_of-columns.ensures c.if-number-columns.true c.index-columns-number.is refl)
+pub loop-points-init : goal.loop-points-init
+loop-points-init c = subst (λ (ss : List Seat). AllByRecursion (λ (s : Seat). s.number < length c.args.store.now.columns) ss) (sym c.columns_of-columns.ensures) (seats-there _ c.args.store.now.columns)
