@@ -4,16 +4,36 @@
 #![tactic(auto)]
 
 mod chunk;
+#[cfg(test)]
+mod column_tests;
 mod command;
 mod command_line;
+#[cfg(test)]
+mod command_line_tests;
 mod count;
+#[cfg(test)]
+mod device_tests;
 mod engine;
+#[cfg(test)]
+mod limit_tests;
 mod line_reader;
+#[cfg(test)]
+mod line_tests;
 mod machine;
+#[cfg(test)]
+mod memory_tests;
 mod moment;
 mod outcome;
+#[cfg(test)]
+mod outcome_tests;
+#[cfg(test)]
+mod query_tests;
 mod reply;
 mod run_fault;
+#[cfg(test)]
+mod script_tests;
+#[cfg(test)]
+mod store_tests;
 
 use clap::Error;
 use command_line::Told;
