@@ -5,7 +5,7 @@ use Rattle.std.proofs.lemmas.List.{take-append-drop, length-take-le}
 use Rattle.std.proofs.Math.Seq.{take-append_seam}
 use Rattle.ts_core.specs.Facts.{Text}
 use Rattle.ts_core.specs.Pieces.{Source, Raw, Rollup, Piece}
-use Rattle.ts_check.specs.CertificateTexts.{HasSpelling, EachHasSpelling, source_text, range_text, piece_text, piece_line, certificate_text, IsCertificate, Beginning, NoLine, Open, Closed, pieces_of, beginning_text, BeginsWell, IsFirstFault, IsReadingOf, IsReadAs, IsOneCertificate}
+use Rattle.ts_check.specs.CertificateTexts.{HasSpelling, EachHasSpelling, source_text, range_text, piece_text, piece_line, certificate_text, IsCertificate, Beginning, NoLine, Open, Closed, beginning_pieces, beginning_text, BeginsWell, IsFirstBadLine, IsReadingOf, IsReadAs, IsOneCertificate}
 use Rattle.ts_check.specs.CertificateLines.{Lacks, IsPiece, HasPiece, Stops, IsReadingIfRoom}
 use Rattle.ts_check.specs.declared.certificate_fault.ReadCertificateError.{ReadCertificateError}
 use Rattle.ts_check.specs.declared.certificate_fault.ReadCertificateError.TheVariants as errors
@@ -86,7 +86,7 @@ stop_last rest at more (inl off) e = absurd (off.0.no_end more e)
 stop_last rest at more (inr end) e = let one = end.0 in (cc, end.1)
 
 first_by : (b : Beginning) (text rest at : Text) (front : List Piece) (n m : ℕ) → EachHasSpelling front → text ≡ behind front rest → Stops rest at → n + length at ≡ length text
-    → EachHasSpelling (pieces_of b) → take m text ≡ beginning_text b → m ≤ length text → m ≤ n
+    → EachHasSpelling (beginning_pieces b) → take m text ≡ beginning_text b → m ≤ length text → m ≤ n
 first_by NoLine text rest at front n m f e s len each spelled within = omega (arith, ap length spelled, length-take-le m text within)
 first_by (Open qs) text rest at front n m f e s len each spelled within =
     let more = drop m text in
@@ -129,7 +129,7 @@ none_by text rest at front qs f e s w =
     omega (arith, ap length last.0, last.1)
 
 -- a reading that stops behind the lines of some pieces stops at the first fault
-pub stops_first : (text rest at : Text) (front : List Piece) (n : ℕ) → EachHasSpelling front → text ≡ behind front rest → Stops rest at → n + length at ≡ length text → IsFirstFault text n
+pub stops_first : (text rest at : Text) (front : List Piece) (n : ℕ) → EachHasSpelling front → text ≡ behind front rest → Stops rest at → n + length at ≡ length text → IsFirstBadLine text n
 stops_first text rest at front n f e s len = record {
   before = before_by text rest at front n f e s len;
   first = λ m w. first_by w.lines text rest at front n m f e s len w.each w.spelled w.within;
@@ -145,7 +145,7 @@ no_first_by (Closed qs) text m none spelled within =
     absurd (none ((lines qs ++ codes "end\n") ++ drop m text) (sym (take-append-drop m text) ∙ ap (λ (t : Text). t ++ drop m text) spelled))
 
 -- where the first line isn't there, it is at fault
-pub no_first : (text : Text) → ((more : Text) → text ≡ codes "plan 1\n" ++ more → ⊥) → IsFirstFault text 0
+pub no_first : (text : Text) → ((more : Text) → text ≡ codes "plan 1\n" ++ more → ⊥) → IsFirstBadLine text 0
 no_first text none = record {
   before = record { lines = NoLine; each = tt; spelled = refl; within = omega arith };
   first = λ m w. no_first_by w.lines text m none w.spelled w.within;
@@ -154,10 +154,10 @@ no_first text none = record {
 
 -- ---- one line
 
-pub uncut_first : (text : Text) → Lacks 10 text → IsFirstFault text 0
+pub uncut_first : (text : Text) → Lacks 10 text → IsFirstBadLine text 0
 uncut_first text l = no_first text (λ more e. not_cut 10 text (codes "plan 1") more l e)
 
-pub other_first : (text line rest : Text) → text ≡ line ++ (10 ∷ rest) → Lacks 10 line → (line ≡ codes "plan 1" → ⊥) → IsFirstFault text 0
+pub other_first : (text line rest : Text) → text ≡ line ++ (10 ∷ rest) → Lacks 10 line → (line ≡ codes "plan 1" → ⊥) → IsFirstBadLine text 0
 other_first text line rest e l other = no_first text (λ more f. other (cut_same 10 line (codes "plan 1") rest more l (lacks_test 10 (codes "plan 1") refl) (sym e ∙ f)).0)
 
 -- the line of a piece is cut behind its text
@@ -209,7 +209,7 @@ shorter rest more p h = let line = line_cut rest more p h in omega (arith, ap le
 pub behind_last : (text : Text) (front : List Piece) (rest : Text) → IsBehind text front rest → rest ≡ codes "end\n" → IsCertificate text front
 behind_last text front rest b e = record { each = b.each; spelled = b.spelled ∙ ap (λ (t : Text). behind front t) e }
 
-pub behind_stop : (text : Text) (front : List Piece) (rest at : Text) (n : ℕ) → IsBehind text front rest → Stops rest at → n + length at ≡ length text → IsFirstFault text n
+pub behind_stop : (text : Text) (front : List Piece) (rest at : Text) (n : ℕ) → IsBehind text front rest → Stops rest at → n + length at ≡ length text → IsFirstBadLine text n
 behind_stop text front rest at n b s len = stops_first text rest at front n b.each b.spelled s len
 
 pub stop_fits : (text : Text) (front : List Piece) (rest at : Text) → IsBehind text front rest → Stops rest at → length at ≤ length text

@@ -13,7 +13,8 @@ use lib.Signed.{mag}
 use Rattle.ts_core.specs.Facts.{Text}
 use Rattle.ts_core.specs.Pieces.{Source, Raw, Rollup, Piece}
 use Rattle.ts_core.specs.SettingsFaults.{is_between, is_name_byte, is_rule_name}
-use Rattle.ts_check.specs.CertificateTexts.{IsNamed, HasSpelling, source_text, range_text, piece_text, piece_line}
+use Rattle.ts_core.proofs.Walks.{same_piece as same_parts}
+use Rattle.ts_check.specs.CertificateTexts.{HasRuleName, HasSpelling, source_text, range_text, piece_text, piece_line}
 use Rattle.ts_check.specs.CertificateLines.{Lacks, IsNumber, IsRange, IsSource, IsPiece}
 
 -- ---- a byte that a text lacks
@@ -136,7 +137,7 @@ range_to text from to e l none r w = none r.1 (range_cut text from to e l r w).1
 abbrev IsWord : Text → Text → Text → Type 0
 IsWord word rest more = (word ≡ codes "raw") ⊎ ((word ≡ codes "rollup") × (name : Text) × (is_rule_name name ≡ true) × (rest ≡ name ++ (32 ∷ more)))
 
-word_by : (s : Source) (word rest more : Text) → IsNamed s → Lacks 32 word → word ++ (32 ∷ rest) ≡ source_text s ++ (codes " " ++ more) → IsWord word rest more
+word_by : (s : Source) (word rest more : Text) → HasRuleName s → Lacks 32 word → word ++ (32 ∷ rest) ≡ source_text s ++ (codes " " ++ more) → IsWord word rest more
 word_by Raw word rest more named l e = inl (cut_same 32 word (codes "raw") rest more l (lacks_test 32 (codes "raw") refl) e).0
 word_by (Rollup name) word rest more named l e =
     let cut = cut_same 32 word (codes "rollup") rest (name ++ (32 ∷ more)) l (lacks_test 32 (codes "rollup") refl) e in
@@ -173,7 +174,7 @@ source_misnamed line word rest name behind e l rollup f k bad x w =
 
 -- ---- pieces
 
-source_same : (s t : Source) (x y : Text) → IsNamed s → IsNamed t → source_text s ++ (codes " " ++ x) ≡ source_text t ++ (codes " " ++ y) → (s ≡ t) × (x ≡ y)
+source_same : (s t : Source) (x y : Text) → HasRuleName s → HasRuleName t → source_text s ++ (codes " " ++ x) ≡ source_text t ++ (codes " " ++ y) → (s ≡ t) × (x ≡ y)
 source_same Raw Raw x y f g e = (refl, cc)
 source_same Raw (Rollup name) x y f g e = let bad : ◌≡◌ {A = ℕ} 97 111 = cc in absurd (omega (arith, bad))
 source_same (Rollup name) Raw x y f g e = let bad : ◌≡◌ {A = ℕ} 111 97 = cc in absurd (omega (arith, bad))
@@ -187,15 +188,12 @@ range_lacks a b f g =
     lacks_cons 10 32 (range_text a b) (λ e. omega (arith, e))
     (lacks_append 10 (signed_decimal a) (codes " " ++ signed_decimal b) (number_lacks 10 a f (omega arith)) (lacks_cons 10 32 (signed_decimal b) (λ e. omega (arith, e)) (number_lacks 10 b g (omega arith))))
 
-source_lacks : (s : Source) → IsNamed s → Lacks 10 (source_text s)
+source_lacks : (s : Source) → HasRuleName s → Lacks 10 (source_text s)
 source_lacks Raw f = lacks_test 10 (codes "raw") refl
 source_lacks (Rollup name) f = lacks_append 10 (codes "rollup ") name (lacks_test 10 (codes "rollup ") refl) (name_lacks 10 name f (omega arith))
 
 pub piece_lacks : (p : Piece) → HasSpelling p → Lacks 10 (piece_text p)
 piece_lacks p h = lacks_append 10 (source_text p.source) (codes " " ++ range_text p.from p.to) (source_lacks p.source h.named) (range_lacks p.from p.to h.from h.to)
-
-same_parts : (p q : Piece) → p.source ≡ q.source → p.from ≡ q.from → p.to ≡ q.to → p ≡ q
-same_parts p q a b c = λ i. record { source = a i; from = b i; to = c i }
 
 same_text : (p q : Piece) → HasSpelling p → HasSpelling q → piece_text p ≡ piece_text q → p ≡ q
 same_text p q f g e =

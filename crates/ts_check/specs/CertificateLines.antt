@@ -4,14 +4,14 @@ use Rattle.std.specs.Fmt.{signed_decimal}
 use Rattle.std.specs.Int.{w64}
 use Rattle.ts_core.specs.Facts.{Text}
 use Rattle.ts_core.specs.Pieces.{Source, Piece}
-use Rattle.ts_check.specs.CertificateTexts.{IsNamed, HasSpelling, source_text, range_text, piece_text, piece_line, IsCertificate, IsFirstFault}
+use Rattle.ts_check.specs.CertificateTexts.{HasRuleName, HasSpelling, source_text, range_text, piece_text, piece_line, IsCertificate, IsFirstBadLine}
 use Rattle.ts_check.specs.declared.certificate_fault.ReadCertificateError.{ReadCertificateError}
 use Rattle.ts_check.specs.declared.certificate_fault.ReadCertificateError.TheVariants as errors
 
 -- what is read is spelled so, and nothing is read only where nothing is
-abbrev pub Reads : {A : Type 0} → (A → Type 0) → Option A → Type 0
-Reads IsSpelled (Some x) = IsSpelled x
-Reads IsSpelled None = (x : _) → IsSpelled x → ⊥
+abbrev pub TakesSpelled : {A : Type 0} → (A → Type 0) → Option A → Type 0
+TakesSpelled IsSpelled (Some x) = IsSpelled x
+TakesSpelled IsSpelled None = (x : _) → IsSpelled x → ⊥
 
 -- the byte stands nowhere in the text
 abbrev pub Lacks : ℕ → Text → Type 0
@@ -30,7 +30,7 @@ pub record IsRange (text : Text) (range : ℤ × ℤ) : Type 0 where
 
 -- it is a source, a space, and what follows
 pub record IsSource (text : Text) (found : Source × Text) : Type 0 where
-  pub named : IsNamed found.0
+  pub named : HasRuleName found.0
   pub spelled : text ≡ source_text found.0 ++ (codes " " ++ found.1)
 
 -- it is a piece
@@ -57,5 +57,5 @@ Stops text at = (IsOff text × (at ≡ text)) ⊎ ((text ≡ codes "end\n" ++ at
 -- a reading, but that memory may run out for any text
 abbrev pub IsReadingIfRoom : Text → Result (List Piece) ReadCertificateError → Type 0
 IsReadingIfRoom text (Ok ps) = IsCertificate text ps
-IsReadingIfRoom text (Err (errors.Fault fault)) = IsFirstFault text fault.at
+IsReadingIfRoom text (Err (errors.Fault fault)) = IsFirstBadLine text fault.at
 IsReadingIfRoom text (Err errors.OutOfMemory) = Unit {0}

@@ -19,13 +19,13 @@ use Rattle.ts_check.specs.declared.certificate_fault.ReadCertificateError.TheVar
 
 -- ---- what is spelled
 
-abbrev pub IsNamed : Source → Type 0
-IsNamed Raw = Unit {0}
-IsNamed (Rollup name) = is_rule_name name ≡ true
+abbrev pub HasRuleName : Source → Type 0
+HasRuleName Raw = Unit {0}
+HasRuleName (Rollup name) = is_rule_name name ≡ true
 
 -- what has a spelling
 pub record HasSpelling (p : Piece) : Type 0 where
-  pub named : IsNamed p.source
+  pub named : HasRuleName p.source
   pub from : FitsSigned w64 p.from
   pub to : FitsSigned w64 p.to
 
@@ -77,10 +77,10 @@ pub data Beginning : Type 0 where
   -- the last line too
   Closed : List Piece → Beginning
 
-abbrev pub pieces_of : Beginning → List Piece
-pieces_of NoLine = []
-pieces_of (Open ps) = ps
-pieces_of (Closed ps) = ps
+abbrev pub beginning_pieces : Beginning → List Piece
+beginning_pieces NoLine = []
+beginning_pieces (Open ps) = ps
+beginning_pieces (Closed ps) = ps
 
 abbrev pub beginning_text : Beginning → Text
 beginning_text NoLine = []
@@ -90,12 +90,12 @@ beginning_text (Closed ps) = certificate_text ps
 -- the first n bytes of the text are such lines
 pub record BeginsWell (text : Text) (n : ℕ) : Type 0 where
   pub lines : Beginning
-  pub each : EachHasSpelling (pieces_of lines)
+  pub each : EachHasSpelling (beginning_pieces lines)
   pub spelled : take n text ≡ beginning_text lines
   pub within : n ≤ length text
 
 -- the text is no certificate, and its first line that isn't of the form, or its end, stands behind n bytes
-pub record IsFirstFault (text : Text) (n : ℕ) : Type 0 where
+pub record IsFirstBadLine (text : Text) (n : ℕ) : Type 0 where
   pub before : BeginsWell text n
   pub first : (m : ℕ) → BeginsWell text m → m ≤ n
   pub none : (ps : List Piece) → IsCertificate text ps → ⊥
@@ -105,7 +105,7 @@ pub record IsFirstFault (text : Text) (n : ℕ) : Type 0 where
 -- what a reading of a text answers: pieces that it spells, its first fault, or that memory ran out, and that only for a certificate
 abbrev pub IsReadingOf : Text → Result (List Piece) ReadCertificateError → Type 0
 IsReadingOf text (Ok ps) = IsCertificate text ps
-IsReadingOf text (Err (errors.Fault fault)) = IsFirstFault text fault.at
+IsReadingOf text (Err (errors.Fault fault)) = IsFirstBadLine text fault.at
 IsReadingOf text (Err errors.OutOfMemory) = (ps : List Piece) × IsCertificate text ps
 
 -- these very pieces are read, unless memory runs out

@@ -21,6 +21,7 @@ pub use certificate_fault::{CertificateFault, ReadCertificateError};
 pub use checked::{Checked, check};
 pub use fault::{CheckError, CheckFault};
 pub use read::read_certificate;
+pub use serves::{divides, keeps_tags};
 pub use write::write_certificate;
 
 #[cfg(test)]

@@ -4,8 +4,8 @@ ghost use Rattle.std.specs.List.{list_all};
 ghost use Rattle.ts_core.specs.Pieces.{Piece as PieceValue};
 ghost use Rattle.ts_core.specs.SettingsFaults.{is_name_byte, is_rule_name};
 ghost use Rattle.ts_check.specs.Certificates.{source_of};
-ghost use Rattle.ts_check.specs.CertificateTexts.{IsCertificate, IsFirstFault, IsReadingOf, IsReadAs, IsOneCertificate, AreDecimals};
-ghost use Rattle.ts_check.specs.CertificateLines.{Reads, Lacks, IsNumber, IsRange, IsSource, IsPiece, HasPiece, Stops, IsReadingIfRoom};
+ghost use Rattle.ts_check.specs.CertificateTexts.{IsCertificate, IsFirstBadLine, IsReadingOf, IsReadAs, IsOneCertificate, AreDecimals};
+ghost use Rattle.ts_check.specs.CertificateLines.{TakesSpelled, Lacks, IsNumber, IsRange, IsSource, IsPiece, HasPiece, Stops, IsReadingIfRoom};
 
 use crate::certificate::{Certificate, Piece, PieceSource};
 use crate::certificate_fault::{CertificateFault, ReadCertificateError};
@@ -24,7 +24,7 @@ fn cut(text: &str, separator: char) -> Option<(&str, &str)>
 
 /// The number that a text spells.
 fn number(text: &str) -> Option<i64>
-    ensures { Reads (IsNumber text.now) result }
+    ensures { TakesSpelled (IsNumber text.now) result }
 {
     let number = match text.parse::<i64>() {
         Ok(number) => number,
@@ -39,7 +39,7 @@ fn number(text: &str) -> Option<i64>
 
 /// The two numbers that a text spells, with a space between them.
 fn range(text: &str) -> Option<(i64, i64)>
-    ensures { Reads (IsRange text.now) result }
+    ensures { TakesSpelled (IsRange text.now) result }
 {
     let (from, to) = cut(text, ' ')?;
     Some((number(from)?, number(to)?))
@@ -65,7 +65,7 @@ fn is_name(name: &str) -> bool
 
 /// The source that a line tells first, and what stands behind it and a space.
 fn source(line: &str) -> Option<(PieceSource<'_>, &str)>
-    ensures { Reads (IsSource line.now) (option_map (λ x. (source_of x.0, x.1.now)) result) }
+    ensures { TakesSpelled (IsSource line.now) (option_map (λ x. (source_of x.0, x.1.now)) result) }
 {
     let (word, rest) = cut(line, ' ')?;
     match word {
@@ -84,7 +84,7 @@ fn source(line: &str) -> Option<(PieceSource<'_>, &str)>
 
 /// The piece that a line spells, without its line feed.
 fn piece(line: &str) -> Option<Piece<'_>>
-    ensures { Reads (IsPiece line.now) result }
+    ensures { TakesSpelled (IsPiece line.now) result }
 {
     let (source, rest) = source(line)?;
     let (from, to) = range(rest)?;
@@ -94,7 +94,7 @@ fn piece(line: &str) -> Option<Piece<'_>>
 /// What stands behind the first line of a certificate.
 fn after_first(text: &str) -> Option<&str>
     ensures found { IfSome result (λ rest. text.now ≡ codes "plan 1\n" ++ rest.now) }
-    ensures none { IfNone result (IsFirstFault text.now 0) }
+    ensures none { IfNone result (IsFirstBadLine text.now 0) }
 {
     let (line, rest) = cut(text, '\n')?;
     if line == "plan 1" { Some(rest) } else { None }
@@ -136,7 +136,7 @@ fn fault_at(text: &str, rest: &str) -> CertificateFault
 /// Whether a text is a certificate.
 fn checked(text: &str) -> Result<(), CertificateFault>
     ensures ok { IfOk result (λ _. (ps : List PieceValue) × IsCertificate text.now ps) }
-    ensures err { IfErr result (λ fault. IsFirstFault text.now fault.at) }
+    ensures err { IfErr result (λ fault. IsFirstBadLine text.now fault.at) }
 {
     let mut rest = match after_first(text) {
         Some(rest) => rest,

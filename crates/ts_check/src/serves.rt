@@ -29,7 +29,7 @@ fn is_multiple(value: i128, interval: i64) -> bool
 }
 
 /// Whether the rule's interval divides the query's, and their offsets agree modulo the rule's interval.
-fn divides<A: Allocator>(rule: &Rule<A>, query: &Query<A>) -> bool
+pub fn divides<A: Allocator>(rule: &Rule<A>, query: &Query<A>) -> bool
     requires { pos 1 ≤ℤ rule.now.interval }
     ensures { result ≡ divides rule.now query.now.query }
 {
@@ -82,7 +82,7 @@ fn keeps_conditions<A: Allocator>(rule: &Rule<A>, conditions: &[Condition<A>]) -
 }
 
 /// Whether the rule keeps every tag that the query names.
-pub(crate) fn keeps_tags<A: Allocator>(rule: &Rule<A>, query: &Query<A>) -> bool
+pub fn keeps_tags<A: Allocator>(rule: &Rule<A>, query: &Query<A>) -> bool
     ensures { result ≡ list_all (keeps rule.now) (tags_of query.now.query) }
 {
     keeps_each(rule, query.group_tags()) && keeps_conditions(rule, query.conditions())

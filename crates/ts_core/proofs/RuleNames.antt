@@ -11,7 +11,7 @@ use Rattle.ts_core.proofs.Tests.{same_text-refl}
 abbrev pub name_of : MarkedRule → Text
 name_of r = r.rule.name
 
-name_there : (rs : List MarkedRule) (n : ℕ) (r : MarkedRule) → slice_get rs n ≡ Some r → Among (name_of r) (map name_of rs)
+pub name_there : (rs : List MarkedRule) (n : ℕ) (r : MarkedRule) → slice_get rs n ≡ Some r → Among (name_of r) (map name_of rs)
 name_there [] n r e = absurd (let q : None ≡ Some r = e in cc)
 name_there (x ∷ rs) zero r e = let q : Some x ≡ Some r = e in let k : x ≡ r = cc in inl (ap name_of (sym k))
 name_there (x ∷ rs) (suc n) r e = inr (name_there rs n r e)

@@ -98,7 +98,7 @@ steps_same t p d e (Rollup m) (Rollup n) bs cs w v f a b = first_alike t p d e m
 abbrev piece_of : Source → ℤ → ℤ → Piece
 piece_of s a b = record { source = s; from = a; to = b }
 
-same_piece : (a b : Piece) → a.source ≡ b.source → a.from ≡ b.from → a.to ≡ b.to → a ≡ b
+pub same_piece : (a b : Piece) → a.source ≡ b.source → a.from ≡ b.from → a.to ≡ b.to → a ≡ b
 same_piece a b p q r = ap (λ s. piece_of s a.from a.to) p ∙ ap (λ x. piece_of b.source x a.to) q ∙ ap (piece_of b.source b.from) r
 
 pub walk_same : (t : Asked) (p : ℤ) (bs cs : List Piece) → IsWalk t p bs → IsWalk t p cs → bs ≡ cs

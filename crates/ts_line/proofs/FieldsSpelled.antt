@@ -13,7 +13,7 @@ use Rattle.ts_line.specs.Numbers.{is_number, without_minus, is_from_to, whole_of
 use Rattle.ts_line.specs.Parts.{Piece}
 use Rattle.ts_line.specs.Scan.{end_of}
 use Rattle.ts_line.specs.Pieces.{unescaped}
-use Rattle.ts_line.specs.Values.{value_of, value_at, integer_by}
+use Rattle.ts_line.specs.Values.{value_said, value_begun_at, integer_by}
 use Rattle.ts_line.specs.Fields.{next_field, with_field, fields_at}
 use Rattle.ts_line.specs.Spelling.{is_closed, field_spelling, more_fields_text, IsWrittenField, field_from, with_fields}
 use Rattle.ts_line.proofs.NumberLemmas.{fits_within}
@@ -65,8 +65,8 @@ no_quote b e = grind (arith, nat_tests)
 
 -- ---- a value
 
-value_is_read : (start : ℕ) (number : Text) → is_number number ≡ true → FitsSigned w64 (signed_digits_value 10 number) → value_of start (number ++ 105 ∷ []) ≡ Ok (signed_digits_value 10 number)
-unfolding value_of
+value_is_read : (start : ℕ) (number : Text) → is_number number ≡ true → FitsSigned w64 (signed_digits_value 10 number) → value_said start (number ++ 105 ∷ []) ≡ Ok (signed_digits_value 10 number)
+unfolding value_said
 value_is_read start number number_is fits =
     let text = number ++ 105 ∷ [] in
     let len : length text ≡ length number + 1 = length_push number 105 in
@@ -85,8 +85,8 @@ value_by (b ∷ bs) line rest start at h bytes some =
     ap (λ x. eqb x 34) (at_byte line b (bs ++ (105 ∷ rest)) at h) ∙ no_quote b p.0
 
 pub value_read : (line number rest : Text) (start at : ℕ) → At line at (number ++ (105 ∷ rest)) → is_number number ≡ true → FitsSigned w64 (signed_digits_value 10 number) → is_end Plain rest ≡ true
-    → value_at start line at ≡ Ok (signed_digits_value 10 number, at + length number + 1)
-unfolding value_at
+    → value_begun_at start line at ≡ Ok (signed_digits_value 10 number, at + length number + 1)
+unfolding value_begun_at
 value_read line number rest start at h number_is fits e =
     let bytes = number_bytes number number_is in
     let bare : eqb (slice_index line at) 34 ≡ false = value_by number line rest start at h bytes (number_some number number_is) in

@@ -16,7 +16,7 @@ use Rattle.ts_line.specs.Numbers.{is_number, is_from_to, whole_of}
 use Rattle.ts_line.specs.Parts.{Piece}
 use Rattle.ts_line.specs.Scan.{is_stop, end_of}
 use Rattle.ts_line.specs.Pieces.{unescaped, piece_at}
-use Rattle.ts_line.specs.Values.{is_integer, is_unsigned, is_boolean, is_float, behind_quotes, is_value_end, then_is, value_of, value_at, integer_by}
+use Rattle.ts_line.specs.Values.{is_integer, is_unsigned, is_boolean, is_float, behind_quotes, is_value_end, then_is, value_said, value_begun_at, integer_by}
 use Rattle.ts_line.specs.Fields.{next_field, with_field, fields_at}
 use Rattle.ts_line.specs.Steps.{◌>>=◌}
 use Rattle.ts_line.specs.Spelling.{is_closed, written_piece, field_spelling, more_fields_text, IsWrittenField, field_from, with_fields}
@@ -54,8 +54,8 @@ faulty : {A : Type 0} (b : Bool) (x y : LineFault) (v : A) → cond b (Err x) (E
 faulty true x y v e = absurd cc
 faulty false x y v e = absurd cc
 
-value_by : (start : ℕ) (text : Text) (value : ℤ) (b : Bool) → is_integer text ≡ b → value_of start text ≡ Ok value → IsValue text value
-unfolding value_of
+value_by : (start : ℕ) (text : Text) (value : ℤ) (b : Bool) → is_integer text ≡ b → value_said start text ≡ Ok value → IsValue text value
+unfolding value_said
 value_by start text value false e done =
     let no : cond (is_unsigned text || is_boolean text || is_float text) (Err (fault_at FieldType start)) (Err (fault_at BadField start)) ≡ Ok value = rw e at done in
     absurd (faulty (is_unsigned text || is_boolean text || is_float text) (fault_at FieldType start) (fault_at BadField start) value no)
@@ -65,7 +65,7 @@ value_by start text value true e done =
     let w = whole_told start (take (length text - 1) text) (whole_of (take (length text - 1) text)) value refl read in
     record { number = take (length text - 1) text; spelled = is.0; number_is = is.1; fits = w.0; told = w.1 }
 
-pub value_text_told : (start : ℕ) (text : Text) (value : ℤ) → value_of start text ≡ Ok value → IsValue text value
+pub value_text_told : (start : ℕ) (text : Text) (value : ℤ) → value_said start text ≡ Ok value → IsValue text value
 value_text_told start text value e = value_by start text value (is_integer text) refl e
 
 -- a value that was read runs to its end
@@ -83,7 +83,7 @@ ends_cases : (b : ℕ) (s : Bool) → eqb b 32 ≡ s → is_stop Plain b ≡ tru
 ends_cases b true s e = inr (eqb-true b 32 s)
 ends_cases b false s e = inl (grind (arith, nat_tests))
 
-plain_told : (start : ℕ) (line : Text) (n : ℕ) (value : ℤ) (end : ℕ) → n ≤ length line → end_of Plain line n ≡ end → value_of start (slice_range line n end) ≡ Ok value → IsValueAt line n value end
+plain_told : (start : ℕ) (line : Text) (n : ℕ) (value : ℤ) (end : ℕ) → n ≤ length line → end_of Plain line n ≡ end → value_said start (slice_range line n end) ≡ Ok value → IsValueAt line n value end
 plain_told start line n value end le e done =
     let is = value_text_told start (slice_range line n end) value done in
     let inside = end_within Plain line n le in
@@ -102,18 +102,18 @@ plain_told start line n value end le e done =
       ends = λ lt. ends_cases (slice_index line end) (eqb (slice_index line end) 32) refl (ap (λ k. is_stop Plain (slice_index line k)) (sym e) ∙ (part_closes Plain line n le (omega (arith, lt, e))).1);
     }
 
-value_at_by : (start : ℕ) (line : Text) (n : ℕ) (v : ℤ × ℕ) (quote : Bool) → eqb (slice_index line n) 34 ≡ quote → n ≤ length line → value_at start line n ≡ Ok v → IsValueAt line n v.0 v.1
-unfolding value_at
+value_at_by : (start : ℕ) (line : Text) (n : ℕ) (v : ℤ × ℕ) (quote : Bool) → eqb (slice_index line n) 34 ≡ quote → n ≤ length line → value_begun_at start line n ≡ Ok v → IsValueAt line n v.0 v.1
+unfolding value_begun_at
 value_at_by start line n v true e le done =
     let no : cond (then_is (behind_quotes false (drop (n + 1) line)) is_value_end) (Err (fault_at FieldType start)) (Err (fault_at BadField start)) ≡ Ok v = rw e at done in
     absurd (faulty (then_is (behind_quotes false (drop (n + 1) line)) is_value_end) (fault_at FieldType start) (fault_at BadField start) v no)
 value_at_by start line n v false e le done =
-    let read : (value_of start (slice_range line n (end_of Plain line n)) >>= λ x. Ok (x, end_of Plain line n)) ≡ Ok v = rw e at done in
-    let b = bind_ok (value_of start (slice_range line n (end_of Plain line n))) (λ x. Ok (x, end_of Plain line n)) v read in
+    let read : (value_said start (slice_range line n (end_of Plain line n)) >>= λ x. Ok (x, end_of Plain line n)) ≡ Ok v = rw e at done in
+    let b = bind_ok (value_said start (slice_range line n (end_of Plain line n))) (λ x. Ok (x, end_of Plain line n)) v read in
     let same : (b.0, end_of Plain line n) ≡ v = let all = b.2 in cc in
     subst (λ (x : ℤ × ℕ). IsValueAt line n x.0 x.1) same (plain_told start line n b.0 (end_of Plain line n) le refl b.1)
 
-pub value_told : (start : ℕ) (line : Text) (n : ℕ) (v : ℤ × ℕ) → n ≤ length line → value_at start line n ≡ Ok v → IsValueAt line n v.0 v.1
+pub value_told : (start : ℕ) (line : Text) (n : ℕ) (v : ℤ × ℕ) → n ≤ length line → value_begun_at start line n ≡ Ok v → IsValueAt line n v.0 v.1
 value_told start line n v le e = value_at_by start line n v (eqb (slice_index line n) 34) refl le e
 
 -- ---- a field
@@ -153,7 +153,7 @@ field_told line n g le e =
     let key = piece_at Equals line n key_end in
     let a = not_err (eqb key_end n || not (eqb (slice_index line key_end) 61)) (fault_at BadField n) _ g e in
     let b = not_err (bytes_eq key.text (codes "time")) (fault_at ReservedKey n) _ g a.1 in
-    let v = bind_ok (value_at n line (key_end + 1)) _ g b.1 in
+    let v = bind_ok (value_begun_at n line (key_end + 1)) _ g b.1 in
     let p = or_parts (eqb key_end n) (not (eqb (slice_index line key_end) 61)) a.0 in
     let equals : slice_index line key_end ≡ 61 = eqb-true (slice_index line key_end) 61 (not-false (eqb (slice_index line key_end) 61) p.1) in
     let ne : key_end ≡ n → ⊥ = λ x. let no = p.0 in let yes : eqb key_end n ≡ true = grind (arith, nat_tests) in both_ways (eqb key_end n) no yes in

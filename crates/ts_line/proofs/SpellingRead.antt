@@ -13,7 +13,7 @@ use Rattle.ts_line.specs.Scan.{is_backslash, ends, end_of, spaces_end}
 use Rattle.ts_line.specs.Fields.{fields_at}
 use Rattle.ts_line.specs.Lines.{content, measurement_at, time_of, time_at, line_of}
 use Rattle.ts_line.specs.Parts.{Parts}
-use Rattle.ts_line.specs.Spelling.{is_closed, IsWritten, written_piece, tags_text, tags_from, AreTags, field_spelling, more_fields_text, field_from, with_fields, SaysTime, IsSpelling}
+use Rattle.ts_line.specs.Spelling.{is_closed, IsWrittenPart, written_piece, tags_text, tags_from, AreTags, field_spelling, more_fields_text, field_from, with_fields, SaysTime, IsSpelling}
 use Rattle.ts_line.proofs.NumberLemmas.{time_within}
 use Rattle.ts_line.proofs.LineLemmas.{parts_read, line_read}
 use Rattle.ts_line.proofs.Suffixes.{At, at_next, at_byte, at_slice, is_end, at_end, is_no_space, at_spaces}
@@ -64,18 +64,18 @@ stamp_ends f more unit now stamp time (inr s) =
 no_space_by : (b : ℕ) (bs rest : Text) → is_closed Comma 0 (b ∷ bs) ≡ true → is_no_space ((b ∷ bs) ++ rest) ≡ true
 no_space_by b bs rest c = let p = and_parts (not (ends Comma 0 b)) (is_closed Comma b bs) c in let first = p.0 in grind (arith, nat_tests)
 
-measurement_first : (raw rest : Text) → IsWritten Comma raw → is_no_space (raw ++ rest) ≡ true
+measurement_first : (raw rest : Text) → IsWrittenPart Comma raw → is_no_space (raw ++ rest) ≡ true
 measurement_first [] rest w = absurd (omega (arith, w.some))
 measurement_first (b ∷ bs) rest w = no_space_by b bs rest w.closed
 
 key_by : (b : ℕ) (bs rest : Text) → is_closed Equals 0 (b ∷ bs) ≡ true → is_no_space ((b ∷ bs) ++ rest) ≡ true
 key_by b bs rest c = let p = and_parts (not (ends Equals 0 b)) (is_closed Equals b bs) c in let first = p.0 in grind (arith, nat_tests)
 
-key_first : (raw rest : Text) → IsWritten Equals raw → is_no_space (raw ++ rest) ≡ true
+key_first : (raw rest : Text) → IsWrittenPart Equals raw → is_no_space (raw ++ rest) ≡ true
 key_first [] rest w = absurd (omega (arith, w.some))
 key_first (b ∷ bs) rest w = key_by b bs rest w.closed
 
-field_first : (f : Text × Text) (rest : Text) → IsWritten Equals f.0 → is_no_space (field_spelling f ++ rest) ≡ true
+field_first : (f : Text × Text) (rest : Text) → IsWrittenPart Equals f.0 → is_no_space (field_spelling f ++ rest) ≡ true
 field_first f rest w = rw (append_assoc f.0 (61 ∷ (f.1 ++ (105 ∷ []))) rest) (key_first f.0 ((61 ∷ (f.1 ++ (105 ∷ []))) ++ rest) w)
 
 number_first_by : (b : ℕ) (bs : Text) → is_number_byte b ≡ true → is_no_space (b ∷ bs) ≡ true
@@ -151,7 +151,7 @@ after_measurement : (ts : List (Text × Text)) (rest : Text) → is_end Comma (t
 after_measurement [] rest = refl
 after_measurement (t ∷ ts) rest = refl
 
-measurement_read : (line raw rest : Text) (tags : List (Text × Text)) (n : ℕ) → At line n (raw ++ (tags_text tags ++ (32 ∷ rest))) → IsWritten Comma raw → AreTags tags → length raw + length (tags_text tags) ≤ 4096
+measurement_read : (line raw rest : Text) (tags : List (Text × Text)) (n : ℕ) → At line n (raw ++ (tags_text tags ++ (32 ∷ rest))) → IsWrittenPart Comma raw → AreTags tags → length raw + length (tags_text tags) ≤ 4096
     → measurement_at line n ≡ Ok (written_piece Comma n raw, n + length raw)
 unfolding measurement_at
 measurement_read line raw rest tags n h w ts short =
@@ -163,7 +163,7 @@ measurement_read line raw rest tags n h w ts short =
     let text : slice_range line n (n + length raw) ≡ raw = at_slice line raw (tags_text tags ++ (32 ∷ rest)) n (n + length raw) h refl in
     rw (key_end, few, end, some, text) refl
 
-not_hash : (line raw rest : Text) (n : ℕ) → At line n (raw ++ rest) → IsWritten Comma raw → ((more : Text) → raw ≡ codes "#" ++ more → ⊥) → eqb (slice_index line n) 35 ≡ false
+not_hash : (line raw rest : Text) (n : ℕ) → At line n (raw ++ rest) → IsWrittenPart Comma raw → ((more : Text) → raw ≡ codes "#" ++ more → ⊥) → eqb (slice_index line n) 35 ≡ false
 not_hash line [] rest n h w other = absurd (omega (arith, w.some))
 not_hash line (b ∷ bs) rest n h w other =
     not_eqb (slice_index line n) 35 (λ x. other bs (ap (λ c. c ∷ bs) (sym (at_byte line b (bs ++ rest) n h) ∙ x)))

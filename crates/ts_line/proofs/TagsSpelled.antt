@@ -10,7 +10,7 @@ use Rattle.ts_line.specs.Parts.{Piece}
 use Rattle.ts_line.specs.Scan.{end_of}
 use Rattle.ts_line.specs.Pieces.{unescaped, piece_at}
 use Rattle.ts_line.specs.Tags.{pair_at, has_key, next_tag, tags_at}
-use Rattle.ts_line.specs.Spelling.{IsWritten, written_piece, tags_text, tags_from, tag_key, AreTags}
+use Rattle.ts_line.specs.Spelling.{IsWrittenPart, written_piece, tags_text, tags_from, tag_key, AreTags}
 use Rattle.ts_line.proofs.Suffixes.{At, at_next, at_byte, at_after, at_slice, is_end, at_end}
 
 abbrev Tags : Type 0
@@ -25,7 +25,7 @@ not_eqb a b ne = grind (arith, nat_tests)
 
 -- ---- a pair
 
-pub pair_read : (line k v rest : Text) (n : ℕ) → At line n (k ++ (61 ∷ (v ++ rest))) → IsWritten Equals k → IsWritten Equals v → is_end Equals rest ≡ true → (slice_index line (n + length k + 1 + length v) ≡ 61 → ⊥)
+pub pair_read : (line k v rest : Text) (n : ℕ) → At line n (k ++ (61 ∷ (v ++ rest))) → IsWrittenPart Equals k → IsWrittenPart Equals v → is_end Equals rest ≡ true → (slice_index line (n + length k + 1 + length v) ≡ 61 → ⊥)
     → pair_at line n ≡ Ok ((written_piece Equals n k, written_piece Equals (n + length k + 1) v), n + length k + 1 + length v)
 unfolding pair_at
 pair_read line k v rest n at kw vw e other =

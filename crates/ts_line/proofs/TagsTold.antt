@@ -14,7 +14,7 @@ use Rattle.ts_line.specs.Scan.{is_stop, end_of}
 use Rattle.ts_line.specs.Pieces.{piece_at}
 use Rattle.ts_line.specs.Tags.{pair_at, has_key, next_tag, tags_at}
 use Rattle.ts_line.specs.Steps.{◌>>=◌}
-use Rattle.ts_line.specs.Spelling.{IsWritten, written_piece, tags_text, tags_from, tag_key, AreTags}
+use Rattle.ts_line.specs.Spelling.{IsWrittenPart, written_piece, tags_text, tags_from, tag_key, AreTags}
 use Rattle.ts_line.proofs.TagsSpelled.{piece_key, flat, map_snoc}
 use Rattle.ts_line.proofs.PartsTold.{bind_ok, not_err, cut, first_of, slice_len, within, end_within, part_closes}
 
@@ -31,9 +31,9 @@ pub record IsPair (line : Text) (n : ℕ) (t : Piece × Piece) (end : ℕ) : Typ
   pub key : Text
   pub value : Text
   pub spelled : drop n line ≡ key ++ (61 ∷ (value ++ drop end line))
-  pub key_is : IsWritten Equals key
+  pub key_is : IsWrittenPart Equals key
   pub some_value : 1 ≤ length value
-  pub value_is : end < length line → IsWritten Equals value
+  pub value_is : end < length line → IsWrittenPart Equals value
   pub told : t ≡ (written_piece Equals n key, written_piece Equals (n + length key + 1) value)
   pub end_is : end ≡ n + length key + 1 + length value
   pub inside : end ≤ length line

@@ -9,7 +9,7 @@ use Rattle.ts_line.specs.Parts.{Piece}
 use Rattle.ts_line.specs.Scan.{end_of}
 use Rattle.ts_line.specs.Pieces.{piece_at}
 use Rattle.ts_line.specs.Steps.{◌>>=◌}
-use Rattle.ts_line.specs.Values.{value_at}
+use Rattle.ts_line.specs.Values.{value_begun_at}
 
 -- the field that begins at `start`, and its end
 unfoldable pub next_field : Text → ℕ → Result ((Piece × ℤ) × ℕ) LineFault
@@ -18,7 +18,7 @@ next_field line start =
     let key = piece_at Equals line start key_end in
     if key_end == start || not (slice_index line key_end == 61) then Err (fault_at BadField start) else
     (if bytes_eq key.text (codes "time") then Err (fault_at ReservedKey start) else
-    (value_at start line (key_end + 1) >>= λ v. Ok ((key, v.0), v.1)))
+    (value_begun_at start line (key_end + 1) >>= λ v. Ok ((key, v.0), v.1)))
 
 -- the place of the first field of a name, where the first field is at `at`
 abbrev pub place_from : ℕ → Text → List (Piece × ℤ) → Option ℕ

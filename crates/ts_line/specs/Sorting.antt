@@ -4,6 +4,6 @@ use Rattle.std.specs.FinMap.Entries.{by_order}
 use Rattle.ts_core.specs.Facts.{Text, text_cmp}
 
 -- the place of the first pair whose key isn't lower, and whether it has this key; the first pair is at `at`
-abbrev pub place_from : ℕ → Text → List (Text × Text) → Result ℕ ℕ
-place_from at key [] = Err at
-place_from at key (e ∷ es) = by_order (text_cmp key e.0) (Err at) (Ok at) (place_from (at + 1) key es)
+abbrev pub key_place_from : ℕ → Text → List (Text × Text) → Result ℕ ℕ
+key_place_from at key [] = Err at
+key_place_from at key (e ∷ es) = by_order (text_cmp key e.0) (Err at) (Ok at) (key_place_from (at + 1) key es)

@@ -24,7 +24,7 @@ is_closed stops before [] = not (is_escaped stops before)
 is_closed stops before (b ∷ bs) = not (ends stops before b) && is_closed stops b bs
 
 -- a part as it is written
-pub record IsWritten (stops : Stops) (raw : Text) : Type 0 where
+pub record IsWrittenPart (stops : Stops) (raw : Text) : Type 0 where
   pub some : 1 ≤ length raw
   pub closed : is_closed stops 0 raw ≡ true
 
@@ -47,7 +47,7 @@ abbrev pub tag_key : Text × Text → Text
 tag_key t = unescaped Equals t.0
 
 abbrev pub AreTags : List (Text × Text) → Type 0
-AreTags tags = AllByRecursion (λ (t : Text × Text). IsWritten Equals t.0 × IsWritten Equals t.1 × (tag_key t ≡ codes "time" → ⊥)) tags
+AreTags tags = AllByRecursion (λ (t : Text × Text). IsWrittenPart Equals t.0 × IsWrittenPart Equals t.1 × (tag_key t ≡ codes "time" → ⊥)) tags
 
 -- ---- fields: a key and a number
 
@@ -59,7 +59,7 @@ more_fields_text [] = []
 more_fields_text (f ∷ fs) = codes "," ++ (field_spelling f ++ more_fields_text fs)
 
 abbrev pub IsWrittenField : Text × Text → Type 0
-IsWrittenField f = IsWritten Equals f.0 × (unescaped Equals f.0 ≡ codes "time" → ⊥) × (is_number f.1 ≡ true) × FitsSigned w64 (signed_digits_value 10 f.1)
+IsWrittenField f = IsWrittenPart Equals f.0 × (unescaped Equals f.0 ≡ codes "time" → ⊥) × (is_number f.1 ≡ true) × FitsSigned w64 (signed_digits_value 10 f.1)
 
 -- a field that starts there
 abbrev pub field_from : ℕ → Text × Text → Piece × ℤ
@@ -103,7 +103,7 @@ pub record IsSpelling (unit now : ℤ) (source : Text) (parts : Parts) : Type 0 
   pub gap_is : are_spaces gap ≡ true
   pub after_is : are_spaces after ≡ true
   pub return_is : (return ≡ []) ⊎ (return ≡ 13 ∷ [])
-  pub measurement_is : IsWritten Comma measurement
+  pub measurement_is : IsWrittenPart Comma measurement
   -- such a line is a comment
   pub no_comment : (rest : Text) → measurement ≡ codes "#" ++ rest → ⊥
   pub tags_are : AreTags tags

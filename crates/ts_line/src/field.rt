@@ -8,7 +8,7 @@ use crate::fault::{LineFaultKind, ReadLineError};
 use crate::line::Field;
 use crate::part::part_at;
 use crate::scan::{Stops, after, byte_at, end_at};
-use crate::value::value_at;
+use crate::value::value_begun_at;
 use std::alloc::{AllocError, Allocator};
 
 /// A line has no more fields than this.
@@ -33,7 +33,7 @@ fn next<'a, A: Allocator + Copy>(
     if key.text() == "time" {
         return Err(ReadLineError::Fault(LineFaultKind::ReservedKey.at(start)));
     }
-    let (value, end) = value_at(start, line, after(line, key_end.at))?;
+    let (value, end) = value_begun_at(start, line, after(line, key_end.at))?;
     Ok((Field::new(key, value), end))
 }
 

@@ -7,7 +7,7 @@ ghost use Rattle.ts_core.specs.Facts.{text_cmp};
 ghost use Rattle.ts_core.specs.Members.{AllDistinct};
 ghost use Rattle.ts_core.specs.Texts.{lent_pairs, IsTagSet};
 ghost use Rattle.ts_line.specs.Parts.{field_text, series_of};
-ghost use Rattle.ts_line.specs.Sorting.{place_from};
+ghost use Rattle.ts_line.specs.Sorting.{key_place_from};
 
 use arrayvec::ArrayVec;
 use std::alloc::Allocator;
@@ -238,7 +238,7 @@ impl<'a, A: Allocator> Line<'a, A> {
 
 /// The place of the pair of a key, or where it would go.
 fn place_of(pairs: &[(&str, &str)], key: &str) -> Result<usize, usize>
-    ensures value { result ≡ place_from 0 key.now (lent_pairs pairs.now) }
+    ensures value { result ≡ key_place_from 0 key.now (lent_pairs pairs.now) }
     ensures bound { MatchResult result (λ at. at < length pairs.now) (λ at. at ≤ length pairs.now) }
 {
     for (at, (other, _)) in pairs.iter().enumerate() {

@@ -3,7 +3,7 @@ ghost use Rattle.std.specs.Prelude.{◌≡◌, ◌≤◌, IfOk, option_map, if�
 ghost use Rattle.std.specs.Str.{IsCharBoundary};
 ghost use Rattle.ts_line.specs.FaultText.{fault_at};
 ghost use Rattle.ts_line.specs.Numbers.{are_digits};
-ghost use Rattle.ts_line.specs.Values.{is_unsigned, is_boolean, is_float, behind_digits, behind_fraction, is_exponent, without_sign, behind_quotes, is_value_end, then_is, value_of, value_at};
+ghost use Rattle.ts_line.specs.Values.{is_unsigned, is_boolean, is_float, behind_digits, behind_fraction, is_exponent, without_sign, behind_quotes, is_value_end, then_is, value_said, value_begun_at};
 
 use crate::fault::{LineFault, LineFaultKind};
 use crate::number::{after_minus, are_digits, is_number, whole};
@@ -112,9 +112,9 @@ fn is_value_end(text: &[u8]) -> bool
 }
 
 /// The value of a field that starts there.
-#[tactic(auto, unfolding(crate::specs::Values::value_of))]
-fn value_of(start: usize, text: &str) -> Result<i64, LineFault>
-    ensures { result ≡ value_of start text.now }
+#[tactic(auto, unfolding(crate::specs::Values::value_said))]
+fn value_said(start: usize, text: &str) -> Result<i64, LineFault>
+    ensures { result ≡ value_said start text.now }
 {
     let bytes = text.as_bytes();
     if let [.., b'i'] = bytes {
@@ -141,10 +141,10 @@ fn quoted(start: usize, text: &[u8]) -> LineFault
 }
 
 /// The value that begins at `at`, of a field that starts there, and its end.
-#[tactic(auto, unfolding(crate::specs::Values::value_at))]
-pub fn value_at(start: usize, line: &str, at: usize) -> Result<(i64, usize), LineFault>
+#[tactic(auto, unfolding(crate::specs::Values::value_begun_at))]
+pub fn value_begun_at(start: usize, line: &str, at: usize) -> Result<(i64, usize), LineFault>
     requires { IsCharBoundary line.now at }
-    ensures value { result ≡ value_at start line.now at }
+    ensures value { result ≡ value_begun_at start line.now at }
     ensures further { IfOk result (λ x. at ≤ x.1) }
     ensures boundary { IfOk result (λ x. IsCharBoundary line.now x.1) }
 {
@@ -152,5 +152,5 @@ pub fn value_at(start: usize, line: &str, at: usize) -> Result<(i64, usize), Lin
         return Err(quoted(start, &line.as_bytes()[at + 1..]));
     }
     let end = end_at(line, at, Stops::Plain).at;
-    Ok((value_of(start, &line[at..end])?, end))
+    Ok((value_said(start, &line[at..end])?, end))
 }

@@ -21,7 +21,7 @@ use Rattle.ts_core.proofs.Walks.{faultless_none}
 use Rattle.ts_plan.specs.declared.steps.Step.{Step}
 use Rattle.ts_plan.specs.declared.walk.Held.{Held}
 use Rattle.ts_plan.specs.Steps.{IsPlannable, IsStep, has_columns, bucket_serves, name_or_none, bucket_piece}
-use Rattle.ts_plan.specs.Joins.{held_piece, joins, IsHeld}
+use Rattle.ts_plan.specs.Joins.{held_piece, joins, IsHeldPiece}
 use Rattle.ts_plan.proofs.RuleNumbers.{same_number, same_rule}
 
 six : (a b c d e f : Bool) (u v w x y z : Fault) → a ≡ true → b ≡ true → c ≡ true → f ≡ true → (d && e) ≡ is_faultless (unless a u (unless b v (unless c w (unless d x (unless e y (unless f z None))))))
@@ -76,11 +76,11 @@ nat_eq_false m n h = elim (nat_eq m n) as (λ b. nat_eq m n ≡ b → b ≡ fals
 abbrev name_at : Asked → ℕ → Text
 name_at t n = name_or_none (slice_get t.rules n)
 
-found : (t : Asked) (h : Held) → IsPlannable t → (held : IsHeld t h) → rule_named (name_at t h.rule) t.rules ≡ Some held.rule
+found : (t : Asked) (h : Held) → IsPlannable t → (held : IsHeldPiece t h) → rule_named (name_at t h.rule) t.rules ≡ Some held.rule
 found t h k held = subst (λ z. rule_named (name_or_none z) t.rules ≡ Some held.rule) (sym held.there) (rule_named-at t.rules h.rule held.rule k.named held.there)
 
 -- of one number
-same_join : (t : Asked) (h : Held) (s : Step) → IsPlannable t → IsHeld t h → IsStep t s → h.rule ≡ s.rule → (h.nests || is_in_one_bucket t.query h.from s.to) ≡ joins t (held_piece t h) (bucket_piece t s)
+same_join : (t : Asked) (h : Held) (s : Step) → IsPlannable t → IsHeldPiece t h → IsStep t s → h.rule ≡ s.rule → (h.nests || is_in_one_bucket t.query h.from s.to) ≡ joins t (held_piece t h) (bucket_piece t s)
 same_join t h s k held i e =
     let r = held.rule in
     let same : i.rule ≡ r = same_rule t.rules h.rule s.rule r i.rule e held.there i.there in
@@ -91,14 +91,14 @@ same_join t h s k held i e =
     ∙ ap (λ z. z && is_faultless (piece_fault t (drawn (held_piece t h) (bucket_piece t s)))) (sym (same_text-from_eq (name_at t h.rule) (name_at t s.rule) names))
 
 -- of two numbers
-other_join : (t : Asked) (h : Held) (s : Step) → IsPlannable t → IsHeld t h → IsStep t s → nat_eq h.rule s.rule ≡ false → false ≡ joins t (held_piece t h) (bucket_piece t s)
+other_join : (t : Asked) (h : Held) (s : Step) → IsPlannable t → IsHeldPiece t h → IsStep t s → nat_eq h.rule s.rule ≡ false → false ≡ joins t (held_piece t h) (bucket_piece t s)
 other_join t h s k held i e =
     let apart : same_text (name_at t h.rule) (name_at t s.rule) ≡ false = not_same (nat_eq h.rule s.rule) (same_text (name_at t h.rule) (name_at t s.rule)) (λ q.
     let names : name_of held.rule ≡ name_of i.rule = sym (ap name_or_none held.there) ∙ same_text-eq (name_at t h.rule) (name_at t s.rule) q ∙ ap name_or_none i.there in
     nat_eq_true h.rule s.rule (same_number t.rules h.rule s.rule held.rule i.rule k.named held.there i.there names)) e in
     ap (λ z. z && is_faultless (piece_fault t (drawn (held_piece t h) (bucket_piece t s)))) (sym apart)
 
-pub join_is : (t : Asked) (h : Held) (s : Step) → IsPlannable t → IsHeld t h → IsStep t s → (nat_eq h.rule s.rule && (h.nests || is_in_one_bucket t.query h.from s.to)) ≡ joins t (held_piece t h) (bucket_piece t s)
+pub join_is : (t : Asked) (h : Held) (s : Step) → IsPlannable t → IsHeldPiece t h → IsStep t s → (nat_eq h.rule s.rule && (h.nests || is_in_one_bucket t.query h.from s.to)) ≡ joins t (held_piece t h) (bucket_piece t s)
 join_is t h s k held i =
     elim (nat_eq h.rule s.rule) as (λ z. nat_eq h.rule s.rule ≡ z → (z && (h.nests || is_in_one_bucket t.query h.from s.to)) ≡ joins t (held_piece t h) (bucket_piece t s)) [
       | true ↦ λ e. same_join t h s k held i (nat_eq_from h.rule s.rule e)
@@ -106,9 +106,9 @@ join_is t h s k held i =
     ] refl
 
 -- what a piece and a bucket make that join is held
-pub join_held : (t : Asked) (h d : Held) (s : Step) → IsPlannable t → IsHeld t h → d ≡ record { rule = h.rule; nests = h.nests; from = h.from; to = s.to } → joins t (held_piece t h) (bucket_piece t s) ≡ true → IsHeld t d
+pub join_held : (t : Asked) (h d : Held) (s : Step) → IsPlannable t → IsHeldPiece t h → d ≡ record { rule = h.rule; nests = h.nests; from = h.from; to = s.to } → joins t (held_piece t h) (bucket_piece t s) ≡ true → IsHeldPiece t d
 join_held t h d s k held e j =
     let none = faultless_none (piece_fault t (drawn (held_piece t h) (bucket_piece t s))) (and_parts (is_same_rule (held_piece t h).source (bucket_piece t s).source) _ j).1 in
     let v = source_from t (held_piece t h).source h.from s.to none in
     let q : v.0 ≡ held.rule = (let f : Some v.0 ≡ Some held.rule = sym v.1 ∙ found t h k held in cc) in
-    subst (IsHeld t) (sym e) (record { rule = held.rule; there = held.there; nests = held.nests; serves = subst (λ (x : MarkedRule). RuleServes t.query x h.from s.to) q v.2 })
+    subst (IsHeldPiece t) (sym e) (record { rule = held.rule; there = held.there; nests = held.nests; serves = subst (λ (x : MarkedRule). RuleServes t.query x h.from s.to) q v.2 })

@@ -3,12 +3,7 @@ use Rattle.std.proofs.Common.{◌≡◌, ℕ, suc, zero, refl, sym, ap, ◌∙�
 use Rattle.std.specs.Prelude.{slice_get}
 use Rattle.ts_core.specs.Members.{Among, AllDistinct}
 use Rattle.ts_core.specs.Pieces.{MarkedRule}
-use Rattle.ts_core.proofs.RuleNames.{name_of}
-
-name_there : (rs : List MarkedRule) (n : ℕ) (r : MarkedRule) → slice_get rs n ≡ Some r → Among (name_of r) (map name_of rs)
-name_there [] n r e = absurd (let q : None ≡ Some r = e in cc)
-name_there (x ∷ rs) zero r e = let q : Some x ≡ Some r = e in let k : x ≡ r = cc in inl (ap name_of (sym k))
-name_there (x ∷ rs) (suc n) r e = inr (name_there rs n r e)
+use Rattle.ts_core.proofs.RuleNames.{name_of, name_there}
 
 -- the first name stands at number 0 alone
 first_alone : (x : MarkedRule) (rs : List MarkedRule) (n : ℕ) (r u : MarkedRule) → AllDistinct (map name_of (x ∷ rs)) → Some x ≡ Some r → slice_get rs n ≡ Some u → name_of r ≡ name_of u → ⊥

@@ -9,7 +9,7 @@ use Rattle.ts_core.specs.Settings.{Rule}
 use Rattle.ts_core.specs.Pieces.{MarkedRule, Asked, IsBoundary, RuleServes}
 use Rattle.ts_core.proofs.GoodPlaces.{rule_wide, to_next, next_boundary}
 use Rattle.ts_plan.specs.declared.steps.Step.{Step}
-use Rattle.ts_plan.specs.Steps.{IsPlannable, IsStep, Upto, Ascends, has_columns, bucket_serves, IsFirstStart, IsNext, step_of, with_step, Adds}
+use Rattle.ts_plan.specs.Steps.{IsPlannable, IsStep, Upto, Ascends, has_columns, bucket_serves, IsFirstStart, IsNextPlace, step_of, with_step, Adds}
 use Rattle.ts_plan.proofs.WalkSteps.{in_range}
 use Rattle.ts_plan.proofs.ListLemmas.{all_push, among_push, among_last}
 use Rattle.ts_plan.proofs.RuleNumbers.{same_rule}
@@ -53,7 +53,7 @@ step_place t n r x g i e =
     let q : i.rule ≡ r = same_rule t.rules n x.rule r i.rule (sym e) g i.there in
     record { one = i.one ∙ ap (λ (z : MarkedRule). x.from +ℤ z.rule.interval) q; inside = i.inside; serves = subst (λ z. RuleServes t.query z x.from x.to) q i.serves }
 
-pub scan_more : (t : Asked) (n : ℕ) (r : MarkedRule) (p : ℤ) (q : Option ℤ) (old ss new : List Step) → IsPlannable t → slice_get t.rules n ≡ Some r → has_columns t.query r.rule ≡ true → p <ℤ t.mark → IsNext t r p q → new ≡ with_step t r n p q ss → Scanned t n r (Some p) old ss → Scanned t n r q old new
+pub scan_more : (t : Asked) (n : ℕ) (r : MarkedRule) (p : ℤ) (q : Option ℤ) (old ss new : List Step) → IsPlannable t → slice_get t.rules n ≡ Some r → has_columns t.query r.rule ≡ true → p <ℤ t.mark → IsNextPlace t r p q → new ≡ with_step t r n p q ss → Scanned t n r (Some p) old ss → Scanned t n r q old new
 scan_more t n r p None old ss new s g c m nx e k =
     let wide = rule_wide t.rules n r s.wide.rules g in
     subst (Scanned t n r None old) (sym e) (record {
@@ -125,7 +125,7 @@ scan_begin t n r next ss u a b g s e f l k =
     scan_start t n r next ss g s
     (subst (λ z. IsFirstStart z t.query.from t.query.to next) e (subst (λ z. IsFirstStart u z t.query.to next) f (subst (λ z. IsFirstStart u a z next) l k)))
 
-pub scan_smaller : (t : Asked) (r : MarkedRule) (p : ℤ) (q : Option ℤ) → pos 1 ≤ℤ r.rule.interval → p ≤ℤ t.query.to → IsNext t r p q → left_to t.query.to q < left_to t.query.to (Some p)
+pub scan_smaller : (t : Asked) (r : MarkedRule) (p : ℤ) (q : Option ℤ) → pos 1 ≤ℤ r.rule.interval → p ≤ℤ t.query.to → IsNextPlace t r p q → left_to t.query.to q < left_to t.query.to (Some p)
 scan_smaller t r p None h l n = omega arith
 scan_smaller t r p (Some e) h l n = let n0 = n.0 in let n1 = n.1 in omega (arith, ints)
 

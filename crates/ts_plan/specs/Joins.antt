@@ -22,7 +22,7 @@ joined_after t None bs = joined t bs
 joined_after t (Some h) bs = joined_onto t (held_piece t h) bs
 
 -- a piece of a rule, which is valid
-pub record IsHeld (t : Asked) (h : Held) : Type 0 where
+pub record IsHeldPiece (t : Asked) (h : Held) : Type 0 where
   pub rule : MarkedRule
   pub there : slice_get t.rules h.rule ≡ Some rule
   pub nests : h.nests ≡ divides rule.rule t.query
@@ -30,4 +30,4 @@ pub record IsHeld (t : Asked) (h : Held) : Type 0 where
 
 abbrev pub AreHeld : Asked → Option Held → Type 0
 AreHeld t None = Unit {0}
-AreHeld t (Some h) = IsHeld t h
+AreHeld t (Some h) = IsHeldPiece t h

@@ -54,8 +54,8 @@ abbrev pub IsFirstStart : Rule → ℤ → ℤ → Option ℤ → Type 0
 IsFirstStart r a b start = MatchOption start ((x : ℤ) → IsBoundary r x → a ≤ℤ x → b <ℤ x) (λ p. IsBoundary r p × (a ≤ℤ p) × (p ≤ℤ b) × ((x : ℤ) → IsBoundary r x → a ≤ℤ x → p ≤ℤ x))
 
 -- the end of the bucket at p, where it is in the range
-abbrev pub IsNext : Asked → MarkedRule → ℤ → Option ℤ → Type 0
-IsNext t r p q = MatchOption q (t.query.to <ℤ (p +ℤ r.rule.interval)) (λ e. (e ≡ p +ℤ r.rule.interval) × (e ≤ℤ t.query.to))
+abbrev pub IsNextPlace : Asked → MarkedRule → ℤ → Option ℤ → Type 0
+IsNextPlace t r p q = MatchOption q (t.query.to <ℤ (p +ℤ r.rule.interval)) (λ e. (e ≡ p +ℤ r.rule.interval) × (e ≤ℤ t.query.to))
 
 abbrev pub step_of : ℤ → ℕ → ℤ → Step
 step_of p n e = record { from = p; rule = n; to = e }

@@ -6,13 +6,13 @@ ghost use Rattle.ts_core.specs.Faults.{divides, is_in_one_bucket};
 ghost use Rattle.ts_core.specs.Marks.{index_of};
 ghost use Rattle.ts_core.specs.Members.{Among};
 ghost use Rattle.ts_plan.specs.declared.steps.Step.{Step};
-ghost use Rattle.ts_plan.specs.Steps.{IsPlannable, IsStep, Ascends, IsFirstStart, IsNext, with_step, Adds};
+ghost use Rattle.ts_plan.specs.Steps.{IsPlannable, IsStep, Ascends, IsFirstStart, IsNextPlace, with_step, Adds};
 
 use crate::place::Place;
-use crate::serving::{divides, has_columns};
+use crate::serving::has_columns;
 use crate::task::Task;
 use std::alloc::{AllocError, Allocator};
-use ts_check::MarkedRule;
+use ts_check::{MarkedRule, divides};
 use ts_core::{Rule, index_of};
 
 /// One bucket of a rule.
@@ -75,7 +75,7 @@ fn push_step<A: Allocator>(
 ) -> Result<Option<Place>, AllocError>
     requires rule { pos 1 ≤ℤ marked.now.rule.interval }
     requires nests { nests ≡ divides marked.now.rule task.now.query }
-    ensures next { IfOk result (λ next. IsNext task.now marked.now from next) }
+    ensures next { IfOk result (λ next. IsNextPlace task.now marked.now from next) }
     ensures steps { IfOk result (λ next. steps.new.items ≡ with_step task.now marked.now number from next steps.old.items) }
 {
     let width = i128::from(marked.rule.interval());

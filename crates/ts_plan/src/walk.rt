@@ -4,14 +4,13 @@ ghost use Rattle.std.specs.List.{AllByRecursion};
 ghost use Rattle.ts_core.specs.Pieces.{Piece as PieceValue};
 ghost use Rattle.ts_core.specs.Plans.{joined, joined_onto};
 ghost use Rattle.ts_plan.specs.Steps.{IsPlannable, IsStep, bucket_piece, walked};
-ghost use Rattle.ts_plan.specs.Joins.{held_piece, held_pieces, joins, joined_after, IsHeld, AreHeld};
+ghost use Rattle.ts_plan.specs.Joins.{held_piece, held_pieces, joins, joined_after, IsHeldPiece, AreHeld};
 
 use crate::place::Place;
-use crate::serving::divides;
 use crate::steps::Step;
 use crate::task::Task;
 use std::alloc::{AllocError, Allocator};
-use ts_check::{Piece, PieceSource};
+use ts_check::{Piece, PieceSource, divides};
 
 /// A piece that the next bucket may join.
 #[derive(Clone, Copy)]
@@ -30,7 +29,7 @@ impl Held {
         requires plannable { IsPlannable task.now }
         requires step { IsStep task.now step.now }
         ensures piece { held_piece task.now result ≡ bucket_piece task.now step.now }
-        ensures held { IsHeld task.now result }
+        ensures held { IsHeldPiece task.now result }
     {
         let marked = task.rule_at(step.rule).unwrap();
         Held {
@@ -42,7 +41,7 @@ impl Held {
     }
 
     fn piece<'a, A: Allocator>(&self, task: &Task<'a, A>) -> Piece<'a>
-        requires { IsHeld task.now self.now }
+        requires { IsHeldPiece task.now self.now }
         ensures { result ≡ held_piece task.now self.now }
     {
         let marked = task.rule_at(self.rule).unwrap();
@@ -56,7 +55,7 @@ impl Held {
     /// Whether the bucket of a step joins it: both are of one rule, and what they make together is valid.
     fn joins<A: Allocator>(&self, task: &Task<'_, A>, step: &Step) -> bool
         requires plannable { IsPlannable task.now }
-        requires held { IsHeld task.now self.now }
+        requires held { IsHeldPiece task.now self.now }
         requires step { IsStep task.now step.now }
         ensures { result ≡ joins task.now (held_piece task.now self.now) (bucket_piece task.now step.now) }
     {
@@ -74,7 +73,7 @@ fn follow<'a, A: Allocator>(
     requires plannable { IsPlannable task.now }
     requires held { AreHeld task.now held }
     requires step { IsStep task.now step.now }
-    ensures held { IfOk result (IsHeld task.now) }
+    ensures held { IfOk result (IsHeldPiece task.now) }
     ensures pieces { IfOk result (λ h. (bs : List PieceValue) → pieces.new.items ++ joined_onto task.now (held_piece task.now h) bs ≡ pieces.old.items ++ joined_after task.now held (bucket_piece task.now step.now ∷ bs)) }
 {
     match held {

@@ -8,7 +8,7 @@ use Rattle.ts_ql.specs.declared.token.Kind.{Kind}
 use Rattle.ts_ql.specs.declared.token.Kind.TheVariants as kinds
 use Rattle.ts_ql.specs.QueryFaults.{Fault, unexpected, OutOfRange}
 use Rattle.ts_ql.specs.Grammar.{Item, Any, Of, Examine, Signed, Dimension, Every, ByTag, Stop, is_name}
-use Rattle.ts_ql.specs.GroupSteps.{Grouped, Grouping, group_at, item_at, time_item, with_interval, with_offset}
+use Rattle.ts_ql.specs.GroupSteps.{Grouped, Grouping, grouping_at, item_at, time_item, with_interval, with_offset}
 use Rattle.ts_ql.specs.Drafts.{meaning}
 use Rattle.ts_ql.specs.Laws.{Reach, Reads}
 use Rattle.ts_ql.specs.Literals.{is_word, literal, text_spelled}
@@ -158,7 +158,7 @@ minus_or now s t e None v =
     inl ((t, no_more), tt, inr (refl, e, fails (literal_fault s.draft.groups.first (literal true t.text)) (moved_left now s no_more (or_zero (literal true t.text))) (OutOfRange s.draft.groups.first) (ap (literal_fault s.draft.groups.first) v)))
 
 pub group_answers : (now : ℤ) (s : Progress) (p : Place) (k : Kind) (t : Lexeme) → t.kind ≡ k
-    → Answer now (at p s) t (grouping s p (group_at p k t s.draft.groups))
+    → Answer now (at p s) t (grouping s p (grouping_at p k t s.draft.groups))
 group_answers now s places.GroupBy kinds.Keyword t e = by_or now s t e (is_word (codes "by") t.text) refl
 group_answers now s places.Item kinds.Word t e = itemed now s t (ap is_name e) (is_time t.kind t.text) refl
 group_answers now s places.Item kinds.QuotedName t e = itemed now s t (ap is_name e) (is_time t.kind t.text) refl
@@ -181,7 +181,7 @@ group_answers now s p k t e = inr refl
 
 -- the step with a token of that kind
 abbrev pub group_steps : Progress → Place → Lexeme → Kind → Advance
-group_steps s p t k = grouping s p (group_at p k t s.draft.groups)
+group_steps s p t k = grouping s p (grouping_at p k t s.draft.groups)
 
 pub group_by_leads : (now : ℤ) (s : Progress) (q : Dimension × DimensionTail) (t : Lexeme) (ts : List Lexeme) (reach : Reach)
     → Reads (left_at places.GroupBy now (at places.GroupBy s) q) (t ∷ ts) reach → Leads now (at places.GroupBy s) q ts reach (group_steps s places.GroupBy t t.kind)
@@ -190,7 +190,7 @@ group_by_leads now s q t ts reach w =
     (subst (λ (b : Bool). Leads now (at places.GroupBy s) q ts reach (grouping s places.GroupBy (if b then Ok (places.Item, s.draft.groups) else Err (unexpected t)))) (sym w.0.1)
     (q, tt, w.1, refl))
 
-name_begins : (k : Kind) (t : Lexeme) (g : Grouped) → is_name k ≡ true → group_at places.Item k t g ≡ item_at t g
+name_begins : (k : Kind) (t : Lexeme) (g : Grouped) → is_name k ≡ true → grouping_at places.Item k t g ≡ item_at t g
 name_begins kinds.Word t g is = refl
 name_begins kinds.QuotedName t g is = refl
 name_begins k t g is = absurd (cc)

@@ -4,7 +4,7 @@ use Rattle.std.proofs.lemmas.Bool.Decides.{nat_tests}
 use Rattle.std.specs.Char.{is_ascii_digit}
 use Rattle.ts_core.specs.Facts.{Text}
 use Rattle.ts_ql.specs.Laws.{LiteralsCount}
-use Rattle.ts_ql.specs.Literals.{added_up, magnitude, number_written, AreDigits, Part, AreParts, written, counted}
+use Rattle.ts_ql.specs.Literals.{added_up, magnitude, number_written, AreDigits, Part, AreDurationParts, written, counted}
 use Rattle.ts_ql.specs.DurationUnits.{nanos_of_unit, Unit, Nanosecond, Microsecond, Micro, Millisecond, Second, Minute, Hour, Day, Week, unit_text, unit_nanos}
 
 -- digits before a text
@@ -20,7 +20,7 @@ first_not_s [] rest w some = absurd (omega (arith, some))
 first_not_s (b ∷ bs) rest w some = digit_not_s b w.0
 
 -- no parts begin with an s
-no_s_first : (ps : List Part) → AreParts ps → (slice_index (written ps) 0 == 115) ≡ false
+no_s_first : (ps : List Part) → AreDurationParts ps → (slice_index (written ps) 0 == 115) ≡ false
 no_s_first [] w = refl
 no_s_first (p ∷ ps) w = first_not_s p.digits (unit_text p.unit ++ written ps) w.0 w.1
 
@@ -39,13 +39,13 @@ unit_added total n Hour rest e = refl
 unit_added total n Day rest e = refl
 unit_added total n Week rest e = refl
 
-parts_added : (total : ℕ) (ps : List Part) → AreParts ps → added_up total 0 (written ps) ≡ total + counted ps
+parts_added : (total : ℕ) (ps : List Part) → AreDurationParts ps → added_up total 0 (written ps) ≡ total + counted ps
 parts_added total [] w = refl
 parts_added total (p ∷ ps) w =
     digits_added total 0 p.digits (unit_text p.unit ++ written ps) w.0 ∙ unit_added total (number_written 0 p.digits) p.unit (written ps) (no_s_first ps w.2)
     ∙ parts_added (total + number_written 0 p.digits * unit_nanos p.unit) ps w.2 ∙ omega arith
 
-duration_counts : (ps : List Part) → AreParts ps → magnitude (written ps) ≡ counted ps
+duration_counts : (ps : List Part) → AreDurationParts ps → magnitude (written ps) ≡ counted ps
 unfolding magnitude
 duration_counts ps w = parts_added 0 ps w ∙ omega arith
 

@@ -16,7 +16,7 @@ use Rattle.ts_ql.specs.QueryFaults.{Fault, unexpected, OutOfRange}
 use Rattle.ts_ql.specs.Grammar.{Item, Examine, Measure, Count, Duration, Base, Number, Negative, Quoted, Now, Change, Instant}
 use Rattle.ts_ql.specs.Laws.{Reach, At, Reads}
 use Rattle.ts_ql.specs.Literals.{is_word, literal}
-use Rattle.ts_ql.specs.Meanings.{changed_by, changed}
+use Rattle.ts_ql.specs.Meanings.{changed_by, total_after}
 use Rattle.ts_ql.specs.MomentSteps.{Timing, moment_at, based, later_by, earlier_by, moment_time, bounded_by, settled}
 use Rattle.ts_ql.specs.Ranges.{bounded}
 use Rattle.ts_ql.specs.Reading.{Progress, Advance, with_draft, in_moment}
@@ -46,7 +46,7 @@ abbrev pub by_value : Bool → Lexeme → Change
 by_value less t = record { less = less; by = t }
 
 sum_of : (s : Progress) (less : Bool) (t : Lexeme) (n : ℤ) → literal false t.text ≡ Some n
-    → changed_by less s.draft.moment.total n ≡ changed s.draft.moment.total (by_value less t)
+    → changed_by less s.draft.moment.total n ≡ total_after s.draft.moment.total (by_value less t)
 sum_of s less t n v = ap (λ (o : Option ℤ). changed_by less s.draft.moment.total (unwrap_or o (pos 0))) (sym v)
 
 valued : (less : Bool) (t : Lexeme) (n : ℤ) → literal false t.text ≡ Some n → change_fault (by_value less t) ≡ None
@@ -145,9 +145,9 @@ summed_reads : (now : ℤ) (s : Progress) (less : Bool) (t : Lexeme) (n : ℤ) (
 summed_reads now s less t n r v e ts reach w = (
   refl,
   e,
-  passes (change_fault (by_value less t)) (left_changes now s s.draft.moment.first (changed s.draft.moment.total (by_value less t)) r) ts reach
+  passes (change_fault (by_value less t)) (left_changes now s s.draft.moment.first (total_after s.draft.moment.total (by_value less t)) r) ts reach
       (valued less t n v)
-      (carried (λ (x : ℤ). left_changes now s s.draft.moment.first x r) ts reach (changed_by less s.draft.moment.total n) (changed s.draft.moment.total (by_value less t)) (sum_of s less t n v) w),
+      (carried (λ (x : ℤ). left_changes now s s.draft.moment.first x r) ts reach (changed_by less s.draft.moment.total n) (total_after s.draft.moment.total (by_value less t)) (sum_of s less t n v) w),
 )
 
 summed_says : (now : ℤ) (s : Progress) (less : Bool) (t : Lexeme) (n : ℤ) (r : List Change × Closing) → literal false t.text ≡ Some n
@@ -157,7 +157,7 @@ summed_says now s less t n r v = ap (λ (x : ℤ). map Ok s.queries ++ said_chan
 change_fails : (now : ℤ) (s : Progress) (less : Bool) (t : Lexeme) (r : List Change × Closing) (f : Fault) → t.kind ≡ kinds.Duration
     → change_fault (by_value less t) ≡ Some f → Reads (left_change now s less (t, r)) (t ∷ []) (At f)
 change_fails now s less t r f e is =
-    (refl, e, fails (change_fault (by_value less t)) (left_changes now s s.draft.moment.first (changed s.draft.moment.total (by_value less t)) r) f is)
+    (refl, e, fails (change_fault (by_value less t)) (left_changes now s s.draft.moment.first (total_after s.draft.moment.total (by_value less t)) r) f is)
 
 plus : (now : ℤ) (s : Progress) (t : Lexeme) → t.kind ≡ kinds.Duration → (o : Option ℤ) → literal false t.text ≡ o
     → Answer now (at places.MomentPlus s) t (timing s places.MomentPlus (later_by t s.draft.moment o))
@@ -346,20 +346,20 @@ change_leads now s c cs closing t ts reach suits w = change_leads_at now s c.les
 -- what is examined of a change, and what stands behind it
 abbrev pub examined_change : ℤ → Progress → Bool → Lexeme → List Change × Closing → List Item
 examined_change now s less t r =
-    Examine (change_fault (by_value less t)) ∷ left_changes now s s.draft.moment.first (changed s.draft.moment.total (by_value less t)) r
+    Examine (change_fault (by_value less t)) ∷ left_changes now s s.draft.moment.first (total_after s.draft.moment.total (by_value less t)) r
 
 summed_on : (now : ℤ) (s : Progress) (less : Bool) (t : Lexeme) (n : ℤ) (r : List Change × Closing) (ts : List Lexeme) (reach : Reach) → literal false t.text ≡ Some n
     → Reads (examined_change now s less t r) ts reach
     → Reads (left_changes now s s.draft.moment.first (changed_by less s.draft.moment.total n) r) ts reach
 summed_on now s less t n r ts reach v w =
-    carried (λ (x : ℤ). left_changes now s s.draft.moment.first x r) ts reach (changed s.draft.moment.total (by_value less t)) (changed_by less s.draft.moment.total n) (sym (sum_of s less t n v))
-    (passed (change_fault (by_value less t)) (left_changes now s s.draft.moment.first (changed s.draft.moment.total (by_value less t)) r) ts reach
+    carried (λ (x : ℤ). left_changes now s s.draft.moment.first x r) ts reach (total_after s.draft.moment.total (by_value less t)) (changed_by less s.draft.moment.total n) (sym (sum_of s less t n v))
+    (passed (change_fault (by_value less t)) (left_changes now s s.draft.moment.first (total_after s.draft.moment.total (by_value less t)) r) ts reach
     (valued less t n v) w)
 
 change_failed : (now : ℤ) (s : Progress) (less : Bool) (t : Lexeme) (r : List Change × Closing) (ts : List Lexeme) (reach : Reach) (f : Fault)
     → change_fault (by_value less t) ≡ Some f → Reads (examined_change now s less t r) ts reach → (ts ≡ []) × (reach ≡ At f)
 change_failed now s less t r ts reach f is w =
-    failed (change_fault (by_value less t)) (left_changes now s s.draft.moment.first (changed s.draft.moment.total (by_value less t)) r) ts reach f is w
+    failed (change_fault (by_value less t)) (left_changes now s s.draft.moment.first (total_after s.draft.moment.total (by_value less t)) r) ts reach f is w
 
 plus_leads_at : (now : ℤ) (s : Progress) (t : Lexeme) (r : List Change × Closing) (ts : List Lexeme) (reach : Reach) → s.draft.filter.depth ≡ levels r.1
     → (o : Option ℤ) → literal false t.text ≡ o → Reads (examined_change now s false t r) ts reach

@@ -14,7 +14,7 @@ use Rattle.ts_ql.specs.Grammar.{Keyword, Word, Name, Of, Item, Any, This, Examin
 use Rattle.ts_ql.specs.Drafts.{meaning, empty_draft}
 use Rattle.ts_ql.specs.Ranges.{bounded}
 use Rattle.ts_ql.specs.Literals.{literal}
-use Rattle.ts_ql.specs.Meanings.{field_after, projection_of, after_call, after_calls, after_from, changed, changed_all, told_by, after_cond, after_filter, buckets_of, offset_by, after_dimension, after_dimensions, after_group, fill_of, after_fill, meaning_of, said_all}
+use Rattle.ts_ql.specs.Meanings.{field_after, projection_of, after_call, after_calls, after_from, total_after, changed_all, told_by, after_cond, after_filter, buckets_of, offset_by, after_dimension, after_dimensions, after_group, fill_of, after_fill, statement_meaning, said_all}
 use Rattle.ts_ql.specs.Reading.{Progress}
 use Rattle.ts_ql.specs.Selects.{Select, Buckets, moved}
 use Rattle.ts_ql.specs.Productions.{field_fault, literal_fault, interval_fault, change_fault, type_word, spell_type, spell_alias, spell_call, spell_calls, spell_from, kind_of_measure, spell_changes, spell_instant, kind_of_comparison, spell_tag_type, equality, spell_cond, spell_filter, spell_signed, spell_offset, spell_dimension, spell_dimensions, spell_group, spell_option, spell_fill, spell_statement, spell_ending}
@@ -200,7 +200,7 @@ left_changes now s first total tail =
 abbrev pub left_change : ℤ → Progress → Bool → Lexeme × (List Change × Closing) → List Item
 left_change now s less tail =
     This (Of kinds.Duration) tail.0 ∷ Examine (change_fault (record { less = less; by = tail.0 }))
-    ∷ left_changes now s s.draft.moment.first (changed s.draft.moment.total (record { less = less; by = tail.0 })) tail.1
+    ∷ left_changes now s s.draft.moment.first (total_after s.draft.moment.total (record { less = less; by = tail.0 })) tail.1
 
 abbrev pub left_instant : ℤ → Progress → Comparison → Instant × Closing → List Item
 left_instant now s c tail = spell_instant now tail.0 (left_closing now s (with_range (meaning s.draft) c (told_by now tail.0)) tail.1)
@@ -225,7 +225,7 @@ left_option now s tail = spell_option tail.0 (Any (Of kinds.Close) ∷ left_endi
 
 abbrev pub left_statement : ℤ → Progress → Option (Statement × Ending) → List Item
 left_statement now s None = Any (Of kinds.End) ∷ []
-left_statement now s (Some p) = spell_statement now s.count p.0 (spell_ending now (s.count + 1) p.0.select.start (meaning_of now p.0) p.1)
+left_statement now s (Some p) = spell_statement now s.count p.0 (spell_ending now (s.count + 1) p.0.select.start (statement_meaning now p.0) p.1)
 
 abbrev pub left_at : (p : Place) → ℤ → Progress → Rest p → List Item
 left_at places.Statement now s r = left_statement now s r
@@ -290,7 +290,7 @@ abbrev pub said_changes : ℤ → Progress → ℤ → List Change × Closing �
 said_changes now s total tail = said_closing now s (with_range (meaning s.draft) s.draft.moment.comparison (changed_all total tail.0)) tail.1
 
 abbrev pub said_change : ℤ → Progress → Bool → Lexeme × (List Change × Closing) → List (Result Select Fault)
-said_change now s less tail = said_changes now s (changed s.draft.moment.total (record { less = less; by = tail.0 })) tail.1
+said_change now s less tail = said_changes now s (total_after s.draft.moment.total (record { less = less; by = tail.0 })) tail.1
 
 abbrev pub said_instant : ℤ → Progress → Comparison → Instant × Closing → List (Result Select Fault)
 said_instant now s c tail = said_closing now s (with_range (meaning s.draft) c (told_by now tail.0)) tail.1
@@ -310,7 +310,7 @@ said_ending now s p ending = said_all now s.start p ending
 
 abbrev pub said_statement : ℤ → Option (Statement × Ending) → List (Result Select Fault)
 said_statement now None = []
-said_statement now (Some p) = said_all now p.0.select.start (meaning_of now p.0) p.1
+said_statement now (Some p) = said_all now p.0.select.start (statement_meaning now p.0) p.1
 
 abbrev pub said_at : (p : Place) → ℤ → Progress → Rest p → List (Result Select Fault)
 said_at places.Statement now s r = said_statement now r

@@ -13,7 +13,7 @@ use Rattle.ts_ql.specs.declared.token.Kind.{Kind}
 use Rattle.ts_ql.specs.declared.token.Kind.TheVariants as kinds
 use Rattle.ts_ql.specs.Dates.{moment_told}
 use Rattle.ts_ql.specs.QueryFaults.{Fault, unexpected, left_out, TooManyStatements, OutOfRange}
-use Rattle.ts_ql.specs.GroupSteps.{Grouped, group_at, group_step, item_at, time_item, with_interval, with_offset, fill_at, fill_step, with_number, chosen}
+use Rattle.ts_ql.specs.GroupSteps.{Grouped, grouping_at, group_step, item_at, time_item, with_interval, with_offset, fill_at, fill_step, with_number, chosen}
 use Rattle.ts_ql.specs.Drafts.{Drafted, meaning}
 use Rattle.ts_ql.specs.Literals.{is_word, literal, text_spelled}
 use Rattle.ts_ql.specs.MomentSteps.{moment_at, moment_step, based, later_by, earlier_by}
@@ -141,7 +141,7 @@ offset_moves : (first : ℕ) (g : Grouped) (o : Option ℤ) → Moves kinds.Dura
 offset_moves first g None = tt
 offset_moves first g (Some offset) = refl
 
-group_moves : (p : Place) (k : Kind) (t : Lexeme) (g : Grouped) → Moves k (group_at p k t g)
+group_moves : (p : Place) (k : Kind) (t : Lexeme) (g : Grouped) → Moves k (grouping_at p k t g)
 group_moves places.GroupBy kinds.Keyword t g = moves_if kinds.Keyword (is_word (codes "by") t.text) (Ok (places.Item, g)) (Err (unexpected t)) refl tt
 group_moves places.Item kinds.Word t g = item_moves kinds.Word t g refl
 group_moves places.Item kinds.QuotedName t g = item_moves kinds.QuotedName t g refl
@@ -201,7 +201,7 @@ unfolding select_step where_step moment_step group_step fill_step
 draft_at_moves clauses.Select now p t d = selection_moves t.kind d (select_at p t.kind t d.selection) (select_moves p t.kind t d.selection)
 draft_at_moves clauses.Where now p t d = filter_moves t.kind d (where_at p t.kind t d.filter) (where_moves p t.kind t d.filter)
 draft_at_moves clauses.Moment now p t d = in_moment_moves t.kind d (moment_at now p t.kind t d.moment) (moment_moves now p t.kind t d.moment)
-draft_at_moves clauses.Group now p t d = in_groups_moves t.kind d (group_at p t.kind t d.groups) (group_moves p t.kind t d.groups)
+draft_at_moves clauses.Group now p t d = in_groups_moves t.kind d (grouping_at p t.kind t d.groups) (group_moves p t.kind t d.groups)
 draft_at_moves clauses.Fill now p t d = filling_moves t.kind d (fill_at p t.kind t d.filling) (fill_moves p t.kind t d.filling)
 draft_at_moves clauses.None now p t d = tt
 

@@ -51,26 +51,26 @@ abbrev pub with_offset : ℕ → Grouped → Option ℤ → Grouping
 with_offset first g None = Err (OutOfRange first)
 with_offset first g (Some offset) = Ok (places.OffsetEnd, record g { buckets = moved offset g.buckets })
 
-abbrev pub group_at : Place → Kind → Lexeme → Grouped → Grouping
-group_at places.GroupBy kinds.Keyword t g = if is_word (codes "by") t.text then Ok (places.Item, g) else Err (unexpected t)
-group_at places.Item kinds.Word t g = item_at t g
-group_at places.Item kinds.QuotedName t g = item_at t g
-group_at places.TimeOpen kinds.Open t g = Ok (places.Interval, g)
-group_at places.Interval kinds.Duration t g = with_interval t g (literal false t.text)
-group_at places.IntervalEnd kinds.Comma t g = Ok (places.Offset, g)
-group_at places.IntervalEnd kinds.Close t g = Ok (places.AfterItem, g)
-group_at places.Offset kinds.Minus t g = Ok (places.OffsetMinus, record g { first = t.start })
-group_at places.Offset kinds.Duration t g = with_offset t.start g (literal false t.text)
-group_at places.OffsetMinus kinds.Duration t g = with_offset g.first g (literal true t.text)
-group_at places.OffsetEnd kinds.Close t g = Ok (places.AfterItem, g)
-group_at places.AfterTag kinds.Cast t g = Ok (places.GroupTagType, g)
-group_at places.AfterTag kinds.Comma t g = Ok (places.Item, g)
-group_at places.GroupTagType kinds.Word t g = if is_word (codes "tag") t.text then Ok (places.AfterItem, g) else Err (unexpected t)
-group_at places.AfterItem kinds.Comma t g = Ok (places.Item, g)
-group_at place kind t g = Err (unexpected t)
+abbrev pub grouping_at : Place → Kind → Lexeme → Grouped → Grouping
+grouping_at places.GroupBy kinds.Keyword t g = if is_word (codes "by") t.text then Ok (places.Item, g) else Err (unexpected t)
+grouping_at places.Item kinds.Word t g = item_at t g
+grouping_at places.Item kinds.QuotedName t g = item_at t g
+grouping_at places.TimeOpen kinds.Open t g = Ok (places.Interval, g)
+grouping_at places.Interval kinds.Duration t g = with_interval t g (literal false t.text)
+grouping_at places.IntervalEnd kinds.Comma t g = Ok (places.Offset, g)
+grouping_at places.IntervalEnd kinds.Close t g = Ok (places.AfterItem, g)
+grouping_at places.Offset kinds.Minus t g = Ok (places.OffsetMinus, record g { first = t.start })
+grouping_at places.Offset kinds.Duration t g = with_offset t.start g (literal false t.text)
+grouping_at places.OffsetMinus kinds.Duration t g = with_offset g.first g (literal true t.text)
+grouping_at places.OffsetEnd kinds.Close t g = Ok (places.AfterItem, g)
+grouping_at places.AfterTag kinds.Cast t g = Ok (places.GroupTagType, g)
+grouping_at places.AfterTag kinds.Comma t g = Ok (places.Item, g)
+grouping_at places.GroupTagType kinds.Word t g = if is_word (codes "tag") t.text then Ok (places.AfterItem, g) else Err (unexpected t)
+grouping_at places.AfterItem kinds.Comma t g = Ok (places.Item, g)
+grouping_at place kind t g = Err (unexpected t)
 
 unfoldable pub group_step : Place → Lexeme → Grouped → Grouping
-group_step place t g = group_at place t.kind t g
+group_step place t g = grouping_at place t.kind t g
 
 -- ---- fill
 

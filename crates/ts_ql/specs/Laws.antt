@@ -6,7 +6,7 @@ use Rattle.ts_ql.specs.declared.fault.ParseError.{ParseError}
 use Rattle.ts_ql.specs.declared.fault.ParseError.TheVariants as errors
 use Rattle.ts_ql.specs.QueryFaults.{Fault, Syntax, as_fault, unexpected, Gives}
 use Rattle.ts_ql.specs.Grammar.{Item, Any, This, Examine, Is, Script}
-use Rattle.ts_ql.specs.Literals.{Part, AreParts, written, counted, AreDigits, magnitude, number_written}
+use Rattle.ts_ql.specs.Literals.{Part, AreDurationParts, written, counted, AreDigits, magnitude, number_written}
 use Rattle.ts_ql.specs.Meanings.{sayings}
 use Rattle.ts_ql.specs.Selects.{Select}
 use Rattle.ts_ql.specs.Productions.{spell}
@@ -112,5 +112,5 @@ pub record IsDecided (now : ℤ) (text : Text) : Type 0 where
 
 -- digits count in tens, and a duration is the sum of its numbers, each times its unit
 pub record LiteralsCount : Type 0 where
-  pub durations : (ps : List Part) → AreParts ps → magnitude (written ps) ≡ counted ps
+  pub durations : (ps : List Part) → AreDurationParts ps → magnitude (written ps) ≡ counted ps
   pub integers : (digits : Text) → AreDigits digits → magnitude digits ≡ number_written 0 digits

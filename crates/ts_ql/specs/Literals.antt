@@ -36,9 +36,9 @@ pub record Part : Type 0 where
   pub digits : Text
   pub unit : Unit
 
-abbrev pub AreParts : List Part → Type 0
-AreParts [] = ⊤
-AreParts (p ∷ ps) = AreDigits p.digits × (0 < length p.digits) × AreParts ps
+abbrev pub AreDurationParts : List Part → Type 0
+AreDurationParts [] = ⊤
+AreDurationParts (p ∷ ps) = AreDigits p.digits × (0 < length p.digits) × AreDurationParts ps
 
 abbrev pub written : List Part → Text
 written [] = []

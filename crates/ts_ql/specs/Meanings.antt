@@ -71,12 +71,12 @@ abbrev pub changed_by : Bool → ℤ → ℤ → ℤ
 changed_by true total value = total -ℤ value
 changed_by false total value = total +ℤ value
 
-abbrev pub changed : ℤ → Change → ℤ
-changed total c = changed_by c.less total (unwrap_or (literal false c.by.text) (pos 0))
+abbrev pub total_after : ℤ → Change → ℤ
+total_after total c = changed_by c.less total (unwrap_or (literal false c.by.text) (pos 0))
 
 abbrev pub changed_all : ℤ → List Change → ℤ
 changed_all total [] = total
-changed_all total (c ∷ cs) = changed_all (changed total c) cs
+changed_all total (c ∷ cs) = changed_all (total_after total c) cs
 
 -- nanoseconds of the Unix epoch
 abbrev pub told_by : ℤ → Instant → ℤ
@@ -153,15 +153,15 @@ after_fill p (Some option) = record p { fill = fill_of option }
 
 -- ---- statements
 
-abbrev pub meaning_of : ℤ → Statement → Meaning
-meaning_of now s =
+abbrev pub statement_meaning : ℤ → Statement → Meaning
+statement_meaning now s =
     after_fill (after_group (after_filter now (after_from (after_calls (after_call no_meaning s.first) s.more) s.source) s.filter) s.group) s.fill
 
 -- what a statement of these parts says, and those behind it
 abbrev pub said_all : ℤ → ℕ → Meaning → Ending → List (Result Select Fault)
 said_all now start p Stop = statement_said start now p ∷ []
 said_all now start p Close = statement_said start now p ∷ []
-said_all now start p (Next s rest) = statement_said start now p ∷ said_all now s.select.start (meaning_of now s) rest
+said_all now start p (Next s rest) = statement_said start now p ∷ said_all now s.select.start (statement_meaning now s) rest
 
 abbrev pub sayings : ℤ → Script → List (Result Select Fault)
-sayings now script = said_all now script.first.select.start (meaning_of now script.first) script.rest
+sayings now script = said_all now script.first.select.start (statement_meaning now script.first) script.rest

@@ -25,8 +25,8 @@ based first m None = Err (OutOfRange first)
 based first m (Some value) = Ok (places.AfterMoment, record m { first = first; total = value })
 
 -- the sum has room for a duration more in 128 bits
-abbrev pub HasRoom : ℤ → Moment → Type 0
-HasRoom now m = unsigned_abs m.total ≤ 2 ^ 126 + unsigned_abs now
+abbrev pub HasRoomForMore : ℤ → Moment → Type 0
+HasRoomForMore now m = unsigned_abs m.total ≤ 2 ^ 126 + unsigned_abs now
 
 -- a moment with a duration more
 abbrev pub later_by : Lexeme → Moment → Option ℤ → Timing

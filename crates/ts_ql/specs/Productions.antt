@@ -12,7 +12,7 @@ use Rattle.ts_ql.specs.declared.token.Kind.TheVariants as kinds
 use Rattle.ts_ql.specs.QueryFaults.{Fault, OutOfRange, TooManyStatements, left_out, unexpected}
 use Rattle.ts_ql.specs.Grammar.{Keyword, Word, Name, Tag, Time, Of, Item, Any, This, Examine, FieldType, Field, Integer, Call, FromClause, Measurement, Subquery, Measure, Count, Duration, Base, Number, Negative, Quoted, Now, Change, Instant, Cond, Compare, Match, Group, And, Signed, Dimension, Every, ByTag, GroupBy, FillOption, NullOption, NoneOption, PreviousOption, NumberOption, Statement, Ending, Stop, Close, Next, Script}
 use Rattle.ts_ql.specs.Literals.{literal}
-use Rattle.ts_ql.specs.Meanings.{no_meaning, base_start, base_value, changed, after_call, after_calls, after_from, after_filter, after_dimension, meaning_of, signed_start, signed_value}
+use Rattle.ts_ql.specs.Meanings.{no_meaning, base_start, base_value, total_after, after_call, after_calls, after_from, after_filter, after_dimension, statement_meaning, signed_start, signed_value}
 use Rattle.ts_ql.specs.Selects.{Select, Buckets}
 use Rattle.ts_ql.specs.Statements.{Meaning, statement_said}
 use Rattle.ts_ql.specs.Tokens.{Lexeme}
@@ -124,7 +124,7 @@ sign_of false = kinds.Plus
 abbrev pub spell_changes : ℕ → ℤ → List Change → List Item → List Item
 spell_changes first total [] rest = Examine (time_fault first total) ∷ rest
 spell_changes first total (c ∷ cs) rest =
-    Any (Of (sign_of c.less)) ∷ This (Of kinds.Duration) c.by ∷ Examine (change_fault c) ∷ spell_changes first (changed total c) cs rest
+    Any (Of (sign_of c.less)) ∷ This (Of kinds.Duration) c.by ∷ Examine (change_fault c) ∷ spell_changes first (total_after total c) cs rest
 
 abbrev pub spell_instant : ℤ → Instant → List Item → List Item
 spell_instant now i rest = spell_base now i.base (spell_changes (base_start i.base) (unwrap_or (base_value now i.base) (pos 0)) i.changes rest)
@@ -215,8 +215,8 @@ spell_ending now before start p Close =
     Any (Of kinds.Semicolon) ∷ Examine (fault_in (statement_said start now p)) ∷ Any (Of kinds.End) ∷ []
 spell_ending now before start p (Next s rest) =
     Any (Of kinds.Semicolon) ∷ Examine (fault_in (statement_said start now p))
-    ∷ spell_statement now before s (spell_ending now (before + 1) s.select.start (meaning_of now s) rest)
+    ∷ spell_statement now before s (spell_ending now (before + 1) s.select.start (statement_meaning now s) rest)
 
 abbrev pub spell : ℤ → Script → List Item
 spell now script =
-    spell_statement now 0 script.first (spell_ending now 1 script.first.select.start (meaning_of now script.first) script.rest)
+    spell_statement now 0 script.first (spell_ending now 1 script.first.select.start (statement_meaning now script.first) script.rest)

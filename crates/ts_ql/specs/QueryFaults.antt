@@ -28,18 +28,18 @@ pub data Fault : Type 0 where
   -- 78: the first bucket starts before the least time
   BucketBeforeLeastTime : ℕ → Fault
 
-abbrev pub fault_at : QlFaultKind → ℕ → Fault
-fault_at faults.Syntax at = Syntax at
-fault_at (faults.OutOfProfile token) at = OutOfProfile at token.now
-fault_at faults.NoLowerBound at = NoLowerBound at
-fault_at faults.OutOfRange at = OutOfRange at
-fault_at faults.RepeatedColumn at = RepeatedColumn at
-fault_at faults.TooManyStatements at = TooManyStatements at
-fault_at faults.TooManyBuckets at = TooManyBuckets at
-fault_at faults.BucketBeforeLeastTime at = BucketBeforeLeastTime at
+abbrev pub fault_of_kind : QlFaultKind → ℕ → Fault
+fault_of_kind faults.Syntax at = Syntax at
+fault_of_kind (faults.OutOfProfile token) at = OutOfProfile at token.now
+fault_of_kind faults.NoLowerBound at = NoLowerBound at
+fault_of_kind faults.OutOfRange at = OutOfRange at
+fault_of_kind faults.RepeatedColumn at = RepeatedColumn at
+fault_of_kind faults.TooManyStatements at = TooManyStatements at
+fault_of_kind faults.TooManyBuckets at = TooManyBuckets at
+fault_of_kind faults.BucketBeforeLeastTime at = BucketBeforeLeastTime at
 
 abbrev pub as_fault : QlFault → Fault
-as_fault fault = fault_at fault.kind fault.at
+as_fault fault = fault_of_kind fault.kind fault.at
 
 abbrev pub option_as_fault : Option QlFault → Option Fault
 option_as_fault None = None

@@ -180,9 +180,9 @@ abbrev pub Advance : Type 0
 Advance = Result Progress Fault
 
 -- what was returned leaves this state, unless memory ran out
-abbrev pub Leaves : Result (Unit {0}) ParseError → Progress → Advance → Type 0
-Leaves (Ok u) s step = step ≡ Ok s
-Leaves (Err e) s step = IsFailure e step
+abbrev pub StepsTo : Result (Unit {0}) ParseError → Progress → Advance → Type 0
+StepsTo (Ok u) s step = step ≡ Ok s
+StepsTo (Err e) s step = IsFailure e step
 
 -- SELECT begins a statement, and the text may end after one
 abbrev pub begun_at : Kind → Lexeme → Progress → Advance

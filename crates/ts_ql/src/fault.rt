@@ -1,6 +1,6 @@
 //! Why a text says no queries.
 ghost use Rattle.std.specs.Prelude.{◌≡◌, ◌+◌, ◌≤◌, ◌++◌, length, IsOk, OnOk, OnErr, string_bytes, string_len, string_capacity};
-ghost use Rattle.ts_ql.specs.QueryFaults.{as_fault, fault_at};
+ghost use Rattle.ts_ql.specs.QueryFaults.{as_fault, fault_of_kind};
 ghost use Rattle.ts_core.specs.FaultTexts.{detail_text, EndsEarly};
 ghost use Rattle.ts_ql.specs.QueryFaultText.{query_fault_code, query_fault_detail, query_fault_text, error_text};
 ghost use Rattle.ts_ql.specs.declared.fault.ParseError.TheVariants as errors;
@@ -77,7 +77,7 @@ impl<'a, T: Drop> From<AllocFailed<T>> for ParseError<'a> {
 impl<'a> QlFaultKind<'a> {
     /// The fault at that place.
     pub(crate) fn at(self, at: usize) -> QlFault<'a>
-        ensures { as_fault result ≡ fault_at self.entry at }
+        ensures { as_fault result ≡ fault_of_kind self.entry at }
     {
         QlFault { kind: self, at }
     }

@@ -2,8 +2,8 @@
 ghost use Rattle.std.specs.Prelude.{◌≡◌, ◌&&◌};
 ghost use Rattle.ts_ql.specs.QueryFaults.{Gives};
 ghost use Rattle.ts_ql.specs.Laws.{ReadsText, IsDecided, LiteralsCount};
-ghost use Rattle.ts_ql.specs.MomentSteps.{HasRoom};
-ghost use Rattle.ts_ql.specs.Reading.{next_clause, may_end, is_end, after_end, progress, start_progress, Leaves, begun, ended, step, queries_of};
+ghost use Rattle.ts_ql.specs.MomentSteps.{HasRoomForMore};
+ghost use Rattle.ts_ql.specs.Reading.{next_clause, may_end, is_end, after_end, progress, start_progress, StepsTo, begun, ended, step, queries_of};
 ghost use Rattle.ts_ql.specs.Tokens.{lexeme};
 
 use crate::fault::{ParseError, QlFaultKind};
@@ -92,7 +92,7 @@ impl<A: Allocator + Copy> Reader<A> {
     /// Begins a statement, or ends the text.
     #[tactic(auto, unfolding(crate::specs::Reading::begun))]
     fn begin<'a>(&mut self, token: &Token<'a>) -> Result<(), ParseError<'a>>
-        ensures { Leaves result (progress self.new) (begun (lexeme token.now) (progress self.old)) }
+        ensures { StepsTo result (progress self.new) (begun (lexeme token.now) (progress self.old)) }
     {
         match token.kind {
             Kind::Keyword => {
@@ -120,7 +120,7 @@ impl<A: Allocator + Copy> Reader<A> {
 
     /// Ends a statement.
     fn end<'a>(&mut self, alloc: A, now: Time, kind: Kind) -> Result<(), ParseError<'a>>
-        ensures { Leaves result (progress self.new) (ended now kind (progress self.old)) }
+        ensures { StepsTo result (progress self.new) (ended now kind (progress self.old)) }
     {
         let draft = mem::replace(&mut self.draft, Draft::new(alloc));
         let query = draft.query(alloc, self.start, now)?;
@@ -133,8 +133,8 @@ impl<A: Allocator + Copy> Reader<A> {
     /// Takes the next token.
     #[tactic(auto, unfolding(crate::specs::Reading::step))]
     fn take<'a>(&mut self, alloc: A, now: Time, token: &Token<'a>) -> Result<(), ParseError<'a>>
-        requires { HasRoom now self.old.draft.moment }
-        ensures { Leaves result (progress self.new) (step now (lexeme token.now) (progress self.old)) }
+        requires { HasRoomForMore now self.old.draft.moment }
+        ensures { StepsTo result (progress self.new) (step now (lexeme token.now) (progress self.old)) }
     {
         self.place = self.draft.settle(self.place, token.kind)?;
         if let Place::Statement = self.place {

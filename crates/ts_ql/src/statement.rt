@@ -4,7 +4,7 @@ ghost use Rattle.ts_core.specs.Buckets.{bucket_of};
 ghost use Rattle.ts_core.specs.Times.{least_time};
 ghost use Rattle.ts_ql.specs.BucketLimits.{IsLimited};
 ghost use Rattle.ts_ql.specs.QueryFaults.{Gives, GivesWith, option_as_fault};
-ghost use Rattle.ts_ql.specs.MomentSteps.{HasRoom};
+ghost use Rattle.ts_ql.specs.MomentSteps.{HasRoomForMore};
 ghost use Rattle.ts_ql.specs.Reading.{settle_step, draft_step};
 ghost use Rattle.ts_ql.specs.Tokens.{lexeme};
 ghost use Rattle.ts_ql.specs.Statements.{repeats, first_start, buckets_between, span_from, span_fault, query_of, statement_said};
@@ -205,7 +205,7 @@ impl<A: Allocator + Copy> Draft<A> {
         place: Place,
         token: &Token<'a>,
     ) -> Result<Place, ParseError<'a>>
-        requires { HasRoom now self.old.moment }
+        requires { HasRoomForMore now self.old.moment }
         ensures { GivesWith result (drafted self.new) (draft_step now place (lexeme token.now) (drafted self.old)) }
     {
         match place.clause() {

@@ -10,7 +10,7 @@ use Rattle.ts_core.proofs.Tests.{same_text-from_eq, same_bool}
 use Rattle.ts_raw.specs.FieldKeys.{FieldKey, field_key}
 use Rattle.ts_raw.specs.ColumnTables.{ColumnNumbers, has_field}
 use Rattle.ts_raw.specs.Indexed.{IsSound, no_series, column_in}
-use Rattle.ts_raw.specs.IndexParts.{no_field, column_named, IsNamed, index_of, IsIndex}
+use Rattle.ts_raw.specs.IndexParts.{no_field, column_named, IsNamed, index_by_numbers, IsIndex}
 use Rattle.ts_raw.specs.Numbered.{IsAt, numbers_where, numbers_from}
 use Rattle.ts_core.proofs.MembersLemmas.{Among-map, map_back}
 use Rattle.ts_raw.proofs.NumberedLemmas.{at_among, among_at, at_within, same_place, AllDistinct-map, numbers_from-map, numbers_from-none}
@@ -39,7 +39,7 @@ module _ (series : List Series) (fields : List FieldKey) (t : ColumnNumbers) (is
       let second : x.1 ≡ y.1 = same_place fields no_field x.1 y.1 is.fields_once s.field_there u.field_there same_key in
       λ i. (first i, second i)
 
-  pub index_sound : IsSound (index_of series fields t)
+  pub index_sound : IsSound (index_by_numbers series fields t)
   index_sound = record {
     series_once = is.series_once;
     columns_once = AllDistinct-map (column_named series fields) t.columns is.columns_once (λ x y a b e. named_apart x y (among_named x a) (among_named y b) e);
@@ -52,7 +52,7 @@ module _ (series : List Series) (fields : List FieldKey) (t : ColumnNumbers) (is
   -- ---- a series and a field by name
 
   module _ (s : ℕ) (m field : Text) (there : s < length series) (of : (get_or series s no_series).measurement ≡ m) where
-    pub name_is : (f : ℕ) → IsAt fields f (field_key m field) → column_named series fields (s, f) ≡ column_in (index_of series fields t) s field
+    pub name_is : (f : ℕ) → IsAt fields f (field_key m field) → column_named series fields (s, f) ≡ column_in (index_by_numbers series fields t) s field
     name_is f at =
         ap (λ (k : FieldKey). let c : Column = record { series = get_or series s no_series; field = k.field } in c) (get_or_from_slice_get fields f (field_key m field) no_field at)
 
@@ -64,9 +64,9 @@ module _ (series : List Series) (fields : List FieldKey) (t : ColumnNumbers) (is
     }
 
     -- a column of a field that isn't there
-    pub no_column_of : (Among (field_key m field) fields → ⊥) → Among (column_in (index_of series fields t) s field) (map (column_named series fields) t.columns) → ⊥
+    pub no_column_of : (Among (field_key m field) fields → ⊥) → Among (column_in (index_by_numbers series fields t) s field) (map (column_named series fields) t.columns) → ⊥
     no_column_of absent a =
-        let x = map_back (column_named series fields) t.columns (column_in (index_of series fields t) s field) a in
+        let x = map_back (column_named series fields) t.columns (column_in (index_by_numbers series fields t) s field) a in
         let named = among_named x.0 x.1 in
         let measurement : (get_or fields x.0.1 no_field).measurement ≡ m = sym named.together ∙ ap (λ (c : Column). c.series.measurement) x.2 ∙ of in
         let name : (get_or fields x.0.1 no_field).field ≡ field = ap (λ (c : Column). c.field) x.2 in
@@ -75,14 +75,14 @@ module _ (series : List Series) (fields : List FieldKey) (t : ColumnNumbers) (is
 
     -- a column that isn't among the numbers
     pub no_column_at : (f : ℕ) → IsAt fields f (field_key m field) → (Among (s, f) t.columns → ⊥)
-        → Among (column_in (index_of series fields t) s field) (map (column_named series fields) t.columns) → ⊥
+        → Among (column_in (index_by_numbers series fields t) s field) (map (column_named series fields) t.columns) → ⊥
     no_column_at f at absent a =
-        let x = map_back (column_named series fields) t.columns (column_in (index_of series fields t) s field) a in
+        let x = map_back (column_named series fields) t.columns (column_in (index_by_numbers series fields t) s field) a in
         absent (subst (λ y. Among y t.columns) (named_apart x.0 (s, f) (among_named x.0 x.1) (both_named f at) (x.2 ∙ sym (name_is f at))) x.1)
 
     -- and back
     pub no_numbers : (f : ℕ) → IsAt fields f (field_key m field)
-        → (Among (column_in (index_of series fields t) s field) (map (column_named series fields) t.columns) → ⊥) → Among (s, f) t.columns → ⊥
+        → (Among (column_in (index_by_numbers series fields t) s field) (map (column_named series fields) t.columns) → ⊥) → Among (s, f) t.columns → ⊥
     no_numbers f at absent a =
         absent (subst (λ (c : Column). Among c (map (column_named series fields) t.columns)) (name_is f at) (Among-map (column_named series fields) (s, f) t.columns a))
 

@@ -7,7 +7,7 @@ use Rattle.ts_core.proofs.MembersLemmas.{Among-append}
 use Rattle.ts_raw.specs.FieldKeys.{FieldKey, field_key}
 use Rattle.ts_raw.specs.ColumnTables.{ColumnNumbers}
 use Rattle.ts_raw.specs.Indexed.{no_series, column_in}
-use Rattle.ts_raw.specs.IndexParts.{no_field, column_named, IsNamed, index_of, IsIndex}
+use Rattle.ts_raw.specs.IndexParts.{no_field, column_named, IsNamed, index_by_numbers, IsIndex}
 use Rattle.ts_raw.specs.Numbered.{IsAt, Gains}
 use Rattle.ts_raw.proofs.IndexLemmas.{among_named, name_is, both_named, no_numbers}
 use Rattle.ts_raw.proofs.NumberedLemmas.{at_among, at_end, at_within, once_more, map_alike}
@@ -125,13 +125,13 @@ module _ (series : List Series) (fields fields' : List FieldKey) (t t' : ColumnN
       let within = at_within fields' f (field_key m field) h.at in
       omega (arith, h.room, longer.1, within)
 
-  pub made_absent : (Among (column_in (index_of series fields t) s field) (map (column_named series fields) t.columns) → ⊥) → Among (s, f) t'.columns → ⊥
+  pub made_absent : (Among (column_in (index_by_numbers series fields t) s field) (map (column_named series fields) t.columns) → ⊥) → Among (s, f) t'.columns → ⊥
   made_absent absent =
       no_numbers series fields' t' made_index s m field h.there h.of f h.at
-      (subst (λ (cs : List Column). Among (column_in (index_of series fields t) s field) cs → ⊥) (sym made_columns) absent)
+      (subst (λ (cs : List Column). Among (column_in (index_by_numbers series fields t) s field) cs → ⊥) (sym made_columns) absent)
 
   module _ (t'' : ColumnNumbers) where
-    pub made_more : t''.columns ≡ t'.columns ++ (s, f) ∷ [] → map (column_named series fields') t''.columns ≡ map (column_named series fields) t.columns ++ column_in (index_of series fields t) s field ∷ []
+    pub made_more : t''.columns ≡ t'.columns ++ (s, f) ∷ [] → map (column_named series fields') t''.columns ≡ map (column_named series fields) t.columns ++ column_in (index_by_numbers series fields t) s field ∷ []
     made_more pushed =
         ap (λ (cs : List (ℕ × ℕ)). map (column_named series fields') cs) pushed ∙ map-append (column_named series fields') t'.columns ((s, f) ∷ [])
         ∙ ap (λ (cs : List Column). cs ++ column_named series fields' (s, f) ∷ []) made_columns
@@ -140,7 +140,7 @@ module _ (series : List Series) (fields fields' : List FieldKey) (t t' : ColumnN
     pub made_same : t''.columns ≡ t'.columns → map (column_named series fields') t''.columns ≡ map (column_named series fields) t.columns
     made_same kept = ap (λ (cs : List (ℕ × ℕ)). map (column_named series fields') cs) kept ∙ made_columns
 
-    pub made_pushes : (Among (column_in (index_of series fields t) s field) (map (column_named series fields) t.columns) → ⊥)
+    pub made_pushes : (Among (column_in (index_by_numbers series fields t) s field) (map (column_named series fields) t.columns) → ⊥)
         → (t''.columns ≡ t'.columns ++ (s, f) ∷ []) ⊎ (t''.columns ≡ t'.columns) → t''.fields ≡ t'.fields → IsIndex series fields' t''
     made_pushes absent pushed room =
         ⊎_elim {C = IsIndex series fields' t''}
@@ -148,9 +148,9 @@ module _ (series : List Series) (fields fields' : List FieldKey) (t t' : ColumnN
         (λ kept. index_roomy series fields' t' t'' made_index kept (omega (arith, room))) pushed
 
     pub made_at : (n : ℕ) → n ≡ length t'.columns → t''.columns ≡ t'.columns ++ (s, f) ∷ []
-        → IsAt (map (column_named series fields') t''.columns) n (column_in (index_of series fields t) s field)
+        → IsAt (map (column_named series fields') t''.columns) n (column_in (index_by_numbers series fields t) s field)
     made_at n e pushed =
         let place : n ≡ length (map (column_named series fields) t.columns) = e ∙ ap (λ (cs : List (ℕ × ℕ)). length cs) h.same ∙ sym (length-map t.columns (column_named series fields)) in
-        subst (λ (cs : List Column). IsAt cs n (column_in (index_of series fields t) s field)) (sym (made_more pushed))
-        (subst (λ k. IsAt (map (column_named series fields) t.columns ++ column_in (index_of series fields t) s field ∷ []) k (column_in (index_of series fields t) s field)) (sym place)
-        (at_end (map (column_named series fields) t.columns) (column_in (index_of series fields t) s field)))
+        subst (λ (cs : List Column). IsAt cs n (column_in (index_by_numbers series fields t) s field)) (sym (made_more pushed))
+        (subst (λ k. IsAt (map (column_named series fields) t.columns ++ column_in (index_by_numbers series fields t) s field ∷ []) k (column_in (index_by_numbers series fields t) s field)) (sym place)
+        (at_end (map (column_named series fields) t.columns) (column_in (index_by_numbers series fields t) s field)))

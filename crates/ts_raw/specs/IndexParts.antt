@@ -20,8 +20,8 @@ pub record IsNamed (series : List Series) (fields : List FieldKey) (x : ℕ × �
   pub field_there : x.1 < length fields
   pub together : (slice_index_or series x.0 no_series).measurement ≡ (slice_index_or fields x.1 no_field).measurement
 
-abbrev pub index_of : List Series → List FieldKey → ColumnNumbers → Indexed
-index_of series fields t = record { series = series; columns = map (column_named series fields) t.columns }
+abbrev pub index_by_numbers : List Series → List FieldKey → ColumnNumbers → Indexed
+index_by_numbers series fields t = record { series = series; columns = map (column_named series fields) t.columns }
 
 -- each part has what it holds once, and each column has its names
 pub record IsIndex (series : List Series) (fields : List FieldKey) (t : ColumnNumbers) : Type 0 where

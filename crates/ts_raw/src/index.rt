@@ -41,11 +41,11 @@ pub struct Index<A: Allocator> {
 
 impl<A: Allocator> Model for Index<A> {
     ghost use Rattle.ts_raw.specs.Indexed.{Indexed};
-    ghost use Rattle.ts_raw.specs.IndexParts.{index_of, IsIndex};
+    ghost use Rattle.ts_raw.specs.IndexParts.{index_by_numbers, IsIndex};
 
     ghost Value = { Indexed };
 
-    ghost view = { λ i. index_of i.series i.fields i.columns };
+    ghost view = { λ i. index_by_numbers i.series i.fields i.columns };
 
     ghost invariant = { λ i. IsIndex i.series i.fields i.columns };
 }

@@ -4,7 +4,7 @@ use Rattle.ts_core.specs.Facts.{Text, Series, Column}
 use Rattle.ts_core.specs.Members.{Among}
 use Rattle.ts_raw.specs.FieldKeys.{FieldKey}
 use Rattle.ts_raw.specs.ColumnTables.{ColumnNumbers}
-use Rattle.ts_raw.specs.IndexParts.{column_named, index_of}
+use Rattle.ts_raw.specs.IndexParts.{column_named, index_by_numbers}
 use Rattle.ts_raw.specs.Indexed.{Indexed, IsSound, no_series, column_in}
 use Rattle.ts_raw.specs.Numbered.{IsAt}
 use Rattle.ts_raw.proofs.IndexLemmas.{measurement_of, index_sound, name_is, no_column_of, no_column_at}
@@ -19,7 +19,7 @@ returns-in_err-field-clause-absent g c =
     let t : ColumnNumbers = c.self.inside.columns in
     let m : Text = c.measurement-measurement.result.now in
     let there : c.args.series < length series = at_within series c.args.series c.key.result.now c.key.ensures in
-    let absent : Among (column_in (index_of series fields t) c.args.series c.args.field.now) (map (column_named series fields) t.columns) → ⊥ =
+    let absent : Among (column_in (index_by_numbers series fields t) c.args.series c.args.field.now) (map (column_named series fields) t.columns) → ⊥ =
     no_column_of series fields t c.self.invariant c.args.series m c.args.field.now there
     (measurement_of series c.args.series c.key.result.now m c.key.ensures c.measurement-measurement.ensures) c.in_err-field.ensures.absent in
     subst (λ (r : Option ℕ). IfNone r (Among (column_in c.args.self.now c.args.series c.args.field.now) c.args.self.now.columns → ⊥)) (sym c.from_residual.ensures)

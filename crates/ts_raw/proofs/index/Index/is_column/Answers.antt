@@ -5,7 +5,7 @@ use Rattle.ts_core.specs.Facts.{Series, Column}
 use Rattle.ts_core.proofs.Ids.{same_text-eq}
 use Rattle.ts_raw.specs.FieldKeys.{FieldKey}
 use Rattle.ts_raw.specs.ColumnTables.{ColumnNumbers}
-use Rattle.ts_raw.specs.IndexParts.{no_field, column_named, index_of}
+use Rattle.ts_raw.specs.IndexParts.{no_field, column_named, index_by_numbers}
 use Rattle.ts_raw.specs.Indexed.{Indexed, no_series, column_in}
 use Rattle.ts_raw.specs.Numbered.{IsAt}
 use Rattle.ts_core.proofs.MembersLemmas.{at_map_of}
@@ -26,7 +26,7 @@ returns-then-of-series g c =
     (λ h.
     let text : c.as_str.result.now ≡ c.args.field.now = same_text-eq c.as_str.result.now c.args.field.now (sym c.eq.ensures ∙ h) in
     let name : (get_or fields x.1 no_field).field ≡ c.args.field.now = ap (λ (k : FieldKey). k.field) key ∙ sym c.field.ensures ∙ sym c.as_str.ensures ∙ text in
-    let same : column_named series fields x ≡ column_in (index_of series fields t) c.args.series c.args.field.now = λ i. record { series = get_or series (number i) no_series; field = name i } in
+    let same : column_named series fields x ≡ column_in (index_by_numbers series fields t) c.args.series c.args.field.now = λ i. record { series = get_or series (number i) no_series; field = name i } in
     subst (λ (i : Indexed). IsAt i.columns c.args.column (column_in i c.args.series c.args.field.now)) c.self.view_is
     (subst (λ (d : Column). IsAt (map (column_named series fields) t.columns) c.args.column d) same
     (at_map_of (column_named series fields) t.columns c.args.column x c.numbers-of.ensures)))
