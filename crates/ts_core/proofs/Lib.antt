@@ -58,3 +58,8 @@ pub mod MovesStand
 pub mod LineStands
 pub mod StoreNew
 pub mod FaultTextLemmas
+pub mod DurationSteps
+pub mod EachItem
+pub mod SettingsForms
+pub mod DurationLaws
+pub mod SettingsBack

@@ -12,6 +12,9 @@ pub mod FaultTexts
 -- what happened
 pub mod Settings
 pub mod SettingsFaults
+pub mod Durations
+pub mod SettingsTexts
+pub mod SettingsWritten
 pub mod History
 -- what is true
 pub mod Latest

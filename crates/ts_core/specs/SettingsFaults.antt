@@ -4,7 +4,7 @@ use Rattle.std.specs.List.{list_any, list_all}
 use Rattle.ts_core.specs.declared.settings_fault.RuleFault.{RuleFault}
 use Rattle.ts_core.specs.declared.settings_fault.RuleFault.TheVariants.{BadName, RepeatedName, Interval, KeptTags, Duration}
 use Rattle.ts_core.specs.declared.settings_fault.SettingsFault.{SettingsFault}
-use Rattle.ts_core.specs.declared.settings_fault.SettingsFault.TheVariants.{TooManyRules, OfRule}
+use Rattle.ts_core.specs.declared.settings_fault.SettingsFault.TheVariants.{Form, TooManyRules, OfRule}
 use Rattle.ts_core.specs.Facts.{Text, same_text}
 use Rattle.ts_core.specs.declared.fault_code.FaultCode.{FaultCode}
 use Rattle.ts_core.specs.declared.fault_code.FaultCode.TheVariants as coded
@@ -62,6 +62,7 @@ rule_fault_code BadName = coded.BadRuleName
 rule_fault_code KeptTags = coded.BadKeptTags
 
 abbrev pub settings_fault_text : SettingsFault → Text
+settings_fault_text Form = fault_text coded.BadSettingsText detailed.Alone
 settings_fault_text TooManyRules = fault_text coded.TooManyRules detailed.Alone
 settings_fault_text (OfRule fault place) = fault_text (rule_fault_code fault) (detailed.OfRule place)
 

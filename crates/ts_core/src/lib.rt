@@ -1,11 +1,13 @@
 //! The words of the store: times, names, facts, settings and aggregates, with the definitions (specs/)
 //! that all other crates are proved against; and the devices that bytes come from and go to. It stands
-//! on nothing. It promises exact values: a `Time` is a valid time, a name is its bytes, an aggregate is
-//! that of its points, and a device's failures, turns and ends are counted exactly.
+//! on the kit's JSON alone, by which texts of settings are read. It promises exact values: a `Time` is
+//! a valid time, a name is its bytes, an aggregate is that of its points, settings are what their text
+//! says, and a device's failures, turns and ends are counted exactly.
 #![tactic(auto)]
 
 mod aggregate;
 mod bucket;
+mod duration;
 mod fact;
 mod fault;
 mod fault_code;
@@ -46,10 +48,10 @@ pub use partial::Partial;
 pub use read_ahead::{ReadAhead, ReadFault};
 pub use remainder::Remainder;
 pub use settings::{Rule, Settings, copied_texts};
-pub use settings_fault::{RuleFault, SettingsFault};
+pub use settings_fault::{RuleFault, SettingsError, SettingsFault};
 pub use sink::{Refused, Sink};
 pub use source::Source;
-pub use stands::store_moves;
+pub use stands::{settings_texts, store_moves};
 pub use texts::is_among;
 pub use time::Time;
 pub use time_unit::TimeUnit;
@@ -59,5 +61,7 @@ pub use value::{Function, Value};
 mod devices_tests;
 #[cfg(test)]
 mod settings_tests;
+#[cfg(test)]
+mod settings_text_tests;
 #[cfg(test)]
 mod words_tests;

@@ -1,6 +1,13 @@
 //! Marks.
-ghost use Rattle.std.specs.Prelude.{◌≡◌, ◌↔◌, IsTrue, IfOk};
+ghost use Rattle.std.specs.Prelude.{◌≡◌, ◌↔◌, ◌≤◌, ◌≤ℤ◌, ◌^◌, pos, unsigned_abs, IsTrue, IfOk};
+ghost use Rattle.std.specs.Int.{int_max};
+ghost use Rattle.std.specs.List.{AllByRecursion};
+ghost use Rattle.ts_core.specs.History.{kept_since};
+ghost use Rattle.ts_core.specs.StoreMoves.{raised};
+ghost use Rattle.ts_core.specs.Times.{greatest_time};
 
+use crate::bucket::index_of;
+use crate::settings::{Rule, Settings};
 use crate::time::Time;
 use std::alloc::{AllocError, Allocator};
 use std::marker::Model;
@@ -37,6 +44,45 @@ fn same_lows(lows: &[i128], others: &[i128]) -> bool
     }
 }
 
+/// From where on a duration keeps, at a moment; both in nanoseconds, and a duration of 0 keeps for ever.
+fn kept_since(duration: u64, now: Time) -> i128
+    ensures value { result ≡ kept_since duration now }
+    ensures not_after { result ≤ℤ greatest_time }
+    ensures near { unsigned_abs result ≤ 2 ^ 65 }
+{
+    if duration == 0 {
+        i128::from(Time::least().nanos())
+    } else {
+        i128::from(now.nanos()) - i128::from(duration)
+    }
+}
+
+/// The later of a mark and a number of nanoseconds that is not after all valid times.
+fn later(mark: Time, nanos: i128) -> Time
+    requires { nanos ≤ℤ greatest_time }
+    ensures { result ≡ int_max mark nanos }
+{
+    if nanos <= i128::from(mark.nanos()) {
+        mark
+    } else {
+        Time::new(nanos as i64).unwrap_or(mark)
+    }
+}
+
+/// Raises the low index of each rule to that of the bucket from which on its cells are kept, at a moment.
+fn raise_lows<A: Allocator>(rules: &[Rule<A>], lows: &mut [i128], now: Time)
+    requires { AllByRecursion (λ r. pos 1 ≤ℤ r.interval) rules.now }
+    ensures { lows.new ≡ raised now rules.now lows.old }
+{
+    if let Some((rule, rules)) = rules.split_first() {
+        if let Some((low, lows)) = lows.split_first_mut() {
+            let kept = index_of(rule, kept_since(rule.duration(), now));
+            *low = (*low).max(kept);
+            raise_lows(rules, lows, now);
+        }
+    }
+}
+
 impl<A: Allocator> Marks<A> {
     /// Marks of these parts.
     pub fn new(raw: Time, lows: Vec<i128, A>) -> Marks<A>
@@ -67,6 +113,14 @@ impl<A: Allocator> Marks<A> {
             return false;
         }
         same_lows(self.lows(), other.lows())
+    }
+
+    /// Raises each mark to what the settings still keep at a moment; none goes back. It takes no memory.
+    pub fn raise(&mut self, settings: &Settings<A>, now: Time)
+        ensures { self.new ≡ record { raw = int_max self.old.raw (kept_since settings.now.raw_duration now); lows = raised now settings.now.rules self.old.lows } }
+    {
+        self.raw = later(self.raw, kept_since(settings.raw_duration(), now));
+        raise_lows(settings.rules(), self.lows.as_mut_slice(), now);
     }
 }
 

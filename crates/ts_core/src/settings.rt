@@ -10,6 +10,7 @@ use std::alloc::Allocator;
 use std::marker::Model;
 
 mod copies;
+mod reading;
 
 pub use copies::copied_texts;
 
@@ -195,6 +196,7 @@ impl<A: Allocator> Settings<A> {
         requires { pos 0 ≤ℤ raw_duration }
         ensures parts { IfOk result (λ s. s ≡ record { raw_duration = unsigned_abs raw_duration; rules = rules.items }) }
         ensures fault { IfErr result (λ e. settings_fault (record { raw_duration = unsigned_abs raw_duration; rules = rules.items }) ≡ Some e) }
+        ensures faultless { IfOk result (λ s. settings_fault s ≡ None) }
     {
         let raw_duration = raw_duration.unsigned_abs();
         match settings_fault(raw_duration, rules.as_slice()) {

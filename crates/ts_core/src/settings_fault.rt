@@ -3,12 +3,13 @@ ghost use Rattle.std.specs.Prelude.{◌≡◌, ◌+◌, ◌≤◌, ◌++◌, map
 ghost use Rattle.std.specs.List.{list_all};
 ghost use Rattle.ts_core.specs.FaultTexts.{EndsEarly};
 ghost use Rattle.ts_core.specs.SettingsFaults.{is_name_byte, is_rule_name, is_named, is_interval, are_distinct, are_kept_tags, outlasts, fault_of_rule, rules_fault, settings_fault, rule_fault_code, settings_fault_text};
+ghost use Rattle.ts_core.specs.declared.settings_fault.SettingsError.TheVariants as errors;
 
 use crate::fault_code::FaultCode;
 use crate::fault_text::FaultDetail;
 use crate::settings::Rule;
 use crate::texts::is_among;
-use std::alloc::{AllocError, Allocator};
+use std::alloc::{AllocError, AllocFailed, Allocator};
 
 /// What is wrong with a rule.
 #[derive(Clone, Copy, Debug, PartialEq, Eq)]
@@ -28,6 +29,8 @@ pub enum RuleFault {
 /// What is wrong with settings.
 #[derive(Clone, Copy, Debug, PartialEq, Eq)]
 pub enum SettingsFault {
+    /// The text isn't of the form of settings (number 7). Settings that are made of parts don't have it.
+    Form,
     /// There are more than 32 rules.
     TooManyRules,
     /// A rule is at fault: the first one, by its place from 0.
@@ -134,6 +137,39 @@ pub(crate) fn settings_fault<A: Allocator>(raw: u64, rules: &[Rule<A>]) -> Optio
     }
 }
 
+/// Why no settings were read.
+#[derive(Clone, Copy, Debug, PartialEq, Eq)]
+pub enum SettingsError {
+    /// The text is at fault.
+    Fault(SettingsFault),
+    /// No memory was found.
+    OutOfMemory,
+}
+
+impl From<SettingsFault> for SettingsError {
+    ghost from_gives = { λ f e. e ≡ errors.Fault f };
+
+    fn from(fault: SettingsFault) -> SettingsError {
+        SettingsError::Fault(fault)
+    }
+}
+
+impl From<AllocError> for SettingsError {
+    ghost from_gives = { λ _ e. e ≡ errors.OutOfMemory };
+
+    fn from(_failed: AllocError) -> SettingsError {
+        SettingsError::OutOfMemory
+    }
+}
+
+impl<T: Drop> From<AllocFailed<T>> for SettingsError {
+    ghost from_gives = { λ _ e. e ≡ errors.OutOfMemory };
+
+    fn from(_failed: AllocFailed<T>) -> SettingsError {
+        SettingsError::OutOfMemory
+    }
+}
+
 impl RuleFault {
     /// The fault in the table of all faults.
     pub fn code(self) -> FaultCode
@@ -157,6 +193,7 @@ impl SettingsFault {
         ensures room { string_len text.old + length (settings_fault_text self.now) ≤ string_capacity text.old → IsOk result }
     {
         match *self {
+            SettingsFault::Form => FaultCode::BadSettingsText.text_to(FaultDetail::Alone, text),
             SettingsFault::TooManyRules => FaultCode::TooManyRules.text_to(
                 FaultDetail::Alone,
                 text,

@@ -160,7 +160,7 @@ fn first_fault(alloc: Global, raw: u32, rules: &[Parts]) -> Result<Option<(u8, u
     match settings(alloc, raw, rules)? {
         Ok(_) => Ok(None),
         Err(SettingsFault::OfRule(fault, place)) => Ok(Some((fault.code().number(), place))),
-        Err(SettingsFault::TooManyRules) => Err("too many rules")?,
+        Err(_) => Err("no fault of a rule")?,
     }
 }
 

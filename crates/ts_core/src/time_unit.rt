@@ -49,11 +49,18 @@ impl TimeUnit {
     }
 
     /// The unit of a duration, by its name: `ns`, `u`, `µ`, `ms`, `s`, `m`, `h`, `d` or `w`.
-    #[tactic(auto, unfolding(crate::specs::TimeUnits::duration_unit_of))]
     pub fn of_duration(name: &str) -> Option<TimeUnit>
         ensures { result ≡ duration_unit_of name.now }
     {
-        match name.as_bytes() {
+        TimeUnit::of_duration_name(name.as_bytes())
+    }
+
+    /// The unit of a duration, by the bytes of its name.
+    #[tactic(auto, unfolding(crate::specs::TimeUnits::duration_unit_of))]
+    pub(crate) fn of_duration_name(name: &[u8]) -> Option<TimeUnit>
+        ensures { result ≡ duration_unit_of name.now }
+    {
+        match name {
             b"ns" => Some(TimeUnit::Nanoseconds),
             b"u" | [0xc2, 0xb5] => Some(TimeUnit::Microseconds),
             b"ms" => Some(TimeUnit::Milliseconds),

@@ -1,0 +1,91 @@
+-- Settings as a text: a JSON object. (Own rules. The words are of InfluxData 1.8, downsampling and data retention.)
+use Rattle.std.specs.Prelude.{◌≡◌, ⊤, ℕ, suc, ◌==◌, ℤ, unsigned_abs, List, [], ◌∷◌, Bool, true, false, Option, Some, None, option_map, option_and_then, unwrap_or, Result, Ok, Err, codes}
+use Rattle.serde_json.specs.Data.{Data, Items, no_items, item, Members, no_members, member}
+use Rattle.serde_json.specs.Find.{get, as_str, as_array, as_object}
+use Rattle.serde_json.specs.Read.{read}
+use Rattle.ts_core.specs.Facts.{Text}
+use Rattle.ts_core.specs.Settings.{Rule, Settings}
+use Rattle.ts_core.specs.SettingsFaults.{settings_fault}
+use Rattle.ts_core.specs.Durations.{span_of, offset_of, keeping_of}
+use Rattle.ts_core.specs.declared.settings_fault.SettingsError.{SettingsError}
+use Rattle.ts_core.specs.declared.settings_fault.SettingsError.TheVariants.{Fault, OutOfMemory}
+use Rattle.ts_core.specs.declared.settings_fault.SettingsFault.{SettingsFault}
+use Rattle.ts_core.specs.declared.settings_fault.SettingsFault.TheVariants.{Form}
+
+-- ---- parts of an object
+
+abbrev pub members_count : Members → ℕ
+members_count no_members = 0
+members_count (member k d ms) = suc (members_count ms)
+
+-- an object with so many keys. (An object has each key once: of a repeated one the last value counts.)
+abbrev pub has_keys : ℕ → Data → Bool
+has_keys n d = unwrap_or (option_map (λ ms. members_count ms == n) (as_object d)) false
+
+-- the text of a key
+abbrev pub text_at : Text → Data → Option Text
+text_at key d = option_and_then as_str (get key d)
+
+-- a text that isn't empty
+abbrev pub filled : Text → Option Text
+filled [] = None
+filled (b ∷ bs) = Some (b ∷ bs)
+
+abbrev pub filled_text : Data → Option Text
+filled_text d = option_and_then filled (as_str d)
+
+-- each item, read the same way
+abbrev pub each : {X : Type 0} → (Data → Option X) → Items → Option (List X)
+each f no_items = Some []
+each f (item d ds) = option_and_then (λ x. option_map (λ xs. x ∷ xs) (each f ds)) (f d)
+
+-- the items of a key
+abbrev pub each_at : {X : Type 0} → Text → (Data → Option X) → Data → Option (List X)
+each_at key f d = option_and_then (each f) (option_and_then as_array (get key d))
+
+-- ---- settings
+
+abbrev pub rule_with : Bool → Option Text → Option Text → Option ℤ → Option ℤ → Option (List Text) → Option ℤ → Option Rule
+rule_with true (Some name) (Some measurement) (Some interval) (Some offset) (Some kept_tags) (Some duration) =
+    Some (record { name = name; measurement = measurement; interval = interval; offset = offset; kept_tags = kept_tags; duration = unsigned_abs duration })
+rule_with _ _ _ _ _ _ _ = None
+
+-- exactly six keys; a measurement and kept tags aren't empty
+unfoldable pub rule_of : Data → Option Rule
+rule_of d = rule_with (has_keys 6 d)
+    (text_at (codes "name") d)
+    (option_and_then filled (text_at (codes "measurement") d))
+    (option_and_then span_of (text_at (codes "interval") d))
+    (option_and_then offset_of (text_at (codes "offset") d))
+    (each_at (codes "keep") filled_text d)
+    (option_and_then keeping_of (text_at (codes "duration") d))
+
+abbrev pub settings_with : Bool → Option ℤ → Option (List Rule) → Option Settings
+settings_with true (Some raw) (Some rules) = Some (record { raw_duration = unsigned_abs raw; rules = rules })
+settings_with _ _ _ = None
+
+-- exactly two keys
+unfoldable pub settings_of : Data → Option Settings
+settings_of d = settings_with (has_keys 2 d)
+    (option_and_then keeping_of (text_at (codes "raw") d))
+    (each_at (codes "rules") rule_of d)
+
+-- settings, or their first fault
+abbrev pub unless_fault : Settings → Option SettingsFault → Result Settings SettingsFault
+unless_fault s None = Ok s
+unless_fault s (Some fault) = Err fault
+
+abbrev pub told : Option Settings → Result Settings SettingsFault
+told None = Err Form
+told (Some s) = unless_fault s (settings_fault s)
+
+-- what a text of settings says. The form of the whole text comes first.
+unfoldable pub settings_read : Text → Result Settings SettingsFault
+settings_read text = told (option_and_then settings_of (read text))
+
+-- ---- for private clauses
+
+-- memory ran out, or there is nothing to be read, and the form is at fault
+abbrev pub IsRefusal : {X : Type 0} → SettingsError → Option X → Type 0
+IsRefusal OutOfMemory read = ⊤
+IsRefusal (Fault fault) read = (fault ≡ Form) × (read ≡ None)

@@ -1,0 +1,194 @@
+//! Settings from a text: a JSON object.
+ghost use Rattle.std.specs.Prelude.{◌≡◌, pos, ◌≤ℤ◌, map, string_bytes, unsigned_abs, option_map, option_and_then, Some, Ok, Err, IfOk, IfErr, IfSome};
+ghost use Rattle.serde_json.specs.Find.{get, as_array};
+ghost use Rattle.serde_json.specs.Read.{read};
+ghost use Rattle.serde_json.specs.View.{view, items_view};
+ghost use Rattle.ts_core.specs.Durations.{span_of, offset_of, keeping_of};
+ghost use Rattle.ts_core.specs.SettingsTexts.{has_keys, text_at, filled, filled_text, each, rule_of, settings_of, settings_read, IsRefusal};
+ghost use Rattle.ts_core.specs.declared.settings_fault.SettingsError.TheVariants as errors;
+ghost use Rattle.ts_core.specs.declared.settings_fault.SettingsFault.{SettingsFault};
+
+use crate::duration::{interval, keeping, offset};
+use crate::settings::{Rule, Settings};
+use crate::settings_fault::{SettingsError, SettingsFault};
+use serde_json::Value;
+use std::alloc::{Allocator, Global};
+
+const NO_FORM: SettingsError = SettingsError::Fault(SettingsFault::Form);
+
+/// Whether a value is an object with so many keys.
+fn has_keys(value: &Value, count: usize) -> bool
+    ensures { result ≡ has_keys count (view value.now) }
+{
+    match value.as_object() {
+        None => false,
+        Some(members) => members.len() == count,
+    }
+}
+
+/// The text of a key.
+fn text_at<'v>(value: &'v Value, key: &str) -> Option<&'v str>
+    ensures { option_map (λ s. s.now) result ≡ text_at key.now (view value.now) }
+{
+    value.get(key).and_then(Value::as_str)
+}
+
+/// The values of a key's array.
+fn values_at<'v>(value: &'v Value, key: &str) -> Option<&'v [Value]>
+    ensures { option_map (λ vs. items_view vs.now) result ≡ option_and_then as_array (get key.now (view value.now)) }
+{
+    let values = value.get(key).and_then(Value::as_array)?;
+    Some(values.as_slice())
+}
+
+/// A text, if it isn't empty.
+fn filled(text: &str) -> Option<&str>
+    ensures { option_map (λ s. s.now) result ≡ filled text.now }
+{
+    if text.is_empty() { None } else { Some(text) }
+}
+
+/// The texts of values, none of them empty, in memory of their own.
+fn filled_texts<A: Allocator + Copy>(
+    alloc: A,
+    values: &[Value],
+) -> Result<Vec<String<A>, A>, SettingsError>
+    ensures ok { IfOk result (λ texts. each filled_text (items_view values.now) ≡ Some (map string_bytes texts.items)) }
+    ensures err { IfErr result (λ e. IsRefusal e (each filled_text (items_view values.now))) }
+{
+    let mut texts = Vec::new(alloc);
+    for value in values {
+        let text = value.as_str().and_then(filled).ok_or(NO_FORM)?;
+        texts.push(String::from_str(alloc, text)?)?;
+    }
+    Ok(texts)
+}
+
+/// The text of a key, if it isn't empty.
+fn filled_text_at<'v>(value: &'v Value, key: &str) -> Option<&'v str>
+    ensures { option_map (λ s. s.now) result ≡ option_and_then filled (text_at key.now (view value.now)) }
+{
+    filled(text_at(value, key)?)
+}
+
+/// The nanoseconds of a key's interval.
+fn interval_at(value: &Value, key: &str) -> Option<i64>
+    ensures { result ≡ option_and_then span_of (text_at key.now (view value.now)) }
+{
+    interval(text_at(value, key)?)
+}
+
+/// The nanoseconds of a key's offset.
+fn offset_at(value: &Value, key: &str) -> Option<i64>
+    ensures { result ≡ option_and_then offset_of (text_at key.now (view value.now)) }
+{
+    offset(text_at(value, key)?)
+}
+
+/// How many nanoseconds a key says that something is kept; 0 is for ever.
+fn keeping_at(value: &Value, key: &str) -> Option<i64>
+    ensures value { result ≡ option_and_then keeping_of (text_at key.now (view value.now)) }
+    ensures lasting { IfSome result (λ n. pos 0 ≤ℤ n) }
+{
+    keeping(text_at(value, key)?)
+}
+
+/// A rule.
+fn rule<A: Allocator + Copy>(alloc: A, value: &Value) -> Result<Rule<A>, SettingsError>
+    ensures ok { IfOk result (λ r. rule_of (view value.now) ≡ Some r) }
+    ensures err { IfErr result (λ e. IsRefusal e (rule_of (view value.now))) }
+{
+    if !has_keys(value, 6) {
+        return Err(NO_FORM);
+    }
+    let Some(name) = text_at(value, "name") else {
+        return Err(NO_FORM);
+    };
+    let Some(measurement) = filled_text_at(value, "measurement") else {
+        return Err(NO_FORM);
+    };
+    let Some(interval) = interval_at(value, "interval") else {
+        return Err(NO_FORM);
+    };
+    let Some(offset) = offset_at(value, "offset") else {
+        return Err(NO_FORM);
+    };
+    let Some(tags) = values_at(value, "keep") else {
+        return Err(NO_FORM);
+    };
+    let kept_tags = filled_texts(alloc, tags)?;
+    let Some(duration) = keeping_at(value, "duration") else {
+        return Err(NO_FORM);
+    };
+    Ok(Rule {
+        name: String::from_str(alloc, name)?,
+        measurement: String::from_str(alloc, measurement)?,
+        interval,
+        offset,
+        kept_tags,
+        duration: duration.unsigned_abs(),
+    })
+}
+
+/// Rules, in their order.
+fn rules<A: Allocator + Copy>(alloc: A, values: &[Value]) -> Result<Vec<Rule<A>, A>, SettingsError>
+    ensures ok { IfOk result (λ rules. each rule_of (items_view values.now) ≡ Some rules.items) }
+    ensures err { IfErr result (λ e. IsRefusal e (each rule_of (items_view values.now))) }
+{
+    let mut rules = Vec::new(alloc);
+    for value in values {
+        rules.push(rule(alloc, value)?)?;
+    }
+    Ok(rules)
+}
+
+/// How long raw points are kept, in nanoseconds and not negative, and the rules.
+fn parts<A: Allocator + Copy>(
+    alloc: A,
+    value: &Value,
+) -> Result<(i64, Vec<Rule<A>, A>), SettingsError>
+    ensures lasting { IfOk result (λ p. pos 0 ≤ℤ p.0) }
+    ensures ok { IfOk result (λ p. settings_of (view value.now) ≡ Some (record { raw_duration = unsigned_abs p.0; rules = p.1.items })) }
+    ensures err { IfErr result (λ e. IsRefusal e (settings_of (view value.now))) }
+{
+    if !has_keys(value, 2) {
+        return Err(NO_FORM);
+    }
+    let Some(raw) = keeping_at(value, "raw") else {
+        return Err(NO_FORM);
+    };
+    let Some(values) = values_at(value, "rules") else {
+        return Err(NO_FORM);
+    };
+    Ok((raw, rules(alloc, values)?))
+}
+
+/// The value of a text of JSON, in memory of `json`.
+fn value_of(json: Global, text: &str) -> Result<Value, SettingsError>
+    ensures ok { IfOk result (λ v. read text.now ≡ Some (view v)) }
+    ensures err { IfErr result (λ e. IsRefusal e (read text.now)) }
+{
+    match Value::from_str(json, text) {
+        Ok(value) => Ok(value),
+        Err(error) => {
+            if error.is_memory() {
+                Err(SettingsError::OutOfMemory)
+            } else {
+                Err(NO_FORM)
+            }
+        }
+    }
+}
+
+impl<A: Allocator + Copy> Settings<A> {
+    /// The settings that a text says, a JSON object; or its first fault, where the form of the whole text comes
+    /// first. What JSON needs while it is read is in the memory of `json`.
+    pub fn read(alloc: A, json: Global, text: &str) -> Result<Settings<A>, SettingsError>
+        ensures ok { IfOk result (λ s. settings_read text.now ≡ Ok s) }
+        ensures fault { IfErr result (λ e. (f : SettingsFault) → e ≡ errors.Fault f → settings_read text.now ≡ Err f) }
+    {
+        let value = value_of(json, text)?;
+        let (raw, rules) = parts(alloc, &value)?;
+        Ok(Settings::new(raw, rules)?)
+    }
+}
