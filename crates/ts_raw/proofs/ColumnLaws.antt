@@ -1,6 +1,6 @@
--- The points of a column by what is among them: after one was put in, from a mark on, and within a range.
+-- The points of a column by what is among them: after one was put in, from a mark on, and within a range; and their order.
 use Rattle.std.proofs.Common.{◌≡◌, ◌≢◌, ◌↔◌, ℤ, ◌≤ℤ◌, ◌<ℤ◌, int_le, int_lt, Bool, true, false, cond, refl, sym, ◌∙◌, ap, inl, inr, ◌⊎◌, ⊎_elim, Option, Some, None, true≢false, is_eq}
-use Rattle.std.specs.Ordering.{int_cmp}
+use Rattle.std.specs.Ordering.{int_cmp, int_eq}
 use Rattle.std.specs.Cmp.{int_cmp_total}
 use Rattle.std.specs.FinMap as map
 use Rattle.std.specs.FinMap.{entries, entries_sorted, get-entries, get-insert, get-retain_keys, int_cmp-IsAntisymmetric}
@@ -9,12 +9,14 @@ use Rattle.std.proofs.lemmas.Cmp.{tied_itself}
 use Rattle.std.proofs.lemmas.Option.{same_Some}
 use Rattle.std.proofs.lemmas.Bool.{and_parts, and_from}
 use Rattle.ts_core.specs.Members.{Among, AllDistinct}
+use Rattle.ts_core.specs.Buckets.{bucket_of}
 use Rattle.ts_core.specs.Facts.{is_within}
+use Rattle.ts_core.specs.StoreMoves.{points_below}
 use Rattle.ts_core.proofs.MembersLemmas.{Among-filter_passes, Among-filter_was, Among-filter_stays}
 use Rattle.ts_core.proofs.Sorted.{sorted-distinct, found_among, among_found}
 use Rattle.ts_core.proofs.Tests.{le_from, le_true, lt_from, lt_true}
 use Rattle.ts_core.proofs.Ids.{equal_of}
-use Rattle.ts_raw.specs.Columns.{PointMap, points_within, points_from}
+use Rattle.ts_raw.specs.Columns.{PointMap, points_within, points_from, points_in_bucket}
 use Rattle.ts_raw.specs.PlainColumns.{IsRising}
 
 -- each time once
@@ -41,6 +43,13 @@ among-within m a b p =
 
 pub within-rising : (m : PointMap) (a b : ℤ) → IsRising (points_within m a b)
 within-rising m a b = is_sorted-where_key int_cmp (is_within a b) (entries m) (entries_sorted m)
+
+-- the points before a mark, and those of a bucket, are in order too
+pub below-rising : (m : PointMap) (mark : ℤ) → IsRising (points_below mark (entries m))
+below-rising m mark = is_sorted-where_key int_cmp (λ t. int_lt t mark) (entries m) (entries_sorted m)
+
+pub in_bucket-rising : (m : PointMap) (k i o : ℤ) → IsRising (points_in_bucket m k i o)
+in_bucket-rising m k i o = is_sorted-where_key int_cmp (λ t. int_eq (bucket_of t i o) k) (entries m) (entries_sorted m)
 
 pub get-points_from : (m : PointMap) (mark t : ℤ) → map.get (points_from m mark) t ≡ cond (int_le mark t) (map.get m t) None
 get-points_from m mark t = get-retain_keys m (int_le mark) t (λ x e. ap (int_le mark) (sym (int_cmp-IsAntisymmetric t x e)))

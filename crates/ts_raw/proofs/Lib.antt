@@ -1,5 +1,6 @@
 pub mod PointMaps
 pub mod PointRanges
+pub mod EdgesLemmas
 pub mod ColumnLaws
 pub mod LastBelows
 pub mod Chained

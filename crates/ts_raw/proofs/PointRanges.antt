@@ -7,6 +7,7 @@ use Rattle.std.specs.Cmp.{int_cmp_total}
 use Rattle.std.specs.List.{AllWithin}
 use Rattle.std.specs.List.Sorted.{IsPartitionedBy}
 use Rattle.ts_core.specs.Facts.{is_within}
+use Rattle.ts_core.specs.StoreMoves.{points_below}
 use Rattle.ts_core.proofs.Places.{below_at, both_of}
 use Rattle.std.specs.FinMap.{from_sorted}
 use Rattle.std.specs.FinMap.Entries.{is_sorted-where_key}
@@ -78,6 +79,15 @@ module _ (points : List (ℤ × ℤ)) (a b : ℤ) (i j : ℕ) (f : IsStartOf a p
       (λ (before : k < i). too_early a b (slice_index_or points k d).0 (f.0 k d m before))
       (λ (from : i ≤ k). too_late a b (slice_index_or points k d).0 (g.1 k d (omega arith) n))
       (cases_lt k i)))
+
+-- those before a time come first
+pub filter-before : (points : List (ℤ × ℤ)) (t : ℤ) (i : ℕ) → IsStartOf t points i → i ≤ length points → take i points ≡ points_below t points
+filter-before points t i f l =
+    sym (filter-window (λ (p : ℤ × ℤ). int_lt p.0 t) points 0 i
+    (λ k d m n. absurd (omega arith))
+    (λ k d m n. f.0 k d m (omega arith))
+    (λ k d m n. f.1 k d (omega arith) n)
+    (omega arith))
 
 drop-before : (points : List (ℤ × ℤ)) (mark : ℤ) (i : ℕ) → IsStartOf mark points i → i ≤ length points → drop i points ≡ filter (λ (p : ℤ × ℤ). int_le mark p.0) points
 drop-before points mark i f l =

@@ -1,10 +1,11 @@
 -- The points of a column: times with values, each time once.
 -- (InfluxData 1.8, key concepts: point; frequently asked questions: duplicate points.)
 use Rattle.std.specs.Prelude.{ℤ, List, filter, int_le, refl, Option}
-use Rattle.std.specs.Ordering.{int_cmp}
+use Rattle.std.specs.Ordering.{int_cmp, int_eq}
 use Rattle.std.specs.FinMap as map
 use Rattle.std.specs.Coded.{Coded, code_by, coded×, coded_ℤ, coded_option}
 use Rattle.ts_core.specs.Facts.{is_within}
+use Rattle.ts_core.specs.Buckets.{bucket_of}
 
 -- from each time to its value
 abbrev pub PointMap : Type 0
@@ -13,6 +14,10 @@ PointMap = map.FinMap int_cmp ℤ
 -- the points from a on and before b, in the order of time
 abbrev pub points_within : PointMap → ℤ → ℤ → List (ℤ × ℤ)
 points_within points a b = filter (λ (p : ℤ × ℤ). is_within a b p.0) (map.entries points)
+
+-- the points of the bucket of this index, in the order of time
+abbrev pub points_in_bucket : PointMap → ℤ → ℤ → ℤ → List (ℤ × ℤ)
+points_in_bucket points index interval offset = filter (λ (p : ℤ × ℤ). int_eq (bucket_of p.0 interval offset) index) (map.entries points)
 
 -- the points at the mark and after it
 abbrev pub points_from : PointMap → ℤ → PointMap

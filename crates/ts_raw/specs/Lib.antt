@@ -1,6 +1,7 @@
 pub mod Columns
 pub mod PlainColumns
 pub mod PointsLeft
+pub mod Edges
 pub mod LastBelow
 pub mod Links
 pub mod Numbered

@@ -1,7 +1,8 @@
 //! What a column is to the store: its points, beside at most one that is set aside.
-ghost use Rattle.std.specs.Prelude.{◌≡◌, ◌+◌, ◌≤◌, ℤ, Option, IsSome, IfSome, is_ok, if◌then◌else◌};
+ghost use Rattle.std.specs.Prelude.{◌≡◌, ◌+◌, ◌≤◌, ◌≤ℤ◌, pos, ℤ, Option, IsSome, IfSome, is_ok, if◌then◌else◌};
 ghost use Rattle.std.specs.FinMap as map;
-ghost use Rattle.ts_raw.specs.Columns.{PointMap, points_within, points_from};
+ghost use Rattle.ts_core.specs.StoreMoves.{points_below};
+ghost use Rattle.ts_raw.specs.Columns.{PointMap, points_within, points_from, points_in_bucket};
 
 use crate::points::Points;
 use std::alloc::AllocError;
@@ -32,6 +33,15 @@ pub trait Column {
     /// first isn't below the second.
     fn range(&self, from: i64, to: i64) -> Points<'_>
         ensures { result ≡ points_within (points self.now) from to };
+
+    /// The points before the mark, in the order of time.
+    fn below(&self, mark: Time) -> Points<'_>
+        ensures { result ≡ points_below mark (map.entries (points self.now)) };
+
+    /// The points of a bucket, in the order of time, of buckets of an interval with an offset (nanoseconds).
+    fn bucket(&self, index: &i128, interval: i64, offset: i64) -> Points<'_>
+        requires { pos 1 ≤ℤ interval }
+        ensures { result ≡ points_in_bucket (points self.now) index.now interval offset };
 
     /// Keeps the points at the mark and after it. None is aside afterwards.
     fn drop_below(&mut self, mark: Time)

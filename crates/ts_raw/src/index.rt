@@ -147,7 +147,7 @@ impl<A: Allocator + Copy> Index<A> {
     }
 
     /// The same as `column`, found at once where it was made right after the one before.
-    fn column_after(
+    pub fn column_after(
         &self,
         before: Option<ColumnId>,
         series: SeriesId,

@@ -4,6 +4,7 @@
 //! its columns, in the order of making, whatever way they are found.
 #![tactic(auto)]
 
+mod bucket_edges;
 mod column;
 mod index;
 mod plain_column;

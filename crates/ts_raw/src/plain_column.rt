@@ -1,12 +1,16 @@
 //! A column kept as a vector in the order of time.
-ghost use Rattle.std.specs.Prelude.{◌≡◌, ◌<◌, ◌≤◌, length, filter, vec_len, vec_capacity, drop};
-ghost use Rattle.std.specs.Ordering.{int_cmp};
+ghost use Rattle.std.specs.Prelude.{◌≡◌, ◌<◌, ◌≤◌, ◌≤ℤ◌, pos, ℤ, length, filter, vec_len, vec_capacity, drop};
+ghost use Rattle.std.specs.Ordering.{int_cmp, int_eq};
 ghost use Rattle.std.specs.FinMap as map;
 ghost use Rattle.std.specs.FinMap.{put};
 ghost use Rattle.std.specs.List.Sorted.{IsSearchInRange};
+ghost use Rattle.ts_core.specs.Buckets.{bucket_of};
 ghost use Rattle.ts_core.specs.Facts.{is_within};
+ghost use Rattle.ts_core.specs.StoreMoves.{points_below};
+ghost use Rattle.ts_raw.specs.Edges.{IsEdgeAt};
 ghost use Rattle.ts_raw.specs.PlainColumns.{IsRising, IsPlaceOf, IsStartOf};
 
+use crate::bucket_edges::{bucket_edges, is_before};
 use crate::column::Column;
 use crate::points::Points;
 use std::alloc::{AllocError, Allocator};
@@ -92,6 +96,44 @@ fn between<'a>(points: &'a [(Time, i64)], from: i64, to: i64) -> &'a [(Time, i64
     }
 }
 
+/// The points before a time (nanoseconds).
+fn before(points: &[(Time, i64)], time: i64) -> &[(Time, i64)]
+    requires { IsRising points.now }
+    ensures { result.now ≡ points_below time points.now }
+{
+    &points[..count_before(points, time)]
+}
+
+/// How many points are before an edge.
+fn count_before_edge(points: &[(Time, i64)], edge: &i128) -> usize
+    requires { IsRising points.now }
+    ensures bound { result ≤ length points.now }
+    ensures start { (moment : ℤ) → IsEdgeAt moment edge.now → IsStartOf moment points.now result }
+{
+    points.partition_point(|point| is_before(point.0, edge))
+}
+
+/// The points of a bucket.
+fn inside<'a>(
+    points: &'a [(Time, i64)],
+    index: &i128,
+    interval: i64,
+    offset: i64,
+) -> &'a [(Time, i64)]
+    requires rising { IsRising points.now }
+    requires interval { pos 1 ≤ℤ interval }
+    ensures { result.now ≡ filter (λ p. int_eq (bucket_of p.0 interval offset) index.now) points.now }
+{
+    let (first, next) = bucket_edges(index, interval, offset);
+    let start = count_before_edge(points, &first);
+    let end = count_before_edge(points, &next);
+    if start < end {
+        &points[start..end]
+    } else {
+        &[]
+    }
+}
+
 /// Drops the points at the front.
 fn drop_front<A: Allocator>(points: &mut Vec<(Time, i64), A>, count: usize)
     requires { count ≤ vec_len points.old }
@@ -131,6 +173,14 @@ impl<A: Allocator> Column for PlainColumn<A> {
 
     fn range(&self, from: i64, to: i64) -> Points<'_> {
         Points::plain(between(self.points.as_slice(), from, to))
+    }
+
+    fn below(&self, mark: Time) -> Points<'_> {
+        Points::plain(before(self.points.as_slice(), mark.nanos()))
+    }
+
+    fn bucket(&self, index: &i128, interval: i64, offset: i64) -> Points<'_> {
+        Points::plain(inside(self.points.as_slice(), index, interval, offset))
     }
 
     fn drop_below(&mut self, mark: Time) {
