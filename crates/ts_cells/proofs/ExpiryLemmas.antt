@@ -1,5 +1,5 @@
 -- One cell fewer.
-use Rattle.std.proofs.Common.{◌≡◌, ◌≢◌, ℕ, ℤ, zero, suc, ◌<◌, ◌≤◌, ◌<ℤ◌, ◌≤ℤ◌, Bool, true, false, cond, T, List, [], ◌∷◌, length, get_or, set, drop, refl, sym, ◌∙◌, ap, ap₂, subst, Option, Some, None, ⊎_elim, arith, Less, ◌==◌, ◌&&◌, int_lt}
+use Rattle.std.proofs.Common.{◌≡◌, ◌≢◌, ℕ, ℤ, zero, suc, ◌<◌, ◌≤◌, ◌<ℤ◌, ◌≤ℤ◌, Bool, true, false, cond, T, List, [], ◌∷◌, length, get_or, set, drop, length-set, ◌+◌, refl, sym, ◌∙◌, ap, ap₂, subst, Option, Some, None, ⊎_elim, arith, Less, Equal, ◌==◌, ◌&&◌, int_lt}
 use Rattle.std.proofs.lemmas.Int.{ints}
 use Rattle.std.specs.Ordering.{int_cmp, eq_by_cmp}
 use Rattle.std.specs.List.{AllByRecursion}
@@ -7,6 +7,11 @@ use Rattle.std.specs.FinMap as finmap
 use Rattle.std.specs.FinMap.{find, from_entries, get-remove}
 use Rattle.std.specs.FinMap.Entries.{below_all}
 use Rattle.std.proofs.lemmas.Map.Lookups.{exact_signed}
+use Rattle.std.proofs.lemmas.List.{get_or-set_other, set-get_or}
+use Rattle.std.proofs.lemmas.Cmp.{tied_itself}
+use Rattle.std.specs.Cmp.{int_cmp_total}
+use Rattle.std.proofs.lemmas.Grind.{get_or-set_at}
+use Rattle.std.proofs.Math.Nat.{eq-or-lt_of_le}
 use Rattle.ts_core.specs.Members.{AllDistinct}
 use Rattle.ts_core.specs.Cells.{Cell, cell_cmp}
 use Rattle.ts_core.proofs.Ids.{equal_of}
@@ -16,10 +21,10 @@ use Rattle.ts_core.proofs.Places.{both_of, less_of}
 use Rattle.ts_core.specs.Changes.{or_else}
 use Rattle.std.specs.Bool.{OnTrue, OnFalse}
 use Rattle.ts_cells.specs.Grids.{Lane, lane_of, cell_at, RowOf, held, cell_in, entries_of, IsRising, cells_at, HasLost}
-use Rattle.ts_cells.specs.Expiry.{LosesOne, RemovesOne}
+use Rattle.ts_cells.specs.Expiry.{HasEmptyFront, LosesOne, RemovesOne}
 use Rattle.ts_cells.proofs.Searches.{find_below}
 use Rattle.ts_cells.proofs.GridLemmas.{get_at, get_none, same_grid, has_lane}
-use Rattle.ts_cells.proofs.GridMoves.{RowPut, same_in, false_none}
+use Rattle.ts_cells.proofs.GridMoves.{RowPut, same_in, false_none, row_set, cells_here, all_at, all_set}
 
 int_less : (x y : ℤ) → int_cmp x y ≡ Less → x <ℤ y
 int_less x y h = grind (arith, ints)
@@ -42,10 +47,9 @@ module _ {P : Type 0} where
         | false ↦ λ q k. let m = found_above r.0 rs i j b k in omega (arith, ints)
       ] refl n
 
-  -- the first row without cells may go
-  pub first_empty : (rows : List (RowOf P)) (d : RowOf P) → 0 < length rows → IsRising rows → ((j : ℕ) → held (get_or rows 0 d).1 j ≡ None) → (i : ℤ) (j : ℕ) → held (cells_at (drop 1 rows) i) j ≡ held (cells_at rows i) j
-  first_empty [] d h s none i j = absurd (omega arith)
-  first_empty (r ∷ rs) d h s none i j =
+  -- a first row without cells may go
+  cells_rest : (r : RowOf P) (rs : List (RowOf P)) → IsRising (r ∷ rs) → ((j : ℕ) → held r.1 j ≡ None) → (i : ℤ) (j : ℕ) → held (cells_at rs i) j ≡ held (cells_at (r ∷ rs) i) j
+  cells_rest r rs s none i j =
       elim (eq_by_cmp int_cmp i r.0) as (λ b. eq_by_cmp int_cmp i r.0 ≡ b → held (or_else [] (find int_cmp i rs)) j ≡ held (or_else [] (cond b (Some r.1) (find int_cmp i rs))) j) [
         | true ↦ λ e.
             let same : i ≡ r.0 = exact_signed i r.0 (equal_of (int_cmp i r.0) e) in
@@ -53,18 +57,95 @@ module _ {P : Type 0} where
         | false ↦ λ e. refl
       ] refl
 
-  pub rising_rest : (rows : List (RowOf P)) → IsRising rows → IsRising (drop 1 rows)
-  rising_rest [] s = s
-  rising_rest (r ∷ rs) s = (both_of _ _ s).1
+  pub rising_drop : (n : ℕ) (rows : List (RowOf P)) → IsRising rows → IsRising (drop n rows)
+  rising_drop zero rows s = s
+  rising_drop (suc n) [] s = s
+  rising_drop (suc n) (r ∷ rs) s = rising_drop n rs (both_of _ _ s).1
 
-  pub all_rest : (Q : RowOf P → Type 0) (rows : List (RowOf P)) → AllByRecursion Q rows → AllByRecursion Q (drop 1 rows)
-  all_rest Q [] a = tt
-  all_rest Q (r ∷ rs) a = a.1
+  pub all_drop : (Q : RowOf P → Type 0) (n : ℕ) (rows : List (RowOf P)) → AllByRecursion Q rows → AllByRecursion Q (drop n rows)
+  all_drop Q zero rows a = a
+  all_drop Q (suc n) [] a = tt
+  all_drop Q (suc n) (r ∷ rs) a = all_drop Q n rs a.1
 
-  -- all rows from a first one that isn't below the index are above it
-  pub all_above : (low : ℤ) (rows : List (RowOf P)) (d : RowOf P) → 0 < length rows → IsRising rows → int_lt (get_or rows 0 d).0 low ≡ false → (i : ℤ) (j : ℕ) → held (cells_at rows i) j ≢ None → low ≤ℤ i
-  all_above low [] d h s e i j n = absurd (omega arith)
-  all_above low (r ∷ rs) d h s e i j n = above low r rs (both_of _ _ s).0 e i j n
+  -- nor does any number of them
+  pub cells_drop : (n : ℕ) (rows : List (RowOf P)) → IsRising rows → HasEmptyFront n rows → (i : ℤ) (j : ℕ) → held (cells_at (drop n rows) i) j ≡ held (cells_at rows i) j
+  cells_drop zero rows s f i j = refl
+  cells_drop (suc n) [] s f i j = refl
+  cells_drop (suc n) (r ∷ rs) s f i j =
+      let l = f.bound in
+      let rest : HasEmptyFront n rs = record { bound = omega arith; empty = λ k d a b. f.empty (suc k) d (omega arith) (omega arith) } in
+      cells_drop n rs (both_of _ _ s).1 rest i j ∙ cells_rest r rs s (f.empty 0 r (omega arith) (omega arith)) i j
+
+  pub no_front : (rows : List (RowOf P)) → HasEmptyFront 0 rows
+  no_front rows = record { bound = omega arith; empty = λ k d a b. absurd (omega arith) }
+
+  -- the row behind the empty ones changes
+  front_stays : (n : ℕ) (rows : List (RowOf P)) (r : RowOf P) → HasEmptyFront n rows → HasEmptyFront n (set rows n r)
+  front_stays n rows r f = record {
+    bound = let l = f.bound in omega (arith, length-set rows n r);
+    empty = λ k d a b j. ap (λ (x : RowOf P). held x.1 j) (get_or-set_other rows n k r d (λ e. absurd (omega arith))) ∙ f.empty k d a b j;
+  }
+
+  -- and is empty too
+  pub front_grows : (n : ℕ) (rows : List (RowOf P)) (r : RowOf P) → HasEmptyFront n rows → n < length rows → ((j : ℕ) → held r.1 j ≡ None) → HasEmptyFront (n + 1) (set rows n r)
+  front_grows n rows r f h none = record {
+    bound = omega (arith, length-set rows n r);
+    empty = λ k d a b j.
+        ⊎_elim {C = held (get_or (set rows n r) k d).1 j ≡ None}
+        (λ (e : k ≡ n). ap (λ (x : RowOf P). held x.1 j) (get_or-set_at rows n k r d e h) ∙ none j)
+        (λ (l : k < n). (front_stays n rows r f).empty k d a l j)
+        (eq-or-lt_of_le (let m : k ≤ n = omega arith in m));
+  }
+
+  first_of : (n : ℕ) (rows : List (RowOf P)) (d : RowOf P) → n < length rows → (0 < length (drop n rows)) × (get_or (drop n rows) 0 d ≡ get_or rows n d)
+  first_of n [] d h = absurd (omega arith)
+  first_of zero (r ∷ rs) d h = (h, refl)
+  first_of (suc n) (r ∷ rs) d h = first_of n rs d (omega arith)
+
+  least_of_rows : (low : ℤ) (rows : List (RowOf P)) (d : RowOf P) → 0 < length rows → IsRising rows → int_lt (get_or rows 0 d).0 low ≡ false → (i : ℤ) (j : ℕ) → held (cells_at rows i) j ≢ None → low ≤ℤ i
+  least_of_rows low [] d h s e i j n = absurd (omega arith)
+  least_of_rows low (r ∷ rs) d h s e i j n = above low r rs (both_of _ _ s).0 e i j n
+
+  -- all cells are above the index where the row behind the empty ones isn't below it
+  pub all_above : (low : ℤ) (n : ℕ) (rows : List (RowOf P)) (d : RowOf P) → HasEmptyFront n rows → n < length rows → IsRising rows → int_lt (get_or rows n d).0 low ≡ false → (i : ℤ) (j : ℕ) → held (cells_at rows i) j ≢ None → low ≤ℤ i
+  all_above low n rows d f h s e i j some =
+      let first = first_of n rows d h in
+      least_of_rows low (drop n rows) d first.0 (rising_drop n rows s) (ap (λ (r : RowOf P). int_lt r.0 low) first.1 ∙ e) i j (λ none. some (sym (cells_drop n rows s f i j) ∙ none))
+
+  gone : (n : ℕ) (rows : List (RowOf P)) → length rows ≤ n → drop n rows ≡ []
+  gone zero [] h = refl
+  gone zero (r ∷ rs) h = absurd (omega arith)
+  gone (suc n) [] h = refl
+  gone (suc n) (r ∷ rs) h = gone n rs (omega arith)
+
+  -- and where all rows are empty
+  pub none_left : (low : ℤ) (n : ℕ) (rows : List (RowOf P)) → HasEmptyFront n rows → length rows ≤ n → IsRising rows → (i : ℤ) (j : ℕ) → held (cells_at rows i) j ≢ None → low ≤ℤ i
+  none_left low n rows f h s i j some = absurd (some (sym (cells_drop n rows s f i j) ∙ ap (λ (rs : List (RowOf P)). held (cells_at rs i) j) (gone n rows h)))
+
+-- a row that is looked at, and left as it is
+pub unchanged : {X : Type 0} (xs : List X) (n : ℕ) (x : X) → x ≡ get_or xs n x → set xs n x ≡ xs
+unchanged xs n x e = ap (set xs n) e ∙ set-get_or xs n x
+
+-- no row grew
+abbrev pub NoWider : {P : Type 0} → List (RowOf P) → List (RowOf P) → Type 0
+NoWider {P} rows after = (n : ℕ) → AllByRecursion (λ (r : RowOf P). length r.1 ≤ n) rows → AllByRecursion (λ (r : RowOf P). length r.1 ≤ n) after
+
+-- a row in place of one of the same bucket
+module _ {P : Type 0} (rows : List (RowOf P)) (n : ℕ) (d r : RowOf P) (s : IsRising rows) (h : n < length rows) (e : d ≡ get_or rows n d) where
+  its_tie : int_cmp (get_or rows n d).0 d.0 ≡ Equal
+  its_tie = ap (λ (x : RowOf P). int_cmp x.0 d.0) (sym e) ∙ tied_itself int_cmp_total d.0
+
+  pub put_here : r.0 ≡ d.0 → RowPut rows (set rows n r) d.0 r.1
+  put_here same = row_set rows d.0 n r d s h its_tie (same ∙ ap (λ (x : RowOf P). x.0) e)
+
+  pub was_here : d.1 ≡ cells_at rows d.0
+  was_here = ap (λ (x : RowOf P). x.1) e ∙ cells_here rows d.0 n d s h its_tie
+
+  pub no_wider : length r.1 ≤ length d.1 → NoWider rows (set rows n r)
+  no_wider l m a =
+      let Narrow : RowOf P → Type 0 = λ x. length x.1 ≤ m in
+      let before : length d.1 ≤ m = subst Narrow (sym e) (all_at Narrow rows n d h a) in
+      all_set Narrow rows n r a (omega (arith, l, before))
 
 -- a row that lost a cell
 pub loses : {P : Type 0} (low : ℤ) (rows before after : List (RowOf P)) (i : ℤ) (cs : List (Option P)) → ((p : ℤ) (q : ℕ) → held (cells_at before p) q ≡ held (cells_at rows p) q) → i <ℤ low → RowPut before after i cs → HasLost (cells_at before i) cs → LosesOne low rows after
@@ -95,10 +176,6 @@ removes low ls rows after d s t inside l =
           (λ q n. get-remove cells_total (from_entries (entries_of ls rows)) k q ∙ ap₂ (λ b o. cond b None o) (false_none ls l.index l.lane q within n) (get_none q ls rows n)),
     )
 
-pub set_first : {X : Type 0} (xs : List X) (d : X) → d ≡ get_or xs 0 d → set xs 0 d ≡ xs
-set_first [] d e = refl
-set_first (x ∷ xs) d e = ap (λ y. y ∷ xs) e
-
 held_within : {P : Type 0} (cs : List (Option P)) (j : ℕ) → held cs j ≢ None → j < length cs
 held_within [] j h = absurd (h refl)
 held_within (c ∷ cs) zero h = omega arith
@@ -111,10 +188,6 @@ inside_of n (r ∷ rs) a i j h =
       | true ↦ λ k. let w : j < length r.1 = held_within r.1 j k in let m = a.0 in omega arith
       | false ↦ λ k. inside_of n rs a.1 i j k
     ] h
-
-pub first_set : {X : Type 0} (xs : List X) (r : X) → 0 < length xs → get_or (set xs 0 r) 0 r ≡ r
-first_set [] r h = refl
-first_set (x ∷ xs) r h = refl
 
 pub on_true : {A B : Type 0} (b : Bool) → (A → B) → OnTrue b A → OnTrue b B
 on_true true f a = f a

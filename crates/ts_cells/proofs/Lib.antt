@@ -4,6 +4,8 @@ pub mod GridMoves
 pub mod LaneLemmas
 pub mod LaneOrder
 pub mod RowLemmas
+pub mod PlaceLemmas
 pub mod RowRanges
 pub mod ExpiryLemmas
+pub mod Sweeps
 pub mod WalkLemmas

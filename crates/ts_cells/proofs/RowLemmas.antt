@@ -2,9 +2,8 @@
 use Rattle.std.proofs.Common.{◌≡◌, ◌≢◌, ℕ, zero, suc, ◌<◌, ◌≤◌, ◌+◌, ◌==◌, true, false, cond, List, [], ◌∷◌, ◌++◌, length, length-append, get_or, set, take, refl, sym, ◌∙◌, ap, subst, Option, Some, None, option_map, ⊎_elim, true≢false, arith}
 use Rattle.std.specs.List.{slice_get}
 use Rattle.std.proofs.lemmas.Option.{slice_get_past, slice_get-get_or}
-use Rattle.std.proofs.lemmas.List.{length-set, length-take-le, get_or-set_same, get_or-set_other, get_or_append_left}
+use Rattle.std.proofs.lemmas.List.{length-set, length-take-le, get_or_append_left}
 use Rattle.std.proofs.lemmas.Bool.{cases_lt}
-use Rattle.std.proofs.Math.ListN.{get_or-eq_default}
 use Rattle.std.proofs.Math.Seq.{get_or-append_seam}
 use Rattle.ts_core.specs.Changes.{or_else}
 use Rattle.ts_cells.specs.Grids.{held, HasLost}
@@ -62,26 +61,16 @@ module _ {P : Type 0} where
 
 -- ---- places
 
-place_set : (places : List ℕ) (lane place j : ℕ) → lane < length places → place_of (set places lane place) j ≡ cond (j == lane) place (place_of places j)
-place_set places lane place j h =
-    elim (j == lane) as (λ b. (j == lane) ≡ b → place_of (set places lane place) j ≡ cond b place (place_of places j)) [
-      | true ↦ λ e. ap (place_of (set places lane place)) (same_number j lane e) ∙ get_or-set_same places lane place no_place h
-      | false ↦ λ e. get_or-set_other places lane j place no_place (other_number j lane e)
-    ] refl
-
 -- a lane more, that had no cell
-module _ (places lanes after : List ℕ) (lane count : ℕ) (is : IsPlaced places lanes count) (absent : count ≤ place_of places lane) (room : count < no_place) (within : lane < length after) (same : (j : ℕ) → place_of after j ≡ place_of places j) where
-  pub place_made : (j : ℕ) → place_of (set after lane count) j ≡ cond (j == lane) count (place_of places j)
-  place_made j = place_set after lane count j within ∙ ap (cond (j == lane) count) (same j)
-
-  made_there : (n : ℕ) → n < count + 1 → place_of (set after lane count) (get_or (lanes ++ lane ∷ []) n 0) ≡ n
+module _ (places lanes after : List ℕ) (lane count : ℕ) (is : IsPlaced places lanes count) (absent : count ≤ place_of places lane) (room : count < no_place) (put : (j : ℕ) → place_of after j ≡ cond (j == lane) count (place_of places j)) where
+  made_there : (n : ℕ) → n < count + 1 → place_of after (get_or (lanes ++ lane ∷ []) n 0) ≡ n
   made_there n h =
-      ⊎_elim {C = place_of (set after lane count) (get_or (lanes ++ lane ∷ []) n 0) ≡ n}
+      ⊎_elim {C = place_of after (get_or (lanes ++ lane ∷ []) n 0) ≡ n}
       (λ (l : n < count).
       let old : place_of places (get_or lanes n 0) ≡ n = is.there n l in
       let at : get_or (lanes ++ lane ∷ []) n 0 ≡ get_or lanes n 0 = get_or_append_left lanes (lane ∷ []) 0 n (let m = is.as_many in omega arith) in
-      ap (place_of (set after lane count)) at
-      ∙ place_made (get_or lanes n 0)
+      ap (place_of after) at
+      ∙ put (get_or lanes n 0)
       ∙ elim (get_or lanes n 0 == lane) as (λ b. (get_or lanes n 0 == lane) ≡ b → cond b count (place_of places (get_or lanes n 0)) ≡ n) [
         | true ↦ λ e. absurd (let q : place_of places lane ≡ n = sym (ap (place_of places) (same_number (get_or lanes n 0) lane e)) ∙ old in omega arith)
         | false ↦ λ e. old
@@ -89,30 +78,30 @@ module _ (places lanes after : List ℕ) (lane count : ℕ) (is : IsPlaced place
       (λ (g : count ≤ n).
       let here : n ≡ length lanes = let m = is.as_many in omega arith in
       let at : get_or (lanes ++ lane ∷ []) n 0 ≡ lane = ap (λ k. get_or (lanes ++ lane ∷ []) k 0) here ∙ get_or-append_seam lanes lane [] 0 in
-      ap (place_of (set after lane count)) at ∙ place_made lane ∙ ap (λ b. cond b count (place_of places lane)) (number_itself lane lane refl) ∙ sym is.as_many ∙ sym here)
+      ap (place_of after) at ∙ put lane ∙ ap (λ b. cond b count (place_of places lane)) (number_itself lane lane refl) ∙ sym is.as_many ∙ sym here)
       (cases_lt n count)
 
-  made_back : (j : ℕ) → place_of (set after lane count) j < count + 1 → get_or (lanes ++ lane ∷ []) (place_of (set after lane count) j) 0 ≡ j
+  made_back : (j : ℕ) → place_of after j < count + 1 → get_or (lanes ++ lane ∷ []) (place_of after j) 0 ≡ j
   made_back j h =
-      elim (j == lane) as (λ b. (j == lane) ≡ b → get_or (lanes ++ lane ∷ []) (place_of (set after lane count) j) 0 ≡ j) [
-        | true ↦ λ e. ap (λ k. get_or (lanes ++ lane ∷ []) k 0) (place_made j ∙ ap (λ b. cond b count (place_of places j)) e ∙ sym is.as_many) ∙ get_or-append_seam lanes lane [] 0 ∙ sym (same_number j lane e)
+      elim (j == lane) as (λ b. (j == lane) ≡ b → get_or (lanes ++ lane ∷ []) (place_of after j) 0 ≡ j) [
+        | true ↦ λ e. ap (λ k. get_or (lanes ++ lane ∷ []) k 0) (put j ∙ ap (λ b. cond b count (place_of places j)) e ∙ sym is.as_many) ∙ get_or-append_seam lanes lane [] 0 ∙ sym (same_number j lane e)
         | false ↦ λ e.
-            let at : place_of (set after lane count) j ≡ place_of places j = place_made j ∙ ap (λ b. cond b count (place_of places j)) e in
+            let at : place_of after j ≡ place_of places j = put j ∙ ap (λ b. cond b count (place_of places j)) e in
             let few : place_of places j < count =
             ⊎_elim {C = place_of places j < count} (λ l. l) (λ (g : count ≤ place_of places j). let n = is.none j g in absurd (omega arith)) (cases_lt (place_of places j) count) in
             ap (λ k. get_or (lanes ++ lane ∷ []) k 0) at ∙ get_or_append_left lanes (lane ∷ []) 0 (place_of places j) (let m = is.as_many in omega arith) ∙ is.back j few
       ] refl
 
-  made_none : (j : ℕ) → count + 1 ≤ place_of (set after lane count) j → place_of (set after lane count) j ≡ no_place
+  made_none : (j : ℕ) → count + 1 ≤ place_of after j → place_of after j ≡ no_place
   made_none j h =
-      elim (j == lane) as (λ b. (j == lane) ≡ b → place_of (set after lane count) j ≡ no_place) [
-        | true ↦ λ e. absurd (let at : place_of (set after lane count) j ≡ count = place_made j ∙ ap (λ b. cond b count (place_of places j)) e in omega arith)
+      elim (j == lane) as (λ b. (j == lane) ≡ b → place_of after j ≡ no_place) [
+        | true ↦ λ e. absurd (let at : place_of after j ≡ count = put j ∙ ap (λ b. cond b count (place_of places j)) e in omega arith)
         | false ↦ λ e.
-            let at : place_of (set after lane count) j ≡ place_of places j = place_made j ∙ ap (λ b. cond b count (place_of places j)) e in
+            let at : place_of after j ≡ place_of places j = put j ∙ ap (λ b. cond b count (place_of places j)) e in
             at ∙ is.none j (omega arith)
       ] refl
 
-  pub made_placed : IsPlaced (set after lane count) (lanes ++ lane ∷ []) (count + 1)
+  pub made_placed : IsPlaced after (lanes ++ lane ∷ []) (count + 1)
   made_placed = record {
     few = omega arith;
     as_many = length-append lanes (lane ∷ []) ∙ ap (λ n. n + 1) is.as_many;
@@ -134,58 +123,51 @@ module _ (places lanes front : List ℕ) (lane count : ℕ) (is : IsPlaced place
   last_alone j e =
       sym (is.back j (let m = one_more in omega arith)) ∙ ap (λ k. get_or lanes k 0) e ∙ ap (λ ls. get_or ls (length front) 0) last ∙ get_or-append_seam front lane [] 0
 
-  pub last_within : lane < length places
-  last_within =
-      ⊎_elim {C = lane < length places} (λ l. l)
-      (λ (g : length places ≤ lane). let d : place_of places lane ≡ no_place = get_or-eq_default places no_place g in let f = is.few in let m = one_more in let p = last_place in absurd (omega arith)) (cases_lt lane (length places))
-
-  pub place_gone : (j : ℕ) → place_of (set places lane no_place) j ≡ cond (j == lane) no_place (place_of places j)
-  place_gone j = place_set places lane no_place j last_within
-
-  gone_there : (n : ℕ) → n < length front → place_of (set places lane no_place) (get_or front n 0) ≡ n
-  gone_there n h =
-      let at : get_or lanes n 0 ≡ get_or front n 0 = ap (λ ls. get_or ls n 0) last ∙ get_or_append_left front (lane ∷ []) 0 n h in
-      let old : place_of places (get_or front n 0) ≡ n = ap (place_of places) (sym at) ∙ is.there n (let m = one_more in omega arith) in
-      place_gone (get_or front n 0)
-      ∙ elim (get_or front n 0 == lane) as (λ b. (get_or front n 0 == lane) ≡ b → cond b no_place (place_of places (get_or front n 0)) ≡ n) [
-        | true ↦ λ e. absurd (let q : place_of places lane ≡ n = sym (ap (place_of places) (same_number (get_or front n 0) lane e)) ∙ old in let p = last_place in omega arith)
-        | false ↦ λ e. old
-      ] refl
-
   pub gone_few : (j : ℕ) → (j == lane) ≡ false → place_of places j < count → place_of places j < length front
   gone_few j e h =
       ⊎_elim {C = place_of places j < length front} (λ l. l)
       (λ (g : length front ≤ place_of places j). absurd (other_number j lane e (last_alone j (let m = one_more in omega arith)))) (cases_lt (place_of places j) (length front))
 
-  gone_back : (j : ℕ) → place_of (set places lane no_place) j < length front → get_or front (place_of (set places lane no_place) j) 0 ≡ j
-  gone_back j h =
-      elim (j == lane) as (λ b. (j == lane) ≡ b → get_or front (place_of (set places lane no_place) j) 0 ≡ j) [
-        | true ↦ λ e. absurd (let at : place_of (set places lane no_place) j ≡ no_place = place_gone j ∙ ap (λ b. cond b no_place (place_of places j)) e in let f = is.few in let m = one_more in omega arith)
-        | false ↦ λ e.
-            let at : place_of (set places lane no_place) j ≡ place_of places j = place_gone j ∙ ap (λ b. cond b no_place (place_of places j)) e in
-            let few : place_of places j < length front = omega arith in
-            ap (λ k. get_or front k 0) at ∙ sym (ap (λ ls. get_or ls (place_of places j) 0) last ∙ get_or_append_left front (lane ∷ []) 0 (place_of places j) few) ∙ is.back j (let m = one_more in omega arith)
-      ] refl
+  module _ (after : List ℕ) (gone : (j : ℕ) → place_of after j ≡ cond (j == lane) no_place (place_of places j)) where
+    gone_there : (n : ℕ) → n < length front → place_of after (get_or front n 0) ≡ n
+    gone_there n h =
+        let at : get_or lanes n 0 ≡ get_or front n 0 = ap (λ ls. get_or ls n 0) last ∙ get_or_append_left front (lane ∷ []) 0 n h in
+        let old : place_of places (get_or front n 0) ≡ n = ap (place_of places) (sym at) ∙ is.there n (let m = one_more in omega arith) in
+        gone (get_or front n 0)
+        ∙ elim (get_or front n 0 == lane) as (λ b. (get_or front n 0 == lane) ≡ b → cond b no_place (place_of places (get_or front n 0)) ≡ n) [
+          | true ↦ λ e. absurd (let q : place_of places lane ≡ n = sym (ap (place_of places) (same_number (get_or front n 0) lane e)) ∙ old in let p = last_place in omega arith)
+          | false ↦ λ e. old
+        ] refl
 
-  gone_none : (j : ℕ) → length front ≤ place_of (set places lane no_place) j → place_of (set places lane no_place) j ≡ no_place
-  gone_none j h =
-      elim (j == lane) as (λ b. (j == lane) ≡ b → place_of (set places lane no_place) j ≡ no_place) [
-        | true ↦ λ e. place_gone j ∙ ap (λ b. cond b no_place (place_of places j)) e
-        | false ↦ λ e.
-            let at : place_of (set places lane no_place) j ≡ place_of places j = place_gone j ∙ ap (λ b. cond b no_place (place_of places j)) e in
-            at ∙ ⊎_elim {C = place_of places j ≡ no_place} (λ (l : place_of places j < count). absurd (let g = gone_few j e l in omega arith)) (λ g. is.none j g) (cases_lt (place_of places j) count)
-      ] refl
+    gone_back : (j : ℕ) → place_of after j < length front → get_or front (place_of after j) 0 ≡ j
+    gone_back j h =
+        elim (j == lane) as (λ b. (j == lane) ≡ b → get_or front (place_of after j) 0 ≡ j) [
+          | true ↦ λ e. absurd (let at : place_of after j ≡ no_place = gone j ∙ ap (λ b. cond b no_place (place_of places j)) e in let f = is.few in let m = one_more in omega arith)
+          | false ↦ λ e.
+              let at : place_of after j ≡ place_of places j = gone j ∙ ap (λ b. cond b no_place (place_of places j)) e in
+              let few : place_of places j < length front = omega arith in
+              ap (λ k. get_or front k 0) at ∙ sym (ap (λ ls. get_or ls (place_of places j) 0) last ∙ get_or_append_left front (lane ∷ []) 0 (place_of places j) few) ∙ is.back j (let m = one_more in omega arith)
+        ] refl
 
-  pub gone_placed : (n : ℕ) → n + 1 ≡ count → IsPlaced (set places lane no_place) front n
-  gone_placed n e =
-      let m : n ≡ length front = let o = one_more in omega arith in
-      subst (IsPlaced (set places lane no_place) front) (sym m) (record {
-        few = let f = is.few in let o = one_more in omega arith;
-        as_many = refl;
-        there = gone_there;
-        back = gone_back;
-        none = gone_none;
-      })
+    gone_none : (j : ℕ) → length front ≤ place_of after j → place_of after j ≡ no_place
+    gone_none j h =
+        elim (j == lane) as (λ b. (j == lane) ≡ b → place_of after j ≡ no_place) [
+          | true ↦ λ e. gone j ∙ ap (λ b. cond b no_place (place_of places j)) e
+          | false ↦ λ e.
+              let at : place_of after j ≡ place_of places j = gone j ∙ ap (λ b. cond b no_place (place_of places j)) e in
+              at ∙ ⊎_elim {C = place_of places j ≡ no_place} (λ (l : place_of places j < count). absurd (let g = gone_few j e l in omega arith)) (λ g. is.none j g) (cases_lt (place_of places j) count)
+        ] refl
+
+    pub gone_placed : (n : ℕ) → n + 1 ≡ count → IsPlaced after front n
+    gone_placed n e =
+        let m : n ≡ length front = let o = one_more in omega arith in
+        subst (IsPlaced after front) (sym m) (record {
+          few = let f = is.few in let o = one_more in omega arith;
+          as_many = refl;
+          there = gone_there;
+          back = gone_back;
+          none = gone_none;
+        })
 
 -- ---- what is kept then
 
@@ -232,12 +214,12 @@ module _ {P : Type 0} where
       ] refl
 
   -- one cell is made
-  pub part_made : (parts : List P) (places lanes after : List ℕ) (lane : ℕ) (x : P) → IsPlaced places lanes (length parts) → length parts ≤ place_of places lane → length parts < no_place → lane < length after
-      → ((j : ℕ) → place_of after j ≡ place_of places j) → (j : ℕ) → held (by_lane (parts ++ x ∷ []) (set after lane (length parts))) j ≡ cond (j == lane) (Some x) (held (by_lane parts places) j)
-  part_made parts places lanes after lane x is absent room within same j =
+  pub part_made : (parts : List P) (places lanes after : List ℕ) (lane : ℕ) (x : P) → IsPlaced places lanes (length parts) → length parts ≤ place_of places lane → length parts < no_place
+      → ((j : ℕ) → place_of after j ≡ cond (j == lane) (length parts) (place_of places j)) → (j : ℕ) → held (by_lane (parts ++ x ∷ []) after) j ≡ cond (j == lane) (Some x) (held (by_lane parts places) j)
+  part_made parts places lanes after lane x is absent room put j =
       let long : length (parts ++ x ∷ []) ≡ length parts + 1 = length-append parts (x ∷ []) in
-      held_at (parts ++ x ∷ []) (set after lane (length parts)) j (omega arith)
-      ∙ ap (slice_get (parts ++ x ∷ [])) (place_made places lanes after lane (length parts) is absent room within same j)
+      held_at (parts ++ x ∷ []) after j (omega arith)
+      ∙ ap (slice_get (parts ++ x ∷ [])) (put j)
       ∙ elim (j == lane) as (λ b. slice_get (parts ++ x ∷ []) (cond b (length parts) (place_of places j)) ≡ cond b (Some x) (held (by_lane parts places) j)) [
         | true ↦ last_part parts x
         | false ↦
@@ -248,8 +230,9 @@ module _ {P : Type 0} where
       ]
 
   -- the last cell is removed
-  pub part_lost : (parts : List P) (places lanes front : List ℕ) (lane n : ℕ) → IsPlaced places lanes (length parts) → lanes ≡ front ++ lane ∷ [] → n + 1 ≡ length parts → HasLost (by_lane parts places) (by_lane (take n parts) (set places lane no_place))
-  part_lost parts places lanes front lane n is last e =
+  pub part_lost : (parts : List P) (places lanes front after : List ℕ) (lane n : ℕ) → IsPlaced places lanes (length parts) → lanes ≡ front ++ lane ∷ [] → n + 1 ≡ length parts
+      → ((j : ℕ) → place_of after j ≡ cond (j == lane) no_place (place_of places j)) → HasLost (by_lane parts places) (by_lane (take n parts) after)
+  part_lost parts places lanes front after lane n is last e gone =
       let many : length parts ≡ length front + 1 = one_more places lanes front lane (length parts) is last in
       let short : length (take n parts) ≡ n = length-take-le n parts (omega arith) in
       record {
@@ -259,8 +242,8 @@ module _ {P : Type 0} where
             let some : slice_get parts (place_of places lane) ≡ None = sym (held_at parts places lane is.few) ∙ none in
             no_part parts (place_of places lane) (omega arith) some;
         cells = λ j.
-            held_at (take n parts) (set places lane no_place) j (let f = is.few in omega arith)
-            ∙ ap (slice_get (take n parts)) (place_gone places lanes front lane (length parts) is last j)
+            held_at (take n parts) after j (let f = is.few in omega arith)
+            ∙ ap (slice_get (take n parts)) (gone j)
             ∙ elim (j == lane) as (λ b. (j == lane) ≡ b → slice_get (take n parts) (cond b no_place (place_of places j)) ≡ cond b None (held (by_lane parts places) j)) [
               | true ↦ λ h. slice_get_past (take n parts) no_place (let f = is.few in omega arith)
               | false ↦ λ h.

@@ -1,10 +1,16 @@
 -- Cells below an index are removed. (Own rules.)
-use Rattle.std.specs.Prelude.{◌≡◌, ◌≢◌, ℕ, zero, suc, ℤ, ◌<ℤ◌, ◌≤ℤ◌, ◌==◌, ◌&&◌, List, None, if◌then◌else◌}
+use Rattle.std.specs.Prelude.{◌≡◌, ◌≢◌, ℕ, zero, suc, ℤ, ◌≤◌, ◌<ℤ◌, ◌≤ℤ◌, ◌==◌, ◌&&◌, List, length, None, if◌then◌else◌}
 use Rattle.std.specs.Ordering.{int_cmp, eq_by_cmp}
+use Rattle.std.specs.List.{AllWithin}
 use Rattle.std.specs.FinMap as finmap
 use Rattle.std.specs.FinMap.{FinMap}
 use Rattle.ts_core.specs.Cells.{Cell, cell_cmp}
 use Rattle.ts_cells.specs.Grids.{RowOf, held, cells_at}
+
+-- so many rows at the front have no cells
+pub record HasEmptyFront {P : Type 0} (count : ℕ) (rows : List (RowOf P)) : Type 0 where
+  pub bound : count ≤ length rows
+  pub empty : AllWithin (λ (r : RowOf P). (j : ℕ) → held r.1 j ≡ None) rows 0 count
 
 -- rows lost the cell of one lane of one bucket below an index, and no other
 pub record LosesOne {P : Type 0} (low : ℤ) (before after : List (RowOf P)) : Type 0 where

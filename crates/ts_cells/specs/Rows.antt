@@ -1,5 +1,5 @@
 -- The cells of one bucket in the order of making, with the place of each lane's cell. (Own rules.)
-use Rattle.std.specs.Prelude.{◌≡◌, ℕ, ◌<◌, ◌≤◌, List, length, get_or, map, Option, slice_get}
+use Rattle.std.specs.Prelude.{◌≡◌, ℕ, ◌<◌, ◌≤◌, List, ◌++◌, replicate, length, get_or, map, Option, slice_get}
 
 -- stands where a lane has no cell
 abbrev pub no_place : ℕ
@@ -8,6 +8,10 @@ no_place = 4294967295
 -- the place of a lane's cell
 abbrev pub place_of : List ℕ → ℕ → ℕ
 place_of places lane = get_or places lane no_place
+
+-- the places of all lanes, from those of a first lane on
+abbrev pub from_first : ℕ → List ℕ → List ℕ
+from_first first places = replicate first no_place ++ places
 
 -- what is kept of each lane
 abbrev pub by_lane : {P : Type 0} → List P → List ℕ → List (Option P)

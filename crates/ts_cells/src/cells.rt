@@ -1,8 +1,8 @@
 //! The cells of a rule.
 ghost use Rattle.std.specs.Bool.{OnTrue, OnFalse};
 ghost use Rattle.ts_core.specs.Cells.{Cell};
-ghost use Rattle.ts_cells.specs.Expiry.{LosesOne, AreAbove, RemovesOne, Removes};
-ghost use Rattle.std.specs.Prelude.{◌≡◌, ◌≢◌, ◌≤ℤ◌, None, vec_len, drop, ℕ, ◌<◌, ◌≤◌, ◌++◌, ℤ, [], ◌∷◌, length, get_or, OnOk, OnErr, IfOk, MatchResult, map};
+ghost use Rattle.ts_cells.specs.Expiry.{HasEmptyFront, LosesOne, AreAbove, Removes};
+ghost use Rattle.std.specs.Prelude.{◌≡◌, ◌≢◌, ◌≤ℤ◌, None, vec_len, drop, ℕ, ◌<◌, ◌≤◌, ◌++◌, ℤ, List, [], ◌∷◌, length, get_or, OnOk, OnErr, IfOk, MatchResult, map};
 ghost use Rattle.std.specs.declared.cmp.Ordering.{Ordering};
 ghost use Rattle.std.specs.Ordering.{int_cmp};
 ghost use Rattle.std.specs.List.{HoldsAt, AllByRecursion};
@@ -10,7 +10,7 @@ ghost use Rattle.std.specs.List.Sorted.{IsPartitionPoint, IsSearchInRange};
 ghost use Rattle.std.specs.FinMap as finmap;
 ghost use Rattle.ts_core.specs.Changes.{changed, joined_within};
 ghost use Rattle.ts_cells.specs.Changes.{roomy};
-ghost use Rattle.ts_cells.specs.Grids.{IsRising, cells_at, cell_in, lane_named, lane_of, IsAt, Gains};
+ghost use Rattle.ts_cells.specs.Grids.{Lane, IsRising, IsGrid, grid_of, held, cells_at, cell_in, lane_named, lane_of, IsAt, Gains};
 ghost use Rattle.ts_cells.specs.Walks.{entry_of, entries_within};
 
 use crate::lane::LaneId;
@@ -92,36 +92,61 @@ fn row_for<P: Partial + Drop, A: Allocator + Copy>(
     }
 }
 
-/// Drops the first row.
-fn drop_first<P: Partial + Drop, A: Allocator + Copy>(rows: &mut Vec<Row<P, A>, A>)
-    requires { 1 ≤ vec_len rows.old }
-    ensures { rows.new.items ≡ drop 1 rows.old.items }
+/// Drops the rows at the front.
+fn drop_front<P: Partial + Drop, A: Allocator + Copy>(rows: &mut Vec<Row<P, A>, A>, count: usize)
+    requires { count ≤ vec_len rows.old }
+    ensures { rows.new.items ≡ drop count rows.old.items }
 {
-    drop(rows.drain(..1));
+    drop(rows.drain(..count));
 }
 
-/// Removes a cell of a bucket below an index, and rows without cells before it. It tells whether there was one.
+/// Removes a cell of a bucket below an index, where the rows at the front that are known to be empty are counted: so
+/// are those that are met before the cell. It tells whether there was one.
 fn remove_one<P: Partial + Drop, A: Allocator + Copy>(
     rows: &mut Vec<Row<P, A>, A>,
+    emptied: &mut usize,
     low: &i128,
 ) -> bool
-    requires { IsRising rows.old.items }
+    requires rising { IsRising rows.old.items }
+    requires front { HasEmptyFront emptied.old rows.old.items }
     ensures rising { IsRising rows.new.items }
+    ensures front { HasEmptyFront emptied.new rows.new.items }
     ensures narrow { (n : ℕ) → AllByRecursion (λ r. length r.1 ≤ n) rows.old.items → AllByRecursion (λ r. length r.1 ≤ n) rows.new.items }
     ensures removed { OnTrue result (LosesOne low.now rows.old.items rows.new.items) }
     ensures none { OnFalse result (AreAbove low.now rows.old.items rows.new.items) }
 {
-    while !rows.is_empty() {
-        let row = &mut rows[0];
+    while *emptied < rows.len() {
+        let row = &mut rows[*emptied];
         if !row.is_below(low) {
             return false;
         }
         if row.remove_last() {
             return true;
         }
-        drop_first(rows);
+        *emptied += 1;
     }
     false
+}
+
+/// Removes cells of buckets below an index: 256, or all where there are fewer. The rows that it empties go together
+/// at the end. It tells how many cells it removed.
+fn remove_below<P: Partial + Drop, A: Allocator + Copy>(
+    rows: &mut Vec<Row<P, A>, A>,
+    low: &i128,
+) -> usize
+    requires { IsRising rows.old.items }
+    ensures rows { (ls : List Lane) → IsGrid ls rows.old.items → IsGrid ls rows.new.items }
+    ensures few { result ≤ 256 }
+    ensures removed { (ls : List Lane) → IsGrid ls rows.old.items → Removes low.now result (grid_of ls rows.old.items).cells (grid_of ls rows.new.items).cells }
+    ensures all { result < 256 → (i : ℤ) (j : ℕ) → held (cells_at rows.new.items i) j ≢ None → low.now ≤ℤ i }
+{
+    let mut emptied = 0;
+    let mut removed = 0;
+    while removed < 256 && remove_one(rows, &mut emptied, low) {
+        removed += 1;
+    }
+    drop_front(rows, emptied);
+    removed
 }
 
 impl<P: Partial + Drop, A: Allocator + Copy> Cells<P, A> {
@@ -204,19 +229,6 @@ impl<P: Partial + Drop, A: Allocator + Copy> Cells<P, A> {
         ensures removed { Removes low.now result self.old.cells self.new.cells }
         ensures all { result < 256 → (k : Cell) → finmap.get self.new.cells k ≢ None → low.now ≤ℤ k.index }
     {
-        let mut removed = 0;
-        while removed < 256 && self.expire_one(low) {
-            removed += 1;
-        }
-        removed
-    }
-
-    /// Removes a cell below an index. It tells whether there was one.
-    fn expire_one(&mut self, low: &i128) -> bool
-        ensures lanes { self.new.lanes ≡ self.old.lanes }
-        ensures removed { OnTrue result (RemovesOne low.now self.old.cells self.new.cells) }
-        ensures none { OnFalse result ((self.new.cells ≡ self.old.cells) × ((k : Cell) → finmap.get self.new.cells k ≢ None → low.now ≤ℤ k.index)) }
-    {
-        remove_one(&mut self.rows, low)
+        remove_below(&mut self.rows, low)
     }
 }

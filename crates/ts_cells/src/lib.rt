@@ -5,6 +5,7 @@
 mod cells;
 mod lane;
 mod lanes;
+mod places;
 mod row;
 mod walk;
 

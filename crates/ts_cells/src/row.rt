@@ -3,26 +3,24 @@ ghost use Rattle.std.specs.Prelude.{◌≡◌, ◌≤◌, ◌<◌, ◌+◌, ℕ,
 ghost use Rattle.std.specs.Ordering.{int_cmp};
 ghost use Rattle.ts_core.specs.Changes.{or_else, joined_within};
 ghost use Rattle.ts_cells.specs.Grids.{held, HasLost};
-ghost use Rattle.ts_cells.specs.Rows.{no_place, place_of};
+ghost use Rattle.ts_cells.specs.Rows.{no_place};
 ghost use Rattle.std.specs.Bool.{OnTrue, OnFalse};
 
+use crate::places::{NO_CELL, Places};
 use std::alloc::{AllocError, Allocator};
 use std::cmp::Ordering;
 use std::marker::Model;
 use ts_core::Partial;
 
-/// Stands in place of the place of a cell where a lane has none.
-const NO_CELL: u32 = u32::MAX;
-
 /// How many points the parts of a cell can have together.
 const MOST_POINTS: u64 = 4_611_686_018_427_387_904;
 
-/// A bucket's index, with its cells in the order of making. A lane without a cell costs its place alone.
+/// A bucket's index, with its cells in the order of making. A lane without a cell costs its place at most.
 #[derive(Drop)]
 pub(crate) struct Row<P, A: Allocator> {
     index: i128,
     /// Of each lane the place of its cell.
-    places: Vec<u32, A>,
+    places: Places<A>,
     /// Of each cell its lane.
     lanes: Vec<u32, A>,
     /// Of each cell what is kept of it.
@@ -38,9 +36,9 @@ impl<P, A: Allocator> Model for Row<P, A> {
 
     ghost coded = { coded× coded_ℤ (coded_list (coded_option P.code)) };
 
-    ghost view = { λ r. (r.index, by_lane r.parts.items r.places.items) };
+    ghost view = { λ r. (r.index, by_lane r.parts.items r.places) };
 
-    ghost invariant = { λ r. IsPlaced r.places.items r.lanes.items (length r.parts.items) };
+    ghost invariant = { λ r. IsPlaced r.places r.lanes.items (length r.parts.items) };
 }
 
 /// The part merged in, where the counts fit together.
@@ -56,16 +54,6 @@ fn joined<P: Partial>(cell: P, part: P) -> P
     }
 }
 
-/// The place of a lane's cell.
-fn place_in(places: &[u32], lane: u32) -> u32
-    ensures { result ≡ place_of places.now lane }
-{
-    match places.get(lane as usize) {
-        Some(place) => *place,
-        None => NO_CELL,
-    }
-}
-
 /// The place of one cell more. One that needs more than 32 bits is told as want of memory.
 fn next_place(count: usize) -> Result<u32, AllocError>
     ensures count { IfOk result (λ place. place ≡ count) }
@@ -77,19 +65,6 @@ fn next_place(count: usize) -> Result<u32, AllocError>
     }
 }
 
-/// Makes the places reach a lane.
-fn widen<A: Allocator>(places: &mut Vec<u32, A>, lane: u32) -> Result<(), AllocError>
-    ensures places { (j : ℕ) → place_of places.new.items j ≡ place_of places.old.items j }
-    ensures ok { OnOk result (lane < length places.new.items) }
-    ensures len { length places.new.items ≤ max (length places.old.items) (lane + 1) }
-{
-    let lane = lane as usize;
-    if lane < places.len() {
-        return Ok(());
-    }
-    places.resize(lane + 1, NO_CELL)
-}
-
 impl<P: Partial + Drop, A: Allocator + Copy> Row<P, A> {
     /// A row without cells.
     pub(crate) fn new(alloc: A, index: &i128) -> Row<P, A>
@@ -97,7 +72,7 @@ impl<P: Partial + Drop, A: Allocator + Copy> Row<P, A> {
     {
         Row {
             index: *index,
-            places: Vec::new(alloc),
+            places: Places::new(alloc),
             lanes: Vec::new(alloc),
             parts: Vec::new(alloc),
         }
@@ -128,7 +103,7 @@ impl<P: Partial + Drop, A: Allocator + Copy> Row<P, A> {
     pub(crate) fn get(&self, lane: u32) -> Option<P>
         ensures { result ≡ held self.now.1 lane }
     {
-        let place = place_in(self.places.as_slice(), lane) as usize;
+        let place = self.places.get(lane) as usize;
         if place < self.parts.len() {
             Some(self.parts[place])
         } else {
@@ -147,7 +122,7 @@ impl<P: Partial + Drop, A: Allocator + Copy> Row<P, A> {
             return false;
         };
         self.parts.pop();
-        self.places[lane as usize] = NO_CELL;
+        self.places.remove(lane);
         true
     }
 
@@ -158,15 +133,15 @@ impl<P: Partial + Drop, A: Allocator + Copy> Row<P, A> {
         ensures err { OnErr result ((j : ℕ) → held self.new.1 j ≡ held self.old.1 j) }
         ensures len { length self.new.1 ≤ max (length self.old.1) (lane + 1) }
     {
-        if (place_in(self.places.as_slice(), lane) as usize) < self.parts.len() {
+        if (self.places.get(lane) as usize) < self.parts.len() {
             return Ok(());
         }
         let place = next_place(self.parts.len())?;
-        widen(&mut self.places, lane)?;
+        self.parts.reserve(1)?;
         self.lanes.reserve(1)?;
-        self.parts.push(P::empty())?;
+        self.places.put(lane, place)?;
+        self.parts.push(P::empty()).unwrap();
         self.lanes.push(lane).unwrap();
-        self.places[lane as usize] = place;
         Ok(())
     }
 
@@ -176,7 +151,7 @@ impl<P: Partial + Drop, A: Allocator + Copy> Row<P, A> {
         ensures cells { (j : ℕ) → held self.new.1 j ≡ (if j == lane then option_map (joined_within P.size P.join part) (held self.old.1 lane) else held self.old.1 j) }
         ensures len { length self.new.1 ≡ length self.old.1 }
     {
-        let place = place_in(self.places.as_slice(), lane) as usize;
+        let place = self.places.get(lane) as usize;
         if place < self.parts.len() {
             self.parts[place] = joined(self.parts[place], part);
         }
