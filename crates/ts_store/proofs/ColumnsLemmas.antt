@@ -20,6 +20,7 @@ use Rattle.ts_raw.specs.Indexed.{Indexed}
 use Rattle.ts_raw.proofs.NumberedLemmas.{at_among}
 use Rattle.ts_core.specs.StoreStates.{ColumnPoints, column_of, fact_at}
 use Rattle.ts_store.specs.ColumnsKept.{facts_in, points_of, with_points, columns_in, facts_of_columns, held_of, AreKnown, IsHeld}
+use Rattle.ts_store.specs.Rollups.{RollupState}
 
 -- ---- in one column
 
@@ -158,10 +159,14 @@ names_of [] ms l = refl
 names_of (c ∷ cs) [] l = absurd (omega (arith, l))
 names_of (c ∷ cs) (m ∷ ms) l = ap (λ ds. c ∷ ds) (names_of cs ms (omega (arith, l)))
 
+-- so those of an index
+pub names_held : (index : Indexed) (ss : List ColumnState) → length ss ≡ length index.columns → map column_of (columns_in index ss) ≡ index.columns
+names_held index ss each = names_of index.columns (points_of ss) (length-map ss (λ (s : ColumnState). s.points) ∙ each)
+
 -- each column of an index is known
-pub known_of : (index : Indexed) (ss : List ColumnState) → IsHeld index ss → AreKnown (held_of index ss)
-known_of index ss h =
-    let names : map column_of (columns_in index ss) ≡ index.columns = names_of index.columns (points_of ss) (length-map ss (λ (s : ColumnState). s.points) ∙ h.each) in
+pub known_of : (index : Indexed) (ss : List ColumnState) (rollups : List RollupState) → IsHeld index ss → AreKnown (held_of index ss rollups)
+known_of index ss rollups h =
+    let names : map column_of (columns_in index ss) ≡ index.columns = names_held index ss h.each in
     record {
       once = subst (λ (cs : List Column). AllDistinct cs) (sym names) h.sound.columns_once;
       registered = λ c a. h.sound.registered c (subst (λ (cs : List Column). Among c cs) names a);

@@ -36,7 +36,7 @@ numbers-seats p cs ms l =
     let none : Column = record { series = record { measurement = []; tags = [] }; field = [] } in
     numbers_seats p (λ i. get_or cs i none) none 0 cs ms l (λ k _. let e : 0 + k ≡ k = omega arith in ap (λ i. get_or cs i none) e)
 
-numbers_below : (p : Column → Bool) (n m : ℕ) (cs : List Column) → n + length cs ≡ m → AllByRecursion (λ i. i < m) (numbers_from p n cs)
+numbers_below : {X : Type 0} (p : X → Bool) (n m : ℕ) (cs : List X) → n + length cs ≡ m → AllByRecursion (λ i. i < m) (numbers_from p n cs)
 numbers_below p n m [] e = tt
 numbers_below p n m (c ∷ cs) e =
     let rest = numbers_below p (n + 1) m cs (omega arith) in
@@ -45,7 +45,7 @@ numbers_below p n m (c ∷ cs) e =
       | false ↦ rest
     ]
 
-pub numbers-below : (p : Column → Bool) (cs : List Column) → AllByRecursion (λ i. i < length cs) (numbers_where p cs)
+pub numbers-below : {X : Type 0} (p : X → Bool) (cs : List X) → AllByRecursion (λ i. i < length cs) (numbers_where p cs)
 numbers-below p cs = numbers_below p 0 (length cs) cs (omega arith)
 
 seats_there : (p : Column → Bool) (n m : ℕ) (cs : List ColumnPoints) → n + length cs ≡ m → AllByRecursion (λ (s : Seat). s.number < m) (seats_from p n cs)

@@ -1,26 +1,30 @@
 -- A store goes on standing for its history, and what it tells is of that history.
-use Rattle.std.proofs.Common.{◌≡◌, ℕ, ℤ, ◌+◌, ◌≤◌, ◌≤ℤ◌, ◌^◌, Bool, int_le, true, false, not, ◌&&◌, ◌||◌, nat_le, List, [], ◌∷◌, ◌++◌, length, map, filter, refl, sym, ◌∙◌, ap, subst, inl, inr, ⊎_elim, arith, true≢false, Option, Some, None, IfSome, IfNone, is_eq}
+use Rattle.std.proofs.Common.{◌≡◌, ℕ, ℤ, ◌+◌, ◌<◌, ◌≤◌, ◌≤ℤ◌, ◌^◌, Bool, int_le, int_lt, Less, Equal, Greater, true, false, cond, not, ◌&&◌, ◌||◌, nat_le, List, [], ◌∷◌, ◌++◌, length, map, take, drop, replicate, refl, sym, ◌∙◌, ap, subst, inl, inr, ⊎_elim, arith, true≢false, Option, Some, None, IfSome, IfNone, is_eq}
 use Rattle.std.specs.Option.{is_some}
+use Rattle.std.specs.FinMap as finmap
 use Rattle.std.specs.List.{slice_get, AllByRecursion}
-use Rattle.std.specs.Ordering.{eq_by_cmp}
+use Rattle.std.specs.Ordering.{eq_by_cmp, int_cmp, is_lt}
 use Rattle.std.proofs.lemmas.Int.{ints}
 use Rattle.std.proofs.lemmas.Cmp.{tied_itself}
 use Rattle.std.proofs.lemmas.Bool.{or_right}
 use Rattle.std.proofs.lemmas.Option.{none-some}
-use Rattle.std.proofs.lemmas.List.{append-nil, append_assoc}
+use Rattle.std.proofs.lemmas.List.{append-nil, append_assoc, length-append, length-map, take-map, drop-map, take-append-le}
 use Rattle.ts_core.specs.Members.{Among, AllDistinct}
-use Rattle.ts_core.specs.Facts.{Text, Series, Column, Fact, series_cmp, is_asked, is_within}
-use Rattle.ts_core.specs.Settings.{Settings}
+use Rattle.ts_core.specs.Facts.{Text, Series, Column, Fact, series_cmp, is_within}
+use Rattle.ts_core.specs.Settings.{Rule, Settings}
+use Rattle.ts_core.specs.Times.{least_time}
 use Rattle.ts_core.specs.History.{History, Line, MayBeTaken, accepted, raw_mark}
-use Rattle.ts_core.specs.Latest.{latest_of, count_of}
-use Rattle.ts_core.specs.Marks.{Marks}
+use Rattle.ts_core.specs.Latest.{latest_of}
+use Rattle.ts_core.specs.Marks.{Marks, marks_of}
 use Rattle.ts_core.specs.RawFacts.{same_column, raw_facts, is_waiting, kept_from}
 use Rattle.ts_core.specs.StoreStates.{ColumnPoints, StandsFor, column_of, fact_at, facts_at, facts_of}
-use Rattle.ts_core.specs.StoreData.{StoreData, state_of}
-use Rattle.ts_core.specs.StoreMoves.{PutsFacts}
+use Rattle.ts_core.specs.StoreData.{FrozenCells, StoreData, state_of, new_data}
+use Rattle.ts_core.proofs.StoreNew.{new_stands_for}
+use Rattle.ts_core.specs.StoreMoves.{PutsFacts, HaveRoom}
 use Rattle.ts_core.proofs.Ids.{series_total, exact_series, equal_of}
 use Rattle.ts_core.proofs.MembersLemmas.{Among-left, Among-right, Among-map, Among-filter_passes, Among-filter_was, Among-filter_stays, AllDistinct-filter}
 use Rattle.ts_core.proofs.Folds.{length-same}
+use Rattle.ts_core.proofs.Tests.{le_from, le_true, lt_not}
 use Rattle.ts_core.proofs.Latests.{latest-distinct}
 use Rattle.ts_core.proofs.Cuts.{Holds}
 use Rattle.ts_core.proofs.StateLemmas.{StandsFor-Holds, same_column-eq}
@@ -28,32 +32,64 @@ use Rattle.ts_core.proofs.Shown.{stands_shows}
 use Rattle.ts_core.proofs.ColumnFacts.{facts_of-there, facts_of-here}
 use Rattle.ts_core.proofs.MovesStand.{grows}
 use Rattle.ts_core.proofs.LineStands.{length_before, line_put}
-use Rattle.ts_core.specs.SettingsFaults.{unless}
-use Rattle.ts_line.specs.Parts.{Parts, series_of, facts_of as line_facts}
+use Rattle.ts_core.specs.SettingsFaults.{unless, settings_fault}
+use Rattle.ts_line.specs.Parts.{Piece, Parts, series_of, fact_of, facts_of as line_facts}
 use Rattle.ts_raw.specs.Numbered.{IsAt}
 use Rattle.ts_raw.proofs.NumberedLemmas.{at_among}
 use Rattle.ts_store.specs.ColumnsKept.{Held, AreKnown}
 use Rattle.ts_store.specs.PointsRead.{points_between, AreLatestOf}
 use Rattle.ts_store.specs.Registered.{new_columns, without_points, with_columns}
-use Rattle.ts_store.specs.declared.fault.WriteFault.TheVariants.{TooManySeries, TooManyFacts}
+use Rattle.ts_store.specs.declared.fault.WriteFault.{WriteFault}
+use Rattle.ts_store.specs.declared.fault.WriteFault.TheVariants.{BelowRawMark, TooManySeries, TooManyFacts}
 use Rattle.ts_store.specs.Refusals.{is_registered, is_too_many, write_fault}
+use Rattle.ts_store.specs.OpenRuns.{Run, waiting_in, kept_data, IsKept}
+use Rattle.ts_store.specs.CellCounts.{HoldFew}
+use Rattle.ts_store.specs.Rollups.{new_rollup, AreRollups, cells_of}
 use Rattle.ts_store.specs.LinesPut.{Puts, Grows, Accepts, Leaves}
 use Rattle.ts_store.proofs.ColumnsAside.{names_with}
 use Rattle.ts_store.proofs.ColumnsLemmas.{in_column}
-use Rattle.ts_store.proofs.PutsLengths.{puts_facts-length}
+use Rattle.ts_store.proofs.CountsKept.{counts-put, counts-grown, counts-new}
 
--- what a store keeps before its first run
-abbrev pub before_runs : Settings → Marks → ℕ → Held → StoreData
-before_runs settings marks n held = record {
-  settings = settings;
-  marks = marks;
-  running = false;
-  waiting = [];
-  series = held.series;
-  columns = held.columns;
-  accepted = n;
-  cells = [];
-}
+-- ---- columns that wait
+
+names_waiting : Option Run → List Column → List Column
+names_waiting None names = []
+names_waiting (Some run) names = drop run.next (take run.end names)
+
+waiting_names : (run : Option Run) (columns : List ColumnPoints) → waiting_in run columns ≡ names_waiting run (map column_of columns)
+unfolding names_waiting
+waiting_names None columns = refl
+waiting_names (Some run) columns = sym (drop-map column_of run.next (take run.end columns)) ∙ ap (drop run.next) (sym (take-map column_of run.end columns))
+
+-- the run ends at a column that was there
+abbrev IsWithin : Option Run → List ColumnPoints → Type 0
+IsWithin run columns = IfSome run (λ r. (r.next ≤ r.end) × (r.end ≤ length columns))
+
+-- more columns behind the others
+abbrev NamesMore : List ColumnPoints → List ColumnPoints → List Column → Type 0
+NamesMore before after made = map column_of after ≡ map column_of before ++ made
+
+length_more : (before after : List ColumnPoints) (made : List Column) → NamesMore before after made → length before ≤ length after
+length_more before after made more =
+    let a = length-map before column_of in
+    let b = length-map after column_of in
+    let c = ap length more in
+    omega (arith, a, b, c, length-append (map column_of before) made)
+
+within_more : (run : Option Run) (before after : List ColumnPoints) (made : List Column) → NamesMore before after made → IsWithin run before → IsWithin run after
+within_more None before after made more within = within
+within_more (Some run) before after made more within = (within.0, (let l = length_more before after made more in omega (arith, l, within.1)))
+
+-- none of them waits
+waiting_more : (run : Option Run) (before after : List ColumnPoints) (made : List Column) → NamesMore before after made → IsWithin run before → waiting_in run after ≡ waiting_in run before
+unfolding names_waiting
+waiting_more None before after made more within = refl
+waiting_more (Some run) before after made more within =
+    let end : run.end ≤ length (map column_of before) = let l = length-map before column_of in omega (arith, l, within.1) in
+    waiting_names (Some run) after
+    ∙ ap (λ names. drop run.next (take run.end names)) more
+    ∙ ap (drop run.next) (take-append-le run.end (map column_of before) made end)
+    ∙ sym (waiting_names (Some run) before)
 
 -- ---- columns without points
 
@@ -71,24 +107,79 @@ same_facts before made = facts-behind before (map without_points made) ∙ ap (�
 names_stay : (before : List ColumnPoints) (made : List Column) (c : Column) → Among c (map column_of before) → Among c (map column_of (with_columns before made))
 names_stay before made c a = subst (Among c) (sym (names_with before made)) (Among-left c (map column_of before) made a)
 
+-- a new store
+new_rollups : (rs : List Rule) → AreRollups rs [] (replicate (length rs) new_rollup)
+new_rollups [] = tt
+new_rollups (r ∷ rs) = (tt, new_rollups rs)
+
+new_cells : (rs : List Rule) → cells_of (replicate (length rs) new_rollup) ≡ map (λ (r : Rule). finmap.empty) rs
+new_cells [] = refl
+new_cells (r ∷ rs) = ap (λ (ms : List FrozenCells). finmap.empty ∷ ms) (new_cells rs)
+
+-- no columns, under these rules
+abbrev pub held_new : Settings → Held
+held_new settings = record { series = []; columns = []; rollups = replicate (length settings.rules) new_rollup }
+
+pub data_new : (settings : Settings) (marks : Marks) (held : Held) → marks ≡ marks_of settings [] → held ≡ held_new settings → kept_data settings marks 0 held None ≡ new_data settings
+data_new settings marks held m h =
+    (λ i. kept_data settings (m i) 0 (h i) None)
+    ∙ (λ i. record { settings = settings; marks = marks_of settings []; running = false; waiting = []; series = []; columns = []; accepted = 0; cells = new_cells settings.rules i })
+
+pub kept_new : (settings : Settings) (marks : Marks) (held : Held) → settings_fault settings ≡ None → marks ≡ marks_of settings [] → held ≡ held_new settings → IsKept (kept_data settings marks 0 held None) held None
+kept_new settings marks held well m h =
+    let stands : StandsFor settings [] (state_of (kept_data settings marks 0 held None)) = subst (λ (k : StoreData). StandsFor settings [] (state_of k)) (sym (data_new settings marks held m h)) (new_stands_for settings well) in
+    let rs : List Rule = settings.rules in
+    record {
+      rollups = subst (λ (x : Held). AreRollups rs (map column_of x.columns) x.rollups) (sym h) (new_rollups rs);
+      few = tt;
+      counts = subst (λ (x : Held). HoldFew 0 x.columns rs (cells_of x.rollups)) (sym h) (subst (λ ms. HoldFew 0 [] rs ms) (sym (new_cells rs)) (counts-new rs));
+      reached = record { opening = settings; history = []; stands = stands };
+    }
+
+-- a store of these parts, in which these columns wait
+abbrev waits : Settings → Marks → ℕ → Held → Option Run → List Column → StoreData
+waits settings marks n held run waiting = record {
+  settings = settings;
+  marks = marks;
+  running = is_some run;
+  waiting = waiting;
+  series = held.series;
+  columns = held.columns;
+  accepted = n;
+  cells = cells_of held.rollups;
+}
+
 -- a store that has only grown
-grown_stands : (opening : Settings) (h : History) (settings : Settings) (marks : Marks) (n : ℕ) (before after : Held) (made : List Column) → after.columns ≡ with_columns before.columns made → AreKnown after
-    → StandsFor opening h (state_of (before_runs settings marks n before)) → StandsFor opening h (state_of (before_runs settings marks n after))
-grown_stands opening h settings marks n before after made e known st =
-    grows opening h (before_runs settings marks n before) after.series after.columns [] [] st known.once
-    (λ c a. subst (λ (cs : List ColumnPoints). Among c (map column_of cs)) (sym e) (names_stay before.columns made c a)) known.registered (ap facts_of e ∙ same_facts before.columns made) tt
+grown_stands : (opening : Settings) (h : History) (settings : Settings) (marks : Marks) (n : ℕ) (before after : Held) (run : Option Run) (made : List Column) (facts : List Fact)
+    → after.columns ≡ with_columns before.columns made → AreKnown after → HaveRoom settings.rules facts (cells_of before.rollups) (cells_of after.rollups) → IsWithin run before.columns
+    → StandsFor opening h (state_of (kept_data settings marks n before run)) → StandsFor opening h (state_of (kept_data settings marks n after run))
+grown_stands opening h settings marks n before after run made facts e known room within st =
+    let more : NamesMore before.columns after.columns made = ap (map column_of) e ∙ names_with before.columns made in
+    subst (λ ws. StandsFor opening h (state_of (waits settings marks n after run ws))) (sym (waiting_more run before.columns after.columns made more within))
+    (grows opening h (kept_data settings marks n before run) after.series after.columns (cells_of after.rollups) facts st known.once
+    (λ c a. subst (λ (cs : List ColumnPoints). Among c (map column_of cs)) (sym e) (names_stay before.columns made c a)) known.registered (ap facts_of e ∙ same_facts before.columns made) room)
 
 -- after want of memory
-pub left_by : (settings : Settings) (marks : Marks) (n : ℕ) (before after : Held) (p : Parts) → Grows before after p → AreKnown after → Leaves (before_runs settings marks n before) (before_runs settings marks n after) p
-left_by settings marks n before after p g known = record {
-  history = λ opening h st. grown_stands opening h settings marks n before after g.columns.made g.columns.columns known st;
+pub left_by : (settings : Settings) (marks : Marks) (n : ℕ) (before after : Held) (run : Option Run) (p : Parts) → IsKept (kept_data settings marks n before run) before run → Grows settings.rules before after p → AreKnown after
+    → Leaves (kept_data settings marks n before run) (kept_data settings marks n after run) p
+left_by settings marks n before after run p kept g known = record {
+  history = λ opening h st. grown_stands opening h settings marks n before after run g.columns.made [] g.columns.columns known g.rooms kept.few st;
   series = g.series;
   columns = g.columns;
 }
 
--- no more facts are kept then
-pub left_facts : (before after : Held) (p : Parts) → Grows before after p → facts_of after.columns ≡ facts_of before.columns
-left_facts before after p g = ap facts_of g.columns.columns ∙ same_facts before.columns g.columns.made
+-- the store is as it was between two calls
+pub kept_left : (settings : Settings) (marks : Marks) (n : ℕ) (before after : Held) (run : Option Run) (p : Parts) → IsKept (kept_data settings marks n before run) before run → Grows settings.rules before after p → AreKnown after
+    → IsKept (kept_data settings marks n after run) after run
+kept_left settings marks n before after run p kept g known =
+    let made : List Column = g.columns.made in
+    let reached = kept.reached in
+    record {
+      rollups = g.rollups;
+      few = within_more run before.columns after.columns made (ap (map column_of) g.columns.columns ∙ names_with before.columns made) kept.few;
+      counts = counts-grown n before.columns after.columns (ap facts_of g.columns.columns ∙ same_facts before.columns made) [] settings.rules (cells_of before.rollups) (cells_of after.rollups) g.rooms kept.counts;
+      reached = record { opening = reached.opening; history = reached.history; stands = (left_by settings marks n before after run p kept g known).history reached.opening reached.history reached.stands };
+    }
 
 -- ---- a line
 
@@ -116,55 +207,68 @@ column_new before facts f a =
       | false ↦ λ e. Among-right f.column names (new_columns names facts) (Among-filter_stays q f.column (map (λ (g : Fact). g.column) facts) there (ap not e))
     ] refl)
 
-write_stands : (opening : Settings) (h : History) (settings : Settings) (marks : Marks) (n : ℕ) (before after : Held) (fs : List Fact)
-    → PutsFacts (with_columns before.columns (new_columns (map column_of before.columns) fs)) after.columns fs → AreKnown after → AllByRecursion (MayBeTaken marks.raw) fs → n + length fs ≤ 2 ^ 62
-    → StandsFor opening h (state_of (before_runs settings marks n before)) → StandsFor opening (Line fs ∷ h) (state_of (before_runs settings marks (n + length fs) after))
-write_stands opening h settings marks n before after fs puts known taken few st =
+-- where room was made for facts, it is there
+room_there : (rs : List Rule) (facts : List Fact) (ms ns : List FrozenCells) → HaveRoom rs facts ms ns → HaveRoom rs facts ns ns
+room_there rs facts [] [] room = tt
+room_there rs facts [] (n ∷ ns) room = absurd room
+room_there rs facts (m ∷ ms) [] room = absurd room
+room_there [] facts (m ∷ ms) (n ∷ ns) room = tt
+room_there (r ∷ rs) facts (m ∷ ms) (n ∷ ns) room = (record { there = room.0.there; stays = λ k e. e; parts = λ k. refl }, room_there rs facts ms ns room.1)
+
+-- the columns of a line are made, and its facts put
+line_names : (before after : List ColumnPoints) (fs : List Fact) → PutsFacts (with_columns before (new_columns (map column_of before) fs)) after fs → NamesMore before after (new_columns (map column_of before) fs)
+line_names before after fs puts =
+    let made : List Column = new_columns (map column_of before) fs in
+    puts_names (with_columns before made) after fs puts ∙ names_with before made
+
+-- the parts of a store with the columns of a line made, before its facts are put
+abbrev made_for : Held → Held → List Fact → Held
+made_for before after fs = record { series = after.series; columns = with_columns before.columns (new_columns (map column_of before.columns) fs); rollups = after.rollups }
+
+write_stands : (opening : Settings) (h : History) (settings : Settings) (marks : Marks) (n : ℕ) (before after : Held) (run : Option Run) (p : Parts) → Puts settings.rules before after p → AreKnown after → AllByRecursion (MayBeTaken marks.raw) (line_facts p)
+    → n + length (line_facts p) ≤ 2 ^ 62 → IsWithin run before.columns → StandsFor opening h (state_of (kept_data settings marks n before run))
+    → StandsFor opening (Line (line_facts p) ∷ h) (state_of (kept_data settings marks (n + length (line_facts p)) after run))
+write_stands opening h settings marks n before after run p put known taken few within st =
+    let fs : List Fact = line_facts p in
     let made : List Column = new_columns (map column_of before.columns) fs in
-    let mid : Held = record { series = after.series; columns = with_columns before.columns made } in
-    let names : map column_of after.columns ≡ map column_of mid.columns = puts_names mid.columns after.columns fs puts in
-    let grown : StandsFor opening h (state_of (before_runs settings marks n mid)) = grown_stands opening h settings marks n before mid made refl
-    (record { once = subst AllDistinct names known.once; registered = λ c a. known.registered c (subst (Among c) (sym names) a) }) st in
+    let mid : Held = made_for before after fs in
+    let names : map column_of after.columns ≡ map column_of mid.columns = puts_names mid.columns after.columns fs put.facts in
+    let grown : StandsFor opening h (state_of (kept_data settings marks n mid run)) =
+    grown_stands opening h settings marks n before mid run made fs refl (record { once = subst AllDistinct names known.once; registered = λ c a. known.registered c (subst (Among c) (sym names) a) }) put.rooms within st in
     let mark : marks.raw ≡ raw_mark opening h = ap (λ (m : Marks). m.raw) st.marks in
     let more = length_before fs (accepted h) in
-    line_put opening h (before_runs settings marks n mid) after.columns fs [] grown tt (λ f a. column_new before.columns fs f a) puts
-    (st.lawful, subst (λ (m : ℤ). AllByRecursion (MayBeTaken m) fs) mark taken, omega (arith, st.accepted, more, few))
+    let none : NamesMore mid.columns after.columns [] = names ∙ sym (append-nil (map column_of mid.columns)) in
+    subst (λ ws. StandsFor opening (Line fs ∷ h) (state_of (waits settings marks (n + length fs) after run ws)))
+    (sym (waiting_more run mid.columns after.columns [] none (within_more run before.columns mid.columns made (names_with before.columns made) within)))
+    (line_put opening h (kept_data settings marks n mid run) after.columns fs (cells_of after.rollups) grown (room_there settings.rules fs (cells_of before.rollups) (cells_of after.rollups) put.rooms)
+    (λ f a. column_new before.columns fs f a) put.facts (st.lawful, subst (λ (m : ℤ). AllByRecursion (MayBeTaken m) fs) mark taken, omega (arith, st.accepted, more, few)))
 
-pub accepted_by : (settings : Settings) (marks : Marks) (n : ℕ) (before after : Held) (p : Parts) → Puts before after p → AreKnown after → AllByRecursion (MayBeTaken marks.raw) (line_facts p) → n + length (line_facts p) ≤ 2 ^ 62
-    → Accepts (before_runs settings marks n before) (before_runs settings marks (n + length (line_facts p)) after) p
-accepted_by settings marks n before after p put known taken few =
+pub accepted_by : (settings : Settings) (marks : Marks) (n : ℕ) (before after : Held) (run : Option Run) (p : Parts) → IsKept (kept_data settings marks n before run) before run → Puts settings.rules before after p → AreKnown after
+    → AllByRecursion (MayBeTaken marks.raw) (line_facts p) → n + length (line_facts p) ≤ 2 ^ 62 → Accepts (kept_data settings marks n before run) (kept_data settings marks (n + length (line_facts p)) after run) p
+accepted_by settings marks n before after run p kept put known taken few =
     let fs : List Fact = line_facts p in
-    let made : List Column = new_columns (map column_of before.columns) fs in
     record {
-      history = λ opening h st. write_stands opening h settings marks n before after fs put.facts known taken few st;
+      history = λ opening h st. write_stands opening h settings marks n before after run p put known taken few kept.few st;
       series = put.series;
-      columns = puts_names (with_columns before.columns made) after.columns fs put.facts;
+      columns = puts_names (with_columns before.columns (new_columns (map column_of before.columns) fs)) after.columns fs put.facts;
     }
 
--- no more facts are kept than were accepted
-pub kept_few : (n : ℕ) (before after : Held) (p : Parts) → Puts before after p → length (facts_of before.columns) ≤ n → length (facts_of after.columns) ≤ n + length (line_facts p)
-kept_few n before after p put few =
+-- the store is again what it is between two calls
+pub kept_accepted : (settings : Settings) (marks : Marks) (n : ℕ) (before after : Held) (run : Option Run) (p : Parts) → IsKept (kept_data settings marks n before run) before run → Puts settings.rules before after p → AreKnown after
+    → AllByRecursion (MayBeTaken marks.raw) (line_facts p) → n + length (line_facts p) ≤ 2 ^ 62 → IsKept (kept_data settings marks (n + length (line_facts p)) after run) after run
+kept_accepted settings marks n before after run p kept put known taken few =
     let fs : List Fact = line_facts p in
     let made : List Column = new_columns (map column_of before.columns) fs in
-    let more = puts_facts-length (with_columns before.columns made) after.columns fs put.facts in
-    let same = ap length (same_facts before.columns made) in
-    omega (arith, more, same, few)
+    let reached = kept.reached in
+    record {
+      rollups = put.rollups;
+      few = within_more run before.columns after.columns made (line_names before.columns after.columns fs put.facts) kept.few;
+      counts = counts-put n (with_columns before.columns made) after.columns fs put.facts settings.rules (cells_of after.rollups)
+          (counts-grown n before.columns (with_columns before.columns made) (same_facts before.columns made) fs settings.rules (cells_of before.rollups) (cells_of after.rollups) put.rooms kept.counts);
+      reached = record { opening = reached.opening; history = Line fs ∷ reached.history; stands = (accepted_by settings marks n before after run p kept put known taken few).history reached.opening reached.history reached.stands };
+    }
 
 -- ---- what is told
-
-asked_from : (m f : Text) (a b : ℤ) (g : Fact) → is_asked m f a b g ≡ true → a ≤ℤ g.time
-asked_from m f a b g e = grind (arith, ints)
-
--- of what is asked from the mark on, as many facts are kept as are latest
-pub count_stands : (opening : Settings) (h : History) (k : StoreData) (m f : Text) (a b : ℤ) → k.marks.raw ≤ℤ a → StandsFor opening h (state_of k)
-    → length (filter (is_asked m f a b) (facts_of k.columns)) ≡ count_of h m f a b
-count_stands opening h k m f a b above st =
-    let p : Fact → Bool = is_asked m f a b in
-    let shown = stands_shows opening h (state_of k) st in
-    let from : (g : Fact) → p g ≡ true → k.marks.raw ≤ℤ g.time = λ g t. let late : a ≤ℤ g.time = asked_from m f a b g t in omega (arith, ints, above, late) in
-    length-same (filter p (facts_of k.columns)) (filter p (latest_of h)) (AllDistinct-filter p (facts_of k.columns) st.once) (AllDistinct-filter p (latest_of h) (latest-distinct (accepted h)))
-    (λ g q. let t = Among-filter_passes p g (facts_of k.columns) q in Among-filter_stays p g (latest_of h) ((shown.raw g (from g t)).0 (Among-filter_was p g (facts_of k.columns) q)) t)
-    (λ g q. let t = Among-filter_passes p g (latest_of h) q in Among-filter_stays p g (facts_of k.columns) ((shown.raw g (from g t)).1 (Among-filter_was p g (latest_of h) q)) t)
 
 -- where no column waits, as many facts are kept as are latest from the raw mark on
 pub raw_stands : (opening : Settings) (h : History) (k : StoreData) → k.waiting ≡ [] → StandsFor opening h (state_of k) → length (facts_of k.columns) ≡ length (raw_facts opening h)
@@ -174,6 +278,10 @@ raw_stands opening h k none st =
     length-same (facts_of k.columns) (raw_facts opening h) st.once (AllDistinct-filter p (latest_of h) (latest-distinct (accepted h)))
     (λ g a. let q = held.only g a in Among-filter_stays p g (latest_of h) q.0 q.1)
     (λ g a. held.all g (Among-filter_was p g (latest_of h) a) (Among-filter_passes p g (latest_of h) a))
+
+-- so where no run is open
+pub idle_stands : (opening : Settings) (h : History) (k : StoreData) → k.running ≡ false → StandsFor opening h (state_of k) → length (facts_of k.columns) ≡ length (raw_facts opening h)
+idle_stands opening h k idle st = raw_stands opening h k (st.idle (λ runs. true≢false (sym (st.running.1 runs) ∙ idle))) st
 
 at_fact : (c : Column) (ps : List (ℤ × ℤ)) (p : ℤ × ℤ) → Among p ps → Among (fact_at c p) (facts_at c ps)
 at_fact c ps p a = Among-map (fact_at c) p ps a
@@ -230,6 +338,9 @@ nat_le_yes x y h = grind arith
 nat_le_from : (x y : ℕ) → nat_le x y ≡ true → x ≤ y
 nat_le_from x y h = grind arith
 
+nat_le_not : (x y : ℕ) → y < x → nat_le x y ≡ false
+nat_le_not x y h = grind arith
+
 -- whether a series is too many, by what was found of it
 full_or_not : (series : List Series) (s : Series) (none : Bool) → not (is_registered series s) ≡ none → 1000000 ≤ length series → none ≡ is_too_many series s
 full_or_not series s none e full = sym (ap (λ b. b && not (is_registered series s)) (nat_le_yes 1000000 (length series) full) ∙ e)
@@ -242,16 +353,47 @@ pub looked_for : (series : List Series) (s : Series) (r : Option ℕ) (none : Bo
 looked_for series s r none e found absent full = full_or_not series s none (is_refused series s r found absent ∙ ap not e ∙ not_not none) full
 
 -- what isn't refused
-pub not_refused : (series : List Series) (n : ℕ) (p : Parts) → write_fault series n p ≡ None → (is_too_many series (series_of p) ≡ false) × (n + length (line_facts p) ≤ 2 ^ 62)
-not_refused series n p e =
-    elim (is_too_many series (series_of p)) as (λ b. is_too_many series (series_of p) ≡ b → unless (not b) TooManySeries (unless (nat_le (n + length (line_facts p)) (2 ^ 62)) TooManyFacts None) ≡ None
-    → (is_too_many series (series_of p) ≡ false) × (n + length (line_facts p) ≤ 2 ^ 62)) [
-      | true ↦ λ full none. absurd (none-some TooManySeries (sym none))
-      | false ↦ λ room none. (
-        room,
-        elim (nat_le (n + length (line_facts p)) (2 ^ 62)) as (λ b. nat_le (n + length (line_facts p)) (2 ^ 62) ≡ b → unless b TooManyFacts None ≡ None → n + length (line_facts p) ≤ 2 ^ 62) [
-          | true ↦ λ q z. nat_le_from (n + length (line_facts p)) (2 ^ 62) q
-          | false ↦ λ q z. absurd (none-some TooManyFacts (sym z))
-        ] refl none,
-      )
-    ] refl e
+pub record IsWelcome (mark : ℤ) (series : List Series) (n : ℕ) (p : Parts) : Type 0 where
+  pub late : mark ≤ℤ p.time
+  pub registers : is_too_many series (series_of p) ≡ false
+  pub few : n + length (line_facts p) ≤ 2 ^ 62
+
+nothing_said : {F : Type 0} (well : Bool) (fault : F) (next : Option F) → unless well fault next ≡ None → (well ≡ true) × (next ≡ None)
+nothing_said true fault next e = (refl, e)
+nothing_said false fault next e = absurd (none-some fault (sym e))
+
+pub not_refused : (mark : ℤ) (series : List Series) (n : ℕ) (p : Parts) → write_fault mark series n p ≡ None → IsWelcome mark series n p
+not_refused mark series n p e =
+    let below = nothing_said (int_le mark p.time) (BelowRawMark mark) _ e in
+    let series_said = nothing_said (not (is_too_many series (series_of p))) TooManySeries _ below.1 in
+    let facts_said = nothing_said (nat_le (n + length (line_facts p)) (2 ^ 62)) TooManyFacts None series_said.1 in
+    record {
+      late = le_from mark p.time below.0;
+      registers = sym (not_not (is_too_many series (series_of p))) ∙ ap not series_said.0;
+      few = nat_le_from (n + length (line_facts p)) (2 ^ 62) facts_said.0;
+    }
+
+-- a moment that isn't before the mark
+pub not_before : (time mark t m : ℤ) → t ≡ time → m ≡ mark → is_lt (int_cmp t m) ≡ false → mark ≤ℤ time
+not_before time mark t m et em e =
+    let below : int_lt t m ≡ false = elim (int_lt t m) as (λ b. is_lt (cond b Less (cond (int_lt m t) Greater Equal)) ≡ false → b ≡ false) [ true ↦ λ q. q | false ↦ λ q. refl ] e in
+    let late : m ≤ℤ t = lt_not t m below in
+    omega (arith, ints, late, et, em)
+
+pub facts_refused : (mark : ℤ) (series : List Series) (n : ℕ) (p : Parts) → mark ≤ℤ p.time → is_too_many series (series_of p) ≡ false → 2 ^ 62 < n + length (line_facts p) → write_fault mark series n p ≡ Some TooManyFacts
+facts_refused mark series n p late registers many =
+    let rest : Option WriteFault = unless (nat_le (n + length (line_facts p)) (2 ^ 62)) TooManyFacts None in
+    ap (λ b. unless b (BelowRawMark mark) (unless (not (is_too_many series (series_of p))) TooManySeries rest)) (le_true mark p.time late) ∙ ap (λ b. unless (not b) TooManySeries rest) registers ∙ ap (λ b. unless b TooManyFacts None) (nat_le_not (n + length (line_facts p)) (2 ^ 62) many)
+
+pub welcome : (mark : ℤ) (series : List Series) (n : ℕ) (p : Parts) → mark ≤ℤ p.time → is_too_many series (series_of p) ≡ false → n + length (line_facts p) ≤ 2 ^ 62 → write_fault mark series n p ≡ None
+welcome mark series n p late registers few =
+    let rest : Option WriteFault = unless (nat_le (n + length (line_facts p)) (2 ^ 62)) TooManyFacts None in
+    ap (λ b. unless b (BelowRawMark mark) (unless (not (is_too_many series (series_of p))) TooManySeries rest)) (le_true mark p.time late) ∙ ap (λ b. unless (not b) TooManySeries rest) registers ∙ ap (λ b. unless b TooManyFacts None) (nat_le_yes (n + length (line_facts p)) (2 ^ 62) few)
+
+taken_fields : (mark : ℤ) (p : Parts) → mark ≤ℤ p.time → (fields : List (Piece × ℤ)) → AllByRecursion (MayBeTaken least_time) (map (fact_of p) fields) → AllByRecursion (MayBeTaken mark) (map (fact_of p) fields)
+taken_fields mark p late [] all = tt
+taken_fields mark p late (f ∷ fields) all = (record { valid = all.0.valid; fits = all.0.fits; raw = late }, taken_fields mark p late fields all.1)
+
+-- the facts of a line from the mark on may be taken
+pub taken_from : (mark : ℤ) (p : Parts) → mark ≤ℤ p.time → AllByRecursion (MayBeTaken least_time) (line_facts p) → AllByRecursion (MayBeTaken mark) (line_facts p)
+taken_from mark p late all = taken_fields mark p late p.fields all

@@ -1,11 +1,14 @@
 -- The facts of columns, each with its points, and what becomes of points that were set aside. (Own rule.)
-use Rattle.std.specs.Prelude.{◌≡◌, ◌⊎◌, ℕ, ℤ, List, [], ◌∷◌, ◌++◌, ◌<◌, length, map, IsSome, Option, Some, None, slice_get, set, get_or}
+use Rattle.std.specs.Prelude.{◌≡◌, ◌⊎◌, ℕ, ℤ, List, [], ◌∷◌, ◌++◌, ◌<◌, length, map, IsSome, Option, Some, None, slice_get, set, get_or, refl}
 use Rattle.std.specs.FinMap as finmap
 use Rattle.ts_core.specs.Members.{Among, AllDistinct}
 use Rattle.ts_core.specs.Facts.{Series, Column, Fact}
 use Rattle.ts_core.specs.StoreStates.{ColumnPoints, column_of, fact_at, facts_of}
 use Rattle.ts_raw.specs.Columns.{PointMap, ColumnState}
 use Rattle.ts_raw.specs.Indexed.{Indexed, IsSound}
+use Rattle.ts_store.specs.Rollups.{RollupState, coded_rollup}
+use Rattle.std.specs.Coded.{Coded, code_by, coded×, coded_list}
+use Rattle.ts_core.specs.StoreCodes.{coded_series, coded_column_points}
 
 abbrev pub facts_in : Column → PointMap → List Fact
 facts_in c points = map (fact_at c) (finmap.entries points)
@@ -66,15 +69,21 @@ AreAside columns states (n ∷ ns) [] = ⊥
 AreAside columns states (n ∷ ns) (f ∷ fs) =
     (slice_get columns n ≡ Some f.column) × ((get_or states n no_column).aside ≡ Some (f.time, f.value)) × AreAside columns states ns fs
 
--- ---- an index with the points of its columns
+-- ---- an index with the points of its columns, and with the cells of rules
 
--- the registered series, and the columns with their points
+-- the registered series, the columns with their points, and what is kept for each rule
 pub record Held : Type 0 where
   pub series : List Series
   pub columns : List ColumnPoints
+  pub rollups : List RollupState
 
-abbrev pub held_of : Indexed → List ColumnState → Held
-held_of index states = record { series = index.series; columns = columns_in index states }
+abbrev pub held_of : Indexed → List ColumnState → List RollupState → Held
+held_of index states rollups = record { series = index.series; columns = columns_in index states; rollups = rollups }
+
+abbrev pub coded_held : Coded Held
+coded_held =
+    code_by (List Series × (List ColumnPoints × List RollupState)) (coded× (coded_list coded_series) (coded× (coded_list coded_column_points) (coded_list coded_rollup)))
+    (λ k. (k.series, (k.columns, k.rollups))) (λ p. record { series = p.0; columns = p.1.0; rollups = p.1.1 }) (λ _. refl)
 
 -- each column is there once, and its series is registered
 pub record AreKnown (held : Held) : Type 0 where

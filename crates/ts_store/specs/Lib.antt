@@ -1,6 +1,13 @@
 pub mod Seats
 pub mod PointsRead
+pub mod Rollups
+pub mod Rooms
 pub mod ColumnsKept
 pub mod Registered
 pub mod Refusals
 pub mod LinesPut
+pub mod CellCounts
+pub mod RollupSteps
+pub mod OpenRuns
+pub mod WholeRuns
+pub mod LiveCells

@@ -1,25 +1,31 @@
 -- What a write leaves: the line's facts are put, or there was no memory. (Own rules.)
-use Rattle.std.specs.Prelude.{◌≡◌, map}
+use Rattle.std.specs.Prelude.{◌≡◌, List, [], map}
+use Rattle.ts_core.specs.Settings.{Rule}
 use Rattle.ts_core.specs.History.{Line}
 use Rattle.ts_core.specs.StoreStates.{column_of}
 use Rattle.ts_core.specs.StoreData.{StoreData, GoesOn, StaysFor}
-use Rattle.ts_core.specs.StoreMoves.{PutsFacts}
+use Rattle.ts_core.specs.StoreMoves.{PutsFacts, HaveRoom}
 use Rattle.ts_line.specs.Parts.{Parts, series_of, facts_of}
 use Rattle.ts_raw.specs.Numbered.{Gains}
 use Rattle.ts_store.specs.ColumnsKept.{Held}
+use Rattle.ts_store.specs.Rollups.{AreRollups, cells_of}
 use Rattle.ts_store.specs.Registered.{MayGain, MakesFirst, new_columns, with_columns}
 
 -- ---- in columns
 
--- the line's series is registered, its new columns are made, and its facts are put
-pub record Puts (old new : Held) (p : Parts) : Type 0 where
+-- under these rules the line's series is registered, its new columns are made, there is room for its facts in cells, and they are put
+pub record Puts (rules : List Rule) (old new : Held) (p : Parts) : Type 0 where
   pub series : Gains old.series new.series (series_of p)
   pub facts : PutsFacts (with_columns old.columns (new_columns (map column_of old.columns) (facts_of p))) new.columns (facts_of p)
+  pub rollups : AreRollups rules (map column_of new.columns) new.rollups
+  pub rooms : HaveRoom rules (facts_of p) (cells_of old.rollups) (cells_of new.rollups)
 
--- without memory the series may be registered, and the first of the new columns made
-pub record Grows (old new : Held) (p : Parts) : Type 0 where
+-- without memory the series may be registered, and the first of the new columns and cells made
+pub record Grows (rules : List Rule) (old new : Held) (p : Parts) : Type 0 where
   pub series : MayGain old.series new.series (series_of p)
   pub columns : MakesFirst old.columns new.columns (facts_of p)
+  pub rollups : AreRollups rules (map column_of new.columns) new.rollups
+  pub rooms : HaveRoom rules [] (cells_of old.rollups) (cells_of new.rollups)
 
 -- ---- in a store
 

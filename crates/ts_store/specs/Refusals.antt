@@ -1,12 +1,13 @@
--- When a write is refused, and by which number. (Own rules: 1,000,000 series at most, number 41; 2^62 accepted facts at most, number 52.)
-use Rattle.std.specs.Prelude.{ℕ, ◌+◌, ◌^◌, nat_le, Bool, not, ◌&&◌, List, length, Option, None}
+-- When a write is refused, and by which number. (Own rules: no time below the raw mark, number 51; 1,000,000 series at most, number
+-- 41; 2^62 accepted facts at most, number 52. InfluxData 1.8, downsampling and data retention: points beyond a policy are dropped.)
+use Rattle.std.specs.Prelude.{ℕ, ℤ, int_le, ◌+◌, ◌^◌, nat_le, Bool, not, ◌&&◌, List, length, Option, None}
 use Rattle.std.specs.List.{list_any}
 use Rattle.std.specs.Ordering.{eq_by_cmp}
 use Rattle.ts_core.specs.Facts.{Series, series_cmp}
 use Rattle.ts_core.specs.SettingsFaults.{unless}
 use Rattle.ts_line.specs.Parts.{Parts, series_of, facts_of}
 use Rattle.ts_store.specs.declared.fault.WriteFault.{WriteFault}
-use Rattle.ts_store.specs.declared.fault.WriteFault.TheVariants.{TooManySeries, TooManyFacts}
+use Rattle.ts_store.specs.declared.fault.WriteFault.TheVariants.{BelowRawMark, TooManySeries, TooManyFacts}
 
 abbrev pub is_registered : List Series → Series → Bool
 is_registered series s = list_any (eq_by_cmp series_cmp s) series
@@ -15,8 +16,9 @@ is_registered series s = list_any (eq_by_cmp series_cmp s) series
 abbrev pub is_too_many : List Series → Series → Bool
 is_too_many series s = nat_le 1000000 (length series) && not (is_registered series s)
 
--- what a line is refused by, where so many series are registered and so many facts were accepted
-abbrev pub write_fault : List Series → ℕ → Parts → Option WriteFault
-write_fault series accepted p =
-    unless (not (is_too_many series (series_of p))) TooManySeries
-    (unless (nat_le (accepted + length (facts_of p)) (2 ^ 62)) TooManyFacts None)
+-- what a line is refused by, where the raw mark stands here, these series are registered and so many facts were accepted
+abbrev pub write_fault : ℤ → List Series → ℕ → Parts → Option WriteFault
+write_fault mark series accepted p =
+    unless (int_le mark p.time) (BelowRawMark mark)
+    (unless (not (is_too_many series (series_of p))) TooManySeries
+    (unless (nat_le (accepted + length (facts_of p)) (2 ^ 62)) TooManyFacts None))

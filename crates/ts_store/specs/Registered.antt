@@ -1,10 +1,7 @@
 -- Which series and columns there are after a write: the line's series is registered, and its columns are made in the order in
 -- which its fields first stand. (Own rule.)
-use Rattle.std.specs.Prelude.{◌≡◌, ◌⊎◌, ℕ, ◌≤◌, ◌^◌, not, List, [], ◌++◌, length, map, filter}
-use Rattle.ts_core.specs.Times.{least_time}
+use Rattle.std.specs.Prelude.{◌≡◌, ◌⊎◌, not, List, [], ◌++◌, map, filter}
 use Rattle.ts_core.specs.Facts.{Series, Column, Fact}
-use Rattle.ts_core.specs.Settings.{Settings}
-use Rattle.ts_core.specs.Marks.{Marks}
 use Rattle.ts_core.specs.StoreStates.{ColumnPoints, column_of}
 use Rattle.ts_core.specs.RawFacts.{is_waiting}
 use Rattle.ts_raw.specs.Numbered.{Gains}
@@ -34,11 +31,3 @@ pub record MakesFirst (before after : List ColumnPoints) (facts : List Fact) : T
   pub others : List Column
   pub order : made ++ others ≡ new_columns (map column_of before) facts
   pub columns : after ≡ with_columns before made
-
--- there are no rules, no run began, no more than 2^62 facts were accepted, and no more are kept
-pub record IsKept (settings : Settings) (marks : Marks) (accepted : ℕ) (raw : List Fact) : Type 0 where
-  pub no_rules : settings.rules ≡ []
-  pub no_lows : marks.lows ≡ []
-  pub mark : marks.raw ≡ least_time
-  pub few : accepted ≤ 2 ^ 62
-  pub kept : length raw ≤ accepted

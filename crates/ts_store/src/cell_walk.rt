@@ -1,10 +1,16 @@
 //! Cells as a view shows them.
-ghost use Rattle.std.specs.Prelude.{◌≡◌};
+ghost use Rattle.std.specs.Prelude.{◌≡◌, ◌+◌, ◌<◌, ◌≤◌, ◌^◌, pos, ◌≤ℤ◌, length, map};
 ghost use Rattle.std.specs.Iterator.{YieldsFirst, item_count};
+ghost use Rattle.ts_core.specs.Aggregates.{merged, aggregate_of_points};
+ghost use Rattle.ts_store.specs.LiveCells.{walked_cell, walked_cells, cells_of_rule, IsWhole, AreWhole, IsRuled};
 
+use crate::column_facts::ColumnFacts;
+use crate::rollup::Rollup;
 use std::alloc::Allocator;
 use std::marker::Model;
-use ts_core::Agg;
+use ts_cells::{Kept, Walk};
+use ts_core::{Agg, Partial, Rule};
+use ts_raw::{Column, PlainColumn, Points};
 
 /// A cell with the total of its facts. The group is the values of the rule's kept tags.
 #[derive(Drop)]
@@ -28,62 +34,99 @@ impl<'a, A: Allocator> Model for CellSeen<'a, A> {
     ghost view = { λ c. record { cell = record { index = c.index; field = c.field.now; group = map string_bytes c.group.now }; total = c.total } };
 }
 
-/// A cell as it is kept for a test.
-#[derive(Drop)]
-pub struct CellKept<A: Allocator> {
-    index: i128,
-    field: String<A>,
-    group: Vec<String<A>, A>,
-    total: Agg,
-}
-
-impl<A: Allocator> Model for CellKept<A> {
-    ghost use Rattle.std.specs.Prelude.{map, string_bytes};
-    ghost use Rattle.ts_store.specs.Seats.{CellTotal};
-
-    ghost Value = { CellTotal };
-
-    ghost view = { λ c. record { cell = record { index = c.index; field = string_bytes c.field; group = map string_bytes c.group.items }; total = c.total } };
-}
-
-impl<A: Allocator> CellKept<A> {
-    fn lend(&self) -> CellSeen<'_, A>
-        ensures { result ≡ self.now }
-    {
-        CellSeen {
-            index: self.index,
-            field: self.field.as_str(),
-            group: self.group.as_slice(),
-            total: self.total,
-        }
-    }
-}
-
-/// Cells that are left to give, seen as the list of them.
+/// Cells of a rule that are left to give, seen as the list of them. The live part of each is folded from the points of its own
+/// columns.
 #[derive(Drop)]
 pub struct CellWalk<'a, A: Allocator> {
-    left: &'a [CellKept<A>],
+    rule: &'a Rule<A>,
+    rollup: &'a Rollup<A>,
+    columns: &'a [PlainColumn<A>],
+    left: Walk<'a, Agg, A>,
 }
 
 impl<'a, A: Allocator> Model for CellWalk<'a, A> {
     ghost use Rattle.std.specs.Prelude.{List};
     ghost use Rattle.ts_store.specs.Seats.{CellTotal};
+    ghost use Rattle.ts_store.specs.LiveCells.{walked_cells, AreWhole};
 
     ghost Value = { List CellTotal };
 
-    ghost view = { λ w. w.left.now };
+    ghost view = { λ w. walked_cells w.rule.now w.rollup.now w.columns.now w.left };
+
+    ghost invariant = { λ w. AreWhole w.rule.now w.rollup.now w.columns.now w.left };
 }
 
-impl<'a, A: Allocator> CellWalk<'a, A> {
-    /// The cells of a slice.
-    pub fn of(left: &'a [CellKept<A>]) -> CellWalk<'a, A>
-        ensures { result ≡ left.now }
+/// An aggregate with points merged in.
+fn with_points(total: Agg, points: Points<'_>) -> Agg
+    requires { total.count + length points ≤ 2 ^ 62 }
+    ensures { result ≡ merged total (aggregate_of_points points.entry) }
+{
+    let mut all = total;
+    for (time, value) in points {
+        all = all.merge(Agg::single(time, value));
+    }
+    all
+}
+
+/// What the facts of a cell add up to: its frozen part with the points of its columns in its bucket.
+fn total_of<A: Allocator + Copy>(
+    rule: &Rule<A>,
+    rollup: &Rollup<A>,
+    columns: &[PlainColumn<A>],
+    kept: &Kept<'_, Agg, A>,
+) -> Agg
+    requires interval { pos 1 ≤ℤ rule.now.interval }
+    requires whole { IsWhole rule.now rollup.now columns.now kept.now }
+    ensures { result ≡ (walked_cell rule.now rollup.now columns.now kept.now).total }
+{
+    let mut total = kept.part;
+    for column in rollup.columns_of(kept.lane) {
+        let points = columns[column.number()].bucket(&kept.index, rule.interval(), rule.offset());
+        total = with_points(total, points);
+    }
+    total
+}
+
+impl<'a, A: Allocator + Copy> CellWalk<'a, A> {
+    /// The cells of a walk, each with the points of its columns.
+    pub(crate) fn of(
+        rule: &'a Rule<A>,
+        rollup: &'a Rollup<A>,
+        columns: &'a [PlainColumn<A>],
+        left: Walk<'a, Agg, A>,
+    ) -> CellWalk<'a, A>
+        requires { AreWhole rule.now rollup.now columns.now left }
+        ensures { result ≡ walked_cells rule.now rollup.now columns.now left.entry }
     {
-        CellWalk { left }
+        CellWalk {
+            rule,
+            rollup,
+            columns,
+            left,
+        }
     }
 }
 
-impl<'a, A: Allocator> Iterator for CellWalk<'a, A> {
+impl<A: Allocator + Copy> ColumnFacts<A> {
+    /// The cells of a rule with their totals, by its number, from a bucket's index on and before another: in order of
+    /// index, field and group.
+    pub(crate) fn cell_walk<'a>(
+        &'a self,
+        rule: &'a Rule<A>,
+        number: usize,
+        from: &i128,
+        to: &i128,
+    ) -> CellWalk<'a, A>
+        requires { IsRuled self.now rule.now number }
+        ensures { result ≡ cells_of_rule self.now rule.now number from.now to.now }
+    {
+        let rollup = &self.rollups[number];
+        let columns = self.columns.as_slice();
+        CellWalk::of(rule, rollup, columns, rollup.walk(from, to))
+    }
+}
+
+impl<'a, A: Allocator + Copy> Iterator for CellWalk<'a, A> {
     type Item = CellSeen<'a, A>;
 
     ghost next_gives = { YieldsFirst (λ w. w) };
@@ -91,8 +134,13 @@ impl<'a, A: Allocator> Iterator for CellWalk<'a, A> {
     ghost remaining = { item_count (λ w. w) };
 
     fn next(&mut self) -> Option<CellSeen<'a, A>> {
-        let (first, others) = self.left.split_first()?;
-        self.left = others;
-        Some(first.lend())
+        let kept = self.left.next()?;
+        let total = total_of(self.rule, self.rollup, self.columns, &kept);
+        Some(CellSeen {
+            index: kept.index,
+            field: kept.field,
+            group: kept.group,
+            total,
+        })
     }
 }

@@ -1,5 +1,5 @@
 //! Facts in columns that are found through an index.
-ghost use Rattle.std.specs.Prelude.{◌≡◌, ◌≤◌, ◌<◌, ◌+◌, ◌*◌, ◌^◌, [], false, length, OnOk, OnErr};
+ghost use Rattle.std.specs.Prelude.{◌≡◌, ◌≤◌, ◌<◌, ◌+◌, ◌*◌, ◌^◌, [], false, length, map, pos, ◌≤ℤ◌, replicate, IfOk, OnOk, OnErr};
 ghost use Rattle.std.specs.List.{AllByRecursion};
 ghost use Rattle.ts_core.specs.Times.{least_time};
 ghost use Rattle.ts_core.specs.Facts.{is_of};
@@ -12,43 +12,54 @@ ghost use Rattle.ts_store.specs.ColumnsKept.{AreKnown};
 ghost use Rattle.ts_store.specs.Refusals.{is_too_many};
 ghost use Rattle.ts_store.specs.Seats.{seats_where, points_at};
 ghost use Rattle.ts_store.specs.LinesPut.{Puts, Grows};
+ghost use Rattle.ts_store.specs.Rollups.{new_rollup, AreRollups};
+ghost use Rattle.ts_core.specs.StoreStates.{column_of};
 
 use crate::column_reads::{held_points, raw_points, raw_range};
 use crate::columns::{commit_all, prepare_line};
 use crate::columns_seen::Columns;
+use crate::rollup::{Rollup, new_rollups};
+use crate::rooms::make_rooms;
 use std::alloc::{AllocError, Allocator};
 use std::marker::Model;
+use ts_core::Rule;
 use ts_line::Line;
 use ts_raw::{ColumnId, Index, PlainColumn, Points, SERIES_LIMIT};
 
-/// Facts in columns, one for each series and field, and the numbers of the columns that a line touches.
+/// Facts in columns, one for each series and field, with what is kept of them for each rule, and the numbers of the columns
+/// that a line touches.
 #[derive(Drop)]
 pub(crate) struct ColumnFacts<A: Allocator> {
-    index: Index<A>,
-    columns: Vec<PlainColumn<A>, A>,
+    pub(crate) index: Index<A>,
+    pub(crate) columns: Vec<PlainColumn<A>, A>,
+    pub(crate) rollups: Vec<Rollup<A>, A>,
     touched: Vec<ColumnId, A>,
 }
 
 impl<A: Allocator> Model for ColumnFacts<A> {
-    ghost use Rattle.ts_store.specs.ColumnsKept.{Held, held_of, IsHeld};
+    ghost use Rattle.ts_store.specs.ColumnsKept.{Held, coded_held, held_of, IsHeld};
 
     ghost Value = { Held };
 
-    ghost view = { λ f. held_of f.index f.columns.items };
+    ghost coded = { coded_held };
+
+    ghost view = { λ f. held_of f.index f.columns.items f.rollups.items };
 
     ghost invariant = { λ f. IsHeld f.index f.columns.items };
 }
 
 impl<A: Allocator + Copy> ColumnFacts<A> {
-    pub(crate) fn new(alloc: A) -> ColumnFacts<A>
-        ensures series { result.series ≡ [] }
-        ensures columns { result.columns ≡ [] }
+    /// No facts, under so many rules.
+    pub(crate) fn new(alloc: A, rules: usize) -> Result<ColumnFacts<A>, AllocError>
+        ensures { IfOk result (λ f. f ≡ record { series = []; columns = []; rollups = replicate rules new_rollup }) }
     {
-        ColumnFacts {
+        let rollups = new_rollups(alloc, rules)?;
+        Ok(ColumnFacts {
             index: Index::new(alloc),
             columns: Vec::new(alloc),
+            rollups,
             touched: Vec::new(alloc),
-        }
+        })
     }
 
     /// Whether so many series are registered that this one is refused.
@@ -59,17 +70,20 @@ impl<A: Allocator + Copy> ColumnFacts<A> {
     }
 
     /// Puts the facts of a line in, each in place of the one of its id. All room is taken before the first:
-    /// after a refusal there is at most the series more, and columns without points.
+    /// after a refusal there is at most the series more, columns without points, and cells without facts.
     pub(crate) fn put_line(
         &mut self,
+        rules: &[Rule<A>],
         line: &Line<'_, A>,
         tags: &[(&str, &str)],
     ) -> Result<(), AllocError>
         requires set { IsTagSet (lent_pairs tags.now) }
         requires tags { lent_pairs tags.now ≡ (series_of line.now).tags }
         requires few { is_too_many self.old.series (series_of line.now) ≡ false }
-        ensures ok { OnOk result (Puts self.old self.new line.now) }
-        ensures err { OnErr result (Grows self.old self.new line.now) }
+        requires rollups { AreRollups rules.now (map column_of self.old.columns) self.old.rollups }
+        requires intervals { AllByRecursion (λ r. pos 1 ≤ℤ r.interval) rules.now }
+        ensures ok { OnOk result (Puts rules.now self.old self.new line.now) }
+        ensures err { OnErr result (Grows rules.now self.old self.new line.now) }
         ensures taken { OnOk result (AllByRecursion (MayBeTaken least_time) (facts_of line.now)) }
         ensures known { AreKnown self.new }
     {
@@ -82,9 +96,17 @@ impl<A: Allocator + Copy> ColumnFacts<A> {
         prepare_line(
             &mut self.index,
             &mut self.columns,
+            rules,
+            self.rollups.as_mut_slice(),
             &mut self.touched,
             series,
             line,
+        )?;
+        make_rooms(
+            rules,
+            self.rollups.as_mut_slice(),
+            self.touched.as_slice(),
+            line.time(),
         )?;
         commit_all(&mut self.columns, self.touched.as_slice());
         Ok(())

@@ -1,5 +1,5 @@
 //! What a line writes to columns that are found through an index: each of its columns is looked up once.
-ghost use Rattle.std.specs.Prelude.{◌≡◌, ◌<◌, [], length, OnOk, OnErr, IfOk, set, get_or};
+ghost use Rattle.std.specs.Prelude.{◌≡◌, ◌<◌, [], ◌∷◌, ◌++◌, length, map, IsSome, OnOk, OnErr, IfOk, set, get_or};
 ghost use Rattle.std.specs.List.{AllByRecursion};
 ghost use Rattle.ts_core.specs.Times.{least_time};
 ghost use Rattle.ts_core.specs.History.{MayBeTaken};
@@ -8,38 +8,107 @@ ghost use Rattle.ts_raw.specs.Indexed.{IsSound, column_in};
 ghost use Rattle.ts_raw.specs.Numbered.{IsAt};
 ghost use Rattle.ts_store.specs.ColumnsKept.{no_column, points_of, columns_in, with_point_aside, all_committed, AreReady, AreAside, MayGrow, IsHeld};
 ghost use Rattle.ts_store.specs.Registered.{MakesFirst, MakesAll};
+ghost use Rattle.ts_store.specs.Rollups.{AreRollups, KeepCells, HaveNext, with_next, cells_of};
+ghost use Rattle.ts_core.specs.Members.{Among};
 
+use crate::rollup::Rollup;
 use std::alloc::{AllocError, Allocator};
 use std::marker::Model;
-use ts_core::Time;
+use ts_core::{Key, Rule, Time};
 use ts_line::Line;
 use ts_raw::{Column, ColumnId, Index, PlainColumn, SeriesId};
+
+/// Takes all room that a column to be made needs under each rule, and finds its lanes.
+fn prepare_rollups<A: Allocator + Copy>(
+    rules: &[Rule<A>],
+    rollups: &mut [Rollup<A>],
+    key: &Key<A>,
+    field: &str,
+) -> Result<(), AllocError>
+    requires { length rollups.old ≡ length rules.now }
+    ensures kept { KeepCells rollups.old rollups.new }
+    ensures next { OnOk result (HaveNext rules.now (record { series = key.now; field = field.now }) rollups.new) }
+{
+    match rules.split_first() {
+        None => Ok(()),
+        Some((rule, rules)) => match rollups.split_first_mut() {
+            None => Ok(()),
+            Some((rollup, rollups)) => {
+                rollup.prepare(rule, key, field)?;
+                prepare_rollups(rules, rollups, key, field)
+            }
+        },
+    }
+}
+
+/// The column is made: under each rule it gets the lane that was found for it. It takes no memory.
+fn commit_rollups<A: Allocator + Copy>(rollups: &mut [Rollup<A>], column: ColumnId)
+    requires { AllByRecursion (λ s. IsSome s.next × (column ≡ length s.lanes)) rollups.old }
+    ensures { rollups.new ≡ map with_next rollups.old }
+{
+    if let Some((rollup, rollups)) = rollups.split_first_mut() {
+        rollup.commit(column);
+        commit_rollups(rollups, column);
+    }
+}
+
+/// Makes the column of a series and a field, without points, and with its lane under each rule.
+fn make_column<A: Allocator + Copy>(
+    index: &mut Index<A>,
+    columns: &mut Vec<PlainColumn<A>, A>,
+    rules: &[Rule<A>],
+    rollups: &mut [Rollup<A>],
+    series: SeriesId,
+    field: &str,
+) -> Result<ColumnId, AllocError>
+    requires len { length columns.old.items ≡ length index.old.columns }
+    requires series { series < length index.old.series }
+    requires absent { Among (column_in index.old series field.now) index.old.columns → ⊥ }
+    requires rollups { AreRollups rules.now index.old.columns rollups.old }
+    ensures number { IfOk result (λ id. IsAt index.new.columns id (column_in index.old series field.now)) }
+    ensures made { OnOk result ((index.new.columns ≡ index.old.columns ++ column_in index.old series field.now ∷ []) × (columns.new.items ≡ columns.old.items ++ no_column ∷ [])) }
+    ensures err { OnErr result ((index.new.columns ≡ index.old.columns) × (columns.new.items ≡ columns.old.items)) }
+    ensures series { index.new.series ≡ index.old.series }
+    ensures sound { IsSound index.old → IsSound index.new }
+    ensures rollups { AreRollups rules.now index.new.columns rollups.new }
+    ensures cells { cells_of rollups.new ≡ cells_of rollups.old }
+{
+    columns.reserve(1)?;
+    prepare_rollups(rules, rollups, index.key_of(series), field)?;
+    let column = index.add_column(None, series, field)?;
+    columns
+        .push(PlainColumn::new(*columns.allocator()))
+        .unwrap();
+    commit_rollups(rollups, column);
+    Ok(column)
+}
 
 /// The column of a series and a field, made without points where there is none yet. It is looked for right behind the
 /// column before.
 fn column_for<A: Allocator + Copy>(
     index: &mut Index<A>,
     columns: &mut Vec<PlainColumn<A>, A>,
+    rules: &[Rule<A>],
+    rollups: &mut [Rollup<A>],
     before: Option<ColumnId>,
     series: SeriesId,
     field: &str,
 ) -> Result<ColumnId, AllocError>
     requires len { length columns.old.items ≡ length index.old.columns }
     requires series { series < length index.old.series }
+    requires rollups { AreRollups rules.now index.old.columns rollups.old }
     ensures number { IfOk result (λ id. IsAt index.new.columns id (column_in index.old series field.now)) }
     ensures grown { OnOk result (MayGrow (column_in index.old series field.now) index.old.columns columns.old.items index.new.columns columns.new.items) }
     ensures err { OnErr result ((index.new.columns ≡ index.old.columns) × (columns.new.items ≡ columns.old.items)) }
     ensures series { index.new.series ≡ index.old.series }
     ensures sound { IsSound index.old → IsSound index.new }
+    ensures rollups { AreRollups rules.now index.new.columns rollups.new }
+    ensures cells { cells_of rollups.new ≡ cells_of rollups.old }
 {
-    columns.reserve(1)?;
-    let column = index.add_column(before, series, field)?;
-    if columns.len() < index.column_count() {
-        columns
-            .push(PlainColumn::new(*columns.allocator()))
-            .unwrap();
+    match index.column_after(before, series, field) {
+        Some(column) => Ok(column),
+        None => make_column(index, columns, rules, rollups, series, field),
     }
-    Ok(column)
 }
 
 /// Sets a point aside in one of the columns. No column's points change.
@@ -74,11 +143,14 @@ pub(crate) fn commit_all<A: Allocator + Copy>(
 pub(crate) fn prepare_line<A: Allocator + Copy>(
     index: &mut Index<A>,
     columns: &mut Vec<PlainColumn<A>, A>,
+    rules: &[Rule<A>],
+    rollups: &mut [Rollup<A>],
     touched: &mut Vec<ColumnId, A>,
     series: SeriesId,
     line: &Line<'_, A>,
 ) -> Result<(), AllocError>
     requires held { IsHeld index.old columns.old.items }
+    requires rollups { AreRollups rules.now index.old.columns rollups.old }
     requires series { IsAt index.old.series series (series_of line.now) }
     requires none { touched.old.items ≡ [] }
     ensures aside { OnOk result (AreAside index.new.columns columns.new.items touched.new.items (facts_of line.now)) }
@@ -87,10 +159,13 @@ pub(crate) fn prepare_line<A: Allocator + Copy>(
     ensures made { MakesFirst (columns_in index.old columns.old.items) (columns_in index.new columns.new.items) (facts_of line.now) }
     ensures held { IsHeld index.new columns.new.items }
     ensures series { index.new.series ≡ index.old.series }
+    ensures rollups { AreRollups rules.now index.new.columns rollups.new }
+    ensures cells { cells_of rollups.new ≡ cells_of rollups.old }
 {
     for field in line.fields() {
         let before = touched.last().copied();
-        let column = column_for(index, columns, before, series, field.name().text())?;
+        let name = field.name().text();
+        let column = column_for(index, columns, rules, rollups, before, series, name)?;
         prepare_at(columns, column.number(), line.time(), field.value())?;
         touched.push(column)?;
     }

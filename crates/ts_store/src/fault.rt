@@ -1,10 +1,14 @@
-//! Why a line was not written.
+//! Why a line was not written, and why a run didn't begin.
 use std::alloc::AllocError;
 use thiserror::Error;
+use ts_core::Time;
 
 /// Why a line was not written.
 #[derive(Clone, Copy, Debug, PartialEq, Eq, Error)]
 pub enum WriteFault {
+    /// Its time is below the raw mark, which it carries (number 51).
+    #[error("below the raw mark")]
+    BelowRawMark(Time),
     /// 1,000,000 series are registered, and this one isn't (number 41).
     #[error("too many series")]
     TooManySeries,
@@ -26,3 +30,8 @@ impl From<AllocError> for WriteFault {
         WriteFault::OutOfMemory
     }
 }
+
+/// A run of retention is open (number 53).
+#[derive(Clone, Copy, Debug, PartialEq, Eq, Error)]
+#[error("a run is in progress")]
+pub struct RunInProgress;

@@ -7,15 +7,20 @@
 
 mod cell_walk;
 mod column_facts;
+mod column_moves;
 mod column_reads;
 mod columns;
 mod columns_seen;
 mod fault;
+mod freezing;
+mod rollup;
+mod rooms;
+mod run;
 mod store;
 mod view;
 
-pub use cell_walk::{CellKept, CellSeen, CellWalk};
+pub use cell_walk::{CellSeen, CellWalk};
 pub use columns_seen::Columns;
-pub use fault::WriteFault;
+pub use fault::{RunInProgress, WriteFault};
 pub use store::Store;
 pub use view::{ColumnSeen, View};

@@ -1,5 +1,9 @@
 //! The store.
-ghost use Rattle.std.specs.Prelude.{◌≡◌, ◌⊎◌, ◌+◌, ◌*◌, ◌<◌, ◌≤◌, [], length, map, OnOk, IfOk, IfSome, IsNone, Ok, Err};
+ghost use Rattle.std.specs.Prelude.{◌≡◌, pos, ◌≤ℤ◌, ◌⊎◌, ◌+◌, ◌*◌, ◌<◌, ◌≤◌, [], length, map, OnOk, IfOk, IfSome, IsNone, Ok, Err};
+ghost use Rattle.std.specs.Bool.{OnFalse};
+ghost use Rattle.std.specs.List.{AllByRecursion};
+ghost use Rattle.ts_core.specs.Times.{least_time};
+ghost use Rattle.ts_core.specs.Marks.{index_of};
 ghost use Rattle.ts_core.specs.History.{accepted};
 ghost use Rattle.ts_core.specs.RawFacts.{raw_facts};
 ghost use Rattle.ts_core.specs.StoreStates.{ColumnPoints, StandsFor, facts_of as facts_in};
@@ -18,70 +22,87 @@ use crate::cell_walk::CellWalk;
 use crate::column_facts::ColumnFacts;
 use crate::columns_seen::Columns;
 use crate::fault::WriteFault;
+use crate::run::Run;
 use crate::view::View;
 use std::alloc::{AllocError, Allocator};
 use std::marker::Model;
-use ts_core::{Marks, Settings, Time};
+use ts_core::{Marks, Rule, Settings, Time, index_of};
 use ts_line::Line;
 use ts_raw::{ColumnId, Points};
+
+mod retention;
 
 /// How many facts are accepted at most, repeats counted: 2^62.
 const FACT_LIMIT: u64 = 4_611_686_018_427_387_904;
 
-/// What a store keeps. It has no rules yet and no run begins, so none of its columns waits, and its raw mark is the least time.
+/// The low index of each rule before any run: that of the least time.
+fn first_lows<A: Allocator + Copy>(alloc: A, rules: &[Rule<A>]) -> Result<Vec<i128, A>, AllocError>
+    requires { AllByRecursion (λ r. pos 1 ≤ℤ r.interval) rules.now }
+    ensures { IfOk result (λ v. v.items ≡ map (λ r. index_of r least_time) rules.now) }
+{
+    let mut lows = Vec::with_capacity(alloc, rules.len())?;
+    for rule in rules {
+        lows.push(index_of(rule, i128::from(Time::least().nanos())))?;
+    }
+    Ok(lows)
+}
+
+/// What a store keeps: raw points from the raw mark on, and of each rule the cells from its low index on.
 #[derive(Drop)]
 pub struct Store<A: Allocator> {
     settings: Settings<A>,
     marks: Marks<A>,
     accepted: u64,
     facts: ColumnFacts<A>,
+    run: Option<Run>,
 }
 
 impl<A: Allocator> Model for Store<A> {
-    ghost use Rattle.std.specs.Prelude.{[], false};
-    ghost use Rattle.ts_core.specs.StoreStates.{facts_of};
+    ghost use Rattle.std.specs.Option.{is_some};
     ghost use Rattle.ts_core.specs.StoreData.{StoreData};
     ghost use Rattle.ts_core.specs.StoreCodes.{coded_store_data};
-    ghost use Rattle.ts_store.specs.Registered.{IsKept};
+    ghost use Rattle.ts_store.specs.OpenRuns.{IsKept, kept_data};
 
     ghost Value = { StoreData };
 
     ghost coded = { coded_store_data };
 
-    ghost view = { λ s. record { settings = s.settings; marks = s.marks; running = false; waiting = []; series = s.facts.series; columns = s.facts.columns; accepted = s.accepted; cells = [] } };
+    ghost view = { λ s. kept_data s.settings s.marks s.accepted s.facts s.run };
 
-    ghost invariant = { λ s. IsKept s.settings s.marks s.accepted (facts_of s.facts.columns) };
+    ghost invariant = { λ s. IsKept (kept_data s.settings s.marks s.accepted s.facts s.run) s.facts s.run };
 }
 
 impl<A: Allocator + Copy> Store<A> {
-    /// An empty store, with room for the low indices of its rules. It has no rules yet: their cells come with retention.
+    /// An empty store. Room is taken for the low indices of its rules and for what is kept of each.
     pub fn new(alloc: A, settings: Settings<A>) -> Result<Store<A>, AllocError>
-        requires { settings.rules ≡ [] }
         ensures value { IfOk result (λ s. s ≡ new_data settings) }
         ensures stands { IfOk result (λ s. StandsFor settings [] (state_of s)) }
     {
-        let lows = Vec::with_capacity(alloc, settings.rules().len())?;
+        let lows = first_lows(alloc, settings.rules())?;
+        let facts = ColumnFacts::new(alloc, settings.rules().len())?;
         Ok(Store {
             settings,
             marks: Marks::new(Time::least(), lows),
             accepted: 0,
-            facts: ColumnFacts::new(alloc),
+            facts,
+            run: None,
         })
     }
 
     /// Writes a line: its facts are accepted, each in place of an older one of its id, and it stands for one event more.
     /// What it is refused by is found without memory, and changes nothing. Where no memory is found, it stands for what it
-    /// stood for; the line's series may be registered, and the first of its new columns made. Columns keep their numbers.
+    /// stood for; the line's series may be registered, and the first of its new columns made. Columns keep their numbers. A
+    /// line below the raw mark is refused with that mark.
     pub fn write(&mut self, line: &Line<'_, A>) -> Result<(), WriteFault>
         ensures ok { OnOk result (Accepts self.old self.new line.now) }
-        ensures refused { IfSome (write_fault self.old.series self.old.accepted line.now) (λ fault. (result ≡ Err fault) × (self.new ≡ self.old)) }
-        ensures taken { IsNone (write_fault self.old.series self.old.accepted line.now) → (result ≡ Ok tt) ⊎ ((result ≡ Err WriteFault.OutOfMemory) × Leaves self.old self.new line.now) }
+        ensures refused { IfSome (write_fault self.old.marks.raw self.old.series self.old.accepted line.now) (λ fault. (result ≡ Err fault) × (self.new ≡ self.old)) }
+        ensures taken { IsNone (write_fault self.old.marks.raw self.old.series self.old.accepted line.now) → (result ≡ Ok tt) ⊎ ((result ≡ Err WriteFault.OutOfMemory) × Leaves self.old self.new line.now) }
     {
         let tags = line.tags_by_key();
         if let Some(fault) = self.refusal(line, &tags) {
             return Err(fault);
         }
-        self.facts.put_line(line, &tags)?;
+        self.facts.put_line(self.settings.rules(), line, &tags)?;
         self.accepted += line.fields().len() as u64;
         Ok(())
     }
@@ -89,8 +110,11 @@ impl<A: Allocator + Copy> Store<A> {
     /// What a line is refused by.
     fn refusal(&self, line: &Line<'_, A>, tags: &[(&str, &str)]) -> Option<WriteFault>
         requires { lent_pairs tags.now ≡ (series_of line.now).tags }
-        ensures { result ≡ write_fault self.now.series self.now.accepted line.now }
+        ensures { result ≡ write_fault self.now.marks.raw self.now.series self.now.accepted line.now }
     {
+        if line.time() < self.marks.raw() {
+            return Some(WriteFault::BelowRawMark(self.marks.raw()));
+        }
         if self.facts.refuses(line.measurement().text(), tags) {
             return Some(WriteFault::TooManySeries);
         }
@@ -98,6 +122,13 @@ impl<A: Allocator + Copy> Store<A> {
             return Some(WriteFault::TooManyFacts);
         }
         None
+    }
+
+    /// Whether a run of retention is open.
+    pub fn run_in_progress(&self) -> bool
+        ensures { result ≡ self.now.running }
+    {
+        self.run.is_some()
     }
 
     /// How many facts were accepted, repeats counted.
@@ -108,10 +139,10 @@ impl<A: Allocator + Copy> Store<A> {
         self.accepted
     }
 
-    /// How many raw facts are kept: of each id the latest, from the raw mark on.
+    /// How many raw facts are kept. Where no run is open, these are the latest of each id from the raw mark on.
     pub fn raw_points(&self) -> u64
         ensures value { result ≡ length (facts_in self.now.columns) }
-        ensures facts { OfEachHistory self.now (λ opening h. result ≡ length (raw_facts opening h)) }
+        ensures facts { OnFalse self.now.running (OfEachHistory self.now (λ opening h. result ≡ length (raw_facts opening h))) }
     {
         self.facts.raw_points()
     }
@@ -159,9 +190,10 @@ impl<A: Allocator + Copy> View<A> for Store<A> {
         self.facts.raw_range(column, from, to)
     }
 
-    /// There are no rules yet, and so no cells.
-    fn cell_walk(&self, _rule: usize, _from: &i128, _to: &i128) -> CellWalk<'_, A> {
-        prove!(self.settings.rules().is_empty());
-        CellWalk::of(&[])
+    /// The cells of a rule with their totals, by its number, from a bucket's index on and before another: in order of index, field
+    /// and group.
+    fn cell_walk(&self, rule: usize, from: &i128, to: &i128) -> CellWalk<'_, A> {
+        let kept = &self.settings.rules()[rule];
+        self.facts.cell_walk(kept, rule, from, to)
     }
 }

@@ -40,8 +40,8 @@ prepare_at-requires g c =
 pub returns-in_err-prepare_at-clause-made : goal.returns-in_err-prepare_at-clause-made
 returns-in_err-prepare_at-clause-made g c =
     let i = c.loop-field.invariant in
-    let more = made_next c.args.line.now c.loop-field.index c.args.series c.text.result.now _ c.column_for.new.index.columns c.loop-field.columns.items c.column_for.new.columns.items c.fields-field-items.result.now c.loop-field.field-index
-    c.field-item.result c.in_ok-column.ensures.grown (ap (λ (xs : List Series). slice_get xs c.args.series) i.series ∙ c.requires.series) (c.text.ensures ∙ ap (λ (q : Piece). q.text) c.name.ensures)
+    let more = made_next c.args.line.now c.loop-field.index c.args.series c.text-name.result.now _ c.column_for.new.index.columns c.loop-field.columns.items c.column_for.new.columns.items c.fields-field-items.result.now c.loop-field.field-index
+    c.field-item.result c.in_ok-column.ensures.grown (ap (λ (xs : List Series). slice_get xs c.args.series) i.series ∙ c.requires.series) (c.text-name.ensures ∙ ap (λ (q : Piece). q.text) c.name.ensures)
     c.fields-field-items.ensures.value c.fields-field-items.ensures.once c.loop-field-test.true c.field-item.is i.held.each i.made in
     first_made c.args.line.now _ _ c.fields-field-items.result.now (c.loop-field.field-index + 1) c.fields-field-items.ensures.value (ap (with_points c.column_for.new.index.columns) c.prepare_at.ensures.unchanged ∙ more)
 
@@ -56,8 +56,8 @@ returns-in_err-prepare_at-clause-held g c =
 pub returns-in_err-push-clause-made : goal.returns-in_err-push-clause-made
 returns-in_err-push-clause-made g c =
     let i = c.loop-field.invariant in
-    let more = made_next c.args.line.now c.loop-field.index c.args.series c.text.result.now _ c.column_for.new.index.columns c.loop-field.columns.items c.column_for.new.columns.items c.fields-field-items.result.now c.loop-field.field-index
-    c.field-item.result c.in_ok-column.ensures.grown (ap (λ (xs : List Series). slice_get xs c.args.series) i.series ∙ c.requires.series) (c.text.ensures ∙ ap (λ (q : Piece). q.text) c.name.ensures)
+    let more = made_next c.args.line.now c.loop-field.index c.args.series c.text-name.result.now _ c.column_for.new.index.columns c.loop-field.columns.items c.column_for.new.columns.items c.fields-field-items.result.now c.loop-field.field-index
+    c.field-item.result c.in_ok-column.ensures.grown (ap (λ (xs : List Series). slice_get xs c.args.series) i.series ∙ c.requires.series) (c.text-name.ensures ∙ ap (λ (q : Piece). q.text) c.name.ensures)
     c.fields-field-items.ensures.value c.fields-field-items.ensures.once c.loop-field-test.true c.field-item.is i.held.each i.made in
     first_made c.args.line.now _ _ c.fields-field-items.result.now (c.loop-field.field-index + 1) c.fields-field-items.ensures.value (ap (with_points c.column_for.new.index.columns) c.prepare_at.ensures.unchanged ∙ more)
 
@@ -88,8 +88,8 @@ loop-field-preserved g c =
     let is : x ≡ get_or p.fields k x = subst (λ (fs : List (Piece × ℤ)). x ≡ get_or fs k x) e c.field-item.is in
     let once : AllDistinct (map field_text p.fields) = subst (λ (fs : List (Piece × ℤ)). AllDistinct (map field_text fs)) e c.fields-field-items.ensures.once in
     let there : slice_get c.loop-field.index.series c.args.series ≡ Some (series_of p) = ap (λ (xs : List Series). slice_get xs c.args.series) i.series ∙ c.requires.series in
-    let name : c.text.result.now ≡ x.0.text = c.text.ensures ∙ ap (λ (q : Piece). q.text) c.name.ensures in
-    let named : column_in c.loop-field.index c.args.series c.text.result.now ≡ (fact_of p x).column = column_is p c.loop-field.index c.args.series c.text.result.now x there name in
+    let name : c.text-name.result.now ≡ x.0.text = c.text-name.ensures ∙ ap (λ (q : Piece). q.text) c.name.ensures in
+    let named : column_in c.loop-field.index c.args.series c.text-name.result.now ≡ (fact_of p x).column = column_is p c.loop-field.index c.args.series c.text-name.result.now x there name in
     let at : slice_get cs' n ≡ Some (fact_of p x).column = c.in_ok-column.ensures.number ∙ ap Some named in
     let grown : MayGrow (fact_of p x).column cs ss cs' ss' = subst (λ (d : Column). MayGrow d cs ss cs' ss') named c.in_ok-column.ensures.grown in
     let fits : SFits w64 c.value.result = search rules in
@@ -104,8 +104,10 @@ loop-field-preserved g c =
       taken = subst (λ (fs : List (Piece × ℤ)). AllByRecursion (MayBeTaken least_time) (map (fact_of p) (take (k + 1) fs))) (sym e)
           (subst (AllByRecursion (MayBeTaken least_time)) (facts_next p k x within is) (taken_more least_time (map (fact_of p) (take k p.fields)) (fact_of p x)
           (subst (λ (fs : List (Piece × ℤ)). AllByRecursion (MayBeTaken least_time) (map (fact_of p) (take k fs))) e i.taken) taken));
-      made = ap (with_points cs') c.prepare_at.ensures.unchanged ∙ made_next p c.loop-field.index c.args.series c.text.result.now _ cs' ss ss' c.fields-field-items.result.now k x c.in_ok-column.ensures.grown there name e c.fields-field-items.ensures.once c.loop-field-test.true c.field-item.is i.held.each i.made;
+      made = ap (with_points cs') c.prepare_at.ensures.unchanged ∙ made_next p c.loop-field.index c.args.series c.text-name.result.now _ cs' ss ss' c.fields-field-items.result.now k x c.in_ok-column.ensures.grown there name e c.fields-field-items.ensures.once c.loop-field-test.true c.field-item.is i.held.each i.made;
       held = record { sound = c.column_for.ensures.sound i.held.sound; each = next.1 };
+      rollups = c.column_for.ensures.rollups;
+      cells = c.column_for.ensures.cells ∙ i.cells;
       series = c.column_for.ensures.series ∙ i.series;
     }
 

@@ -4,6 +4,7 @@ use Rattle.ts_core.specs.History.{MayBeTaken}
 use Rattle.ts_core.specs.Times.{least_time}
 use Rattle.ts_line.specs.Parts.{fact_of}
 use Rattle.ts_store.specs.ColumnsKept.{columns_in, AreAside, IsHeld}
+use Rattle.ts_store.specs.Rollups.{AreRollups, cells_of}
 use Rattle.ts_store.specs.Registered.{MakesAll}
 use Rattle.ts_store.proofs.columns.prepare_line.Given as goal
 
@@ -13,5 +14,7 @@ invariant-loop-field g l = record {
   taken : AllByRecursion (MayBeTaken least_time) (map (fact_of l.line) (take l.field-index l.field-items));
   made : MakesAll (columns_in l.initial.index l.initial.columns.items) (columns_in l.index l.columns.items) (map (fact_of l.line) (take l.field-index l.field-items));
   held : IsHeld l.index l.columns.items;
+  rollups : AreRollups l.rules l.index.columns l.rollups;
+  cells : cells_of l.rollups ≡ cells_of l.initial.rollups;
   series : l.index.series ≡ l.initial.index.series;
 }

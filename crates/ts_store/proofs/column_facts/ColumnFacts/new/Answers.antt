@@ -1,6 +1,7 @@
 use Rattle.std.proofs.Common.{◌∙◌, List, length, ap, sym, subst}
 use Rattle.ts_core.specs.Members.{Among, AllDistinct}
 use Rattle.ts_core.specs.Facts.{Series, Column}
+use Rattle.ts_store.specs.ColumnsKept.{points_of, with_points}
 use Rattle.ts_store.proofs.column_facts.ColumnFacts.new.Goals as goal
 
 pub invariant_of-result : goal.invariant_of-result
@@ -11,4 +12,11 @@ invariant_of-result g c = record {
     registered = λ d a. absurd (subst (λ (xs : List Column). Among d xs) c.new.ensures.columns a);
   };
   each = ap length c.new-2.ensures.items ∙ sym (ap length c.new.ensures.columns);
+}
+
+pub returns : goal.returns
+returns g c = λ i. record {
+  series = c.new.ensures.series i;
+  columns = with_points (c.new.ensures.columns i) (points_of (c.new-2.ensures.items i));
+  rollups = c.in_ok-rollups.ensures i;
 }

@@ -1,48 +1,81 @@
-use Rattle.std.proofs.Common.{◌≡◌, ◌+◌, ◌≤◌, sym, ◌∙◌, ap, subst, arith, List, length, ℕ, ℤ, inr, None, Err}
-use Rattle.std.specs.List.{AllByRecursion}
+use Rattle.std.proofs.Common.{◌≡◌, ◌+◌, ◌≤◌, sym, ◌∙◌, ap, subst, List, length, ℕ, ℤ, inr, None, Err, map, rules, arith}
 use Rattle.std.proofs.lemmas.List.{length-map}
 use Rattle.std.proofs.lemmas.Result.{err_from_is_err_and}
-use Rattle.ts_core.specs.Facts.{Fact}
-use Rattle.ts_core.specs.History.{MayBeTaken}
+use Rattle.ts_core.specs.Settings.{Rule}
+use Rattle.ts_core.specs.StoreStates.{column_of}
 use Rattle.ts_core.specs.StoreData.{StoreData}
 use Rattle.ts_line.specs.Parts.{Piece, Parts, fact_of, facts_of}
-use Rattle.ts_store.specs.LinesPut.{Accepts, Leaves}
+use Rattle.ts_store.specs.LinesPut.{Puts, Grows, Accepts, Leaves}
+use Rattle.ts_store.specs.OpenRuns.{IsKept, kept_data}
 use Rattle.ts_store.specs.Refusals.{write_fault}
-use Rattle.ts_store.proofs.Stands.{before_runs, accepted_by, left_by, left_facts, kept_few, not_refused}
+use Rattle.ts_store.specs.Rollups.{AreRollups}
+use Rattle.ts_store.proofs.Stands.{accepted_by, left_by, kept_left, kept_accepted, not_refused, taken_from}
 use Rattle.ts_store.proofs.store.Store.write.Goals as goal
+
+pub put_line-requires-clause-few : goal.put_line-requires-clause-few
+put_line-requires-clause-few g c =
+    let before = c.self.inside in
+    let line : Parts = c.args.line.now in
+    let none : write_fault before.marks.raw before.facts.series before.accepted line ≡ None = ap (λ (k : StoreData). write_fault k.marks.raw k.series k.accepted line) c.self.view_is ∙ sym c.refusal.ensures ∙ c.in_default.is in
+    let welcome = not_refused before.marks.raw before.facts.series before.accepted line none in
+    welcome.registers
+
+pub put_line-requires-clause-rollups : goal.put_line-requires-clause-rollups
+put_line-requires-clause-rollups g c =
+    let facts = c.self.inside.facts in
+    subst (λ (rs : List Rule). AreRollups rs (map column_of facts.columns) facts.rollups) (sym c.rules.ensures.value) c.self.invariant.rollups
 
 pub invariant_of-self : goal.invariant_of-self
 invariant_of-self g c =
-    let same = left_facts c.self.inside.facts c.put_line.new.self c.args.line.now c.in_err-put_line.ensures.err in
-    record { no_rules = c.self.invariant.no_rules; no_lows = c.self.invariant.no_lows; mark = c.self.invariant.mark; few = c.self.invariant.few; kept = subst (λ (fs : List Fact). length fs ≤ c.self.inside.accepted) (sym same) c.self.invariant.kept }
+    let before = c.self.inside in
+    let line : Parts = c.args.line.now in
+    let grows : Grows before.settings.rules before.facts c.put_line.new.self line = subst (λ (rs : List Rule). Grows rs before.facts c.put_line.new.self line) c.rules.ensures.value c.in_err-put_line.ensures.err in
+    kept_left before.settings before.marks before.accepted before.facts c.put_line.new.self before.run line c.self.invariant grows c.put_line.ensures.known
 
 pub returns-in_err-put_line-clause-taken : goal.returns-in_err-put_line-clause-taken
 returns-in_err-put_line-clause-taken g c = λ none.
     let before = c.self.inside in
+    let line : Parts = c.args.line.now in
+    let grows : Grows before.settings.rules before.facts c.put_line.new.self line = subst (λ (rs : List Rule). Grows rs before.facts c.put_line.new.self line) c.rules.ensures.value c.in_err-put_line.ensures.err in
     let p = err_from_is_err_and c.from_residual.result c.from_residual.ensures.1 in
     inr (
       p.1 ∙ ap Err p.2,
-      subst (λ (k : StoreData). Leaves k (before_runs before.settings before.marks before.accepted c.put_line.new.self) c.args.line.now) c.self.view_is
-          (left_by before.settings before.marks before.accepted before.facts c.put_line.new.self c.args.line.now c.in_err-put_line.ensures.err c.put_line.ensures.known),
+      subst (λ (k : StoreData). Leaves k (kept_data before.settings before.marks before.accepted c.put_line.new.self before.run) line) c.self.view_is
+          (left_by before.settings before.marks before.accepted before.facts c.put_line.new.self before.run line c.self.invariant grows c.put_line.ensures.known),
     )
+
+pub overflow_add-self : goal.overflow_add-self
+overflow_add-self g c =
+    let before = c.self.inside in
+    let line : Parts = c.args.line.now in
+    let none : write_fault before.marks.raw before.facts.series before.accepted line ≡ None = ap (λ (k : StoreData). write_fault k.marks.raw k.series k.accepted line) c.self.view_is ∙ sym c.refusal.ensures ∙ c.in_default.is in
+    let welcome = not_refused before.marks.raw before.facts.series before.accepted line none in
+    let many : length c.fields.result.now ≡ length (facts_of line) = ap (λ (l : List (Piece × ℤ)). length l) c.fields.ensures.value ∙ sym (length-map line.fields (fact_of line)) in
+    let all = welcome.few in
+    let few : before.accepted + length c.fields.result.now ≤ 4611686018427387904 = omega (arith, many, all) in
+    search rules
 
 pub invariant_of-self-2 : goal.invariant_of-self-2
 invariant_of-self-2 g c =
+    let before = c.self.inside in
     let line : Parts = c.args.line.now in
+    let none : write_fault before.marks.raw before.facts.series before.accepted line ≡ None = ap (λ (k : StoreData). write_fault k.marks.raw k.series k.accepted line) c.self.view_is ∙ sym c.refusal.ensures ∙ c.in_default.is in
+    let welcome = not_refused before.marks.raw before.facts.series before.accepted line none in
     let many : length c.fields.result.now ≡ length (facts_of line) = ap (λ (l : List (Piece × ℤ)). length l) c.fields.ensures.value ∙ sym (length-map line.fields (fact_of line)) in
-    let none : write_fault c.self.inside.facts.series c.self.inside.accepted line ≡ None = ap (λ (k : StoreData). write_fault k.series k.accepted line) c.self.view_is ∙ sym c.refusal.ensures ∙ c.in_default.is in
-    let few = (not_refused c.self.inside.facts.series c.self.inside.accepted line none).1 in
-    let kept = kept_few c.self.inside.accepted c.self.inside.facts c.put_line.new.self line c.in_ok-put_line.ensures.ok c.self.invariant.kept in
-    record { no_rules = c.self.invariant.no_rules; no_lows = c.self.invariant.no_lows; mark = c.self.invariant.mark; few = omega (arith, many, few); kept = omega (arith, many, kept) }
+    let put : Puts before.settings.rules before.facts c.put_line.new.self line = subst (λ (rs : List Rule). Puts rs before.facts c.put_line.new.self line) c.rules.ensures.value c.in_ok-put_line.ensures.ok in
+    let taken = taken_from before.marks.raw line welcome.late c.in_ok-put_line.ensures.taken in
+    subst (λ (n : ℕ). IsKept (kept_data before.settings before.marks (before.accepted + n) c.put_line.new.self before.run) c.put_line.new.self before.run) (sym many)
+    (kept_accepted before.settings before.marks before.accepted before.facts c.put_line.new.self before.run line c.self.invariant put c.put_line.ensures.known taken welcome.few)
 
 pub returns-clause-ok : goal.returns-clause-ok
 returns-clause-ok g c =
     let before = c.self.inside in
     let line : Parts = c.args.line.now in
+    let none : write_fault before.marks.raw before.facts.series before.accepted line ≡ None = ap (λ (k : StoreData). write_fault k.marks.raw k.series k.accepted line) c.self.view_is ∙ sym c.refusal.ensures ∙ c.in_default.is in
+    let welcome = not_refused before.marks.raw before.facts.series before.accepted line none in
     let many : length c.fields.result.now ≡ length (facts_of line) = ap (λ (l : List (Piece × ℤ)). length l) c.fields.ensures.value ∙ sym (length-map line.fields (fact_of line)) in
-    let none : write_fault before.facts.series before.accepted line ≡ None = ap (λ (k : StoreData). write_fault k.series k.accepted line) c.self.view_is ∙ sym c.refusal.ensures ∙ c.in_default.is in
-    let few = (not_refused before.facts.series before.accepted line none).1 in
-    let taken : AllByRecursion (MayBeTaken before.marks.raw) (facts_of line) = subst (λ (m : ℤ). AllByRecursion (MayBeTaken m) (facts_of line)) (sym c.self.invariant.mark) c.in_ok-put_line.ensures.taken in
-    subst (λ (n : ℕ). Accepts c.args.self.now (before_runs before.settings before.marks (before.accepted + n) c.put_line.new.self) line) (sym many)
-    (subst (λ (k : StoreData). Accepts k (before_runs before.settings before.marks (before.accepted + length (facts_of line)) c.put_line.new.self) line) c.self.view_is
-    (accepted_by before.settings before.marks before.accepted before.facts c.put_line.new.self line c.in_ok-put_line.ensures.ok c.put_line.ensures.known taken few))
+    let put : Puts before.settings.rules before.facts c.put_line.new.self line = subst (λ (rs : List Rule). Puts rs before.facts c.put_line.new.self line) c.rules.ensures.value c.in_ok-put_line.ensures.ok in
+    let taken = taken_from before.marks.raw line welcome.late c.in_ok-put_line.ensures.taken in
+    subst (λ (n : ℕ). Accepts c.args.self.now (kept_data before.settings before.marks (before.accepted + n) c.put_line.new.self before.run) line) (sym many)
+    (subst (λ (k : StoreData). Accepts k (kept_data before.settings before.marks (before.accepted + length (facts_of line)) c.put_line.new.self before.run) line) c.self.view_is
+    (accepted_by before.settings before.marks before.accepted before.facts c.put_line.new.self before.run line c.self.invariant put c.put_line.ensures.known taken welcome.few))

@@ -1,13 +1,35 @@
-use Rattle.std.proofs.Common.{◌≡◌, ◌∙◌, ap, sym, subst, [], List, map}
-use Rattle.ts_core.specs.StoreData.{StoreData, rules_of}
-use Rattle.ts_core.specs.Views.{RuleTotals, totals_in}
+use Rattle.std.proofs.Common.{◌<◌, ◌∙◌, List, ap, subst, length, get_or, refl, arith}
+use Rattle.std.proofs.lemmas.List.{length-map}
+use Rattle.ts_core.specs.Settings.{Rule}
+use Rattle.ts_core.specs.StoreData.{StoreData, rules_of, state_of}
+use Rattle.ts_core.specs.Views.{totals_in, seen_of}
+use Rattle.ts_store.specs.OpenRuns.{IsReached, kept_data}
 use Rattle.ts_store.specs.Seats.{cells_at}
-use Rattle.ts_store.proofs.SeatLemmas.{none-shown}
+use Rattle.ts_store.proofs.ShownCells.{rules-length, store_ruled, store_shows}
 use Rattle.ts_store.proofs.store.StoreView.cell_walk.Goals as goal
+
+pub cell_walk-requires : goal.cell_walk-requires
+cell_walk-requires g c =
+    let inside = c.self.inside in
+    let now = c.args.self.now in
+    let reached = subst IsReached c.self.view_is c.self.invariant.reached in
+    let each = rules-length reached.opening reached.history now reached.stands in
+    let all = length-map (rules_of now.columns now.settings.rules now.marks.lows now.cells) totals_in in
+    let same = ap (λ (k : StoreData). length k.settings.rules) c.self.view_is in
+    let there : c.args.rule < length inside.settings.rules = omega (arith, each, all, same, c.requires) in
+    store_ruled (kept_data inside.settings inside.marks inside.accepted inside.facts inside.run) inside.facts inside.run c.args.rule c.index-rules-rule.result c.self.invariant refl refl c.rules.ensures.valid.intervals there
+    (c.index-rules-rule.is ∙ ap (λ (rs : List Rule). get_or rs c.args.rule c.index-rules-rule.result) c.rules.ensures.value)
 
 pub returns : goal.returns
 returns g c =
     let inside = c.self.inside in
-    let none : map totals_in (rules_of c.args.self.now.columns c.args.self.now.settings.rules c.args.self.now.marks.lows c.args.self.now.cells) ≡ [] =
-    subst (λ (k : StoreData). map totals_in (rules_of k.columns k.settings.rules k.marks.lows k.cells) ≡ []) c.self.view_is (none-shown inside.facts.columns inside.settings.rules inside.marks.lows) in
-    c.of.ensures ∙ sym (ap (λ (rs : List RuleTotals). cells_at rs c.args._rule c.args._from.now c.args._to.now) none)
+    let now = c.args.self.now in
+    let reached = subst IsReached c.self.view_is c.self.invariant.reached in
+    let each = rules-length reached.opening reached.history now reached.stands in
+    let all = length-map (rules_of now.columns now.settings.rules now.marks.lows now.cells) totals_in in
+    let same = ap (λ (k : StoreData). length k.settings.rules) c.self.view_is in
+    let there : c.args.rule < length inside.settings.rules = omega (arith, each, all, same, c.requires) in
+    c.cell_walk.ensures
+    ∙ store_shows inside.settings inside.marks inside.accepted inside.facts inside.run c.args.rule c.index-rules-rule.result c.args.from.now c.args.to.now c.self.invariant there
+    (c.index-rules-rule.is ∙ ap (λ (rs : List Rule). get_or rs c.args.rule c.index-rules-rule.result) c.rules.ensures.value)
+    ∙ ap (λ (k : StoreData). cells_at (seen_of (state_of k)).rules c.args.rule c.args.from.now c.args.to.now) c.self.view_is

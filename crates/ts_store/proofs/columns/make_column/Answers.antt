@@ -1,0 +1,50 @@
+use Rattle.std.proofs.Common.{◌≡◌, ◌∙◌, List, map, ap, sym, subst}
+use Rattle.std.proofs.lemmas.Option.{get_or_from_slice_get}
+use Rattle.ts_core.specs.Facts.{Column}
+use Rattle.ts_raw.specs.Indexed.{no_series, column_in}
+use Rattle.ts_store.specs.Rollups.{RollupState, AreRollups, HaveNext, with_next, cells_of}
+use Rattle.ts_store.proofs.RollupsGrow.{rollups-length, rollups_kept, cells_kept, rollups_made, cells_made, ready_to_make, made_behind}
+use Rattle.ts_store.proofs.columns.make_column.Goals as goal
+
+pub prepare_rollups-requires : goal.prepare_rollups-requires
+prepare_rollups-requires g c = rollups-length c.args.rules.now c.args.index.now.columns c.args.rollups.now c.requires.rollups
+
+pub returns-in_err-prepare_rollups-clause-rollups : goal.returns-in_err-prepare_rollups-clause-rollups
+returns-in_err-prepare_rollups-clause-rollups g c = rollups_kept _ _ c.args.rollups.now _ c.requires.rollups c.prepare_rollups.ensures.kept
+
+pub returns-in_err-prepare_rollups-clause-cells : goal.returns-in_err-prepare_rollups-clause-cells
+returns-in_err-prepare_rollups-clause-cells g c = cells_kept c.args.rollups.now _ c.prepare_rollups.ensures.kept
+
+pub returns-in_err-column-clause-rollups : goal.returns-in_err-column-clause-rollups
+returns-in_err-column-clause-rollups g c =
+    subst (λ (cs : List Column). AreRollups c.args.rules.now cs c.prepare_rollups.new.rollups) (sym (ap (λ i. i.columns) c.in_err-column.ensures.err))
+    (rollups_kept _ _ c.args.rollups.now _ c.requires.rollups c.prepare_rollups.ensures.kept)
+
+pub returns-in_err-column-clause-cells : goal.returns-in_err-column-clause-cells
+returns-in_err-column-clause-cells g c = cells_kept c.args.rollups.now _ c.prepare_rollups.ensures.kept
+
+pub commit_rollups-requires : goal.commit_rollups-requires
+commit_rollups-requires g c =
+    let column : Column = column_in c.args.index.now c.args.series c.args.field.now in
+    let named : record { series = c.key_of.result.now; field = c.args.field.now } ≡ column =
+    λ i. record { series = sym (get_or_from_slice_get c.args.index.now.series c.args.series c.key_of.result.now no_series c.key_of.ensures) i; field = c.args.field.now } in
+    ready_to_make c.args.rules.now c.args.index.now.columns column c.in_ok-column.column c.prepare_rollups.new.rollups
+    (rollups_kept _ _ c.args.rollups.now _ c.requires.rollups c.prepare_rollups.ensures.kept)
+    (subst (λ (d : Column). HaveNext c.args.rules.now d c.prepare_rollups.new.rollups) named c.in_ok-prepare_rollups.ensures.next)
+    (made_behind c.args.index.now.columns c.add_column.new.self.columns column c.in_ok-column.column c.requires.absent c.in_ok-column.ensures.ok c.in_ok-column.ensures.number).1
+
+pub returns-clause-rollups : goal.returns-clause-rollups
+returns-clause-rollups g c =
+    let column : Column = column_in c.args.index.now c.args.series c.args.field.now in
+    let named : record { series = c.key_of.result.now; field = c.args.field.now } ≡ column =
+    λ i. record { series = sym (get_or_from_slice_get c.args.index.now.series c.args.series c.key_of.result.now no_series c.key_of.ensures) i; field = c.args.field.now } in
+    let made = rollups_made c.args.rules.now c.args.index.now.columns column c.prepare_rollups.new.rollups
+    (rollups_kept _ _ c.args.rollups.now _ c.requires.rollups c.prepare_rollups.ensures.kept)
+    (subst (λ (d : Column). HaveNext c.args.rules.now d c.prepare_rollups.new.rollups) named c.in_ok-prepare_rollups.ensures.next) in
+    subst (λ (ss : List RollupState). AreRollups c.args.rules.now c.add_column.new.self.columns ss) (sym c.commit_rollups.ensures)
+    (subst (λ (cs : List Column). AreRollups c.args.rules.now cs (map with_next c.prepare_rollups.new.rollups))
+    (sym (made_behind c.args.index.now.columns c.add_column.new.self.columns column c.in_ok-column.column c.requires.absent c.in_ok-column.ensures.ok c.in_ok-column.ensures.number).0) made)
+
+pub returns-clause-cells : goal.returns-clause-cells
+returns-clause-cells g c =
+    ap cells_of c.commit_rollups.ensures ∙ cells_made c.prepare_rollups.new.rollups ∙ cells_kept c.args.rollups.now c.prepare_rollups.new.rollups c.prepare_rollups.ensures.kept

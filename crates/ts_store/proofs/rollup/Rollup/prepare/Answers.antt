@@ -1,0 +1,22 @@
+use Rattle.std.proofs.Common.{◌∙◌, ◌++◌, [], ap, sym}
+use Rattle.std.proofs.lemmas.List.{append-nil}
+use Rattle.ts_store.specs.Rollups.{RollupState}
+use Rattle.ts_store.proofs.rollup.Rollup.prepare.Goals as goal
+use Rattle.ts_store.proofs.rollup.Rollup.prepare.Goals.{then-eq+in_ok-group+in_ok-lane_for, else-eq}
+
+pub returns-clause-kept : goal.returns-clause-kept
+returns-clause-kept g c = elim c.if-eq.branch [
+  | then-eq+in_ok-group+in_ok-lane_for w ↦ record {
+    made = (
+      w.lane_for.ensures.made.0,
+      ap (λ s. s.cells.lanes) w.self-inside-is ∙ w.lane_for.ensures.made.1 ∙ ap (λ (s : RollupState). s.grid.lanes ++ w.lane_for.ensures.made.0) c.self.view_is,
+    );
+    cells = ap (λ s. s.cells.cells) w.self-inside-is ∙ w.lane_for.ensures.cells ∙ ap (λ (s : RollupState). s.grid.cells) c.self.view_is;
+    lanes = ap (λ s. s.lanes.items) w.self-inside-is ∙ c.reserve.ensures.items ∙ ap (λ (s : RollupState). s.lanes) c.self.view_is;
+  }
+  | else-eq w ↦ record {
+    made = ([], ap (λ s. s.cells.lanes) w.self-inside-is ∙ ap (λ (s : RollupState). s.grid.lanes) c.self.view_is ∙ sym (append-nil c.args.self.now.grid.lanes));
+    cells = ap (λ s. s.cells.cells) w.self-inside-is ∙ ap (λ (s : RollupState). s.grid.cells) c.self.view_is;
+    lanes = ap (λ s. s.lanes.items) w.self-inside-is ∙ c.reserve.ensures.items ∙ ap (λ (s : RollupState). s.lanes) c.self.view_is;
+  }
+]

@@ -1,0 +1,23 @@
+use Rattle.std.proofs.Common.{◌∷◌, List, sym, subst}
+use Rattle.ts_core.proofs.Results.{on_any_err}
+use Rattle.ts_store.specs.Rollups.{RollupState}
+use Rattle.ts_store.specs.Rooms.{KeepLanes}
+use Rattle.ts_store.proofs.RoomLemmas.{lanes_same, room_begins, room_stays}
+use Rattle.ts_store.proofs.rooms.+make_rooms.Goals as goal
+
+pub returns-in_err-make_rooms_of-in-Some-split_first_mut-clause-lanes : goal.returns-in_err-make_rooms_of-in-Some-split_first_mut-clause-lanes
+returns-in_err-make_rooms_of-in-Some-split_first_mut-clause-lanes g t c =
+    subst (λ (ss : List RollupState). KeepLanes ss (c.make_rooms_of.new.rollup ∷ c.in-Some-split_first_mut.rollups.now)) (sym c.in-Some-split_first_mut.ensures.cases.0)
+    (c.make_rooms_of.ensures.lanes, lanes_same c.in-Some-split_first_mut.rollups.now)
+
+pub returns-in_err-make_rooms_of-in-Some-split_first_mut-clause-err : goal.returns-in_err-make_rooms_of-in-Some-split_first_mut-clause-err
+returns-in_err-make_rooms_of-in-Some-split_first_mut-clause-err g t c =
+    on_any_err c.from_residual.result (room_begins c.in-Some.rule.now c.in-Some.rules.now c.args.rules.now c.in-Some-split_first_mut.rollup.now c.make_rooms_of.new.rollup c.in-Some-split_first_mut.rollups.now c.args.rollups.now c.in-Some.ensures.cases.0 c.in-Some-split_first_mut.ensures.cases.0 c.in_err-make_rooms_of-in-Some-split_first_mut.ensures.err)
+
+pub returns-in-None-clause-lanes : goal.returns-in-None-clause-lanes
+returns-in-None-clause-lanes g t c = lanes_same c.args.rollups.now
+
+pub returns-in_ok-make_rooms_of-in-Some-split_first_mut-clause-err : goal.returns-in_ok-make_rooms_of-in-Some-split_first_mut-clause-err
+returns-in_ok-make_rooms_of-in-Some-split_first_mut-clause-err g t c =
+    room_stays c.make_rooms.result c.in-Some.rule.now c.in-Some.rules.now c.args.rules.now c.args.time c.args.touched.now c.in-Some-split_first_mut.rollup.now c.make_rooms_of.new.rollup
+    c.in-Some-split_first_mut.rollups.now c.args.rollups.now c.make_rooms.new.rollups c.in-Some.ensures.cases.0 c.in-Some-split_first_mut.ensures.cases.0 c.in_ok-make_rooms_of-in-Some-split_first_mut.ensures.ok c.make_rooms.ensures.err

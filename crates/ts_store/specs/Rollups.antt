@@ -1,0 +1,153 @@
+-- What is kept for a rollup rule: its cells, and the lane of each column. A lane is a field with a group, whose cells stand under
+-- one number. (Own rules.)
+use Rattle.std.specs.Prelude.{◌≡◌, ◌==◌, nat_lt, Vec, vec_len, vec_capacity, ℕ, ℤ, Bool, true, false, get_or, List, [], ◌∷◌, ◌++◌, length, map, Option, Some, None, refl}
+use Rattle.std.specs.FinMap as finmap
+use Rattle.std.specs.Coded.{Coded, code_by, coded×, coded_ℕ, coded_list, coded_option}
+use Rattle.ts_core.specs.Members.{AllDistinct}
+use Rattle.ts_core.specs.Facts.{Column, same_text}
+use Rattle.ts_core.specs.Tags.{tag_values}
+use Rattle.ts_core.specs.Settings.{Rule}
+use Rattle.ts_core.specs.Aggregates.{Aggregate, empty_aggregate}
+use Rattle.ts_core.specs.Changes.{changed}
+use Rattle.ts_core.specs.StoreMoves.{frozen_with}
+use Rattle.ts_core.specs.StoreCodes.{coded_aggregate}
+use Rattle.ts_core.specs.StoreData.{FrozenCells}
+use Rattle.ts_cells.specs.Changes.{roomy}
+use Rattle.ts_cells.specs.Grids.{Lane, Grid, IsAt, cell_in, coded_grid}
+use Rattle.ts_raw.specs.Numbered.{numbers_where}
+
+-- the cells of a rule; of each column the lane, none where the column is of another measurement; and that of a column which
+-- may be made next, for which there is room
+pub record RollupState : Type 0 where
+  pub grid : Grid Aggregate
+  pub lanes : List (Option ℕ)
+  pub next : Option (Option ℕ)
+
+-- nothing is kept yet
+abbrev pub new_rollup : RollupState
+new_rollup = record { grid = record { lanes = []; cells = finmap.empty }; lanes = []; next = None }
+
+-- the frozen parts of each rule
+abbrev pub cells_of : List RollupState → List FrozenCells
+cells_of states = map (λ (s : RollupState). s.grid.cells) states
+
+-- ---- lanes
+
+-- the lane of a column under a rule: its field, and the values of the tags that the rule keeps
+abbrev pub lane_under : Rule → Column → Lane
+lane_under r c = record { field = c.field; group = tag_values r.kept_tags c.series }
+
+-- the lane, by its number, is that of the column: a rule has none of a column of another measurement
+abbrev pub IsLaneOf : Rule → Column → List Lane → Option ℕ → Type 0
+IsLaneOf r c lanes None = same_text c.series.measurement r.measurement ≡ false
+IsLaneOf r c lanes (Some l) = (same_text c.series.measurement r.measurement ≡ true) × IsAt lanes l (lane_under r c)
+
+-- each column has its lane
+abbrev pub HaveLanes : Rule → List Lane → List Column → List (Option ℕ) → Type 0
+HaveLanes r lanes [] [] = Unit {0}
+HaveLanes r lanes [] (o ∷ os) = ⊥
+HaveLanes r lanes (c ∷ cs) [] = ⊥
+HaveLanes r lanes (c ∷ cs) (o ∷ os) = IsLaneOf r c lanes o × HaveLanes r lanes cs os
+
+-- these are kept for the rules, one by one, over these columns
+abbrev pub AreRollups : List Rule → List Column → List RollupState → Type 0
+AreRollups [] cs [] = Unit {0}
+AreRollups [] cs (s ∷ ss) = ⊥
+AreRollups (r ∷ rs) cs [] = ⊥
+AreRollups (r ∷ rs) cs (s ∷ ss) = HaveLanes r s.grid.lanes cs s.lanes × AreRollups rs cs ss
+
+-- a column is of the lane of a number
+abbrev pub is_of_lane : ℕ → Option ℕ → Bool
+is_of_lane l None = false
+is_of_lane l (Some n) = n == l
+
+-- the columns of the lane of a number, in the order of making
+abbrev pub columns_of_lane : ℕ → RollupState → List ℕ
+columns_of_lane l s = numbers_where (is_of_lane l) s.lanes
+
+-- ---- how lanes are kept
+
+-- a vector has room for one more
+abbrev pub has_spare : {X A : Type 0} → Vec X A → Bool
+has_spare v = nat_lt (vec_len v) (vec_capacity v)
+
+-- so has the vector of a number
+abbrev pub HasSpareAt : {X A : Type 0} → List (Vec X A) → ℕ → Type 0
+HasSpareAt vs n = get_or (map has_spare vs) n false ≡ true
+
+-- where the lane of the next column is known, there is room for it, and for the column among those of its lane
+abbrev pub HasSpares : Option (Option ℕ) → Bool → List Bool → Type 0
+HasSpares None spare spares = Unit {0}
+HasSpares (Some None) spare spares = spare ≡ true
+HasSpares (Some (Some l)) spare spares = (spare ≡ true) × (get_or spares l false ≡ true)
+
+-- each lane once, of each its columns, and room for the next column
+pub record IsRollup (lanes : List Lane) (of_columns : List (Option ℕ)) (members : List (List ℕ)) (next : Option (Option ℕ)) (spare : Bool) (spares : List Bool) : Type 0 where
+  pub once : AllDistinct lanes
+  pub each : length members ≡ length lanes
+  pub grouped : (l : ℕ) → get_or members l [] ≡ numbers_where (is_of_lane l) of_columns
+  pub room : HasSpares next spare spares
+
+-- ---- growth
+
+-- more lanes behind the others
+abbrev pub Extends : List Lane → List Lane → Type 0
+Extends before after = (more : List Lane) × (after ≡ before ++ more)
+
+-- the lanes of columns and the cells stay; lanes may have been made
+pub record KeepsCells (before after : RollupState) : Type 0 where
+  pub made : Extends before.grid.lanes after.grid.lanes
+  pub cells : after.grid.cells ≡ before.grid.cells
+  pub lanes : after.lanes ≡ before.lanes
+
+-- so for each rule
+abbrev pub KeepCells : List RollupState → List RollupState → Type 0
+KeepCells [] [] = Unit {0}
+KeepCells [] (t ∷ ts) = ⊥
+KeepCells (s ∷ ss) [] = ⊥
+KeepCells (s ∷ ss) (t ∷ ts) = KeepsCells s t × KeepCells ss ts
+
+-- there is room for a column, whose lane is known
+abbrev pub HasNext : Rule → Column → RollupState → Type 0
+HasNext r c s = (o : Option ℕ) × (s.next ≡ Some o) × IsLaneOf r c s.grid.lanes o
+
+abbrev pub HaveNext : List Rule → Column → List RollupState → Type 0
+HaveNext [] c [] = Unit {0}
+HaveNext [] c (s ∷ ss) = ⊥
+HaveNext (r ∷ rs) c [] = ⊥
+HaveNext (r ∷ rs) c (s ∷ ss) = HasNext r c s × HaveNext rs c ss
+
+abbrev pub joined_lane : List (Option ℕ) → Option (Option ℕ) → List (Option ℕ)
+joined_lane lanes None = lanes
+joined_lane lanes (Some o) = lanes ++ o ∷ []
+
+-- the column is made: the lane that was found for it is its own
+abbrev pub with_next : RollupState → RollupState
+with_next s = record { grid = s.grid; lanes = joined_lane s.lanes s.next; next = None }
+
+-- ---- cells
+
+-- other cells under the same lanes
+abbrev pub with_frozen : FrozenCells → RollupState → RollupState
+with_frozen m s = record { grid = record { lanes = s.grid.lanes; cells = m }; lanes = s.lanes; next = s.next }
+
+-- with room for the cell of a bucket in a lane, where there is one
+abbrev pub roomed_in : RollupState → Option ℕ → ℤ → FrozenCells
+roomed_in s None index = s.grid.cells
+roomed_in s (Some l) index = roomy s.grid.cells (cell_in s.grid.lanes index l) empty_aggregate
+
+-- a part merged into the cell of a bucket in a lane, where there is one
+abbrev pub frozen_in : RollupState → Option ℕ → ℤ → Aggregate → FrozenCells
+frozen_in s None index part = s.grid.cells
+frozen_in s (Some l) index part = changed s.grid.cells (cell_in s.grid.lanes index l) (frozen_with part)
+
+-- the lane of the column of a number
+abbrev pub lane_at : RollupState → ℕ → Option ℕ
+lane_at s n = get_or s.lanes n None
+
+-- ---- codes
+
+abbrev pub coded_rollup : Coded RollupState
+coded_rollup =
+    code_by (Grid Aggregate × (List (Option ℕ) × Option (Option ℕ))) (coded× (coded_grid coded_aggregate) (coded× (coded_list (coded_option coded_ℕ)) (coded_option (coded_option coded_ℕ))))
+    (λ s. (s.grid, (s.lanes, s.next))) (λ p. record { grid = p.0; lanes = p.1.0; next = p.1.1 }) (λ _. refl)

@@ -1,0 +1,208 @@
+//! What is kept for a rollup rule.
+ghost use Rattle.std.specs.Prelude.{◌≡◌, ◌≢◌, ◌≤◌, ◌<◌, ◌≤ℤ◌, ℕ, None, [], length, get_or, replicate, map, IsSome, is_some, IfOk, OnOk, OnErr};
+ghost use Rattle.std.specs.FinMap as finmap;
+ghost use Rattle.std.specs.List.{AllByRecursion};
+ghost use Rattle.ts_core.specs.Cells.{Cell};
+ghost use Rattle.ts_core.specs.Members.{AllDistinct};
+ghost use Rattle.ts_core.specs.Tags.{tag_values};
+ghost use Rattle.ts_cells.specs.Expiry.{Removes};
+ghost use Rattle.ts_cells.specs.Grids.{IsAt, lane_of, lane_named, lent};
+ghost use Rattle.ts_cells.specs.Walks.{entry_of, entries_within};
+ghost use Rattle.ts_raw.specs.Lists.{lists_of};
+ghost use Rattle.ts_store.specs.Rollups.{new_rollup, HasSpareAt, Extends, KeepsCells, HasNext, with_next, with_frozen, roomed_in, frozen_in, lane_at, columns_of_lane};
+
+use std::alloc::{AllocError, Allocator};
+use std::marker::Model;
+use ts_cells::{Cells, LaneId, Walk};
+use ts_core::{Agg, Key, Rule};
+use ts_raw::ColumnId;
+
+/// The cells of a rule, with the lane of each column and the columns of each lane.
+#[derive(Drop)]
+pub(crate) struct Rollup<A: Allocator> {
+    cells: Cells<Agg, A>,
+    /// Of each column its lane; none where the column is of another measurement.
+    lanes: Vec<Option<LaneId>, A>,
+    /// Of each lane its columns, in the order of making.
+    columns: Vec<Vec<ColumnId, A>, A>,
+    /// The lane of a column that may be made next, for which there is room.
+    next: Option<Option<LaneId>>,
+}
+
+impl<A: Allocator> Model for Rollup<A> {
+    ghost use Rattle.std.specs.Prelude.{map};
+    ghost use Rattle.ts_raw.specs.Lists.{lists_of};
+    ghost use Rattle.ts_store.specs.Rollups.{RollupState, coded_rollup, IsRollup, has_spare};
+
+    ghost Value = { RollupState };
+
+    ghost coded = { coded_rollup };
+
+    ghost view = { λ r. record { grid = r.cells; lanes = r.lanes.items; next = r.next } };
+
+    ghost invariant = { λ r. IsRollup r.cells.lanes r.lanes.items (lists_of r.columns.items) r.next (has_spare r.lanes) (map has_spare r.columns.items) };
+}
+
+/// What is kept for so many rules: nothing yet.
+pub(crate) fn new_rollups<A: Allocator + Copy>(
+    alloc: A,
+    rules: usize,
+) -> Result<Vec<Rollup<A>, A>, AllocError>
+    ensures { IfOk result (λ rollups. rollups.items ≡ replicate rules new_rollup) }
+{
+    let mut rollups = Vec::with_capacity(alloc, rules)?;
+    for _ in 0..rules {
+        rollups.push(Rollup::new(alloc))?;
+    }
+    Ok(rollups)
+}
+
+/// The values of a rule's kept tags in a series.
+fn group_of<'a, A: Allocator + Copy>(
+    alloc: A,
+    rule: &Rule<A>,
+    key: &'a Key<A>,
+) -> Result<Vec<&'a str, A>, AllocError>
+    ensures { IfOk result (λ group. lent group.items ≡ tag_values rule.now.kept_tags key.now) }
+{
+    let tags = rule.kept_tags();
+    let mut group = Vec::with_capacity(alloc, tags.len())?;
+    for tag in tags {
+        group.push(key.tag_value(tag.as_str()))?;
+    }
+    Ok(group)
+}
+
+/// The lane of a field and a group, with its list of columns, which has room for one column more. Both are made where
+/// there are none.
+fn lane_for<A: Allocator + Copy>(
+    cells: &mut Cells<Agg, A>,
+    columns: &mut Vec<Vec<ColumnId, A>, A>,
+    field: &str,
+    group: &[&str],
+) -> Result<LaneId, AllocError>
+    requires each { length columns.old.items ≡ length cells.old.lanes }
+    ensures lane { IfOk result (λ lane. IsAt cells.new.lanes lane (lane_named field.now group.now)) }
+    ensures room { IfOk result (λ lane. HasSpareAt columns.new.items lane) }
+    ensures each { length columns.new.items ≡ length cells.new.lanes }
+    ensures made { Extends cells.old.lanes cells.new.lanes }
+    ensures once { AllDistinct cells.old.lanes → AllDistinct cells.new.lanes }
+    ensures columns { (lane : ℕ) → get_or (lists_of columns.new.items) lane [] ≡ get_or (lists_of columns.old.items) lane [] }
+    ensures cells { cells.new.cells ≡ cells.old.cells }
+{
+    columns.reserve(1)?;
+    let lane = cells.lane(field, group)?;
+    if columns.len() < cells.lanes() {
+        let none = Vec::new(*columns.allocator());
+        columns.push(none).unwrap();
+    }
+    columns[lane.number() as usize].reserve(1)?;
+    Ok(lane)
+}
+
+impl<A: Allocator + Copy> Rollup<A> {
+    /// Nothing is kept yet. It takes no memory.
+    pub(crate) fn new(alloc: A) -> Rollup<A>
+        ensures { result ≡ new_rollup }
+    {
+        Rollup {
+            cells: Cells::new(alloc),
+            lanes: Vec::new(alloc),
+            columns: Vec::new(alloc),
+            next: None,
+        }
+    }
+
+    /// Finds the lane of a column that may be made next, and takes all room that the column needs here.
+    pub(crate) fn prepare(
+        &mut self,
+        rule: &Rule<A>,
+        key: &Key<A>,
+        field: &str,
+    ) -> Result<(), AllocError>
+        ensures kept { KeepsCells self.old self.new }
+        ensures next { OnOk result (HasNext rule.now (record { series = key.now; field = field.now }) self.new) }
+    {
+        self.next = None;
+        self.lanes.reserve(1)?;
+        let lane = if key.measurement() == rule.measurement() {
+            let group = group_of(*self.lanes.allocator(), rule, key)?;
+            Some(lane_for(&mut self.cells, &mut self.columns, field, group.as_slice())?)
+        } else {
+            None
+        };
+        self.next = Some(lane);
+        Ok(())
+    }
+
+    /// The column is made: it gets the lane that was found for it. It takes no memory.
+    pub(crate) fn commit(&mut self, column: ColumnId)
+        requires next { IsSome self.old.next }
+        requires number { column ≡ length self.old.lanes }
+        ensures { self.new ≡ with_next self.old }
+    {
+        let lane = self.next.take().unwrap();
+        self.lanes.push(lane).unwrap();
+        if let Some(lane) = &lane {
+            self.columns[lane.number() as usize].push(column).unwrap();
+        }
+    }
+
+    /// Makes room for the cell of a column in a bucket, where the rule rolls the column up.
+    pub(crate) fn make_room(&mut self, column: ColumnId, index: &i128) -> Result<(), AllocError>
+        requires { column < length self.old.lanes }
+        ensures ok { OnOk result (self.new ≡ with_frozen (roomed_in self.old (lane_at self.old column) index.now) self.old) }
+        ensures err { OnErr result (self.new ≡ self.old) }
+    {
+        match self.lanes[column.number()] {
+            Some(lane) => self.cells.make_room(index, lane),
+            None => Ok(()),
+        }
+    }
+
+    /// Merges a part into the cell of a column in a bucket, where that is there and the counts fit together. It
+    /// takes no memory.
+    pub(crate) fn freeze(&mut self, column: usize, index: &i128, part: Agg)
+        requires { column < length self.old.lanes }
+        ensures { self.new ≡ with_frozen (frozen_in self.old (lane_at self.old column) index.now part) self.old }
+    {
+        if let Some(lane) = self.lanes[column] {
+            self.cells.freeze(index, lane, part);
+        }
+    }
+
+    /// Whether the rule rolls a column up.
+    pub(crate) fn rolls(&self, column: usize) -> bool
+        requires { column < length self.now.lanes }
+        ensures { result ≡ is_some (lane_at self.now column) }
+    {
+        self.lanes[column].is_some()
+    }
+
+    /// Removes cells below an index: 256, or all where there are fewer. It tells how many.
+    pub(crate) fn expire(&mut self, low: &i128) -> usize
+        ensures cells { self.new ≡ with_frozen self.new.grid.cells self.old }
+        ensures few { result ≤ 256 }
+        ensures removed { Removes low.now result self.old.grid.cells self.new.grid.cells }
+        ensures all { result < 256 → (k : Cell) → finmap.get self.new.grid.cells k ≢ None → low.now ≤ℤ k.index }
+    {
+        self.cells.expire(low)
+    }
+
+    /// The columns of a lane, in the order of making.
+    pub(crate) fn columns_of(&self, lane: LaneId) -> &[ColumnId]
+        requires { lane < length self.now.grid.lanes }
+        ensures { result.now ≡ columns_of_lane lane self.now }
+    {
+        self.columns[lane.number() as usize].as_slice()
+    }
+
+    /// The cells from an index on, before another, in order of index, field and group. It takes no memory.
+    pub(crate) fn walk(&self, from: &i128, to: &i128) -> Walk<'_, Agg, A>
+        ensures entries { map entry_of result ≡ entries_within from.now to.now self.now.grid.cells }
+        ensures lanes { AllByRecursion (λ k. IsAt self.now.grid.lanes k.lane (lane_of k.cell)) result }
+        ensures once { AllDistinct self.now.grid.lanes }
+    {
+        self.cells.walk(from, to)
+    }
+}

@@ -1,0 +1,86 @@
+//! Runs of retention.
+ghost use Rattle.std.specs.Prelude.{◌≡◌, ◌↔◌, ◌+◌, true, false, IsTrue, IfOk, OnOk, OnErr, IsErr};
+ghost use Rattle.ts_core.specs.History.{Step as StepEvent};
+ghost use Rattle.ts_core.specs.Runs.{steps_left};
+ghost use Rattle.ts_core.specs.StoreData.{state_of, GoesOn};
+ghost use Rattle.ts_core.specs.StoreMoves.{run_begun};
+ghost use Rattle.ts_store.specs.RollupSteps.{AreAbove};
+ghost use Rattle.ts_store.specs.WholeRuns.{Retains};
+
+use crate::fault::RunInProgress;
+use crate::run::Run;
+use crate::store::Store;
+use std::alloc::Allocator;
+use ts_core::Time;
+
+/// What a step of a run did.
+#[derive(Clone, Copy, Debug, PartialEq, Eq)]
+pub(crate) enum StepAnswer {
+    /// It moved a column, or removed cells.
+    Moved,
+    /// Nothing was left: the run is over, or none was open.
+    Done,
+}
+
+impl<A: Allocator + Copy> Store<A> {
+    /// Begins a run at a moment: the marks rise, and each column waits. It tells the raw mark, and takes no memory.
+    pub(crate) fn begin(&mut self, now: Time) -> Result<Time, RunInProgress>
+        ensures ok { OnOk result (self.new ≡ run_begun now self.old) }
+        ensures raw { IfOk result (λ raw. raw ≡ self.new.marks.raw) }
+        ensures refused { OnErr result (self.new ≡ self.old) }
+        ensures open { IsErr result ↔ IsTrue self.old.running }
+    {
+        if self.run.is_some() {
+            return Err(RunInProgress);
+        }
+        self.marks.raise(&self.settings, now);
+        self.run = Some(Run {
+            next: 0,
+            end: self.facts.column_count(),
+        });
+        Ok(self.marks.raw())
+    }
+
+    /// Takes a step of the open run: it moves a column, else removes cells of a rule, else ends the run. Without an open
+    /// run it changes nothing. It takes no memory.
+    pub(crate) fn step(&mut self) -> StepAnswer
+        ensures moved { (result ≡ StepAnswer.Moved) → GoesOn self.old (StepEvent false) self.new × (steps_left (state_of self.old) ≡ steps_left (state_of self.new) + 1) }
+        ensures done { (result ≡ StepAnswer.Done) → GoesOn self.old (StepEvent true) self.new × (self.new.running ≡ false) }
+        ensures open { (result ≡ StepAnswer.Moved) → self.new.running ≡ true }
+        ensures above { (result ≡ StepAnswer.Done) → (self.old.running ≡ true) → AreAbove self.new.marks.lows self.new.cells }
+        ensures marks { self.new.marks ≡ self.old.marks }
+        ensures series { self.new.series ≡ self.old.series }
+    {
+        let Some(run) = self.run else {
+            return StepAnswer::Done;
+        };
+        if run.next < run.end {
+            let mark = self.marks.raw();
+            self.facts
+                .move_column(self.settings.rules(), run.next, mark);
+            self.run = Some(Run {
+                next: run.next + 1,
+                end: run.end,
+            });
+            return StepAnswer::Moved;
+        }
+        if self.facts.expire(self.marks.lows()) {
+            return StepAnswer::Moved;
+        }
+        self.run = None;
+        StepAnswer::Done
+    }
+
+    /// A whole run of retention at a moment: the marks rise, points below the raw mark are frozen into the cells of their
+    /// rules and dropped, and cells below low indices are removed. It tells the raw mark, and takes no memory.
+    pub fn retain(&mut self, now: Time) -> Result<Time, RunInProgress>
+        ensures ok { OnOk result (Retains now self.old self.new) }
+        ensures raw { IfOk result (λ raw. raw ≡ self.new.marks.raw) }
+        ensures refused { OnErr result (self.new ≡ self.old) }
+        ensures open { IsErr result ↔ IsTrue self.old.running }
+    {
+        let raw = self.begin(now)?;
+        while self.step() == StepAnswer::Moved {}
+        Ok(raw)
+    }
+}
