@@ -1,5 +1,5 @@
 -- Where a text stops being a certificate, and that a certificate has one reading.
-use Rattle.std.proofs.Common.{◌≡◌, ℕ, ◌+◌, ◌<◌, ◌≤◌, List, [], ◌∷◌, ◌++◌, length, take, drop, codes, refl, sym, ap, ◌∙◌, inl, inr, arith, append_assoc, append-nil, length-append, Result, Ok, Err}
+use Rattle.std.proofs.Common.{◌≡◌, ℕ, ◌+◌, ◌<◌, ◌≤◌, List, [], ◌∷◌, ◌++◌, length, take, drop, codes, refl, sym, ap, ◌∙◌, inl, inr, arith, append_assoc, append-nil, length-append, Result, Ok, Err, IfOk}
 use Rattle.std.specs.List.{flat_map}
 use Rattle.std.proofs.lemmas.List.{take-append-drop, length-take-le}
 use Rattle.std.proofs.Math.Seq.{take-append_seam}
@@ -226,3 +226,8 @@ pub read_as : (text : Text) (r : Result (List Piece) ReadCertificateError) → I
 read_as text (Ok qs) h ps w = same_certificate text qs ps h w
 read_as text (Err (errors.Fault fault)) h ps w = absurd (h.none ps w)
 read_as text (Err errors.OutOfMemory) h ps w = refl
+
+-- what is read has a spelling
+pub read_spelled : (text : Text) (r : Result (List Piece) ReadCertificateError) → IsReadingIfRoom text r → IfOk r EachHasSpelling
+read_spelled text (Ok ps) h = h.each
+read_spelled text (Err e) h = tt

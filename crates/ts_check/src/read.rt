@@ -4,7 +4,7 @@ ghost use Rattle.std.specs.List.{list_all};
 ghost use Rattle.ts_core.specs.Pieces.{Piece as PieceValue};
 ghost use Rattle.ts_core.specs.SettingsFaults.{is_name_byte, is_rule_name};
 ghost use Rattle.ts_check.specs.Certificates.{source_of};
-ghost use Rattle.ts_check.specs.CertificateTexts.{IsCertificate, IsFirstBadLine, IsReadingOf, IsReadAs, IsOneCertificate, AreDecimals};
+ghost use Rattle.ts_check.specs.CertificateTexts.{EachHasSpelling, IsCertificate, IsFirstBadLine, IsReadingOf, IsReadAs, IsOneCertificate, AreDecimals};
 ghost use Rattle.ts_check.specs.CertificateLines.{TakesSpelled, Lacks, IsNumber, IsRange, IsSource, IsPiece, HasPiece, Stops, IsReadingIfRoom};
 
 use crate::certificate::{Certificate, Piece, PieceSource};
@@ -189,6 +189,9 @@ pub fn read_certificate<A: Allocator + Copy>(
 
     // no certificate begins another one, and each has one reading
     ensures one { IsOneCertificate }
+
+    // so what is read can be written again as it was
+    ensures spelled { IfOk result EachHasSpelling }
 
     // the decimal of a number is digits that don't begin with 0, or 0 alone
     ensures numbers { AreDecimals }

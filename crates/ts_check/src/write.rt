@@ -42,9 +42,9 @@ fn push_line<A: Allocator>(text: &mut String<A>, piece: &Piece<'_>) -> Result<()
 }
 
 /// The text of a certificate: the line `plan 1`, a line for each piece, and the line `end`.
-pub fn write_certificate<A: Allocator + Copy>(
+pub fn write_certificate<A: Allocator + Copy, B: Allocator>(
     alloc: A,
-    certificate: &Certificate<'_, A>,
+    certificate: &Certificate<'_, B>,
 ) -> Result<String<A>, AllocError>
     ensures value { IfOk result (λ text. string_bytes text ≡ certificate_text certificate.now) }
 

@@ -8,8 +8,8 @@ use Rattle.ts_core.specs.Facts.{Text}
 use Rattle.ts_core.specs.Aggregates.{Aggregate, empty_aggregate}
 use Rattle.ts_core.specs.Answers.{Row, group_cmp, same_group, numbers_from, all_groups}
 use Rattle.ts_core.proofs.GroupsInOrder.{groups_total, exact_groups, same_group-eq, all_groups-among, entries, AreInOrder, all_groups-in_order, any_among, among_any}
-use Rattle.ts_exec.specs.Parts.{Grid}
-use Rattle.ts_exec.specs.Tables.{Table, IsTable, rows_or, rows_for, rows_from}
+use Rattle.ts_exec.specs.RowParts.{BucketGrid}
+use Rattle.ts_exec.specs.GroupTables.{Table, IsGroupTable, rows_or, rows_for, rows_from}
 
 all_sorted : (gs : List (List Text)) → T (is_sorted group_cmp (entries (all_groups gs)))
 unfolding AreInOrder
@@ -53,7 +53,7 @@ shown_some n (Some rows) = refl
 shown_some n None = refl
 
 -- a table whose groups are those
-pub table-entries : (n : ℕ) (t : Table) (gs : List (List Text)) → IsTable t → ((g : List Text) → is_some (find group_cmp g t) ≡ list_any (same_group g) gs)
+pub table-entries : (n : ℕ) (t : Table) (gs : List (List Text)) → IsGroupTable t → ((g : List Text) → is_some (find group_cmp g t) ≡ list_any (same_group g) gs)
     → t ≡ map (λ g. (g, rows_for n g t)) (all_groups gs)
 table-entries n t gs h there =
     same_entries group_cmp groups_total exact_groups t (entries_with (λ g. rows_for n g t) (all_groups gs)) h
@@ -65,7 +65,7 @@ table-entries n t gs h there =
 
 -- ---- rows
 
-pub rows-numbered : (grid : Grid) (row : ℤ → Row) (k : ℤ) (rows : List Aggregate)
+pub rows-numbered : (grid : BucketGrid) (row : ℤ → Row) (k : ℤ) (rows : List Aggregate)
     → ((j : ℕ) → j < length rows → row (k +ℤ pos j) ≡ record { start = ((k +ℤ pos j) *ℤ grid.interval) +ℤ grid.offset; aggregate = get_or rows j empty_aggregate })
     → rows_from grid k rows ≡ map row (numbers_from k (length rows))
 rows-numbered grid row k [] h = refl

@@ -13,13 +13,12 @@ use Rattle.ts_core.specs.Aggregates.{Aggregate}
 use Rattle.ts_core.specs.Buckets.{bucket_of, bucket_start}
 use Rattle.ts_core.specs.Queries.{Query}
 use Rattle.ts_core.specs.Answers.{Row, Group, bucket_in}
-use Rattle.ts_core.specs.Fills.{FilledRow, FilledGroup, is_empty, has_data, shown, numbered, repeated, last_data, with_previous, number_value, filled_rows, filled_group, filled}
+use Rattle.ts_core.specs.Fills.{FilledRow, FilledGroup, is_empty, has_data, shown, numbered, repeated, last_data, with_previous, number_value, filled_rows, filled}
 use Rattle.ts_core.proofs.BucketsOrder.{bucket_is, one_more}
-use Rattle.ts_exec.specs.Parts.{Grid, grid_of}
-use Rattle.ts_exec.specs.Tables.{rows_from, group_with}
+use Rattle.ts_exec.specs.RowParts.{BucketGrid, bucket_grid}
+use Rattle.ts_exec.specs.GroupTables.{rows_from, group_with}
 use Rattle.ts_ql.specs.Selects.{Projection, Select}
-use Rattle.ts_exec.specs.declared.filled.Shown.{Shown}
-use Rattle.ts_exec.specs.declared.filled.Shown.TheVariants.{Data, Number, Nothing}
+use Rattle.ts_exec.specs.declared.filled.Shown.TheVariants.{Data, Number}
 use Rattle.ts_exec.specs.Fillings.{functions_of, rows_at, EndsFit, AreNear, group_at, shown_row, shown_by, shown_rows, rows_behind}
 
 -- ---- one by one
@@ -76,7 +75,7 @@ times_high n (pos i) h fits short =
     rw pos-*ℤ-pos (omega (arith, ints))
 times_high n (negsuc i) h fits short = absurd (omega (arith, ints))
 
-pub rows-at : (g : Grid) (k : ℤ) (parts : List Aggregate) → rows_at g.interval ((k *ℤ g.interval) +ℤ g.offset) parts ≡ rows_from g k parts
+pub rows-at : (g : BucketGrid) (k : ℤ) (parts : List Aggregate) → rows_at g.interval ((k *ℤ g.interval) +ℤ g.offset) parts ≡ rows_from g k parts
 rows-at g k [] = refl
 rows-at g k (a ∷ parts) =
     let more = one_more k g.interval in
@@ -90,7 +89,7 @@ groups_at : (fill : Fill) (fs : List Function) (q : Query) (gs : List (List Text
 groups_at fill fs q [] = refl
 groups_at fill fs q (g ∷ gs) =
     ap₂ (λ (x : FilledGroup) (more : List FilledGroup). x ∷ more)
-    (ap (λ (rows : List Row). record { values = g.0; rows = filled_rows fill fs rows }) (rows-at (grid_of q) (bucket_in q q.from) g.1))
+    (ap (λ (rows : List Row). record { values = g.0; rows = filled_rows fill fs rows }) (rows-at (bucket_grid q) (bucket_in q q.from) g.1))
     (groups_at fill fs q gs)
 
 pub groups-filled : (fill : Fill) (s : Select) (gs : List (List Text × List Aggregate)) (groups : List Group) (columns : List Projection) (interval begin : ℤ) → columns ≡ s.columns → interval ≡ s.query.interval → begin ≡ first_start s.query

@@ -24,8 +24,8 @@ use Rattle.ts_core.proofs.PieceCells.{serving, start_of-high}
 use Rattle.ts_core.proofs.AssembledRows.{assembled-row}
 use Rattle.ts_core.proofs.AssembledAnswers.{assembled-answer}
 use Rattle.ts_exec.specs.Answered.{HasRows}
-use Rattle.ts_exec.specs.Parts.{grid_of}
-use Rattle.ts_exec.specs.Tables.{Table, rows_for, rows_from, width, group_with, with_pieces, given}
+use Rattle.ts_exec.specs.RowParts.{bucket_grid}
+use Rattle.ts_exec.specs.GroupTables.{Table, rows_for, rows_from, width, group_with, with_pieces, given}
 use Rattle.ts_exec.specs.Shares.{Share, group_in, with_shares, total_at, rule_shares, source_shares, pieces_shares}
 use Rattle.ts_exec.proofs.Shares.{shares-table, rows-after, length-rows_after, held_at, held-after, held-fits, found-after}
 use Rattle.ts_exec.proofs.Entries.{table-entries, rows-numbered}
@@ -179,9 +179,9 @@ module _ (opening : Settings) (h : History) (seen : Seen) (q : Query) (shows : S
       let e = row_is g j (subst (λ n. j < n) (rows_length seen q ps g) l) in
       λ i. record { start = ((bucket_in q q.from +ℤ pos j) *ℤ q.interval) +ℤ q.offset; aggregate = sym e i }
 
-  rows_are : (g : List Text) → rows_from (grid_of q) (bucket_in q q.from) (rows_for (width q) g (table seen q ps)) ≡ map (assembled_row seen q ps g) (buckets_in q)
+  rows_are : (g : List Text) → rows_from (bucket_grid q) (bucket_in q q.from) (rows_for (width q) g (table seen q ps)) ≡ map (assembled_row seen q ps g) (buckets_in q)
   rows_are g =
-      rows-numbered (grid_of q) (assembled_row seen q ps g) (bucket_in q q.from) (rows_for (width q) g (table seen q ps)) (row_at g)
+      rows-numbered (bucket_grid q) (assembled_row seen q ps g) (bucket_in q q.from) (rows_for (width q) g (table seen q ps)) (row_at g)
       ∙ ap (λ n. map (assembled_row seen q ps g) (numbers_from (bucket_in q q.from) n)) (rows_length seen q ps g)
       ∙ ap (map (assembled_row seen q ps g)) (sym (numbered q))
 

@@ -33,33 +33,33 @@ use Rattle.ts_core.proofs.Tests.{le_true, lt_true, same_bool}
 use Rattle.ts_core.proofs.GroupsInOrder.{same_group-eq, same_group-refl}
 use Rattle.ts_core.proofs.Folds.{fold-append}
 use Rattle.ts_store.specs.Seats.{Seat, seats_from, seats_where, no_points, points_at, CellTotal, with_total, cells_within}
-use Rattle.ts_exec.specs.Parts.{grid_of, place_at}
-use Rattle.ts_exec.specs.Tables.{Table, IsTable, width, with_column, with_cell_part, with_seat, with_seats, is_cell_taken, with_cells, with_rule, with_source, with_pieces}
+use Rattle.ts_exec.specs.RowParts.{bucket_grid, place_at}
+use Rattle.ts_exec.specs.GroupTables.{Table, IsGroupTable, width, with_column_parts, with_cell_part, with_seat, with_seats, is_cell_taken, with_cell_parts, with_rule, with_source, with_pieces}
 use Rattle.ts_exec.specs.Shares.{Share, group_in, with_shares, is_share, total_at, point_share, seat_shares, seats_shares, cell_share, rule_shares, source_shares, pieces_shares}
 use Rattle.ts_exec.proofs.Shares.{shares-table, shares-append, column-shares}
 
 -- ---- pieces are put by their shares
 
 module _ (q : Query) (a b : ℤ) where
-  seat_put : (cs : List ColumnPoints) (s : Seat) (t : Table) → IsTable t → with_seat q cs a b s t ≡ with_shares (width q) (seat_shares q cs a b s) t
+  seat_put : (cs : List ColumnPoints) (s : Seat) (t : Table) → IsGroupTable t → with_seat q cs a b s t ≡ with_shares (width q) (seat_shares q cs a b s) t
   seat_put cs s t h =
-      elim (list_all (meets s.series) q.conditions) as (λ c. cond c (with_column (grid_of q) (width q) (tag_values q.group_tags s.series) (points_at cs s.number a b) t) t
-      ≡ with_shares (width q) (cond c (map (point_share (grid_of q) (tag_values q.group_tags s.series)) (points_at cs s.number a b)) []) t) [
-        | true ↦ column-shares (grid_of q) (width q) (tag_values q.group_tags s.series) (points_at cs s.number a b) t h
+      elim (list_all (meets s.series) q.conditions) as (λ c. cond c (with_column_parts (bucket_grid q) (width q) (tag_values q.group_tags s.series) (points_at cs s.number a b) t) t
+      ≡ with_shares (width q) (cond c (map (point_share (bucket_grid q) (tag_values q.group_tags s.series)) (points_at cs s.number a b)) []) t) [
+        | true ↦ column-shares (bucket_grid q) (width q) (tag_values q.group_tags s.series) (points_at cs s.number a b) t h
         | false ↦ refl
       ]
 
-  seats_put : (cs : List ColumnPoints) (ss : List Seat) (t : Table) → IsTable t → with_seats q cs a b ss t ≡ with_shares (width q) (seats_shares q cs a b ss) t
+  seats_put : (cs : List ColumnPoints) (ss : List Seat) (t : Table) → IsGroupTable t → with_seats q cs a b ss t ≡ with_shares (width q) (seats_shares q cs a b ss) t
   seats_put cs [] t h = refl
   seats_put cs (s ∷ ss) t h =
       ap (with_seats q cs a b ss) (seat_put cs s t h)
       ∙ seats_put cs ss (with_shares (width q) (seat_shares q cs a b s) t) (shares-table (width q) (seat_shares q cs a b s) t h)
       ∙ sym (shares-append (width q) (seat_shares q cs a b s) (seats_shares q cs a b ss) t)
 
-  cells_put : (r : Rule) (cs : List CellTotal) (t : Table) → with_cells q r a b cs t ≡ with_shares (width q) (map (cell_share q r) (filter (is_cell_taken q r a b) cs)) t
+  cells_put : (r : Rule) (cs : List CellTotal) (t : Table) → with_cell_parts q r a b cs t ≡ with_shares (width q) (map (cell_share q r) (filter (is_cell_taken q r a b) cs)) t
   cells_put r [] t = refl
   cells_put r (c ∷ cs) t =
-      elim (is_cell_taken q r a b c) as (λ z. with_cells q r a b cs (cond z (with_cell_part (width q) (cell_share q r c).group (cell_share q r c).place c.total t) t)
+      elim (is_cell_taken q r a b c) as (λ z. with_cell_parts q r a b cs (cond z (with_cell_part (width q) (cell_share q r c).group (cell_share q r c).place c.total t) t)
       ≡ with_shares (width q) (map (cell_share q r) (cond z (c ∷ filter (is_cell_taken q r a b) cs) (filter (is_cell_taken q r a b) cs))) t) [
         | true ↦ cells_put r cs _
         | false ↦ cells_put r cs t
@@ -69,11 +69,11 @@ module _ (q : Query) (a b : ℤ) where
   rule_put None t = refl
   rule_put (Some r) t = cells_put r.rule (cells_within r (index_of r.rule a) (index_of r.rule b)) t
 
-  source_put : (seen : Seen) (source : Source) (t : Table) → IsTable t → with_source seen q source a b t ≡ with_shares (width q) (source_shares seen q source a b) t
+  source_put : (seen : Seen) (source : Source) (t : Table) → IsGroupTable t → with_source seen q source a b t ≡ with_shares (width q) (source_shares seen q source a b) t
   source_put seen Raw t h = seats_put seen.columns (seats_where (is_of q.measurement q.field) seen.columns) t h
   source_put seen (Rollup name) t h = rule_put (rule_shown name seen.rules) t
 
-pub pieces-put : (seen : Seen) (q : Query) (ps : List Piece) (t : Table) → IsTable t → with_pieces seen q ps t ≡ with_shares (width q) (pieces_shares seen q ps) t
+pub pieces-put : (seen : Seen) (q : Query) (ps : List Piece) (t : Table) → IsGroupTable t → with_pieces seen q ps t ≡ with_shares (width q) (pieces_shares seen q ps) t
 pieces-put seen q [] t h = refl
 pieces-put seen q (p ∷ ps) t h =
     let xs : List Share = source_shares seen q p.source p.from p.to in
@@ -84,7 +84,7 @@ pieces-put seen q (p ∷ ps) t h =
 -- ---- shares of facts
 
 abbrev pub fact_share : Query → Fact → Share
-fact_share q f = record { group = group_of q f; place = place_at (grid_of q) f.time; part = aggregate_of_one f.time f.value }
+fact_share q f = record { group = group_of q f; place = place_at (bucket_grid q) f.time; part = aggregate_of_one f.time f.value }
 
 module _ (q : Query) (a b : ℤ) (from : q.from ≤ℤ a) (to : b ≤ℤ q.to) where
   abbrev test : Fact → Bool
@@ -97,7 +97,7 @@ module _ (q : Query) (a b : ℤ) (from : q.from ≤ℤ a) (to : b ≤ℤ q.to) w
 
   -- of one column
   picked : (c : Column) (ps : List (ℤ × ℤ)) (z : Bool) → is_selected q c ≡ z
-      → map (fact_share q) (filter test (facts_at c ps)) ≡ cond z (map (point_share (grid_of q) (tag_values q.group_tags c.series)) (filter (λ (p : ℤ × ℤ). is_within a b p.0) ps)) []
+      → map (fact_share q) (filter test (facts_at c ps)) ≡ cond z (map (point_share (bucket_grid q) (tag_values q.group_tags c.series)) (filter (λ (p : ℤ × ℤ). is_within a b p.0) ps)) []
   picked c [] true e = refl
   picked c [] false e = refl
   picked c (p ∷ ps) z e =
@@ -111,9 +111,9 @@ module _ (q : Query) (a b : ℤ) (from : q.from ≤ℤ a) (to : b ≤ℤ q.to) w
       joined true y z h = sym h
       joined false y z h = refl
 
-      next : (z w : Bool) → map (fact_share q) (filter test (facts_at c ps)) ≡ cond z (map (point_share (grid_of q) (tag_values q.group_tags c.series)) (filter (λ (p : ℤ × ℤ). is_within a b p.0) ps)) []
+      next : (z w : Bool) → map (fact_share q) (filter test (facts_at c ps)) ≡ cond z (map (point_share (bucket_grid q) (tag_values q.group_tags c.series)) (filter (λ (p : ℤ × ℤ). is_within a b p.0) ps)) []
           → map (fact_share q) (cond (z && w) (record { column = c; time = p.0; value = p.1 } ∷ filter test (facts_at c ps)) (filter test (facts_at c ps)))
-          ≡ cond z (map (point_share (grid_of q) (tag_values q.group_tags c.series)) (cond w (p ∷ filter (λ (p : ℤ × ℤ). is_within a b p.0) ps) (filter (λ (p : ℤ × ℤ). is_within a b p.0) ps))) []
+          ≡ cond z (map (point_share (bucket_grid q) (tag_values q.group_tags c.series)) (cond w (p ∷ filter (λ (p : ℤ × ℤ). is_within a b p.0) ps) (filter (λ (p : ℤ × ℤ). is_within a b p.0) ps))) []
       next true true h = ap (λ xs. fact_share q (record { column = c; time = p.0; value = p.1 }) ∷ xs) h
       next true false h = h
       next false true h = h
@@ -123,7 +123,7 @@ module _ (q : Query) (a b : ℤ) (from : q.from ≤ℤ a) (to : b ≤ℤ q.to) w
   seat_is : (all : List ColumnPoints) (n : ℕ) (c : ColumnPoints) (z : Bool) → get_or all n no_points ≡ c → is_of q.measurement q.field c.column ≡ z
       → cond z (seat_shares q all a b (record { number = n; series = c.column.series })) [] ≡ map (fact_share q) (filter test (facts_at c.column c.points))
   seat_is all n c true at e =
-      ap (λ (x : ColumnPoints). cond (list_all (meets c.column.series) q.conditions) (map (point_share (grid_of q) (tag_values q.group_tags c.column.series)) (filter (λ (p : ℤ × ℤ). is_within a b p.0) x.points)) []) at
+      ap (λ (x : ColumnPoints). cond (list_all (meets c.column.series) q.conditions) (map (point_share (bucket_grid q) (tag_values q.group_tags c.column.series)) (filter (λ (p : ℤ × ℤ). is_within a b p.0) x.points)) []) at
       ∙ sym (picked c.column c.points (list_all (meets c.column.series) q.conditions) (ap (λ x. x && list_all (meets c.column.series) q.conditions) e))
   seat_is all n c false at e = sym (picked c.column c.points false (ap (λ x. x && list_all (meets c.column.series) q.conditions) e))
 
@@ -186,15 +186,15 @@ same_group_comm g k = same_bool _ _
     (λ e. subst (λ x. same_group x k ≡ true) (same_group-eq k g e) (same_group-refl k))
 
 -- the place of a time of the range is j just where its bucket is the j-th
-place_is : (q : Query) (t : ℤ) (j : ℕ) → pos 1 ≤ℤ q.interval → q.from ≤ℤ t → (place_at (grid_of q) t == j) ≡ int_eq (bucket_in q t) (bucket_in q q.from +ℤ pos j)
+place_is : (q : Query) (t : ℤ) (j : ℕ) → pos 1 ≤ℤ q.interval → q.from ≤ℤ t → (place_at (bucket_grid q) t == j) ≡ int_eq (bucket_in q t) (bucket_in q q.from +ℤ pos j)
 place_is q t j h l =
     let first : ℤ = bucket_in q q.from in
     let k : ℤ = bucket_in q t in
     let up : first ≤ℤ k = bucket_le q.from t q.interval q.offset h l in
-    let e : pos (place_at (grid_of q) t) ≡ k -ℤ first = at_least_none-is (k -ℤ first) (omega (arith, ints)) in
+    let e : pos (place_at (bucket_grid q) t) ≡ k -ℤ first = at_least_none-is (k -ℤ first) (omega (arith, ints)) in
     same_bool _ _
-    (λ m. let same : place_at (grid_of q) t ≡ j = eqb-true _ j m in let there : k ≡ first +ℤ pos j = omega (arith, ints) in ap (int_eq k) (sym there) ∙ ap is_eq (tied_itself int_cmp_total k))
-    (λ m. let there : k ≡ first +ℤ pos j = int_cmp-IsAntisymmetric k (first +ℤ pos j) (equal_of (int_cmp k (first +ℤ pos j)) m) in let same : place_at (grid_of q) t ≡ j = omega (arith, ints) in eq-eqb _ j same)
+    (λ m. let same : place_at (bucket_grid q) t ≡ j = eqb-true _ j m in let there : k ≡ first +ℤ pos j = omega (arith, ints) in ap (int_eq k) (sym there) ∙ ap is_eq (tied_itself int_cmp_total k))
+    (λ m. let there : k ≡ first +ℤ pos j = int_cmp-IsAntisymmetric k (first +ℤ pos j) (equal_of (int_cmp k (first +ℤ pos j)) m) in let same : place_at (bucket_grid q) t ≡ j = omega (arith, ints) in eq-eqb _ j same)
 
 -- a fact or cell of the query's range is a share of a row just where it is in the row
 module _ (q : Query) (wide : pos 1 ≤ℤ q.interval) (g : List Text) (j : ℕ) (a b : ℤ) where

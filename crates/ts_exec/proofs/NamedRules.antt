@@ -9,7 +9,7 @@ use Rattle.ts_core.specs.Views.{RuleTotals, seen_rule}
 use Rattle.ts_core.specs.Assembly.{rule_shown}
 use Rattle.ts_store.specs.Seats.{no_rule, cells_within, cells_at}
 use Rattle.ts_exec.specs.FirstOf.{rule_from}
-use Rattle.ts_exec.specs.Tables.{Table, with_cells, with_rule}
+use Rattle.ts_exec.specs.GroupTables.{Table, with_cell_parts, with_rule}
 
 -- the rule of that number is shown, with its cells
 pub record IsShownAt (name : Text) (shown : List RuleTotals) (number : ℕ) (rule : Rule) : Type 0 where
@@ -52,9 +52,9 @@ found-shown name shown number rule e =
 
 -- its cells are put
 pub found-put : (q : Query) (a b : ℤ) (t : Table) (name : Text) (shown : List RuleTotals) (number : ℕ) (rule : Rule) → IsShownAt name shown number rule
-    → with_cells q rule a b (cells_at shown number (index_of rule a) (index_of rule b)) t ≡ with_rule q a b (rule_shown name shown) t
+    → with_cell_parts q rule a b (cells_at shown number (index_of rule a) (index_of rule b)) t ≡ with_rule q a b (rule_shown name shown) t
 found-put q a b t name shown number rule s =
-    sym (ap (λ o. with_rule q a b o t) s.found ∙ ap (λ r. with_cells q r a b (cells_within (get_or shown number no_rule) (index_of r a) (index_of r b)) t) s.is)
+    sym (ap (λ o. with_rule q a b o t) s.found ∙ ap (λ r. with_cell_parts q r a b (cells_within (get_or shown number no_rule) (index_of r a) (index_of r b)) t) s.is)
 
 pub none-shown : (name : Text) (shown : List RuleTotals) (from : ℕ) → rule_from name from (map seen_rule shown) ≡ None → rule_shown name shown ≡ None
 none-shown name [] from e = refl

@@ -11,14 +11,14 @@ use Rattle.ts_core.specs.Aggregates.{Aggregate, empty_aggregate, merged}
 use Rattle.ts_core.specs.MergeLaws.{aggregate_laws}
 use Rattle.ts_core.specs.Answers.{group_cmp, same_group}
 use Rattle.ts_core.proofs.GroupsInOrder.{groups_total, exact_groups, same_group-refl, same_group-eq}
-use Rattle.ts_exec.specs.Parts.{Grid, added, place_at, with_part, with_points}
-use Rattle.ts_exec.specs.Tables.{Table, IsTable, rows_or, rows_for, with_cell_part, with_column}
+use Rattle.ts_exec.specs.RowParts.{BucketGrid, added, place_at, with_part, with_point_parts}
+use Rattle.ts_exec.specs.GroupTables.{Table, IsGroupTable, rows_or, rows_for, with_cell_part, with_column_parts}
 use Rattle.ts_exec.specs.Shares.{Share, with_shares, is_share, total_at, point_share}
 
-put_table : (n : ℕ) (s : Share) (t : Table) → IsTable t → IsTable (with_cell_part n s.group s.place s.part t)
+put_table : (n : ℕ) (s : Share) (t : Table) → IsGroupTable t → IsGroupTable (with_cell_part n s.group s.place s.part t)
 put_table n s t h = is_sorted-put group_cmp groups_total s.group (with_part s.place s.part (rows_for n s.group t)) t h
 
-pub shares-table : (n : ℕ) (ss : List Share) (t : Table) → IsTable t → IsTable (with_shares n ss t)
+pub shares-table : (n : ℕ) (ss : List Share) (t : Table) → IsGroupTable t → IsGroupTable (with_shares n ss t)
 shares-table n [] t h = h
 shares-table n (s ∷ ss) t h = shares-table n ss (with_cell_part n s.group s.place s.part t) (put_table n s t h)
 
@@ -28,9 +28,9 @@ shares-append n (x ∷ xs) ys t = shares-append n xs ys (with_cell_part n x.grou
 
 -- ---- a column's points
 
-pub put-put : (g : List Text) (x y : List Aggregate) (t : Table) → IsTable t → put group_cmp g x (put group_cmp g y t) ≡ put group_cmp g x t
+pub put-put : (g : List Text) (x y : List Aggregate) (t : Table) → IsGroupTable t → put group_cmp g x (put group_cmp g y t) ≡ put group_cmp g x t
 put-put g x y t h =
-    let one : IsTable (put group_cmp g y t) = is_sorted-put group_cmp groups_total g y t h in
+    let one : IsGroupTable (put group_cmp g y t) = is_sorted-put group_cmp groups_total g y t h in
     same_entries group_cmp groups_total exact_groups _ _ (is_sorted-put group_cmp groups_total g x (put group_cmp g y t) one) (is_sorted-put group_cmp groups_total g x t h) (λ q.
     find-put group_cmp groups_total q g x (put group_cmp g y t)
     ∙ ap (cond (same_group q g) (Some x)) (find-put group_cmp groups_total q g y t)
@@ -44,8 +44,8 @@ put-put g x y t h =
 pub rows-put : (n : ℕ) (g : List Text) (rows : List Aggregate) (t : Table) → rows_for n g (put group_cmp g rows t) ≡ rows
 rows-put n g rows t = ap (rows_or n) (find-put group_cmp groups_total g g rows t ∙ ap (λ b. cond b (Some rows) (find group_cmp g t)) (same_group-refl g))
 
-column_from : (grid : Grid) (n : ℕ) (g : List Text) (ps : List (ℤ × ℤ)) (rows : List Aggregate) (t : Table) → IsTable t
-    → with_shares n (map (point_share grid g) ps) (put group_cmp g rows t) ≡ put group_cmp g (with_points grid ps rows) t
+column_from : (grid : BucketGrid) (n : ℕ) (g : List Text) (ps : List (ℤ × ℤ)) (rows : List Aggregate) (t : Table) → IsGroupTable t
+    → with_shares n (map (point_share grid g) ps) (put group_cmp g rows t) ≡ put group_cmp g (with_point_parts grid ps rows) t
 column_from grid n g [] rows t h = refl
 column_from grid n g (p ∷ ps) rows t h =
     let s : Share = point_share grid g p in
@@ -54,7 +54,7 @@ column_from grid n g (p ∷ ps) rows t h =
     ∙ ap (with_shares n (map (point_share grid g) ps)) (put-put g next rows t h)
     ∙ column_from grid n g ps next t h
 
-pub column-shares : (grid : Grid) (n : ℕ) (g : List Text) (ps : List (ℤ × ℤ)) (t : Table) → IsTable t → with_column grid n g ps t ≡ with_shares n (map (point_share grid g) ps) t
+pub column-shares : (grid : BucketGrid) (n : ℕ) (g : List Text) (ps : List (ℤ × ℤ)) (t : Table) → IsGroupTable t → with_column_parts grid n g ps t ≡ with_shares n (map (point_share grid g) ps) t
 column-shares grid n g [] t h = refl
 column-shares grid n g (p ∷ ps) t h = sym (column_from grid n g ps (with_part (place_at grid p.0) (point_share grid g p).part (rows_for n g t)) t h)
 

@@ -12,16 +12,16 @@ use Rattle.ts_core.specs.Aggregates.{Aggregate}
 use Rattle.ts_core.specs.Answers.{group_cmp, same_group}
 use Rattle.ts_core.proofs.Places.{both_of, less_of, rises, found_at, put_at, put_between}
 use Rattle.ts_core.proofs.GroupsInOrder.{groups_total, exact_groups, same_group-eq}
-use Rattle.ts_exec.specs.Tables.{IsTable, rows_or, rows_for}
+use Rattle.ts_exec.specs.GroupTables.{IsGroupTable, rows_or, rows_for}
 use Rattle.ts_exec.specs.Slots.{Slots, AreSlots, with_made, made}
-use Rattle.ts_exec.specs.Searches.{IsPlaceOf, HoldsGroup}
+use Rattle.ts_exec.specs.Searches.{IsPlaceOfGroup, HoldsGroup}
 
 abbrev Slot : Type 0
 Slot = List Text × Option (List Aggregate)
 
 -- ---- what a search finds
 
-pub found_place : (slots : Slots) → AreSlots slots → (g : List Text) (r : Result ℕ ℕ) → IsBinarySearchResult (λ (e : Slot). group_cmp e.0 g) slots r → IsPlaceOf g slots r
+pub found_place : (slots : Slots) → AreSlots slots → (g : List Text) (r : Result ℕ ℕ) → IsBinarySearchResult (λ (e : Slot). group_cmp e.0 g) slots r → IsPlaceOfGroup g slots r
 found_place slots s g (Ok i) h = h
 found_place slots s g (Err i) h = h (rises groups_total slots s g)
 
@@ -57,12 +57,12 @@ below_made x (e ∷ slots) h =
       | Some rows ↦ both_from (is_lt (group_cmp x e.0)) (below_all group_cmp x (made slots)) p.0 rest
     ]
 
-pub made-table : (slots : Slots) → AreSlots slots → IsTable (made slots)
+pub made-table : (slots : Slots) → AreSlots slots → IsGroupTable (made slots)
 made-table [] h = tt
 made-table (e ∷ slots) h =
     let p = both_of (below_all group_cmp e.0 slots) (is_sorted group_cmp slots) h in
     let rest = made-table slots p.1 in
-    elim e.1 as (λ o. IsTable (with_made e.0 o (made slots))) [
+    elim e.1 as (λ o. IsGroupTable (with_made e.0 o (made slots))) [
       | None ↦ rest
       | Some rows ↦ both_from (below_all group_cmp e.0 (made slots)) (is_sorted group_cmp (made slots)) (below_made e.0 slots p.0) rest
     ]
@@ -127,7 +127,7 @@ made_expected slots s g none =
 -- ---- edits
 
 -- a new group, where it belongs
-module _ (slots : Slots) (s : AreSlots slots) (g : List Text) (i : ℕ) (l : i ≤ length slots) (p : IsPlaceOf g slots (Err i)) where
+module _ (slots : Slots) (s : AreSlots slots) (g : List Text) (i : ℕ) (l : i ≤ length slots) (p : IsPlaceOfGroup g slots (Err i)) where
   inserted : insert slots i (g, None) ≡ put group_cmp g None slots
   inserted = sym (put_between groups_total slots g None i l p)
 

@@ -4,7 +4,7 @@ use Rattle.std.specs.Int.{w128}
 use Rattle.std.proofs.lemmas.Int.{ints, fits_signed_from_abs}
 use Rattle.ts_core.specs.Buckets.{IsBucketOf, bucket_of}
 use Rattle.ts_core.proofs.BucketsOrder.{bucket_is, bucket_same, one_more}
-use Rattle.ts_exec.specs.Parts.{IsSpan}
+use Rattle.ts_exec.specs.RowParts.{IsSpan}
 
 abbrev product_of : ℤ → ℤ → ℤ
 product_of k i = to_z w128 (of_z w128 k) *ℤ to_z w128 (of_z w128 i)

@@ -16,7 +16,7 @@ use Rattle.ts_core.specs.Views.{RuleTotals}
 use Rattle.ts_core.proofs.Boundaries.{within_parts}
 use Rattle.ts_core.proofs.BucketsOrder.{bucket_is, one_more, times_le}
 use Rattle.ts_store.specs.Seats.{CellTotal, with_total, cells_within}
-use Rattle.ts_exec.specs.Tables.{is_cell_taken}
+use Rattle.ts_exec.specs.GroupTables.{is_cell_taken}
 
 all_within : (total : Cell → Aggregate) (a b : ℤ) (ks : List Cell) → AllByRecursion (λ (c : CellTotal). is_within a b c.cell.index ≡ true) (map (with_total total) (filter (λ (k : Cell). is_within a b k.index) ks))
 all_within total a b [] = tt

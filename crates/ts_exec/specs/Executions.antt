@@ -9,7 +9,7 @@ use Rattle.ts_check.specs.Checks.{Plan}
 use Rattle.ts_exec.specs.declared.fault.ExecFault.{ExecFault}
 use Rattle.ts_exec.specs.declared.fault.ExecFault.TheVariants as errors
 use Rattle.ts_exec.specs.Answered.{Answered}
-use Rattle.ts_exec.specs.Tables.{given}
+use Rattle.ts_exec.specs.GroupTables.{given}
 
 -- a view has the settings and marks that a plan was checked for
 pub record IsFresh (seen : Seen) (p : Plan) : Type 0 where

@@ -1,5 +1,5 @@
-pub mod Parts
-pub mod Tables
+pub mod RowParts
+pub mod GroupTables
 pub mod Slots
 pub mod Searches
 pub mod Shares

@@ -8,8 +8,8 @@ use Rattle.ts_core.specs.Aggregates.{Aggregate}
 use Rattle.ts_core.specs.Answers.{group_cmp}
 use Rattle.ts_exec.specs.Slots.{Slots}
 
-abbrev pub IsPlaceOf : List Text → Slots → Result ℕ ℕ → Type 0
-IsPlaceOf g slots place =
+abbrev pub IsPlaceOfGroup : List Text → Slots → Result ℕ ℕ → Type 0
+IsPlaceOfGroup g slots place =
     MatchResult place (HoldsAt (λ (e : List Text × Option (List Aggregate)). group_cmp e.0 g ≡ Equal) slots)
     (IsPartitionPoint (λ (e : List Text × Option (List Aggregate)). group_cmp e.0 g ≡ Less) (λ (e : List Text × Option (List Aggregate)). group_cmp e.0 g ≡ Greater) slots)
 

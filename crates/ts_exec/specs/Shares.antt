@@ -14,8 +14,8 @@ use Rattle.ts_core.specs.StoreStates.{ColumnPoints}
 use Rattle.ts_core.specs.Views.{RuleTotals, Seen}
 use Rattle.ts_core.specs.Assembly.{stand_in, rule_shown}
 use Rattle.ts_store.specs.Seats.{Seat, seats_where, points_at, CellTotal, cells_within}
-use Rattle.ts_exec.specs.Parts.{Grid, grid_of, place_at}
-use Rattle.ts_exec.specs.Tables.{Table, with_cell_part, is_cell_taken}
+use Rattle.ts_exec.specs.RowParts.{BucketGrid, bucket_grid, place_at}
+use Rattle.ts_exec.specs.GroupTables.{Table, with_cell_part, is_cell_taken}
 
 pub record Share : Type 0 where
   pub group : List Text
@@ -38,18 +38,18 @@ total_at g j ss = fold_by empty_aggregate merged (λ (s : Share). s.part) (filte
 
 -- ---- of points and cells
 
-abbrev pub point_share : Grid → List Text → ℤ × ℤ → Share
+abbrev pub point_share : BucketGrid → List Text → ℤ × ℤ → Share
 point_share grid g p = record { group = g; place = place_at grid p.0; part = aggregate_of_one p.0 p.1 }
 
 abbrev pub seat_shares : Query → List ColumnPoints → ℤ → ℤ → Seat → List Share
-seat_shares q cs a b s = if list_all (meets s.series) q.conditions then map (point_share (grid_of q) (tag_values q.group_tags s.series)) (points_at cs s.number a b) else []
+seat_shares q cs a b s = if list_all (meets s.series) q.conditions then map (point_share (bucket_grid q) (tag_values q.group_tags s.series)) (points_at cs s.number a b) else []
 
 abbrev pub seats_shares : Query → List ColumnPoints → ℤ → ℤ → List Seat → List Share
 seats_shares q cs a b [] = []
 seats_shares q cs a b (s ∷ ss) = seat_shares q cs a b s ++ seats_shares q cs a b ss
 
 abbrev pub cell_share : Query → Rule → CellTotal → Share
-cell_share q r c = record { group = group_of q (stand_in r c.cell); place = place_at (grid_of q) (start_of r c.cell.index); part = c.total }
+cell_share q r c = record { group = group_of q (stand_in r c.cell); place = place_at (bucket_grid q) (start_of r c.cell.index); part = c.total }
 
 abbrev pub rule_shares : Query → ℤ → ℤ → Option RuleTotals → List Share
 rule_shares q a b None = []

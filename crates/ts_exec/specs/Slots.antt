@@ -4,7 +4,7 @@ use Rattle.std.specs.FinMap.{is_sorted}
 use Rattle.ts_core.specs.Facts.{Text}
 use Rattle.ts_core.specs.Aggregates.{Aggregate}
 use Rattle.ts_core.specs.Answers.{group_cmp}
-use Rattle.ts_exec.specs.Tables.{Table}
+use Rattle.ts_exec.specs.GroupTables.{Table}
 
 abbrev pub Slots : Type 0
 Slots = List (List Text × Option (List Aggregate))

@@ -4,7 +4,7 @@ ghost use Rattle.std.specs.List.{AllByRecursion};
 ghost use Rattle.ts_core.specs.Queries.{IsQuery};
 ghost use Rattle.ts_exec.specs.Answered.{HasRows};
 ghost use Rattle.ts_exec.specs.Executions.{IsExecutionOf};
-ghost use Rattle.ts_exec.specs.Tables.{with_pieces, width};
+ghost use Rattle.ts_exec.specs.GroupTables.{with_pieces, width};
 
 use crate::buckets::{Buckets, distance};
 use crate::fault::ExecFault;

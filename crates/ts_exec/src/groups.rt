@@ -2,9 +2,9 @@
 ghost use Rattle.std.specs.Prelude.{◌≡◌, true, [], length, OnOk, IfOk};
 ghost use Rattle.std.specs.List.Sorted.{IsSearchInRange};
 ghost use Rattle.ts_exec.specs.Lent.{lent};
-ghost use Rattle.ts_exec.specs.Searches.{IsPlaceOf, HoldsGroup};
+ghost use Rattle.ts_exec.specs.Searches.{IsPlaceOfGroup, HoldsGroup};
 ghost use Rattle.ts_exec.specs.Slots.{AreSlots, made};
-ghost use Rattle.ts_exec.specs.Tables.{with_column, with_cell_part};
+ghost use Rattle.ts_exec.specs.GroupTables.{with_column_parts, with_cell_part};
 
 use crate::buckets::Buckets;
 use crate::slot::Slot;
@@ -52,7 +52,7 @@ impl<'a, A: Allocator> GroupRows<'a, A> {
 fn place_of<A: Allocator + Copy>(slots: &[Slot<'_, A>], values: &[&str]) -> Result<usize, usize>
     requires { AreSlots slots.now }
     ensures bound { IsSearchInRange result (length slots.now) }
-    ensures place { IsPlaceOf (lent values.now) slots.now result }
+    ensures place { IsPlaceOfGroup (lent values.now) slots.now result }
 {
     slots.binary_search_by(|slot| slot.compare(values))
 }
@@ -102,7 +102,7 @@ pub(crate) struct Groups<'a, A: Allocator> {
 
 impl<'a, A: Allocator> Model for Groups<'a, A> {
     ghost use Rattle.ts_exec.specs.Slots.{AreSlots, made};
-    ghost use Rattle.ts_exec.specs.Tables.{Table};
+    ghost use Rattle.ts_exec.specs.GroupTables.{Table};
 
     ghost Value = { Table };
 
@@ -170,7 +170,7 @@ impl<'a, A: Allocator + Copy> Groups<'a, A> {
         buckets: &mut Buckets,
         mut points: Points<'_>,
     ) -> Result<(), AllocError>
-        ensures value { OnOk result (self.new ≡ with_column buckets.old width (lent values.now) points.entry self.old) }
+        ensures value { OnOk result (self.new ≡ with_column_parts buckets.old width (lent values.now) points.entry self.old) }
         ensures same { buckets.new ≡ buckets.old }
     {
         let Some(first) = points.next() else {

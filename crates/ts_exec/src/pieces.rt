@@ -11,8 +11,8 @@ ghost use Rattle.ts_ql.specs.Selects.{texts};
 ghost use Rattle.ts_store.specs.Seats.{cells_at};
 ghost use Rattle.ts_exec.specs.FirstOf.{rule_from};
 ghost use Rattle.ts_exec.specs.Lent.{lent};
-ghost use Rattle.ts_exec.specs.Parts.{grid_of};
-ghost use Rattle.ts_exec.specs.Tables.{width, with_cell, with_cells, with_source, with_pieces, is_cell_taken};
+ghost use Rattle.ts_exec.specs.RowParts.{bucket_grid};
+ghost use Rattle.ts_exec.specs.GroupTables.{width, with_cell, with_cell_parts, with_source, with_pieces, is_cell_taken};
 
 use crate::buckets::Buckets;
 use crate::groups::Groups;
@@ -109,7 +109,7 @@ fn add_raw<'a, A: Allocator + Copy + 'a, V: View<A> + 'a>(
     to: i64,
 ) -> Result<(), AllocError>
     requires width { scan.old.width ≡ width scan.old.query.now.query }
-    requires grid { scan.old.buckets ≡ grid_of scan.old.query.now.query }
+    requires grid { scan.old.buckets ≡ bucket_grid scan.old.query.now.query }
     ensures value { OnOk result (groups.new ≡ with_source (V.seen view.now) scan.old.query.now.query Raw from to groups.old) }
     ensures width { scan.new.width ≡ scan.old.width }
     ensures grid { scan.new.buckets ≡ scan.old.buckets }
@@ -246,7 +246,7 @@ fn add_cell<'a, A: Allocator + Copy>(
     requires interval { pos 1 ≤ℤ rule.now.interval }
     requires within { is_within (index_of rule.now from) (index_of rule.now to) cell.cell.index ≡ true }
     requires width { scan.old.width ≡ width scan.old.query.now.query }
-    requires grid { scan.old.buckets ≡ grid_of scan.old.query.now.query }
+    requires grid { scan.old.buckets ≡ bucket_grid scan.old.query.now.query }
     ensures value { OnOk result (groups.new ≡ with_cell scan.old.query.now.query rule.now from to cell.entry groups.old) }
     ensures width { scan.new.width ≡ scan.old.width }
     ensures grid { scan.new.buckets ≡ scan.old.buckets }
@@ -280,8 +280,8 @@ fn add_cells<'a, A: Allocator + Copy + 'a, V: View<A> + 'a>(
     requires number { number < length (V.seen view.now).rules }
     requires interval { pos 1 ≤ℤ rule.now.interval }
     requires width { scan.old.width ≡ width scan.old.query.now.query }
-    requires grid { scan.old.buckets ≡ grid_of scan.old.query.now.query }
-    ensures value { OnOk result (groups.new ≡ with_cells scan.old.query.now.query rule.now from to (cells_at (V.seen view.now).rules number (index_of rule.now from) (index_of rule.now to)) groups.old) }
+    requires grid { scan.old.buckets ≡ bucket_grid scan.old.query.now.query }
+    ensures value { OnOk result (groups.new ≡ with_cell_parts scan.old.query.now.query rule.now from to (cells_at (V.seen view.now).rules number (index_of rule.now from) (index_of rule.now to)) groups.old) }
     ensures width { scan.new.width ≡ scan.old.width }
     ensures grid { scan.new.buckets ≡ scan.old.buckets }
     ensures query { scan.new.query ≡ scan.old.query }
@@ -319,7 +319,7 @@ fn add_piece<'a, A: Allocator + Copy + 'a, V: View<A> + 'a>(
     piece: &Piece<'_>,
 ) -> Result<(), AllocError>
     requires width { scan.old.width ≡ width scan.old.query.now.query }
-    requires grid { scan.old.buckets ≡ grid_of scan.old.query.now.query }
+    requires grid { scan.old.buckets ≡ bucket_grid scan.old.query.now.query }
     ensures value { OnOk result (groups.new ≡ with_source (V.seen view.now) scan.old.query.now.query piece.now.source piece.now.from piece.now.to groups.old) }
     ensures width { scan.new.width ≡ scan.old.width }
     ensures grid { scan.new.buckets ≡ scan.old.buckets }
@@ -344,7 +344,7 @@ pub(crate) fn add_pieces<'a, A: Allocator + Copy + 'a, V: View<A> + 'a>(
     pieces: &[Piece<'_>],
 ) -> Result<(), AllocError>
     requires width { scan.old.width ≡ width scan.old.query.now.query }
-    requires grid { scan.old.buckets ≡ grid_of scan.old.query.now.query }
+    requires grid { scan.old.buckets ≡ bucket_grid scan.old.query.now.query }
     ensures { OnOk result (groups.new ≡ with_pieces (V.seen view.now) scan.old.query.now.query pieces.now groups.old) }
 {
     for piece in pieces {

@@ -1,7 +1,7 @@
 //! The rows of a group.
 ghost use Rattle.std.specs.Prelude.{◌≡◌, ◌∷◌, length, get_or, set};
 ghost use Rattle.ts_core.specs.Aggregates.{empty_aggregate};
-ghost use Rattle.ts_exec.specs.Parts.{added, with_part, with_points};
+ghost use Rattle.ts_exec.specs.RowParts.{added, with_part, with_point_parts};
 
 use crate::buckets::Buckets;
 use ts_core::{Agg, Partial, Time};
@@ -71,7 +71,7 @@ fn hold(rows: &mut [Agg], held: &mut Held, place: usize)
 
 /// Adds points, each to the row of its bucket. Points of one bucket mostly come in runs, so its row is held aside.
 pub(crate) fn add_points(rows: &mut [Agg], buckets: &mut Buckets, points: Points<'_>)
-    ensures value { rows.new ≡ with_points buckets.old points.entry rows.old }
+    ensures value { rows.new ≡ with_point_parts buckets.old points.entry rows.old }
     ensures same { buckets.new ≡ buckets.old }
 {
     let _width = rows.len();
@@ -93,7 +93,7 @@ pub(crate) fn add_first_points(
     first: (Time, i64),
     others: Points<'_>,
 )
-    ensures value { rows.new ≡ with_points buckets.old (first ∷ others.entry) rows.old }
+    ensures value { rows.new ≡ with_point_parts buckets.old (first ∷ others.entry) rows.old }
     ensures same { buckets.new ≡ buckets.old }
 {
     let _width = rows.len();

@@ -2,8 +2,8 @@
 ghost use Rattle.std.specs.Prelude.{◌≡◌, ◌∷◌, None, Some, IfOk, OnOk, OnErr, option_map};
 ghost use Rattle.ts_core.specs.Answers.{group_cmp};
 ghost use Rattle.ts_exec.specs.Lent.{lent};
-ghost use Rattle.ts_exec.specs.Parts.{with_part, with_points};
-ghost use Rattle.ts_exec.specs.Tables.{rows_or};
+ghost use Rattle.ts_exec.specs.RowParts.{with_part, with_point_parts};
+ghost use Rattle.ts_exec.specs.GroupTables.{rows_or};
 
 use crate::buckets::Buckets;
 use crate::rows::{add_first_points, add_part};
@@ -92,7 +92,7 @@ impl<'a, A: Allocator + Copy> Slot<'a, A> {
         first: (Time, i64),
         others: Points<'_>,
     ) -> Result<(), AllocError>
-        ensures rows { OnOk result (self.new.1 ≡ Some (with_points buckets.old (first ∷ others.entry) (rows_or width self.old.1))) }
+        ensures rows { OnOk result (self.new.1 ≡ Some (with_point_parts buckets.old (first ∷ others.entry) (rows_or width self.old.1))) }
         ensures key { self.new.0 ≡ self.old.0 }
         ensures same { buckets.new ≡ buckets.old }
     {

@@ -3,7 +3,7 @@ ghost use Rattle.std.specs.Prelude.{◌≡◌, map};
 ghost use Rattle.std.specs.List.{AllByRecursion};
 ghost use Rattle.ts_core.specs.Answers.{bucket_in};
 ghost use Rattle.ts_exec.specs.Answered.{HasRows};
-ghost use Rattle.ts_exec.specs.Tables.{group_with, width};
+ghost use Rattle.ts_exec.specs.GroupTables.{group_with, width};
 
 use crate::groups::GroupRows;
 use std::alloc::Allocator;
@@ -23,7 +23,7 @@ impl<'a, A: Allocator> Model for Table<'a, A> {
     ghost use Rattle.std.specs.Prelude.{map};
     ghost use Rattle.std.specs.List.{AllByRecursion};
     ghost use Rattle.ts_exec.specs.Answered.{Answered, HasRows};
-    ghost use Rattle.ts_exec.specs.Tables.{group_with, width};
+    ghost use Rattle.ts_exec.specs.GroupTables.{group_with, width};
 
     ghost Value = { Answered };
 

@@ -1,4 +1,4 @@
-use Rattle.ts_check.proofs.CertificateLaws.{reading, read_as, one_certificate}
+use Rattle.ts_check.proofs.CertificateLaws.{reading, read_as, read_spelled, one_certificate}
 use Rattle.ts_check.proofs.CertificateNumbers.{decimals}
 use Rattle.ts_check.proofs.read.read_certificate.Goals as goal
 
@@ -13,6 +13,9 @@ returns-clause-one g c = one_certificate
 
 pub returns-in_err-checked-clause-one : goal.returns-in_err-checked-clause-one
 returns-in_err-checked-clause-one g c = one_certificate
+
+pub returns-clause-spelled : goal.returns-clause-spelled
+returns-clause-spelled g c = read_spelled c.args.text.now c.read_lines.result c.read_lines.ensures
 
 pub returns-clause-numbers : goal.returns-clause-numbers
 returns-clause-numbers g c = decimals

@@ -5,7 +5,7 @@ use Rattle.ts_core.specs.Marks.{Marks}
 use Rattle.ts_core.specs.Pieces.{IsValid}
 use Rattle.ts_core.specs.Views.{Seen}
 use Rattle.ts_check.specs.Checks.{Plan}
-use Rattle.ts_exec.specs.Tables.{given}
+use Rattle.ts_exec.specs.GroupTables.{given}
 use Rattle.ts_exec.proofs.Given.{given-answer}
 use Rattle.ts_exec.proofs.executor.execute.Goals as goal
 

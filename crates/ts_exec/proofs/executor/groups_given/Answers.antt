@@ -4,7 +4,7 @@ use Rattle.std.proofs.lemmas.Result.{IfOk-weaker}
 use Rattle.ts_core.specs.Views.{Seen}
 use Rattle.ts_core.specs.Queries.{Query}
 use Rattle.ts_exec.specs.Answered.{HasRows}
-use Rattle.ts_exec.specs.Tables.{with_pieces, width}
+use Rattle.ts_exec.specs.GroupTables.{with_pieces, width}
 use Rattle.ts_exec.proofs.Given.{given-rows}
 use Rattle.ts_exec.proofs.executor.groups_given.Goals as goal
 

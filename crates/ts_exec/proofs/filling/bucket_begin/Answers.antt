@@ -1,7 +1,7 @@
 use Rattle.std.proofs.Common.{rules, ◌≡◌, SFits, w64}
 use Rattle.std.specs.Int.{w128}
 use Rattle.ts_core.specs.Buckets.{bucket_of}
-use Rattle.ts_exec.proofs.FillSteps.{BeginFits, begin-fits}
+use Rattle.ts_exec.proofs.FillSteps.{begin-fits}
 use Rattle.ts_exec.proofs.filling.bucket_begin.Goals as goal
 
 pub overflow_add-result : goal.overflow_add-result

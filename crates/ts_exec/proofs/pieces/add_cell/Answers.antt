@@ -10,8 +10,8 @@ use Rattle.ts_core.proofs.Boundaries.{within_parts}
 use Rattle.ts_ql.specs.Selects.{texts}
 use Rattle.ts_store.specs.Seats.{CellTotal}
 use Rattle.ts_exec.specs.Lent.{lent}
-use Rattle.ts_exec.specs.Parts.{Grid, grid_of, place_at}
-use Rattle.ts_exec.specs.Tables.{Table, width, is_cell_taken, with_cell_part, with_cell}
+use Rattle.ts_exec.specs.RowParts.{BucketGrid, bucket_grid, place_at}
+use Rattle.ts_exec.specs.GroupTables.{Table, width, is_cell_taken, with_cell_part, with_cell}
 use Rattle.ts_exec.proofs.Walked.{within_fits, taken-within}
 use Rattle.ts_exec.proofs.Widths.{place-within}
 use Rattle.ts_exec.proofs.pieces.add_cell.Goals as goal
@@ -22,7 +22,7 @@ returns-then-not-is_taken-clause-value g c =
     let r : Rule = c.args.rule.now in
     let k : CellTotal = c.args.cell in
     let e : is_cell_taken q r c.args.from c.args.to k ≡ false = search rules in
-    sym (ap (λ b. cond b (with_cell_part (width q) (group_of q (stand_in r k.cell)) (place_at (grid_of q) (start_of r k.cell.index)) k.total c.args.groups.now) c.args.groups.now) e)
+    sym (ap (λ b. cond b (with_cell_part (width q) (group_of q (stand_in r k.cell)) (place_at (bucket_grid q) (start_of r k.cell.index)) k.total c.args.groups.now) c.args.groups.now) e)
 
 pub overflow_cast-start : goal.overflow_cast-start
 overflow_cast-start g c =
@@ -47,9 +47,9 @@ returns-clause-value g c =
     let start : to_z w128 (of_z w128 c.bucket_start-start.result) ≡ t = search rules in
     let fits : SFits w64 t = within_fits c.args.from c.args.to t c.ranges.from c.ranges.to (taken-within q r c.args.from c.args.to k e).1 in
     let cast : to_z w64 (of_z w64 (to_z w128 (of_z w128 c.bucket_start-start.result))) ≡ t = ap (λ x. to_z w64 (of_z w64 x)) start ∙ to_z-of_z fits in
-    let s : c.place-place.result ≡ min (place_at (grid_of q) t) 18446744073709551615 =
-    c.place-place.ensures.value ∙ ap₂ (λ (b : Grid) x. min (place_at b x) 18446744073709551615) c.requires.grid cast in
-    let p : c.place-place.result ≡ place_at (grid_of q) t = omega arith in
+    let s : c.place-place.result ≡ min (place_at (bucket_grid q) t) 18446744073709551615 =
+    c.place-place.ensures.value ∙ ap₂ (λ (b : BucketGrid) x. min (place_at b x) 18446744073709551615) c.requires.grid cast in
+    let p : c.place-place.result ≡ place_at (bucket_grid q) t = omega arith in
     let kept : map string_bytes c.kept_tags.result.now ≡ r.kept_tags = c.kept_tags.ensures in
     let group : map string_bytes c.cell.inside.group.now ≡ k.cell.group = search rules in
     let tags : texts c.group_tags.result.now ≡ q.group_tags = c.group_tags.ensures in
@@ -58,5 +58,5 @@ returns-clause-value g c =
     ap lent c.deref.ensures.value ∙ read ∙ ap₂ (λ (ts : List (Text × Text)) (ks : List Text). map (value_among ts) ks) (ap₂ (λ (xs ys : List Text). zip xs ys) kept group) tags in
     let put : with_cell_part (width q) (lent c.deref.result.now) c.place-place.result k.total c.args.groups.now ≡ with_cell q r c.args.from c.args.to k c.args.groups.now =
     ap₂ (λ (x : List Text) i. with_cell_part (width q) x i k.total c.args.groups.now) v p
-    ∙ sym (ap (λ b. cond b (with_cell_part (width q) (group_of q (stand_in r k.cell)) (place_at (grid_of q) t) k.total c.args.groups.now) c.args.groups.now) e) in
+    ∙ sym (ap (λ b. cond b (with_cell_part (width q) (group_of q (stand_in r k.cell)) (place_at (bucket_grid q) t) k.total c.args.groups.now) c.args.groups.now) e) in
     subst (λ (z : Table). OnOk c.add_part.result (c.add_part.new.self ≡ z)) put (search rules)

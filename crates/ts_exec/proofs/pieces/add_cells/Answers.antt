@@ -6,7 +6,7 @@ use Rattle.ts_core.specs.Queries.{Query}
 use Rattle.ts_core.specs.Settings.{Rule}
 use Rattle.ts_core.specs.Views.{RuleTotals}
 use Rattle.ts_store.specs.Seats.{CellTotal, no_rule, cells_at}
-use Rattle.ts_exec.specs.Tables.{with_cells}
+use Rattle.ts_exec.specs.GroupTables.{with_cell_parts}
 use Rattle.ts_exec.proofs.Walked.{cells-within}
 use Rattle.ts_exec.proofs.pieces.add_cells.Goals as goal
 
@@ -21,7 +21,7 @@ loop-cell-init g c =
     rw (to_z-of_z f, to_z-of_z t) (
       tt,
       tt,
-      ap (λ (cs : List CellTotal). with_cells q r c.args.from c.args.to cs c.args.groups.now) first,
+      ap (λ (cs : List CellTotal). with_cell_parts q r c.args.from c.args.to cs c.args.groups.now) first,
       subst (AllByRecursion (λ (x : CellTotal). is_within (index_of r c.args.from) (index_of r c.args.to) x.cell.index ≡ true)) (sym first) (cells-within (get_or rs c.args.number no_rule) (index_of r c.args.from) (index_of r c.args.to)),
       refl,
       refl,

@@ -4,7 +4,7 @@ use Rattle.ts_core.specs.Queries.{Query}
 use Rattle.ts_core.specs.Views.{Seen, RuleTotals, seen_rule}
 use Rattle.ts_core.specs.Pieces.{Source, Rollup}
 use Rattle.ts_exec.specs.FirstOf.{rule_from}
-use Rattle.ts_exec.specs.Tables.{Table, with_rule, with_source}
+use Rattle.ts_exec.specs.GroupTables.{Table, with_rule, with_source}
 use Rattle.ts_exec.proofs.NamedRules.{found-shown, none-shown, found-holds, found-put}
 use Rattle.ts_exec.proofs.pieces.add_piece.Goals as goal
 

@@ -1,5 +1,5 @@
 use Rattle.std.proofs.Common.{◌≡◌, drop}
-use Rattle.ts_exec.specs.Tables.{with_pieces}
+use Rattle.ts_exec.specs.GroupTables.{with_pieces}
 use Rattle.ts_exec.proofs.pieces.add_pieces.Given as goal
 
 abbrev pub invariant-loop-piece : goal.invariant-loop-piece

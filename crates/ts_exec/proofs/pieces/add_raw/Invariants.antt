@@ -2,7 +2,7 @@ use Rattle.std.proofs.Common.{◌≡◌, ◌<◌, length}
 use Rattle.std.specs.List.{AllByRecursion}
 use Rattle.ts_core.specs.Facts.{is_of}
 use Rattle.ts_store.specs.Seats.{Seat, seats_where}
-use Rattle.ts_exec.specs.Tables.{with_seats}
+use Rattle.ts_exec.specs.GroupTables.{with_seats}
 use Rattle.ts_exec.proofs.pieces.add_raw.Given as goal
 
 abbrev pub invariant-loop-column : goal.invariant-loop-column

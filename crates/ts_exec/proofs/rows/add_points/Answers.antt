@@ -1,7 +1,7 @@
-use Rattle.std.proofs.Common.{rules, ◌≡◌, ◌≤◌, ℕ, ℤ, ◌∷◌, List, length, min, set, ◌∙◌, ap, ap₂, sym, subst}
+use Rattle.std.proofs.Common.{rules, ◌≡◌, ◌≤◌, ℤ, ◌∷◌, List, length, min, set, ◌∙◌, ap, ap₂, sym, subst}
 use Rattle.std.proofs.lemmas.List.{length-set}
 use Rattle.ts_core.specs.Aggregates.{Aggregate, aggregate_of_one}
-use Rattle.ts_exec.specs.Parts.{Grid, added, place_at, with_part, with_points}
+use Rattle.ts_exec.specs.RowParts.{BucketGrid, added, place_at, with_part, with_point_parts}
 use Rattle.ts_exec.proofs.Shares.{part-saturated, held-part}
 use Rattle.ts_exec.proofs.rows.add_points.Goals as goal
 
@@ -10,7 +10,7 @@ loop-time-preserved c =
     let t : ℤ = c.in-Some.time in
     let v : ℤ = c.in-Some.value in
     let part : Aggregate = aggregate_of_one t v in
-    let grid : Grid = c.loop-time.buckets in
+    let grid : BucketGrid = c.loop-time.buckets in
     let old : List Aggregate = set c.loop-time.rows c.loop-time.held.place c.loop-time.held.row in
     let there : c.hold.new.held.place ≡ min (place_at grid t) 18446744073709551615 = search rules in
     let same : set c.hold.new.rows c.hold.new.held.place c.hold.new.held.row ≡ old = c.hold.ensures.same in
@@ -23,7 +23,7 @@ loop-time-preserved c =
     ∙ ap₂ (λ i (rows : List Aggregate). with_part i part rows) there same
     ∙ part-saturated (place_at grid t) part old short in
     let left : c.loop-time.time-iterator ≡ (t, v) ∷ c.next.new.self = search rules in (
-      ap₂ (λ (b : Grid) (r : List Aggregate). with_points b c.next.new.self r) c.place.ensures.same next ∙ sym (ap (λ (ps : List (ℤ × ℤ)). with_points grid ps old) left) ∙ c.loop-time.invariant.0,
+      ap₂ (λ (b : BucketGrid) (r : List Aggregate). with_point_parts b c.next.new.self r) c.place.ensures.same next ∙ sym (ap (λ (ps : List (ℤ × ℤ)). with_point_parts grid ps old) left) ∙ c.loop-time.invariant.0,
       c.place.ensures.same ∙ c.loop-time.invariant.1,
       c.hold.ensures.length ∙ c.loop-time.invariant.2,
     )

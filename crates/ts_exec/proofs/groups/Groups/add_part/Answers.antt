@@ -2,9 +2,9 @@ use Rattle.std.proofs.Common.{◌∙◌, ap, List}
 use Rattle.std.proofs.lemmas.Result.{on_ok_weaker}
 use Rattle.ts_core.specs.Facts.{Text}
 use Rattle.ts_exec.specs.Lent.{lent}
-use Rattle.ts_exec.specs.Parts.{with_part}
+use Rattle.ts_exec.specs.RowParts.{with_part}
 use Rattle.ts_exec.specs.Slots.{Slots}
-use Rattle.ts_exec.specs.Tables.{Table, with_cell_part}
+use Rattle.ts_exec.specs.GroupTables.{Table, with_cell_part}
 use Rattle.ts_exec.proofs.Slotted.{written-slots, written-made}
 use Rattle.ts_exec.proofs.groups.Groups.add_part.Goals as goal
 

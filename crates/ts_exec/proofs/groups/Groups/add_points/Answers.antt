@@ -2,9 +2,9 @@ use Rattle.std.proofs.Common.{rules, ◌≡◌, ◌∷◌, ◌∙◌, ap, sym, L
 use Rattle.std.proofs.lemmas.Result.{on_ok_weaker}
 use Rattle.ts_core.specs.Facts.{Text}
 use Rattle.ts_exec.specs.Lent.{lent}
-use Rattle.ts_exec.specs.Parts.{with_points}
+use Rattle.ts_exec.specs.RowParts.{with_point_parts}
 use Rattle.ts_exec.specs.Slots.{Slots}
-use Rattle.ts_exec.specs.Tables.{Table, with_column}
+use Rattle.ts_exec.specs.GroupTables.{Table, with_column_parts}
 use Rattle.ts_exec.proofs.Slotted.{written-slots, written-made}
 use Rattle.ts_exec.proofs.groups.Groups.add_points.Goals as goal
 
@@ -19,6 +19,6 @@ returns-clause-value g c =
     let all : List (ℤ × ℤ) = c.in-Some.first ∷ c.next.new.self in
     let left : c.args.points ≡ all = search rules in
     on_ok_weaker c.add_points.result (λ rows.
-    written-made t c.expect.ensures.slots k c.in_ok-at.at c.in_ok-at.ensures.place c.index_mut.result.now c.add_points.new.self c.index_mut.ensures.value c.add_points.ensures.key (with_points c.args.buckets.now all) c.args.width rows
-    ∙ ap (λ (x : Table). with_column c.args.buckets.now c.args.width k all x) (c.expect.ensures.made ∙ c.self.view_is)
-    ∙ sym (ap (λ (ps : List (ℤ × ℤ)). with_column c.args.buckets.now c.args.width k ps c.args.self.now) left)) c.add_points.ensures.rows
+    written-made t c.expect.ensures.slots k c.in_ok-at.at c.in_ok-at.ensures.place c.index_mut.result.now c.add_points.new.self c.index_mut.ensures.value c.add_points.ensures.key (with_point_parts c.args.buckets.now all) c.args.width rows
+    ∙ ap (λ (x : Table). with_column_parts c.args.buckets.now c.args.width k all x) (c.expect.ensures.made ∙ c.self.view_is)
+    ∙ sym (ap (λ (ps : List (ℤ × ℤ)). with_column_parts c.args.buckets.now c.args.width k ps c.args.self.now) left)) c.add_points.ensures.rows

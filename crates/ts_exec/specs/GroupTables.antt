@@ -1,0 +1,105 @@
+-- Groups with their rows, in byte order of their values, and how they take points and cells one after another. (Own rules.)
+use Rattle.std.specs.Prelude.{ℕ, ℤ, pos, ◌+ℤ◌, ◌*ℤ◌, ◌==◌, Bool, not, ◌&&◌, T, List, [], ◌∷◌, map, length, replicate, Option, Some, None, if◌then◌else◌}
+use Rattle.std.specs.List.{list_all}
+use Rattle.std.specs.FinMap.{find, put, is_sorted}
+use Rattle.ts_core.specs.Facts.{Text, is_of, is_within}
+use Rattle.ts_core.specs.Aggregates.{Aggregate, empty_aggregate}
+use Rattle.ts_core.specs.Tags.{tag_values}
+use Rattle.ts_core.specs.Queries.{Query, meets, matches, group_of}
+use Rattle.ts_core.specs.Buckets.{bucket_of}
+use Rattle.ts_core.specs.Answers.{Row, Group, group_cmp, buckets_in}
+use Rattle.ts_core.specs.Pieces.{Source, Raw, Rollup, Piece, start_of}
+use Rattle.ts_core.specs.Marks.{index_of}
+use Rattle.ts_core.specs.Settings.{Rule}
+use Rattle.ts_core.specs.StoreStates.{ColumnPoints}
+use Rattle.ts_core.specs.Views.{RuleTotals, Seen}
+use Rattle.ts_core.specs.Assembly.{stand_in, rule_shown}
+use Rattle.ts_store.specs.Seats.{Seat, seats_where, points_at, CellTotal, cells_within}
+use Rattle.ts_exec.specs.RowParts.{BucketGrid, bucket_grid, place_at, with_part, with_point_parts}
+
+-- groups, each with its rows
+abbrev pub Table : Type 0
+Table = List (List Text × List Aggregate)
+
+abbrev pub IsGroupTable : Table → Type 0
+IsGroupTable t = T (is_sorted group_cmp t)
+
+-- ---- one group
+
+abbrev pub rows_or : ℕ → Option (List Aggregate) → List Aggregate
+rows_or n None = replicate n empty_aggregate
+rows_or n (Some rows) = rows
+
+-- the rows of a group: n empty ones where it isn't there yet
+abbrev pub rows_for : ℕ → List Text → Table → List Aggregate
+rows_for n g t = rows_or n (find group_cmp g t)
+
+-- a group with a part more, made where it isn't there yet
+abbrev pub with_cell_part : ℕ → List Text → ℕ → Aggregate → Table → Table
+with_cell_part n g i a t = put group_cmp g (with_part i a (rows_for n g t)) t
+
+-- a group with points more; no points make no group
+abbrev pub with_column_parts : BucketGrid → ℕ → List Text → List (ℤ × ℤ) → Table → Table
+with_column_parts grid n g [] t = t
+with_column_parts grid n g (p ∷ ps) t = put group_cmp g (with_point_parts grid (p ∷ ps) (rows_for n g t)) t
+
+-- ---- a piece of raw points
+
+abbrev pub width : Query → ℕ
+width q = length (buckets_in q)
+
+abbrev pub with_seat : Query → List ColumnPoints → ℤ → ℤ → Seat → Table → Table
+with_seat q cs a b s t =
+    if list_all (meets s.series) q.conditions
+    then with_column_parts (bucket_grid q) (width q) (tag_values q.group_tags s.series) (points_at cs s.number a b) t
+    else t
+
+abbrev pub with_seats : Query → List ColumnPoints → ℤ → ℤ → List Seat → Table → Table
+with_seats q cs a b [] t = t
+with_seats q cs a b (s ∷ ss) t = with_seats q cs a b ss (with_seat q cs a b s t)
+
+-- ---- a piece of cells
+
+-- a cell that has data and that the query asks for
+abbrev pub is_cell_taken : Query → Rule → ℤ → ℤ → CellTotal → Bool
+is_cell_taken q r a b c = (matches q (stand_in r c.cell) && is_within a b (start_of r c.cell.index)) && not (c.total.count == 0)
+
+abbrev pub with_cell : Query → Rule → ℤ → ℤ → CellTotal → Table → Table
+with_cell q r a b c t =
+    if is_cell_taken q r a b c
+    then with_cell_part (width q) (group_of q (stand_in r c.cell)) (place_at (bucket_grid q) (start_of r c.cell.index)) c.total t
+    else t
+
+abbrev pub with_cell_parts : Query → Rule → ℤ → ℤ → List CellTotal → Table → Table
+with_cell_parts q r a b [] t = t
+with_cell_parts q r a b (c ∷ cs) t = with_cell_parts q r a b cs (with_cell q r a b c t)
+
+abbrev pub with_rule : Query → ℤ → ℤ → Option RuleTotals → Table → Table
+with_rule q a b None t = t
+with_rule q a b (Some r) t = with_cell_parts q r.rule a b (cells_within r (index_of r.rule a) (index_of r.rule b)) t
+
+-- ---- pieces
+
+abbrev pub with_source : Seen → Query → Source → ℤ → ℤ → Table → Table
+with_source seen q Raw a b t = with_seats q seen.columns a b (seats_where (is_of q.measurement q.field) seen.columns) t
+with_source seen q (Rollup name) a b t = with_rule q a b (rule_shown name seen.rules) t
+
+abbrev pub with_pieces : Seen → Query → List Piece → Table → Table
+with_pieces seen q [] t = t
+with_pieces seen q (p ∷ ps) t = with_pieces seen q ps (with_source seen q p.source p.from p.to t)
+
+-- ---- the answer
+
+abbrev pub rows_from : BucketGrid → ℤ → List Aggregate → List Row
+rows_from g k [] = []
+rows_from g k (a ∷ aggregates) = record { start = (k *ℤ g.interval) +ℤ g.offset; aggregate = a } ∷ rows_from g (k +ℤ pos 1) aggregates
+
+abbrev pub group_on : BucketGrid → List Text × List Aggregate → Group
+group_on g e = record { values = e.0; rows = rows_from g (bucket_of g.from g.interval g.offset) e.1 }
+
+abbrev pub group_with : Query → List Text × List Aggregate → Group
+group_with q e = group_on (bucket_grid q) e
+
+-- what is given of a view
+abbrev pub given : Seen → Query → List Piece → List Group
+given seen q ps = map (group_with q) (with_pieces seen q ps [])
