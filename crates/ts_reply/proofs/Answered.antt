@@ -5,6 +5,8 @@ use Rattle.serde_json.specs.Data.{Data, array}
 use Rattle.serde_json.specs.View.{items_view}
 use Rattle.serde_json.specs.declared.value.Value.{Value}
 use Rattle.ts_core.proofs.Validity.{first_fault-not_valid}
+use Rattle.ts_core.specs.Facts.{Text}
+use Rattle.ts_core.specs.Faults.{first_fault}
 use Rattle.ts_core.specs.Fills.{FilledGroup}
 use Rattle.ts_core.specs.declared.fill.Fill.{Fill}
 use Rattle.ts_core.specs.Answers.{answer_of}
@@ -16,6 +18,9 @@ use Rattle.ts_core.specs.Settings.{Settings}
 use Rattle.ts_core.specs.StoreData.{StoreData, state_of, OfEachHistory, ShowsEach}
 use Rattle.ts_core.specs.StoreStates.{StandsFor}
 use Rattle.ts_core.specs.Views.{seen_of}
+use Rattle.ts_check.specs.CertificateTexts.{certificate_text, IsFirstBadLine}
+use Rattle.ts_check.specs.CheckTexts.{certificate_fault_text, check_fault_text}
+use Rattle.ts_check.specs.declared.certificate_fault.CertificateFault.{CertificateFault}
 use Rattle.ts_check.specs.Checks.{Plan, IsCheckOf, fault_of}
 use Rattle.ts_check.specs.declared.fault.CheckError.{CheckError}
 use Rattle.ts_check.specs.declared.fault.CheckError.TheVariants as checks
@@ -29,9 +34,11 @@ use Rattle.ts_plan.specs.declared.fault.PlanError.{PlanError}
 use Rattle.ts_plan.specs.declared.fault.PlanError.TheVariants as errors
 use Rattle.ts_plan.specs.declared.fault.PlanFault.{PlanFault}
 use Rattle.ts_ql.specs.Selects.{Select}
-use Rattle.ts_reply.specs.Answering.{IsOutcome, answered, refused}
+use Rattle.ts_reply.specs.Answering.{IsPlanned, answered, refused, IsChecked, invalid, valid, IsCertified, misspelled}
+use Rattle.ts_reply.specs.Explaining as explaining
+use Rattle.ts_reply.specs.Explaining.{IsExplained}
 use Rattle.ts_reply.specs.declared.epoch.Epoch.{Epoch}
-use Rattle.ts_reply.specs.Outcomes.{Outcome, Rows, Fault, rows_outcome, rows_over}
+use Rattle.ts_reply.specs.Outcomes.{Outcome, Rows, Certificate, Fault, rows_outcome, rows_over}
 use Rattle.ts_reply.specs.Replies.{AreEach, IsSeriesData, result_of, IsResultData}
 
 pub rows_shown : (k : StoreData) (s : Select) (fill : Fill) (plan : Plan) (table : Answered) (r : FilledAnswer)
@@ -42,42 +49,78 @@ rows_shown k s fill plan table r shows e f a is opening h stands =
     let groups : table.groups ≡ answer_of (latest_of h) s.query = a.answer opening h (shows opening h stands) ∙ ap (λ (x : Select). answer_of (latest_of h) x.query) e in
     ap rows_outcome is ∙ rw (f, select, groups) refl
 
-planned : (k : StoreData) (settings : Settings) (marks : Marks) (opening : Settings) (h : History) (s : Select) (result plan : Result (List Piece) PlanError)
+-- what is said of a store's settings and marks is said of those of each history that it stands for
+carried : (Says : Settings → Marks → Type 0) (k : StoreData) (settings : Settings) (marks : Marks) (opening : Settings) (h : History)
+    → ShowsEach k → StandsFor opening h (state_of k) → settings ≡ k.settings → marks ≡ k.marks → Says settings marks → Says (settings_of opening h) (marks_of opening h)
+carried Says k settings marks opening h shows stands st mt said =
+    let shown = shows opening h stands in
+    let known : Says (settings_of opening h) marks = subst (λ (t : Settings). Says t marks) (st ∙ shown.settings) said in
+    subst (Says (settings_of opening h)) (mt ∙ shown.marks) known
+
+-- ---- by a plan
+
+plan_carried : (k : StoreData) (settings : Settings) (marks : Marks) (opening : Settings) (h : History) (s : Select) (result plan : Result (List Piece) PlanError)
     → ShowsEach k → StandsFor opening h (state_of k) → settings ≡ k.settings → marks ≡ k.marks → result ≡ plan
     → IsPlanFor settings marks s.query result → IsPlanFor (settings_of opening h) (marks_of opening h) s.query plan
-planned k settings marks opening h s result plan shows stands st mt is p =
-    let shown = shows opening h stands in
-    let known : IsPlanFor (settings_of opening h) marks s.query result = subst (λ (t : Settings). IsPlanFor t marks s.query result) (st ∙ shown.settings) p in
-    let marked : IsPlanFor (settings_of opening h) (marks_of opening h) s.query result = subst (λ (m : Marks). IsPlanFor (settings_of opening h) m s.query result) (mt ∙ shown.marks) known in
-    subst (λ (r : Result (List Piece) PlanError). IsPlanFor (settings_of opening h) (marks_of opening h) s.query r) is marked
+plan_carried k settings marks opening h s result plan shows stands st mt is p =
+    carried (λ t m. IsPlanFor t m s.query plan) k settings marks opening h shows stands st mt (subst (IsPlanFor settings marks s.query) is p)
 
-pub outcome_answered : (k : StoreData) (settings : Settings) (marks : Marks) (s : Select) (result : Result (List Piece) PlanError) (plan : List Piece) (o : Outcome)
+pub planned_rows : (k : StoreData) (settings : Settings) (marks : Marks) (s : Select) (result : Result (List Piece) PlanError) (plan : List Piece) (o : Outcome)
     → ShowsEach k → settings ≡ k.settings → marks ≡ k.marks → IsPlanFor settings marks s.query result → result ≡ Ok plan
-    → OfEachHistory k (λ opening h. o ≡ rows_over (latest_of h) s) → OfEachHistory k (λ opening h. IsOutcome opening h s o)
-outcome_answered k settings marks s result plan o shows st mt p is e opening h stands =
-    subst (IsOutcome opening h s) (sym (e opening h stands)) (answered plan (planned k settings marks opening h s result (Ok plan) shows stands st mt is p))
+    → OfEachHistory k (λ opening h. o ≡ rows_over (latest_of h) s) → OfEachHistory k (λ opening h. IsPlanned opening h s o)
+planned_rows k settings marks s result plan o shows st mt p is e opening h stands =
+    subst (IsPlanned opening h s) (sym (e opening h stands)) (answered plan (plan_carried k settings marks opening h s result (Ok plan) shows stands st mt is p))
 
-pub outcome_refused : (k : StoreData) (settings : Settings) (marks : Marks) (s : Select) (result : Result (List Piece) PlanError) (fault : PlanFault) (o : Outcome)
+pub planned_fault : (k : StoreData) (settings : Settings) (marks : Marks) (s : Select) (result : Result (List Piece) PlanError) (fault : PlanFault) (o : Outcome)
     → ShowsEach k → settings ≡ k.settings → marks ≡ k.marks → IsPlanFor settings marks s.query result → result ≡ Err (errors.Fault fault)
-    → o ≡ Fault (plan_fault_text fault) → OfEachHistory k (λ opening h. IsOutcome opening h s o)
-outcome_refused k settings marks s result fault o shows st mt p is e opening h stands =
-    subst (IsOutcome opening h s) (sym e) (refused fault (planned k settings marks opening h s result (Err (errors.Fault fault)) shows stands st mt is p))
+    → o ≡ Fault (plan_fault_text fault) → OfEachHistory k (λ opening h. IsPlanned opening h s o)
+planned_fault k settings marks s result fault o shows st mt p is e opening h stands =
+    subst (IsPlanned opening h s) (sym e) (refused fault (plan_carried k settings marks opening h s result (Err (errors.Fault fault)) shows stands st mt is p))
+
+pub explained_plan : (k : StoreData) (settings : Settings) (marks : Marks) (s : Select) (result : Result (List Piece) PlanError) (plan : List Piece) (o : Outcome)
+    → ShowsEach k → settings ≡ k.settings → marks ≡ k.marks → IsPlanFor settings marks s.query result → result ≡ Ok plan
+    → o ≡ Certificate (certificate_text plan) → OfEachHistory k (λ opening h. IsExplained opening h s o)
+explained_plan k settings marks s result plan o shows st mt p is e opening h stands =
+    subst (IsExplained opening h s) (sym e) (explaining.planned plan (plan_carried k settings marks opening h s result (Ok plan) shows stands st mt is p))
+
+pub explained_fault : (k : StoreData) (settings : Settings) (marks : Marks) (s : Select) (result : Result (List Piece) PlanError) (fault : PlanFault) (o : Outcome)
+    → ShowsEach k → settings ≡ k.settings → marks ≡ k.marks → IsPlanFor settings marks s.query result → result ≡ Err (errors.Fault fault)
+    → o ≡ Fault (plan_fault_text fault) → OfEachHistory k (λ opening h. IsExplained opening h s o)
+explained_fault k settings marks s result fault o shows st mt p is e opening h stands =
+    subst (IsExplained opening h s) (sym e) (explaining.unplanned fault (plan_carried k settings marks opening h s result (Err (errors.Fault fault)) shows stands st mt is p))
 
 -- a plan that is valid has no fault
 pub plan_faultless : (k : StoreData) (settings : Settings) (marks : Marks) (s : Select) (ps : List Piece) (result : Result Plan CheckError) (e : CheckError) (f : CheckFault)
     → settings ≡ k.settings → marks ≡ k.marks → IsValid k.settings k.marks s.query ps
     → IsCheckOf (record { settings = settings; marks = marks; select = s; pieces = ps }) result → result ≡ Err e → e ≡ checks.Fault f → ⊥
-plan_faultless k settings marks s ps result e f st mt valid said is kind =
+plan_faultless k settings marks s ps result e f st mt serves said is kind =
     let p : Plan = record { settings = settings; marks = marks; select = s; pieces = ps } in
     let fault : fault_of p ≡ Some (f.kind, f.piece) = subst (IsCheckOf p) (is ∙ ap Err kind) said in
     let still : IsValid settings marks s.query ps =
-    subst (λ (m : Marks). IsValid settings m s.query ps) (sym mt) (subst (λ (t : Settings). IsValid t k.marks s.query ps) (sym st) valid) in
+    subst (λ (m : Marks). IsValid settings m s.query ps) (sym mt) (subst (λ (t : Settings). IsValid t k.marks s.query ps) (sym st) serves) in
     first_fault-not_valid settings marks s.query ps (f.kind, f.piece) fault still
 
--- ---- series
+-- ---- by pieces that are handed in
 
-pub series_shown : (e : Epoch) (n : ℕ) (s : Select) (groups : List FilledGroup) (vs : List Value) (d : Data)
-    → AreEach (IsSeriesData e s) groups (items_view vs) → (length vs == 0) ≡ false → d ≡ result_of (codes "series") (array (items_view vs)) n → IsResultData e n (Rows s groups) d
-series_shown e n s [] [] d each some is = absurd (true≢false some)
-series_shown e n s [] (v ∷ vs) d each some is = absurd each
-series_shown e n s (g ∷ gs) vs d each some is = (items_view vs, each, is)
+pub checked_rows : (k : StoreData) (settings : Settings) (marks : Marks) (s : Select) (ps : List Piece) (result : Result Plan CheckError) (plan : Plan) (o : Outcome)
+    → ShowsEach k → settings ≡ k.settings → marks ≡ k.marks
+    → IsCheckOf (record { settings = settings; marks = marks; select = s; pieces = ps }) result → result ≡ Ok plan
+    → OfEachHistory k (λ opening h. o ≡ rows_over (latest_of h) plan.select) → OfEachHistory k (λ opening h. IsChecked opening h ps s o)
+checked_rows k settings marks s ps result plan o shows st mt said is e opening h stands =
+    let p : Plan = record { settings = settings; marks = marks; select = s; pieces = ps } in
+    let yes : IsCheckOf p (Ok plan) = subst (IsCheckOf p) is said in
+    let select : plan.select ≡ s = ap (λ (x : Plan). x.select) yes.0 in
+    let rows : o ≡ rows_over (latest_of h) s = e opening h stands ∙ ap (rows_over (latest_of h)) select in
+    subst (IsChecked opening h ps s) (sym rows) (valid (carried (λ t m. IsValid t m s.query ps) k settings marks opening h shows stands st mt yes.1))
+
+pub checked_fault : (k : StoreData) (settings : Settings) (marks : Marks) (s : Select) (ps : List Piece) (result : Result Plan CheckError) (f : CheckFault) (o : Outcome)
+    → ShowsEach k → settings ≡ k.settings → marks ≡ k.marks
+    → IsCheckOf (record { settings = settings; marks = marks; select = s; pieces = ps }) result → result ≡ Err (checks.Fault f)
+    → o ≡ Fault (check_fault_text f) → OfEachHistory k (λ opening h. IsChecked opening h ps s o)
+checked_fault k settings marks s ps result f o shows st mt said is e opening h stands =
+    let fault : first_fault settings marks s.query ps ≡ Some (f.kind, f.piece) = subst (IsCheckOf (record { settings = settings; marks = marks; select = s; pieces = ps })) is said in
+    subst (IsChecked opening h ps s) (sym e) (invalid f (carried (λ t m. first_fault t m s.query ps ≡ Some (f.kind, f.piece)) k settings marks opening h shows stands st mt fault))
+
+pub certificate_fault : (k : StoreData) (text : Text) (s : Select) (f : CertificateFault) (o : Outcome)
+    → IsFirstBadLine text f.at → o ≡ Fault (certificate_fault_text f) → OfEachHistory k (λ opening h. IsCertified opening h text s o)
+certificate_fault k text s f o first e opening h stands = subst (IsCertified opening h text s) (sym e) (misspelled f first)

@@ -1,5 +1,5 @@
 -- A reply has no float: its numbers are whole.
-use Rattle.std.proofs.Common.{◌≡◌, ℕ, ◌+◌, ℤ, pos, negsuc, Bool, true, false, ◌||◌, List, [], ◌∷◌, map, refl, Ordering, Less, Equal, Greater, nat_cmp, true≢false}
+use Rattle.std.proofs.Common.{◌≡◌, ℕ, ℤ, pos, negsuc, Bool, true, false, ◌||◌, List, [], ◌∷◌, map, refl, Ordering, Less, Equal, Greater, nat_cmp, true≢false}
 use Rattle.std.specs.Prelude.{if◌then◌else◌, codes}
 use Rattle.std.specs.Fmt.{signed_decimal}
 use Rattle.std.specs.Ordering.{match_ordering}
@@ -18,7 +18,7 @@ use Rattle.ts_ql.specs.Selects.{Projection, Select}
 use Rattle.ts_reply.specs.declared.epoch.Epoch.{Epoch}
 use Rattle.ts_reply.specs.declared.epoch.Epoch.TheVariants.{Text as AsText, Units}
 use Rattle.ts_reply.specs.Outcomes.{Outcome, Rows, Certificate, Fault}
-use Rattle.ts_reply.specs.Replies.{integer_data, value_data, is_valid_time, IsTextOrCount, IsTimeData, AreEach, IsRowData, column_data, tags_among, series_by, IsSeriesData, IsResultData, AreResults, results_data}
+use Rattle.ts_reply.specs.Replies.{integer_data, value_data, is_valid_time, IsTextOrCount, IsTimeData, AreEach, IsRowData, column_data, tags_among, series_by, IsSeriesData, IsResultData}
 
 either_false : (a b : Bool) → (a || b) ≡ false → (a ≡ false) × (b ≡ false)
 either_false true b h = absurd (true≢false h)
@@ -82,21 +82,12 @@ series_by_without : (tags : List Text) (cs : List Projection) (name : Text) (val
 series_by_without [] cs name values rows h = rw (columns_without cs, h) refl
 series_by_without (tag ∷ tags) cs name values rows h = rw (columns_without cs, tags_without (tag ∷ tags) values no_members refl, h) refl
 
-series_without : (e : Epoch) (s : Select) (g : FilledGroup) (d : Data) → IsSeriesData e s g d → has_float d ≡ false
+pub series_without : (e : Epoch) (s : Select) (g : FilledGroup) (d : Data) → IsSeriesData e s g d → has_float d ≡ false
 series_without e s g d (rows, each, is) =
     rw is (series_by_without s.query.group_tags s.columns s.query.measurement g.values rows (each_without (IsRowData e) (row_without e) g.rows rows each))
 
-result_without : (e : Epoch) (n : ℕ) (o : Outcome) (d : Data) → IsResultData e n o d → has_float d ≡ false
+pub result_without : (e : Epoch) (n : ℕ) (o : Outcome) (d : Data) → IsResultData e n o d → has_float d ≡ false
 result_without e n (Rows s []) d is = rw is refl
 result_without e n (Rows s (group ∷ groups)) d (series, each, is) = rw (is, each_without (IsSeriesData e s) (series_without e s) (group ∷ groups) series each) refl
 result_without e n (Certificate text) d is = rw is refl
 result_without e n (Fault text) d is = rw is refl
-
-results_without : (e : Epoch) (n : ℕ) (os : List Outcome) (ds : Items) → AreResults e n os ds → items_have_float ds ≡ false
-results_without e n [] no_items h = refl
-results_without e n [] (item d ds) h = absurd h
-results_without e n (o ∷ os) no_items h = absurd h
-results_without e n (o ∷ os) (item d ds) h = rw (result_without e n o d h.0) (results_without e (n + 1) os ds h.1)
-
-pub reply_without : (e : Epoch) (os : List Outcome) (ds : Items) → AreResults e 0 os ds → has_float (results_data ds) ≡ false
-reply_without e os ds h = rw (results_without e 0 os ds h) refl

@@ -3,3 +3,4 @@ pub mod Each
 pub mod Times
 pub mod Answered
 pub mod OneText
+pub mod Appended

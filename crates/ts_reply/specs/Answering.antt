@@ -1,13 +1,21 @@
 -- The reply to a text of queries, over all facts ever accepted.
 -- (InfluxData 1.8, API reference: /query, multiple queries. Own rules: the first fault of a text refuses it whole; a query without a
--- plan has its fault, and the others are answered.)
-use Rattle.std.specs.Prelude.{ℤ, Bool, true, false, List, [], ◌∷◌, ⊤, Ok, Err}
+-- plan has its fault, and the others are answered; a certificate that is handed in is of one query.)
+use Rattle.std.specs.Prelude.{◌≡◌, ℤ, Bool, true, false, nat_lt, List, [], ◌∷◌, length, ⊤, Option, Some, None, Ok, Err}
 use Rattle.ts_core.specs.Facts.{Text}
+use Rattle.ts_core.specs.declared.fault_code.FaultCode.TheVariants.{SeveralStatements}
+use Rattle.ts_core.specs.declared.fault_text.FaultDetail.TheVariants.{Alone}
+use Rattle.ts_core.specs.Faults.{first_fault}
+use Rattle.ts_core.specs.FaultTexts.{fault_text}
 use Rattle.ts_core.specs.History.{History, settings_of}
 use Rattle.ts_core.specs.Latest.{latest_of}
 use Rattle.ts_core.specs.Marks.{marks_of}
-use Rattle.ts_core.specs.Pieces.{Piece}
+use Rattle.ts_core.specs.Pieces.{Piece, IsValid}
 use Rattle.ts_core.specs.Settings.{Settings}
+use Rattle.ts_check.specs.CertificateTexts.{IsCertificate, IsFirstBadLine}
+use Rattle.ts_check.specs.CheckTexts.{certificate_fault_text, check_fault_text}
+use Rattle.ts_check.specs.declared.certificate_fault.CertificateFault.{CertificateFault}
+use Rattle.ts_check.specs.declared.fault.CheckFault.{CheckFault}
 use Rattle.ts_plan.specs.Planning.{IsPlanFor}
 use Rattle.ts_plan.specs.PlanTexts.{plan_fault_text}
 use Rattle.ts_plan.specs.declared.fault.PlanError.TheVariants as errors
@@ -21,20 +29,48 @@ use Rattle.ts_reply.specs.Outcomes.{Outcome, Fault, rows_over}
 use Rattle.ts_reply.specs.Replies.{TellsOutcomes, refusal_text}
 
 -- What becomes of a query: where it has a plan its rows over all facts ever accepted, and else the fault of its plan.
-pub data IsOutcome (opening : Settings) (h : History) (s : Select) : Outcome → Type 0 where
-  answered : (plan : List Piece) → IsPlanFor (settings_of opening h) (marks_of opening h) s.query (Ok plan) → IsOutcome opening h s (rows_over (latest_of h) s)
-  refused : (fault : PlanFault) → IsPlanFor (settings_of opening h) (marks_of opening h) s.query (Err (errors.Fault fault)) → IsOutcome opening h s (Fault (plan_fault_text fault))
+pub data IsPlanned (opening : Settings) (h : History) (s : Select) : Outcome → Type 0 where
+  answered : (plan : List Piece) → IsPlanFor (settings_of opening h) (marks_of opening h) s.query (Ok plan) → IsPlanned opening h s (rows_over (latest_of h) s)
+  refused : (fault : PlanFault) → IsPlanFor (settings_of opening h) (marks_of opening h) s.query (Err (errors.Fault fault)) → IsPlanned opening h s (Fault (plan_fault_text fault))
 
--- what becomes of queries, one by one
-abbrev pub AreOutcomes : Settings → History → List Select → List Outcome → Type 0
-AreOutcomes opening h [] [] = ⊤
-AreOutcomes opening h [] (o ∷ os) = ⊥
-AreOutcomes opening h (s ∷ ss) [] = ⊥
-AreOutcomes opening h (s ∷ ss) (o ∷ os) = IsOutcome opening h s o × AreOutcomes opening h ss os
+-- What becomes of a query by pieces that are handed in: their first fault, or, where they are valid, its rows over all facts ever accepted.
+pub data IsChecked (opening : Settings) (h : History) (pieces : List Piece) (s : Select) : Outcome → Type 0 where
+  invalid : (fault : CheckFault) → first_fault (settings_of opening h) (marks_of opening h) s.query pieces ≡ Some (fault.kind, fault.piece) → IsChecked opening h pieces s (Fault (check_fault_text fault))
+  valid : IsValid (settings_of opening h) (marks_of opening h) s.query pieces → IsChecked opening h pieces s (rows_over (latest_of h) s)
 
--- The reply to a text at a moment, after a history: whether it is good, and its body.
-pub data IsReply (opening : Settings) (h : History) (now : ℤ) (text : Text) (epoch : Epoch) : Bool → Text → Type 0 where
-  -- what became of the queries that the text says
-  good : (body : Text) (queries : List Select) (outcomes : List Outcome) → TextSays now text queries → AreOutcomes opening h queries outcomes → TellsOutcomes epoch outcomes body → IsReply opening h now text epoch true body
-  -- the first fault of the text
-  bad : (fault : queries.Fault) → TextFault now text fault → IsReply opening h now text epoch false (refusal_text (query_fault_text fault))
+-- What becomes of it by the text of a certificate: the fault of the text, or what becomes of it by the pieces that the text spells.
+pub data IsCertified (opening : Settings) (h : History) (certificate : Text) (s : Select) : Outcome → Type 0 where
+  misspelled : (fault : CertificateFault) → IsFirstBadLine certificate fault.at → IsCertified opening h certificate s (Fault (certificate_fault_text fault))
+  spelled : (pieces : List Piece) (o : Outcome) → IsCertificate certificate pieces → IsChecked opening h pieces s o → IsCertified opening h certificate s o
+
+-- what becomes of a query, by the certificate that was handed in or else by its plan
+abbrev pub IsOutcome : Settings → History → Option Text → Select → Outcome → Type 0
+IsOutcome opening h None s o = IsPlanned opening h s o
+IsOutcome opening h (Some certificate) s o = IsCertified opening h certificate s o
+
+-- of each query this becomes of it
+abbrev pub AreOutcomes : (Select → Outcome → Type 0) → List Select → List Outcome → Type 0
+AreOutcomes Becomes [] [] = ⊤
+AreOutcomes Becomes [] (o ∷ os) = ⊥
+AreOutcomes Becomes (s ∷ ss) [] = ⊥
+AreOutcomes Becomes (s ∷ ss) (o ∷ os) = Becomes s o × AreOutcomes Becomes ss os
+
+-- a certificate was handed in with more than one query
+abbrev pub is_of_several : Option Text → List Select → Bool
+is_of_several None queries = false
+is_of_several (Some certificate) queries = nat_lt 1 (length queries)
+
+abbrev pub several_text : Text
+several_text = fault_text SeveralStatements Alone
+
+-- The reply to queries, with a certificate or without one, after a history: whether it is good, and its body.
+pub data IsReplyTo (opening : Settings) (h : History) (queries : List Select) (certificate : Option Text) (epoch : Epoch) : Bool → Text → Type 0 where
+  -- what became of the queries
+  good : (body : Text) (outcomes : List Outcome) → is_of_several certificate queries ≡ false → AreOutcomes (IsOutcome opening h certificate) queries outcomes → TellsOutcomes epoch outcomes body → IsReplyTo opening h queries certificate epoch true body
+  -- they are more than the certificate is of
+  several : is_of_several certificate queries ≡ true → IsReplyTo opening h queries certificate epoch false (refusal_text several_text)
+
+-- The reply to a text at a moment: the reply to the queries that it says, or its first fault.
+pub data IsReply (opening : Settings) (h : History) (now : ℤ) (text : Text) (certificate : Option Text) (epoch : Epoch) : Bool → Text → Type 0 where
+  read : (queries : List Select) (good : Bool) (body : Text) → TextSays now text queries → IsReplyTo opening h queries certificate epoch good body → IsReply opening h now text certificate epoch good body
+  bad : (fault : queries.Fault) → TextFault now text fault → IsReply opening h now text certificate epoch false (refusal_text (query_fault_text fault))

@@ -1,5 +1,7 @@
--- Outcomes in memory, as outcomes. (Own rule.)
-use Rattle.std.specs.Prelude.{string_bytes}
+-- What stands in memory, by its value: an outcome, and a certificate that is handed in. (Own rules.)
+use Rattle.std.specs.Borrow.{Bor}
+use Rattle.std.specs.Prelude.{Option, option_map, string_bytes}
+use Rattle.ts_core.specs.Facts.{Text}
 use Rattle.ts_reply.specs.declared.reply.Outcome as declared
 use Rattle.ts_reply.specs.declared.reply.Outcome.TheVariants as variants
 use Rattle.ts_reply.specs.Outcomes.{Outcome, Certificate, Fault, rows_outcome}
@@ -8,3 +10,6 @@ abbrev pub told : {A : Type 0} → declared.Outcome A → Outcome
 told (variants.Rows rows) = rows_outcome rows
 told (variants.Certificate text) = Certificate (string_bytes text)
 told (variants.Fault fault) = Fault (string_bytes fault)
+
+abbrev pub handed_in : Option (Bor Text) → Option Text
+handed_in certificate = option_map (λ (text : Bor Text). text.now) certificate

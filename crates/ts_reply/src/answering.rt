@@ -2,37 +2,53 @@
 ghost use Rattle.std.specs.Prelude.{◌≡◌, map, IfOk, string_bytes};
 ghost use Rattle.ts_core.specs.Latest.{latest_of};
 ghost use Rattle.ts_core.specs.Pieces.{IsValid};
-ghost use Rattle.ts_core.specs.StoreData.{OfEachHistory};
-ghost use Rattle.ts_plan.specs.PlanTexts.{plan_fault_text};
-ghost use Rattle.ts_ql.specs.QueryFaults.{as_fault};
-ghost use Rattle.ts_ql.specs.QueryFaultText.{query_fault_text};
-ghost use Rattle.ts_reply.specs.Answering.{IsOutcome, AreOutcomes, IsReply};
+ghost use Rattle.ts_core.specs.StoreData.{OfEachHistory, ShowsEach};
+ghost use Rattle.ts_reply.specs.Answering.{IsPlanned, IsChecked, IsCertified, IsOutcome, AreOutcomes, is_of_several, IsReplyTo, IsReply};
 ghost use Rattle.ts_reply.specs.Outcomes.{rows_outcome, rows_over};
-ghost use Rattle.ts_reply.specs.Replies.{refusal_text};
-ghost use Rattle.ts_reply.specs.Told.{told};
+ghost use Rattle.ts_reply.specs.Told.{told, handed_in};
 
 use crate::epoch::Epoch;
+use crate::faults::{
+    certificate_fault_text, check_fault_text, plan_fault_text, refusal_of, refusal_of_several,
+};
 use crate::reply::{Outcome, reply_json};
-use crate::results::refusal_json;
 use std::alloc::{AllocError, Allocator, Global};
-use ts_check::{Certificate, CheckError, check};
+use ts_check::{Certificate, CheckError, Checked, ReadCertificateError, check, read_certificate};
 use ts_core::Time;
 use ts_exec::{ExecFault, Rows, execute, fill};
-use ts_plan::{PlanError, PlanFault, plan};
-use ts_ql::{ParseError, QlFault, Query, parse};
+use ts_plan::{PlanError, plan};
+use ts_ql::{ParseError, Query, parse};
 use ts_store::{Store, View};
 
 /// A reply to a text of queries.
 #[derive(Drop)]
 pub struct Reply {
-    /// Whether the text says queries. Of these some may have a fault.
+    /// Whether the text says queries, and a certificate only with one. Of these some may have a fault.
     pub good: bool,
     /// The reply as JSON.
     pub body: String,
 }
 
-/// The rows of a query by a valid plan.
+/// The rows of a query by a plan that was checked for the settings and marks of this store.
 fn rows_of<'a, A: Allocator + Copy + 'a>(
+    alloc: A,
+    store: &'a Store<A>,
+    checked: &Checked<'_, A>,
+) -> Result<Rows<'a, A>, AllocError>
+    requires shows { ShowsEach store.now }
+    requires settings { checked.now.settings ≡ store.now.settings }
+    requires marks { checked.now.marks ≡ store.now.marks }
+    ensures { IfOk result (λ r. OfEachHistory store.now (λ opening h. rows_outcome r ≡ rows_over (latest_of h) checked.now.select)) }
+{
+    match execute(alloc, store, checked) {
+        Ok(table) => Ok(fill(table, checked.query().fill())),
+        Err(ExecFault::OutOfMemory) => Err(AllocError),
+        Err(ExecFault::Stale(_, _)) => unreachable!(),
+    }
+}
+
+/// The rows of a query by a valid plan.
+fn rows_by_plan<'a, A: Allocator + Copy + 'a>(
     alloc: A,
     store: &'a Store<A>,
     query: &Query<A>,
@@ -41,40 +57,78 @@ fn rows_of<'a, A: Allocator + Copy + 'a>(
     requires { IsValid store.now.settings store.now.marks query.now.query plan.now }
     ensures { IfOk result (λ r. OfEachHistory store.now (λ opening h. rows_outcome r ≡ rows_over (latest_of h) query.now)) }
 {
-    let checked = match check(alloc, store.settings(), store.marks(), query, plan) {
-        Ok(checked) => checked,
-        Err(CheckError::OutOfMemory) => return Err(AllocError),
+    match check(alloc, store.settings(), store.marks(), query, plan) {
+        Ok(checked) => rows_of(alloc, store, &checked),
+        Err(CheckError::OutOfMemory) => Err(AllocError),
         Err(CheckError::Fault(_)) => unreachable!(),
-    };
-    match execute(alloc, store, &checked) {
-        Ok(table) => Ok(fill(table, query.fill())),
-        Err(ExecFault::OutOfMemory) => Err(AllocError),
-        Err(ExecFault::Stale(_, _)) => unreachable!(),
     }
 }
 
-/// The text of a plan's fault.
-fn fault_text(json: Global, fault: PlanFault) -> Result<String, AllocError>
-    ensures { IfOk result (λ s. string_bytes s ≡ plan_fault_text fault) }
-{
-    let mut text = String::new(json);
-    fault.text_to(&mut text)?;
-    Ok(text)
-}
-
-/// What becomes of a query: its rows, or the fault of its plan.
-fn outcome_of<'a, A: Allocator + Copy + 'a>(
+/// What becomes of a query by its plan: its rows, or the fault of its plan.
+fn planned<'a, A: Allocator + Copy + 'a>(
     alloc: A,
     json: Global,
     store: &'a Store<A>,
     query: &Query<A>,
 ) -> Result<Outcome<'a, A>, AllocError>
-    ensures { IfOk result (λ o. OfEachHistory store.now (λ opening h. IsOutcome opening h query.now (told o))) }
+    ensures { IfOk result (λ o. OfEachHistory store.now (λ opening h. IsPlanned opening h query.now (told o))) }
 {
     match plan(alloc, store.settings(), store.marks(), query) {
-        Ok(plan) => Ok(Outcome::Rows(rows_of(alloc, store, query, &plan)?)),
-        Err(PlanError::Fault(fault)) => Ok(Outcome::Fault(fault_text(json, fault)?)),
+        Ok(plan) => Ok(Outcome::Rows(rows_by_plan(alloc, store, query, &plan)?)),
+        Err(PlanError::Fault(fault)) => Ok(Outcome::Fault(plan_fault_text(json, fault)?)),
         Err(PlanError::OutOfMemory) => Err(AllocError),
+    }
+}
+
+/// What becomes of a query by pieces that were handed in: its rows, or the first fault of the pieces.
+fn outcome_by<'a, A: Allocator + Copy + 'a>(
+    alloc: A,
+    json: Global,
+    store: &'a Store<A>,
+    query: &Query<A>,
+    certificate: &Certificate<'_, A>,
+) -> Result<Outcome<'a, A>, AllocError>
+    ensures { IfOk result (λ o. OfEachHistory store.now (λ opening h. IsChecked opening h certificate.now query.now (told o))) }
+{
+    match check(alloc, store.settings(), store.marks(), query, certificate) {
+        Ok(checked) => Ok(Outcome::Rows(rows_of(alloc, store, &checked)?)),
+        Err(CheckError::Fault(fault)) => Ok(Outcome::Fault(check_fault_text(json, fault)?)),
+        Err(CheckError::OutOfMemory) => Err(AllocError),
+    }
+}
+
+/// What becomes of a query by the text of a certificate: its rows, or the fault of the text or of its pieces.
+fn certified<'a, A: Allocator + Copy + 'a>(
+    alloc: A,
+    json: Global,
+    store: &'a Store<A>,
+    query: &Query<A>,
+    certificate: &str,
+) -> Result<Outcome<'a, A>, AllocError>
+    ensures { IfOk result (λ o. OfEachHistory store.now (λ opening h. IsCertified opening h certificate.now query.now (told o))) }
+{
+    match read_certificate(alloc, certificate) {
+        Ok(certificate) => outcome_by(alloc, json, store, query, &certificate),
+        Err(ReadCertificateError::Fault(fault)) => {
+            Ok(Outcome::Fault(certificate_fault_text(json, fault)?))
+        }
+        Err(ReadCertificateError::OutOfMemory) => Err(AllocError),
+    }
+}
+
+/// What becomes of a query, by the certificate that was handed in or else by its plan.
+fn outcome_of<'a, A: Allocator + Copy + 'a>(
+    alloc: A,
+    json: Global,
+    store: &'a Store<A>,
+    query: &Query<A>,
+    certificate: Option<&str>,
+) -> Result<Outcome<'a, A>, AllocError>
+    ensures { IfOk result (λ o. OfEachHistory store.now (λ opening h. IsOutcome opening h (handed_in certificate.entry) query.now (told o))) }
+{
+    match certificate {
+        None => planned(alloc, json, store, query),
+        Some(certificate) => certified(alloc, json, store, query, certificate),
     }
 }
 
@@ -84,43 +138,63 @@ fn outcomes_of<'a, A: Allocator + Copy + 'a>(
     json: Global,
     store: &'a Store<A>,
     queries: &[Query<A>],
+    certificate: Option<&str>,
 ) -> Result<Vec<Outcome<'a, A>, A>, AllocError>
-    ensures { IfOk result (λ v. OfEachHistory store.now (λ opening h. AreOutcomes opening h queries.now (map told v.items))) }
+    ensures { IfOk result (λ v. OfEachHistory store.now (λ opening h. AreOutcomes (IsOutcome opening h (handed_in certificate.entry)) queries.now (map told v.items))) }
 {
     let mut outcomes = Vec::new(alloc);
     for query in queries {
-        outcomes.push(outcome_of(alloc, json, store, query)?)?;
+        outcomes.push(outcome_of(alloc, json, store, query, certificate)?)?;
     }
     Ok(outcomes)
 }
 
-/// The body of a reply that tells the first fault of a text.
-fn refusal_of(json: Global, fault: &QlFault<'_>) -> Result<String, AllocError>
-    ensures { IfOk result (λ s. string_bytes s ≡ refusal_text (query_fault_text (as_fault fault.now))) }
+/// Whether a certificate was handed in with more than one query.
+fn is_of_several<A: Allocator>(certificate: Option<&str>, queries: &[Query<A>]) -> bool
+    ensures { result ≡ is_of_several (handed_in certificate.entry) queries.now }
 {
-    let mut text = String::new(json);
-    fault.text_to(&mut text)?;
-    refusal_json(json, text.as_str())
+    match certificate {
+        None => false,
+        Some(_) => 1 < queries.len(),
+    }
 }
 
-/// Answers a text of queries at a moment, over all facts that the store ever accepted. The JSON is made in
-/// the memory of `json`, all else in that of `alloc`. Want of memory is its one refusal.
+/// The reply to queries.
+fn reply_to<A: Allocator + Copy>(
+    alloc: A,
+    json: Global,
+    store: &Store<A>,
+    queries: &[Query<A>],
+    certificate: Option<&str>,
+    epoch: Epoch,
+) -> Result<Reply, AllocError>
+    ensures { IfOk result (λ r. OfEachHistory store.now (λ opening h. IsReplyTo opening h queries.now (handed_in certificate.entry) epoch r.good (string_bytes r.body))) }
+{
+    if is_of_several(certificate, queries) {
+        let body = refusal_of_several(json)?;
+        return Ok(Reply { good: false, body });
+    }
+    let outcomes = outcomes_of(alloc, json, store, queries, certificate)?;
+    let body = reply_json(json, outcomes.as_slice(), epoch)?;
+    Ok(Reply { good: true, body })
+}
+
+/// Answers a text of queries at a moment, over all facts that the store ever accepted: by their plans, or one
+/// query by the text of a certificate that is handed in. The JSON is made in the memory of `json`, all else in
+/// that of `alloc`. Want of memory is its one refusal.
 pub fn answer<A: Allocator + Copy>(
     alloc: A,
     json: Global,
     store: &Store<A>,
     now: Time,
     text: &str,
+    certificate: Option<&str>,
     epoch: Epoch,
 ) -> Result<Reply, AllocError>
-    ensures { IfOk result (λ r. OfEachHistory store.now (λ opening h. IsReply opening h now text.now epoch r.good (string_bytes r.body))) }
+    ensures { IfOk result (λ r. OfEachHistory store.now (λ opening h. IsReply opening h now text.now (handed_in certificate.entry) epoch r.good (string_bytes r.body))) }
 {
     match parse(alloc, text, now) {
-        Ok(queries) => {
-            let outcomes = outcomes_of(alloc, json, store, queries.as_slice())?;
-            let body = reply_json(json, outcomes.as_slice(), epoch)?;
-            Ok(Reply { good: true, body })
-        }
+        Ok(queries) => reply_to(alloc, json, store, queries.as_slice(), certificate, epoch),
         Err(ParseError::Fault(fault)) => {
             let body = refusal_of(json, &fault)?;
             Ok(Reply { good: false, body })

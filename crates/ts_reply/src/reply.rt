@@ -1,16 +1,20 @@
-//! Replies.
-ghost use Rattle.std.specs.Prelude.{◌≡◌, map, IfOk, string_bytes};
-ghost use Rattle.serde_json.specs.View.{view, items_view};
-ghost use Rattle.ts_reply.specs.Replies.{IsResultData, AreResults, TellsOutcomes, results_data};
+//! Replies. Their text is made part by part, so that of a series the JSON value lives only until its text stands.
+ghost use Rattle.std.specs.Prelude.{◌≡◌, ◌+◌, ◌<◌, ◌^◌, ◌∷◌, ◌++◌, true, false, length, map, nat_lt, IfOk, OnOk, string_bytes};
+ghost use Rattle.serde_json.specs.View.{view};
+ghost use Rattle.serde_json.specs.Written.{has_float, comma_if, compact_text};
+ghost use Rattle.ts_reply.specs.Appending.{AppendsData, AppendsItems, IsArray};
+ghost use Rattle.ts_reply.specs.Replies.{AreEach, IsSeriesData, IsResultData, AreResults, TellsOutcomes};
 ghost use Rattle.ts_reply.specs.Told.{told};
 ghost use Rattle.ts_reply.specs.Outcomes.{rows_outcome};
 
 use crate::epoch::Epoch;
-use crate::results::{certificate_told, fault_told, nothing_told, series_told};
-use crate::rows::groups_json;
-use serde_json::{Value, json};
+use crate::results::{certificate_told, fault_told, nothing_told};
+use crate::rows::group_json;
+use itoa::Buffer;
+use serde_json::Value;
 use std::alloc::{AllocError, Allocator, Global};
-use ts_exec::Rows;
+use ts_exec::{FilledGroup, FilledGroups, Rows};
+use ts_ql::Query;
 
 /// What becomes of a statement.
 #[derive(Drop)]
@@ -23,57 +27,138 @@ pub enum Outcome<'a, A: Allocator> {
     Fault(String),
 }
 
-/// The rows of a statement, by its number from 0.
-fn rows_told<A: Allocator>(
+/// Appends a value.
+fn push_value(alloc: Global, text: &mut String, value: &Value) -> Result<(), AllocError>
+    requires { has_float (view value.now) ≡ false }
+    ensures { OnOk result (string_bytes text.new ≡ string_bytes text.old ++ compact_text (view value.now)) }
+{
+    let written = value.to_string(alloc)?;
+    text.push_str(written.as_str())
+}
+
+/// Appends a group.
+fn push_group<A: Allocator>(
     alloc: Global,
+    text: &mut String,
+    epoch: Epoch,
+    query: &Query<A>,
+    group: FilledGroup<'_, '_, A>,
+) -> Result<(), AllocError>
+    ensures { OnOk result (AppendsData (IsSeriesData epoch query.now group.entry) (string_bytes text.old) (string_bytes text.new)) }
+{
+    let series = group_json(alloc, epoch, query, group)?;
+    push_value(alloc, text, &series)
+}
+
+/// Appends groups, each behind a comma, and the bracket that closes them.
+fn push_more_groups<A: Allocator>(
+    alloc: Global,
+    text: &mut String,
+    epoch: Epoch,
+    query: &Query<A>,
+    groups: FilledGroups<'_, '_, A>,
+) -> Result<(), AllocError>
+    ensures { OnOk result (AppendsItems (AreEach (IsSeriesData epoch query.now) groups.entry) true (string_bytes text.old) (string_bytes text.new)) }
+{
+    for group in groups {
+        text.push_str(",")?;
+        push_group(alloc, text, epoch, query, group)?;
+    }
+    text.push_str("]")
+}
+
+/// Appends the series of groups.
+fn push_series<A: Allocator>(
+    alloc: Global,
+    text: &mut String,
+    epoch: Epoch,
+    query: &Query<A>,
+    first: FilledGroup<'_, '_, A>,
+    others: FilledGroups<'_, '_, A>,
+) -> Result<(), AllocError>
+    ensures { OnOk result (AppendsData (IsArray (AreEach (IsSeriesData epoch query.now) (first.entry ∷ others.entry))) (string_bytes text.old) (string_bytes text.new)) }
+{
+    text.push_str("[")?;
+    push_group(alloc, text, epoch, query, first)?;
+    push_more_groups(alloc, text, epoch, query, others)
+}
+
+/// Appends the rows of a statement, by its number from 0.
+fn push_rows<A: Allocator>(
+    alloc: Global,
+    text: &mut String,
     epoch: Epoch,
     rows: &Rows<'_, A>,
     number: usize,
-) -> Result<Value, AllocError>
-    ensures { IfOk result (λ v. IsResultData epoch number (rows_outcome rows.now) (view v)) }
+) -> Result<(), AllocError>
+    ensures { OnOk result (AppendsData (IsResultData epoch number (rows_outcome rows.now)) (string_bytes text.old) (string_bytes text.new)) }
 {
-    let series = groups_json(alloc, epoch, rows)?;
-    if series.is_empty() {
-        return nothing_told(alloc, number);
+    let mut groups = rows.groups();
+    match groups.next() {
+        None => push_value(alloc, text, &nothing_told(alloc, number)?),
+        Some(first) => {
+            text.push_str("{\"series\":")?;
+            push_series(alloc, text, epoch, rows.query(), first, groups)?;
+            text.push_str(",\"statement_id\":")?;
+            text.push_str(Buffer::new().format(number))?;
+            text.push_str("}")
+        }
     }
-    series_told(alloc, series, number)
 }
 
-/// What becomes of a statement, by its number from 0.
-fn result_json<A: Allocator>(
+/// Appends what becomes of a statement, by its number from 0.
+fn push_result<A: Allocator>(
     alloc: Global,
+    text: &mut String,
     epoch: Epoch,
     outcome: &Outcome<'_, A>,
     number: usize,
-) -> Result<Value, AllocError>
-    ensures { IfOk result (λ v. IsResultData epoch number (told outcome.now) (view v)) }
+) -> Result<(), AllocError>
+    ensures { OnOk result (AppendsData (IsResultData epoch number (told outcome.now)) (string_bytes text.old) (string_bytes text.new)) }
 {
     match outcome {
-        Outcome::Rows(rows) => rows_told(alloc, epoch, rows, number),
-        Outcome::Certificate(text) => certificate_told(alloc, text.as_str(), number),
-        Outcome::Fault(fault) => fault_told(alloc, fault.as_str(), number),
+        Outcome::Rows(rows) => push_rows(alloc, text, epoch, rows, number),
+        Outcome::Certificate(certificate) => {
+            let value = certificate_told(alloc, certificate.as_str(), number)?;
+            push_value(alloc, text, &value)
+        }
+        Outcome::Fault(fault) => {
+            let value = fault_told(alloc, fault.as_str(), number)?;
+            push_value(alloc, text, &value)
+        }
     }
 }
 
-/// What becomes of statements, one by one.
-fn results_json<A: Allocator>(
+/// Appends a comma before all but the first, number 0.
+fn push_comma(text: &mut String, number: usize) -> Result<(), AllocError>
+    ensures { OnOk result (string_bytes text.new ≡ string_bytes text.old ++ comma_if (nat_lt 0 number)) }
+{
+    if 0 < number {
+        text.push_str(",")
+    } else {
+        Ok(())
+    }
+}
+
+/// Appends what becomes of statements, numbered from a number on, and the bracket that closes them.
+fn push_results<A: Allocator>(
     alloc: Global,
-    outcomes: &[Outcome<'_, A>],
+    text: &mut String,
     epoch: Epoch,
-) -> Result<Vec<Value>, AllocError>
-    ensures { IfOk result (λ v. AreResults epoch 0 (map told outcomes.now) (items_view v.items)) }
+    outcomes: &[Outcome<'_, A>],
+    number: usize,
+) -> Result<(), AllocError>
+    requires { number + length outcomes.now < 2 ^ 64 }
+    ensures { OnOk result (AppendsItems (AreResults epoch number (map told outcomes.now)) (nat_lt 0 number) (string_bytes text.old) (string_bytes text.new)) }
 {
-    let mut results = Vec::new(alloc);
-    for (number, outcome) in outcomes.iter().enumerate() {
-        results.push(result_json(alloc, epoch, outcome, number)?)?;
+    match outcomes.split_first() {
+        None => text.push_str("]"),
+        Some((outcome, others)) => {
+            push_comma(text, number)?;
+            push_result(alloc, text, epoch, outcome, number)?;
+            push_results(alloc, text, epoch, others, number + 1)
+        }
     }
-    Ok(results)
-}
-
-fn reply_value(alloc: Global, results: Vec<Value>) -> Result<Value, AllocError>
-    ensures { IfOk result (λ v. view v ≡ results_data (items_view results.items)) }
-{
-    json!(in alloc; {"results": results})
 }
 
 /// What became of the statements of a text, as JSON. Want of memory is its one refusal.
@@ -84,7 +169,9 @@ pub fn reply_json<A: Allocator>(
 ) -> Result<String, AllocError>
     ensures { IfOk result (λ s. TellsOutcomes epoch (map told outcomes.now) (string_bytes s)) }
 {
-    let results = results_json(alloc, outcomes, epoch)?;
-    let reply = reply_value(alloc, results)?;
-    reply.to_string(alloc)
+    let mut text = String::new(alloc);
+    text.push_str("{\"results\":[")?;
+    push_results(alloc, &mut text, epoch, outcomes, 0)?;
+    text.push_str("}")?;
+    Ok(text)
 }

@@ -1,7 +1,7 @@
 //! What is told of statements, as JSON.
 ghost use Rattle.std.specs.Prelude.{◌≡◌, codes, IfOk, string_bytes};
-ghost use Rattle.serde_json.specs.Data.{array, string, object};
-ghost use Rattle.serde_json.specs.View.{view, items_view};
+ghost use Rattle.serde_json.specs.Data.{string, object};
+ghost use Rattle.serde_json.specs.View.{view};
 ghost use Rattle.serde_json.specs.Written.{compact_text};
 ghost use Rattle.ts_reply.specs.Replies.{refusal_data, result_of, statement_id};
 
@@ -13,17 +13,6 @@ pub(crate) fn nothing_told(alloc: Global, number: usize) -> Result<Value, AllocE
     ensures { IfOk result (λ v. view v ≡ object (statement_id number)) }
 {
     json!(in alloc; {"statement_id": number})
-}
-
-/// The series of a statement.
-pub(crate) fn series_told(
-    alloc: Global,
-    series: Vec<Value>,
-    number: usize,
-) -> Result<Value, AllocError>
-    ensures { IfOk result (λ v. view v ≡ result_of (codes "series") (array (items_view series.items)) number) }
-{
-    json!(in alloc; {"series": series, "statement_id": number})
 }
 
 /// A statement's fault.

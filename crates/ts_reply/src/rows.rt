@@ -8,7 +8,7 @@ use crate::series::series_json;
 use crate::value::{time_json, value_json};
 use serde_json::Value;
 use std::alloc::{AllocError, Allocator, Global};
-use ts_exec::{FilledGroup, FilledRow, FilledRows, Rows};
+use ts_exec::{FilledGroup, FilledRow, FilledRows};
 use ts_ql::Query;
 
 /// A time, and the values of a row behind it: `width` cells.
@@ -59,7 +59,7 @@ fn rows_json<A: Allocator>(
 }
 
 /// A group with its rows.
-fn group_json<A: Allocator>(
+pub(crate) fn group_json<A: Allocator>(
     alloc: Global,
     epoch: Epoch,
     query: &Query<A>,
@@ -70,19 +70,4 @@ fn group_json<A: Allocator>(
     let width = query.columns().len().saturating_add(1);
     let rows = rows_json(alloc, epoch, width, group.rows)?;
     series_json(alloc, query, group.values, rows)
-}
-
-/// The groups of an answer, in their order.
-pub(crate) fn groups_json<A: Allocator>(
-    alloc: Global,
-    epoch: Epoch,
-    rows: &Rows<'_, A>,
-) -> Result<Vec<Value>, AllocError>
-    ensures { IfOk result (λ v. AreEach (IsSeriesData epoch rows.now.select) rows.now.groups (items_view v.items)) }
-{
-    let mut series = Vec::new(alloc);
-    for group in rows.groups() {
-        series.push(group_json(alloc, epoch, rows.query(), group)?)?;
-    }
-    Ok(series)
 }

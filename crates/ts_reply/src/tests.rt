@@ -1,5 +1,5 @@
 //! Times by text, and replies as JSON.
-use crate::{Epoch, Outcome, answer, reply_json, time_text};
+use crate::{Epoch, Outcome, answer, explain, reply_json, time_text};
 use std::alloc::Global;
 use std::process::Abort;
 use std::test::Fail;
@@ -66,38 +66,94 @@ fn outcomes_are_numbered(rt: HostRuntime) -> Result<(), Fail> {
     Ok(())
 }
 
-/// A text of queries, and the reply of an empty store.
-const TEXTS: [(&str, bool, &str); 3] = [
+/// A text of queries, a certificate that is handed in, and the reply of an empty store.
+const TEXTS: [(&str, Option<&str>, bool, &str); 8] = [
     (
         "SELECT COUNT(f) FROM m WHERE time >= 0 AND time < 10 GROUP BY time(10ns)",
+        None,
         true,
         "{\"results\":[{\"statement_id\":0}]}",
     ),
-    ("SELECT", false, "{\"error\":\"fault 71 at 6\"}"),
+    ("SELECT", None, false, "{\"error\":\"fault 71 at 6\"}"),
     (
         "SELECT COUNT(f) FROM m LIMIT 1",
+        Some("plan 2"),
         false,
         "{\"error\":\"fault 72 at 23 LIMIT\"}",
     ),
+    (
+        QUERY,
+        Some("plan 1\nraw 0 5\nend\n"),
+        true,
+        "{\"results\":[{\"statement_id\":0}]}",
+    ),
+    (
+        QUERY,
+        Some("plan 1\nraw 0 5\nraw 5 5\nend\n"),
+        true,
+        "{\"results\":[{\"error\":\"fault 82 piece 1\",\"statement_id\":0}]}",
+    ),
+    (
+        QUERY,
+        Some("plan 1\nrollup r 0 5\nend\n"),
+        true,
+        "{\"results\":[{\"error\":\"fault 84 piece 0\",\"statement_id\":0}]}",
+    ),
+    (
+        QUERY,
+        Some("plan 1\nraw 0 5\n"),
+        true,
+        "{\"results\":[{\"error\":\"fault 81 at 15\",\"statement_id\":0}]}",
+    ),
+    (
+        "SELECT COUNT(f) FROM m WHERE time >= 0 AND time < 5 GROUP BY time(5ns); SELECT COUNT(g) FROM m WHERE time >= 0 AND time < 5 GROUP BY time(5ns)",
+        Some("plan 2"),
+        false,
+        "{\"error\":\"fault 94\"}",
+    ),
 ];
+
+/// A query of one bucket.
+const QUERY: &str = "SELECT COUNT(f) FROM m WHERE time >= 0 AND time < 5 GROUP BY time(5ns)";
 
 fn replies(
     alloc: Global,
     store: &Store<Global>,
     text: &str,
+    certificate: Option<&str>,
     good: bool,
     body: &str,
 ) -> Result<bool, Fail> {
-    let reply = answer(alloc, alloc, store, Time::least(), text, Epoch::Text)?;
+    let reply = answer(
+        alloc,
+        alloc,
+        store,
+        Time::least(),
+        text,
+        certificate,
+        Epoch::Text,
+    )?;
     Ok(reply.good == good && reply.body.as_str() == body)
 }
 
 #[test]
 fn an_empty_store_replies(rt: HostRuntime) -> Result<(), Fail> {
     let store = Store::new(rt.alloc(), Settings::open(rt.alloc()))?;
-    for (text, good, body) in TEXTS {
-        let right = replies(rt.alloc(), &store, text, good, body)?;
+    for (text, certificate, good, body) in TEXTS {
+        let right = replies(rt.alloc(), &store, text, certificate, good, body)?;
         assert!(rt; right);
     }
+    Ok(())
+}
+
+#[test]
+fn an_empty_store_explains(rt: HostRuntime) -> Result<(), Fail> {
+    let alloc = rt.alloc();
+    let store = Store::new(alloc, Settings::open(alloc))?;
+    let reply = explain(alloc, alloc, &store, Time::least(), QUERY)?;
+    let right = reply.good
+        && reply.body.as_str()
+            == "{\"results\":[{\"cert\":\"plan 1\\nraw 0 5\\nend\\n\",\"statement_id\":0}]}";
+    assert!(rt; right);
     Ok(())
 }

@@ -1,0 +1,33 @@
+-- What is explained of a text of queries: of each the certificate of its plan, after a history.
+-- (Own rules: a plan is told as the text of its certificate, which may be handed in with the query; a query without a plan has its fault.)
+use Rattle.std.specs.Prelude.{ℤ, Bool, true, false, List, Ok, Err}
+use Rattle.ts_core.specs.Facts.{Text}
+use Rattle.ts_core.specs.History.{History, settings_of}
+use Rattle.ts_core.specs.Marks.{marks_of}
+use Rattle.ts_core.specs.Pieces.{Piece}
+use Rattle.ts_core.specs.Settings.{Settings}
+use Rattle.ts_check.specs.CertificateTexts.{certificate_text}
+use Rattle.ts_plan.specs.Planning.{IsPlanFor}
+use Rattle.ts_plan.specs.PlanTexts.{plan_fault_text}
+use Rattle.ts_plan.specs.declared.fault.PlanError.TheVariants as errors
+use Rattle.ts_plan.specs.declared.fault.PlanFault.{PlanFault}
+use Rattle.ts_ql.specs.Laws.{TextSays, TextFault}
+use Rattle.ts_ql.specs.QueryFaults as queries
+use Rattle.ts_ql.specs.QueryFaultText.{query_fault_text}
+use Rattle.ts_ql.specs.Selects.{Select}
+use Rattle.ts_reply.specs.declared.epoch.Epoch.TheVariants.{Text as AsText}
+use Rattle.ts_reply.specs.Answering.{AreOutcomes}
+use Rattle.ts_reply.specs.Outcomes.{Outcome, Certificate, Fault}
+use Rattle.ts_reply.specs.Replies.{TellsOutcomes, refusal_text}
+
+-- What is explained of a query: the certificate of its plan, or the fault of its plan.
+pub data IsExplained (opening : Settings) (h : History) (s : Select) : Outcome → Type 0 where
+  planned : (plan : List Piece) → IsPlanFor (settings_of opening h) (marks_of opening h) s.query (Ok plan) → IsExplained opening h s (Certificate (certificate_text plan))
+  unplanned : (fault : PlanFault) → IsPlanFor (settings_of opening h) (marks_of opening h) s.query (Err (errors.Fault fault)) → IsExplained opening h s (Fault (plan_fault_text fault))
+
+-- The explanation of a text at a moment, after a history: whether it is good, and its body.
+pub data IsExplanation (opening : Settings) (h : History) (now : ℤ) (text : Text) : Bool → Text → Type 0 where
+  -- what is explained of the queries that the text says; no time is told, so any epoch would do
+  good : (body : Text) (queries : List Select) (outcomes : List Outcome) → TextSays now text queries → AreOutcomes (IsExplained opening h) queries outcomes → TellsOutcomes AsText outcomes body → IsExplanation opening h now text true body
+  -- the first fault of the text
+  bad : (fault : queries.Fault) → TextFault now text fault → IsExplanation opening h now text false (refusal_text (query_fault_text fault))

@@ -1,0 +1,74 @@
+//! The explanation of a text of queries: their plans.
+ghost use Rattle.std.specs.Prelude.{map, IfOk, string_bytes};
+ghost use Rattle.ts_core.specs.StoreData.{OfEachHistory};
+ghost use Rattle.ts_reply.specs.Answering.{AreOutcomes};
+ghost use Rattle.ts_reply.specs.Explaining.{IsExplained, IsExplanation};
+ghost use Rattle.ts_reply.specs.Told.{told};
+
+use crate::answering::Reply;
+use crate::epoch::Epoch;
+use crate::faults::{plan_fault_text, refusal_of};
+use crate::reply::{Outcome, reply_json};
+use std::alloc::{AllocError, Allocator, Global};
+use ts_check::write_certificate;
+use ts_core::Time;
+use ts_plan::{PlanError, plan};
+use ts_ql::{ParseError, Query, parse};
+use ts_store::{Store, View};
+
+/// What is explained of a query: the certificate of its plan, or the fault of its plan.
+fn explained<'a, A: Allocator + Copy + 'a>(
+    alloc: A,
+    json: Global,
+    store: &'a Store<A>,
+    query: &Query<A>,
+) -> Result<Outcome<'a, A>, AllocError>
+    ensures { IfOk result (λ o. OfEachHistory store.now (λ opening h. IsExplained opening h query.now (told o))) }
+{
+    match plan(alloc, store.settings(), store.marks(), query) {
+        Ok(plan) => Ok(Outcome::Certificate(write_certificate(json, &plan)?)),
+        Err(PlanError::Fault(fault)) => Ok(Outcome::Fault(plan_fault_text(json, fault)?)),
+        Err(PlanError::OutOfMemory) => Err(AllocError),
+    }
+}
+
+/// What is explained of queries, one by one.
+fn each_explained<'a, A: Allocator + Copy + 'a>(
+    alloc: A,
+    json: Global,
+    store: &'a Store<A>,
+    queries: &[Query<A>],
+) -> Result<Vec<Outcome<'a, A>, A>, AllocError>
+    ensures { IfOk result (λ v. OfEachHistory store.now (λ opening h. AreOutcomes (IsExplained opening h) queries.now (map told v.items))) }
+{
+    let mut outcomes = Vec::new(alloc);
+    for query in queries {
+        outcomes.push(explained(alloc, json, store, query)?)?;
+    }
+    Ok(outcomes)
+}
+
+/// Explains a text of queries at a moment: of each the certificate of the plan that `answer` follows now. The
+/// JSON is made in the memory of `json`, all else in that of `alloc`. Want of memory is its one refusal.
+pub fn explain<A: Allocator + Copy>(
+    alloc: A,
+    json: Global,
+    store: &Store<A>,
+    now: Time,
+    text: &str,
+) -> Result<Reply, AllocError>
+    ensures { IfOk result (λ r. OfEachHistory store.now (λ opening h. IsExplanation opening h now text.now r.good (string_bytes r.body))) }
+{
+    match parse(alloc, text, now) {
+        Ok(queries) => {
+            let outcomes = each_explained(alloc, json, store, queries.as_slice())?;
+            let body = reply_json(json, outcomes.as_slice(), Epoch::Text)?;
+            Ok(Reply { good: true, body })
+        }
+        Err(ParseError::Fault(fault)) => {
+            let body = refusal_of(json, &fault)?;
+            Ok(Reply { good: false, body })
+        }
+        Err(ParseError::OutOfMemory) => Err(AllocError),
+    }
+}
