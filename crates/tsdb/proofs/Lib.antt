@@ -7,3 +7,6 @@ pub mod CountAnswers
 pub mod CountLemmas
 pub mod CommandLineLemmas
 pub mod CommandLineLaws
+pub mod CertificateTextLemmas
+pub mod MarksTextLemmas
+pub mod FaultTableLemmas

@@ -10,8 +10,8 @@ use Rattle.ts_reply.specs.declared.epoch.Epoch.{Epoch}
 use Rattle.tsdb.specs.Moments.{moment_in, moment_of}
 
 pub data Command : Type 0 where
-  -- nothing is asked: a blank line or a comment
-  Nothing : Command
+  -- the script is to open with the settings of this text
+  OpenWith : Text → Command
   -- the moment is this
   At : ℤ → Command
   -- timestamps count units of this precision
@@ -22,8 +22,14 @@ pub data Command : Type 0 where
   Write : Text → Command
   -- how many raw facts are kept
   Live : Command
+  -- a run of retention at the moment
+  Retain : Command
+  -- this text is the certificate of the next query
+  SetCertificate : Text → Command
   -- a text of queries
   Query : Text → Command
+  -- a text of queries, of which the plans are asked
+  Explain : Text → Command
   -- how many values of a measurement and a field stand from one time on and before another
   Count : Text → Text → ℤ → ℤ → Command
   -- the same, with a time that isn't valid
@@ -41,6 +47,10 @@ is_blank line = list_all is_space line
 -- the first byte is #
 abbrev pub is_comment : Text → Bool
 is_comment line = starts_with nat_eq line (codes "#")
+
+-- the line asks for nothing
+abbrev pub is_skipped : Text → Bool
+is_skipped line = is_blank line || is_comment line
 
 -- at N, at Nunit
 unfoldable pub at_of : Option ℤ → Command
@@ -78,15 +88,18 @@ unfoldable pub count_from : Text → Command
 count_from text =
     count_from_parts (word text) (word (after_word text)) (word (after_word (after_word text))) (after_word (after_word (after_word text)))
 
--- a command's name and one space, and then its rest
+-- what a line that isn't skipped asks for: a command's name and one space, and then its rest
 unfoldable pub command_of : Text → Command
 command_of line =
-    if is_blank line || is_comment line then Nothing
+    if starts_with nat_eq line (codes "settings ") then OpenWith (drop 9 line)
     else if starts_with nat_eq line (codes "at ") then at_of (moment_of (drop 3 line))
     else if starts_with nat_eq line (codes "precision ") then precision_from (precision_of (drop 10 line))
     else if starts_with nat_eq line (codes "epoch ") then epoch_from (epoch_of (drop 6 line))
     else if starts_with nat_eq line (codes "write ") then Write (drop 6 line)
+    else if same_text line (codes "retain") then Retain
+    else if starts_with nat_eq line (codes "cert ") then SetCertificate (drop 5 line)
     else if starts_with nat_eq line (codes "query ") then Query (drop 6 line)
+    else if starts_with nat_eq line (codes "explain ") then Explain (drop 8 line)
     else if same_text line (codes "live") then Live
     else if starts_with nat_eq line (codes "count ") then count_from (drop 6 line)
     else Unknown

@@ -2,6 +2,9 @@
 pub mod ScriptLines
 pub mod Commands
 pub mod Moments
+pub mod CertificateTexts
+pub mod MarksTexts
+pub mod FaultTables
 pub mod Machine
 pub mod Replies
 pub mod Script
@@ -11,6 +14,8 @@ pub mod Outcomes
 -- What the code inside promises itself; nobody needs them to know what a script prints.
 pub mod CommandParts
 pub mod Counted
+pub mod Opening
+pub mod FaultNumbers
 pub mod Serving
 pub mod HeldLine
 pub mod LineReading

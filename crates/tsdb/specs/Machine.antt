@@ -1,9 +1,12 @@
 -- The machine that a script runs: what each line prints, and what it changes. (Own rule.)
-use Rattle.std.specs.Prelude.{◌≡◌, ℤ, pos, ◌-ℤ◌, ◌≤ℤ◌, ◌<ℤ◌, ◌<◌, ◌≤◌, Bool, List, [], ◌∷◌, length, codes, Option, Some, None, Result, Ok, Err}
+use Rattle.std.specs.Prelude.{◌≡◌, ℕ, ℤ, pos, ◌-ℤ◌, ◌≤ℤ◌, ◌<ℤ◌, ◌<◌, ◌≤◌, Bool, true, false, List, [], ◌∷◌, length, codes, Option, Some, None, Result, Ok, Err}
 use Rattle.std.specs.Fmt.{decimal}
 use Rattle.std.specs.Str.{IsUtf8}
 use Rattle.ts_core.specs.Facts.{Text, Series}
 use Rattle.ts_core.specs.Settings.{Settings, open_settings}
+use Rattle.ts_core.specs.SettingsFaults.{settings_fault_text}
+use Rattle.ts_core.specs.SettingsTexts.{settings_read}
+use Rattle.ts_core.specs.declared.settings_fault.SettingsFault.{SettingsFault}
 use Rattle.ts_core.specs.History.{Line, History, accepted, settings_of}
 use Rattle.ts_core.specs.Latest.{count_of}
 use Rattle.ts_core.specs.Marks.{marks_of}
@@ -24,26 +27,44 @@ use Rattle.ts_plan.specs.declared.fault.PlanFault.{PlanFault}
 use Rattle.ts_ql.specs.Counting.{count_select, IsInterval}
 use Rattle.ts_raw.specs.Numbered.{Gains}
 use Rattle.ts_reply.specs.Answering.{IsReply}
+use Rattle.ts_reply.specs.Explaining.{IsExplanation}
 use Rattle.ts_reply.specs.declared.epoch.Epoch.{Epoch}
 use Rattle.ts_reply.specs.declared.epoch.Epoch.TheVariants as epochs
 use Rattle.ts_store.specs.declared.fault.WriteFault.{WriteFault}
 use Rattle.ts_store.specs.Registered.{MayGain}
 use Rattle.ts_store.specs.Refusals.{write_fault}
+use Rattle.ts_store.specs.WholeRuns.{whole_run}
 use Rattle.tsdb.specs.ScriptLines.{script_line_limit}
-use Rattle.tsdb.specs.Commands.{Command, Nothing, At, SetPrecision, SetEpoch, Write, Query, Live, Count, CountFault, Unknown, command_of}
+use Rattle.tsdb.specs.CertificateTexts.{with_line_feeds}
+use Rattle.tsdb.specs.Commands.{Command, OpenWith, At, SetPrecision, SetEpoch, Write, Live, Retain, SetCertificate, Query, Explain, Count, CountFault, Unknown, is_skipped, command_of}
+use Rattle.tsdb.specs.MarksTexts.{marks_text}
 use Rattle.tsdb.specs.Replies.{line, write_fault_text}
 
--- the moment that the script has set, in nanoseconds, the precision of its timestamps, how replies tell times,
--- the lines that were accepted so far, and the series that are registered
 pub record State : Type 0 where
+  -- the moment that the script has set, in nanoseconds, the precision of its timestamps, and how replies tell times
   pub moment : ℤ
   pub precision : TimeUnit
   pub epoch : Epoch
+  -- no line has come but skipped ones, so settings may come
+  pub fresh : Bool
+  -- what the next query has for a certificate
+  pub certificate : Option Text
+  -- the settings that the script opened with, what happened since, and the series that are registered
+  pub opening : Settings
   pub history : History
   pub series : List Series
 
 abbrev pub start : State
-start = record { moment = pos 0; precision = Nanoseconds; epoch = epochs.Text; history = []; series = [] }
+start = record {
+  moment = pos 0;
+  precision = Nanoseconds;
+  epoch = epochs.Text;
+  fresh = true;
+  certificate = None;
+  opening = open_settings;
+  history = [];
+  series = [];
+}
 
 abbrev pub at_moment : ℤ → State → State
 at_moment t s = record s { moment = t }
@@ -53,6 +74,25 @@ in_precision p s = record s { precision = p }
 
 abbrev pub in_epoch : Epoch → State → State
 in_epoch e s = record s { epoch = e }
+
+-- a line that isn't skipped has come
+abbrev pub begun : State → State
+begun s = record s { fresh = false }
+
+abbrev pub with_certificate : Option Text → State → State
+with_certificate certificate s = record s { certificate = certificate }
+
+-- a store with these settings, to which nothing has happened
+abbrev pub opened_with : Settings → State → State
+opened_with settings s = record s { opening = settings; history = []; series = [] }
+
+-- a whole run of retention, of so many steps and a last one
+abbrev pub with_run : ℕ → State → State
+with_run steps s = record s { history = whole_run s.moment steps s.history }
+
+-- the marks that the state leaves, as text
+abbrev pub marks_told : State → Text
+marks_told s = marks_text (settings_of s.opening s.history) (marks_of s.opening s.history)
 
 -- these series are registered
 abbrev pub with_series : List Series → State → State
@@ -68,7 +108,7 @@ line_in s text = line_of (nanoseconds_of s.precision) s.moment text
 
 -- what a line is refused by
 abbrev pub refusal_in : State → Parts → Option WriteFault
-refusal_in s parts = write_fault s.series (length (accepted s.history)) parts
+refusal_in s parts = write_fault (marks_of s.opening s.history).raw s.series (length (accepted s.history)) parts
 
 -- From `old` a line of these parts may print this and leave that.
 pub data Takes (old : State) (parts : Parts) : Text → State → Type 0 where
@@ -94,7 +134,11 @@ pub data Counts (opening : Settings) (h : History) (measurement field : Text) (a
 
 -- From `old` a command may print this and leave that.
 pub data Does (old : State) : Command → Text → State → Type 0 where
-  skips : Does old Nothing [] old
+  -- settings come before all else; at fault, they leave the opening ones
+  opens : (text : Text) (settings : Settings) → old.fresh ≡ true → settings_read text ≡ Ok settings → Does old (OpenWith text) [] (opened_with settings old)
+  refuses_settings : (text : Text) (fault : SettingsFault) → old.fresh ≡ true → settings_read text ≡ Err fault → Does old (OpenWith text) (line (settings_fault_text fault)) old
+  opens_no_memory : (text : Text) → old.fresh ≡ true → Does old (OpenWith text) (line (codes "fault memory")) old
+  opens_late : (text : Text) → old.fresh ≡ false → Does old (OpenWith text) (line (codes "fault 95")) old
   moves : (t : ℤ) → Does old (At t) [] (at_moment t old)
   sets : (p : TimeUnit) → Does old (SetPrecision p) [] (in_precision p old)
   writes : (text answer : Text) (parts : Parts) (new : State) → line_in old text ≡ Ok (Some parts) → Takes old parts answer new → Does old (Write text) answer new
@@ -104,21 +148,31 @@ pub data Does (old : State) : Command → Text → State → Type 0 where
   -- to read a line may want memory that isn't there
   reads_no_memory : (text : Text) → Does old (Write text) (line (codes "fault memory")) old
   shows : (e : Epoch) → Does old (SetEpoch e) [] (in_epoch e old)
-  -- the reply's body, be the reply good or not
-  replies : (text body : Text) (good : Bool) → IsReply open_settings old.history old.moment text old.epoch good body → Does old (Query text) (line body) old
-  replies_no_memory : (text : Text) → Does old (Query text) (line (codes "fault memory")) old
+  -- retention runs at the moment, and the marks that it leaves are told
+  retains : (steps : ℕ) → Does old Retain (line (marks_told (with_run steps old))) (with_run steps old)
+  retains_no_memory : Does old Retain (line (codes "fault memory")) old
+  -- a certificate waits for the next query, in place of an earlier one
+  hands_in : (text : Text) → Does old (SetCertificate text) [] (with_certificate (Some (with_line_feeds text)) old)
+  hands_in_no_memory : (text : Text) → Does old (SetCertificate text) (line (codes "fault memory")) old
+  -- the reply's body, be the reply good or not; the certificate is forgotten
+  replies : (text body : Text) (good : Bool) → IsReply old.opening old.history old.moment text old.certificate old.epoch good body → Does old (Query text) (line body) (with_certificate None old)
+  replies_no_memory : (text : Text) → Does old (Query text) (line (codes "fault memory")) (with_certificate None old)
+  explains : (text body : Text) (good : Bool) → IsExplanation old.opening old.history old.moment text good body → Does old (Explain text) (line body) old
+  explains_no_memory : (text : Text) → Does old (Explain text) (line (codes "fault memory")) old
   -- how many of the latest facts have their raw points
-  tells_live : Does old Live (line (decimal (length (raw_facts open_settings old.history)))) old
-  counts : (measurement field answer : Text) (a b : ℤ) → a <ℤ b → Counts open_settings old.history measurement field a b answer → Does old (Count measurement field a b) answer old
+  tells_live : Does old Live (line (decimal (length (raw_facts old.opening old.history)))) old
+  counts : (measurement field answer : Text) (a b : ℤ) → a <ℤ b → Counts old.opening old.history measurement field a b answer → Does old (Count measurement field a b) answer old
   counts_nothing : (measurement field : Text) (a b : ℤ) → b ≤ℤ a → Does old (Count measurement field a b) (line (codes "0")) old
   refuses_count : Does old CountFault (line (codes "fault 74 at 0")) old
   refuses_unknown : Does old Unknown (line (codes "fault 95")) old
 
 -- From `old` a line of a script may print this and leave that.
 pub data Step (old : State) : Text → Text → State → Type 0 where
-  too_long : (bytes : Text) → script_line_limit < length bytes → Step old bytes (line (codes "fault 95")) old
-  no_text : (bytes : Text) → (IsUtf8 bytes → ⊥) → Step old bytes (line (codes "fault 95")) old
-  does : (bytes answer : Text) (new : State) → length bytes ≤ script_line_limit → IsUtf8 bytes → Does old (command_of bytes) answer new → Step old bytes answer new
+  too_long : (bytes : Text) → script_line_limit < length bytes → Step old bytes (line (codes "fault 95")) (begun old)
+  no_text : (bytes : Text) → (IsUtf8 bytes → ⊥) → Step old bytes (line (codes "fault 95")) (begun old)
+  -- a blank line or a comment
+  skips : (bytes : Text) → length bytes ≤ script_line_limit → IsUtf8 bytes → is_skipped bytes ≡ true → Step old bytes [] old
+  does : (bytes answer : Text) (new : State) → length bytes ≤ script_line_limit → IsUtf8 bytes → is_skipped bytes ≡ false → Does old (command_of bytes) answer new → Step old bytes answer (begun new)
 
 -- Lines may print these answers, one after another.
 abbrev pub Run : State → List Text → List Text → State → Type 0

@@ -6,7 +6,7 @@ use Rattle.tsdb.specs.declared.command_line.Told.TheVariants as told
 use Rattle.tsdb.specs.declared.run_fault.RunFault.{RunFault}
 use Rattle.tsdb.specs.declared.run_fault.RunFault.TheVariants.{OutOfMemory, Reader, Writer, Turns}
 use Rattle.tsdb.specs.declared.outcome.Outcome.{Outcome}
-use Rattle.tsdb.specs.declared.outcome.Outcome.TheVariants.{Answered, Stopped, NoScript, NoText}
+use Rattle.tsdb.specs.declared.outcome.Outcome.TheVariants.{Answered, Stopped, NoScript, NoFault, NoText}
 
 -- 0: done; 1: a device, or an input without an end; 2: the command line; 3: no memory
 abbrev pub status_of : Outcome → ℕ
@@ -17,6 +17,7 @@ status_of (Stopped Reader) = 1
 status_of (Stopped Writer) = 1
 status_of (Stopped Turns) = 1
 status_of (NoScript told.Wrong) = 2
+status_of NoFault = 2
 status_of NoText = 2
 status_of (NoScript told.OutOfMemory) = 3
 status_of (Stopped OutOfMemory) = 3
@@ -37,4 +38,5 @@ abbrev pub error_line : Outcome → Option Text
 error_line Answered = None
 error_line (Stopped fault) = Some (stopped_line fault)
 error_line (NoScript said) = None
+error_line NoFault = Some (codes "tsdb: no fault has this number; `tsdb faults` prints them all")
 error_line NoText = Some (codes "tsdb: the command line can't be read as text")

@@ -1,38 +1,49 @@
 -- A machine that serves a script, and the state that it is in. (Own rule.)
-use Rattle.std.specs.Prelude.{◌≡◌, ℕ, zero, suc, ℤ, Bool, ◌∷◌, Option, Some, None, refl}
-use Rattle.std.specs.Coded.{Coded, code_by, coded×, coded_ℕ, coded_ℤ, coded_option}
+use Rattle.std.specs.Prelude.{◌≡◌, ℕ, zero, suc, ℤ, Bool, ◌∷◌, codes, Option, Some, None, refl}
+use Rattle.std.specs.Coded.{Coded, code_by, coded×, coded_ℕ, coded_ℤ, coded_bool, coded_option}
 use Rattle.ts_core.specs.Facts.{Text}
-use Rattle.ts_core.specs.Settings.{open_settings}
+use Rattle.ts_core.specs.History.{IsRunOpen}
 use Rattle.ts_core.specs.StoreStates.{StandsFor}
 use Rattle.ts_core.specs.StoreData.{StoreData, state_of}
-use Rattle.ts_core.specs.StoreCodes.{coded_store_data}
+use Rattle.ts_core.specs.StoreCodes.{coded_text, coded_store_data}
 use Rattle.ts_line.specs.Parts.{Parts}
 use Rattle.ts_core.specs.declared.time_unit.TimeUnit.{TimeUnit}
 use Rattle.ts_core.specs.declared.time_unit.TimeUnit.TheVariants.{Nanoseconds, Microseconds, Milliseconds, Seconds, Minutes, Hours, Days, Weeks}
 use Rattle.ts_reply.specs.Answering.{IsReply}
+use Rattle.ts_reply.specs.Explaining.{IsExplanation}
 use Rattle.ts_reply.specs.declared.epoch.Epoch.{Epoch}
 use Rattle.ts_reply.specs.declared.epoch.Epoch.TheVariants as epochs
 use Rattle.tsdb.specs.ScriptLines.{lines_of}
 use Rattle.tsdb.specs.Commands.{Command}
-use Rattle.tsdb.specs.Machine.{State, Takes, Does, Step}
+use Rattle.tsdb.specs.Machine.{State, begun, Takes, Does, Step}
 use Rattle.tsdb.specs.Replies.{line}
 
 pub record Serving : Type 0 where
   pub moment : ℤ
   pub precision : TimeUnit
   pub epoch : Epoch
+  pub fresh : Bool
+  pub certificate : Option Text
   pub kept : StoreData
 
 pub record IsIn (s : State) (m : Serving) : Type 0 where
   pub moment : m.moment ≡ s.moment
   pub precision : m.precision ≡ s.precision
   pub epoch : m.epoch ≡ s.epoch
-  pub stands : StandsFor open_settings s.history (state_of m.kept)
+  pub fresh : m.fresh ≡ s.fresh
+  pub certificate : m.certificate ≡ s.certificate
+  pub stands : StandsFor s.opening s.history (state_of m.kept)
   pub series : m.kept.series ≡ s.series
+  -- a run of retention is whole before the next line comes
+  pub idle : IsRunOpen s.history → ⊥
 
 -- in this state a text of queries has a reply with this body, here with an LF
-abbrev pub Replied : State → Text → Text → Type 0
-Replied s text answer = (body : Text) × ((good : Bool) × IsReply open_settings s.history s.moment text s.epoch good body) × (answer ≡ line body)
+abbrev pub Replied : State → Text → Option Text → Text → Type 0
+Replied s text certificate answer = (body : Text) × ((good : Bool) × IsReply s.opening s.history s.moment text certificate s.epoch good body) × (answer ≡ line body)
+
+-- in this state a text of queries has an explanation with this body, here with an LF
+abbrev pub Explained : State → Text → Text → Type 0
+Explained s text answer = (body : Text) × ((good : Bool) × IsExplanation s.opening s.history s.moment text good body) × (answer ≡ line body)
 
 -- from this state a machine that was given a line of these parts is in a state that it may leave
 abbrev pub Took : Parts → State → Text → Serving → Type 0
@@ -41,6 +52,10 @@ Took parts s answer m = (s' : State) × Takes s parts answer s' × IsIn s' m
 -- from this state a machine that did the command, or was given the line, is in a state that it may leave
 abbrev pub Did : Command → State → Text → Serving → Type 0
 Did command s answer m = (s' : State) × Does s command answer s' × IsIn s' m
+
+-- a line that can't be read was told as no command
+abbrev pub Refused : State → Text → Serving → Type 0
+Refused s answer m = (answer ≡ line (codes "fault 95")) × IsIn (begun s) m
 
 abbrev pub Stepped : Text → State → Text → Serving → Type 0
 Stepped text s answer m = (s' : State) × Step s text answer s' × IsIn s' m
@@ -105,5 +120,7 @@ coded_epoch = code_by (Option TimeUnit) (coded_option coded_unit) epoch_unit epo
 
 abbrev pub coded_serving : Coded Serving
 coded_serving =
-    code_by (ℤ × (TimeUnit × (Epoch × StoreData))) (coded× coded_ℤ (coded× coded_unit (coded× coded_epoch coded_store_data))) (λ m. (m.moment, (m.precision, (m.epoch, m.kept))))
-    (λ p. record { moment = p.0; precision = p.1.0; epoch = p.1.1.0; kept = p.1.1.1 }) (λ _. refl)
+    code_by (ℤ × (TimeUnit × (Epoch × (Bool × (Option Text × StoreData)))))
+    (coded× coded_ℤ (coded× coded_unit (coded× coded_epoch (coded× coded_bool (coded× (coded_option coded_text) coded_store_data)))))
+    (λ m. (m.moment, (m.precision, (m.epoch, (m.fresh, (m.certificate, m.kept))))))
+    (λ p. record { moment = p.0; precision = p.1.0; epoch = p.1.1.0; fresh = p.1.1.1.0; certificate = p.1.1.1.1.0; kept = p.1.1.1.1.1 }) (λ _. refl)

@@ -1,7 +1,7 @@
 //! The commands of a script and how they are read.
-ghost use Rattle.std.specs.Prelude.{◌≡◌, length, MatchOption, drop, true, false, nat_eq, ◌||◌};
+ghost use Rattle.std.specs.Prelude.{◌≡◌, length, MatchOption, drop, true, false, nat_eq};
 ghost use Rattle.std.specs.List.{starts_with};
-ghost use Rattle.tsdb.specs.Commands.{is_blank, is_comment, word, after_word, count_from, at_of, precision_from, epoch_from, command_of, count_between};
+ghost use Rattle.tsdb.specs.Commands.{is_blank, is_comment, is_skipped, word, after_word, count_from, at_of, precision_from, epoch_from, command_of, count_between};
 ghost use Rattle.ts_core.specs.TimeUnits.{precision_of};
 ghost use Rattle.ts_reply.specs.Epochs.{epoch_of};
 ghost use Rattle.tsdb.specs.Moments.{moment_of};
@@ -15,8 +15,8 @@ use ts_reply::Epoch;
 /// What a line asks for.
 #[derive(Clone, Copy, Drop)]
 pub enum Command<'a> {
-    /// Nothing: a blank line or a comment.
-    Nothing,
+    /// To open the script with the settings of this text.
+    OpenWith(&'a str),
     /// To have this moment from now on.
     At(Time),
     /// To take timestamps in this unit from now on.
@@ -25,10 +25,16 @@ pub enum Command<'a> {
     SetEpoch(Epoch),
     /// To write this line.
     Write(&'a str),
-    /// To answer this text of queries.
-    Query(&'a str),
     /// To tell how many raw facts are kept.
     Live,
+    /// To run retention at the moment.
+    Retain,
+    /// To take this text for the certificate of the next query; each `;` in it stands for an LF.
+    SetCertificate(&'a str),
+    /// To answer this text of queries.
+    Query(&'a str),
+    /// To tell the plans of this text of queries.
+    Explain(&'a str),
     /// To count the values of a measurement and a field from one time on and before another.
     Count {
         measurement: &'a str,
@@ -49,9 +55,9 @@ fn is_blank(line: &[u8]) -> bool
     line.iter().all(|b| *b == b' ')
 }
 
-/// Whether the line is blank or a comment.
-fn is_skipped(line: &[u8]) -> bool
-    ensures { result ≡ (is_blank line.now || is_comment line.now) }
+/// Whether the line asks for nothing: it is blank or a comment.
+pub fn is_skipped(line: &[u8]) -> bool
+    ensures { result ≡ is_skipped line.now }
 {
     is_blank(line) || line.starts_with(b"#")
 }
@@ -148,13 +154,13 @@ fn count(text: &str) -> Command<'_>
 }
 
 impl<'a> Command<'a> {
-    /// What the line asks for.
+    /// What a line that isn't skipped asks for.
     #[tactic(auto, unfolding(crate::specs::Commands::command_of))]
     pub fn of(line: &'a str) -> Command<'a>
         ensures { command_view result ≡ command_of line.entry.now }
     {
-        if is_skipped(line.as_bytes()) {
-            return Command::Nothing;
+        if let Some(rest) = rest_behind(line, "settings ") {
+            return Command::OpenWith(rest);
         }
         if let Some(rest) = rest_behind(line, "at ") {
             return at(rest);
@@ -168,8 +174,17 @@ impl<'a> Command<'a> {
         if let Some(rest) = rest_behind(line, "write ") {
             return Command::Write(rest);
         }
+        if line == "retain" {
+            return Command::Retain;
+        }
+        if let Some(rest) = rest_behind(line, "cert ") {
+            return Command::SetCertificate(rest);
+        }
         if let Some(rest) = rest_behind(line, "query ") {
             return Command::Query(rest);
+        }
+        if let Some(rest) = rest_behind(line, "explain ") {
+            return Command::Explain(rest);
         }
         if line == "live" {
             return Command::Live;

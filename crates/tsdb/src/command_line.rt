@@ -15,6 +15,9 @@ const ABOUT: &str = "A time series database of integers, run by scripts";
 const SCRIPTS: &str = "\
 Scripts have one command a line; blank lines and lines that begin with # are passed over.
 
+  settings JSON  opens the script, as its first command: {\"raw\":\"2m\",\"rules\":[{\"name\":\"m1\",\"measurement\":\"M\",
+                 \"interval\":\"1m\",\"offset\":\"0s\",\"keep\":[\"TAG\"],\"duration\":\"INF\"}]}. Raw points are kept for
+                 2 minutes, and of M a cell for each minute and value of TAG for ever.
   at N[UNIT]     sets the moment, at first 0. UNIT is ns, u, µ, ms, s, m, h, d or w; without
                  one N is in nanoseconds of the Unix epoch.
   precision P    sets the unit of timestamps, at first ns: ns, n, u, ms, s, m or h.
@@ -23,12 +26,16 @@ Scripts have one command a line; blank lines and lines that begin with # are pas
   write LINE     accepts a line of line protocol, `M[,TAG=VALUE..] F=Vi[,F=Vi..] [T]`: measurement M,
                  fields F with integers V, time T. Without T it has the moment. Prints ok; none
                  for a comment or a blank line; a fault with its place, and then nothing is kept.
+  retain         drops raw points and cells that are older at the moment than settings keep them, and
+                 prints from where on there are raw points (marks NANOSECONDS) and cells (NAME=BUCKET).
   live           prints how many raw points are kept, each field of a line counted: of a point that was
                  written again only the newer values.
   query TEXT     prints the JSON reply to up to 16 statements of InfluxQL, parted by `;`:
                  `SELECT FUNCTION(F)[ AS NAME][,..] FROM M WHERE time >= A [AND time < B] [AND TAG = 'V' ..]
                  GROUP BY time(DURATION[, OFFSET])[, TAG ..] [fill(null|none|previous|N)]`, of one field F.
                  The functions are COUNT, SUM, MIN, MAX, FIRST, LAST and MEAN.
+  explain TEXT   prints the plans of the statements instead: what they read of raw points and of cells.
+  cert TEXT      takes a plan, with `;` for each line end, for the next query in place of its own.
   count M F A B  prints how many points field F of measurement M has from time A on and before
                  time B, in nanoseconds. A point that was written again counts once.
 
@@ -39,7 +46,9 @@ Example:
 
   printf 'write door opened=1i 5\\nwrite door opened=2i 8\\ncount door opened 0 8\\n' | tsdb replay
 
-prints ok, ok and 1.";
+prints ok, ok and 1.
+
+`tsdb faults` prints what the number of each fault means, `tsdb faults N` that of N.";
 
 /// What became of a command line that asks for no replay; its exit status tells it.
 #[derive(Clone, Copy, Debug, Drop)]

@@ -23,7 +23,7 @@ fn answer<A: Allocator + Copy>(machine: &mut Machine<A>, next: Next, line: &[u8]
 {
     match next {
         Next::End => Reply::Nothing,
-        Next::TooLong => Reply::Unknown,
+        Next::TooLong => machine.refuse(),
         Next::Line => machine.serve(line),
     }
 }

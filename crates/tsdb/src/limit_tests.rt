@@ -93,7 +93,7 @@ const NUMBERED: [Numbered; 6] = [
     ),
 ];
 
-fn numbered(
+pub(crate) fn numbered(
     alloc: Global,
     first: &str,
     before: &str,

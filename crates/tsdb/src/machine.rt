@@ -1,24 +1,30 @@
 //! The machine that a script runs.
-ghost use Rattle.std.specs.Prelude.{◌≡◌, ◌≤◌, length, IfOk, string_bytes};
+ghost use Rattle.std.specs.Prelude.{◌≡◌, ◌≤◌, length, IfOk, option_map, string_bytes, string_len, string_capacity};
+ghost use Rattle.ts_reply.specs.Told.{handed_in};
 ghost use Rattle.tsdb.specs.CommandParts.{command_view};
 ghost use Rattle.tsdb.specs.ScriptLines.{script_line_limit};
 ghost use Rattle.tsdb.specs.Machine.{State, start};
-ghost use Rattle.tsdb.specs.Commands.{Write as WriteCommand, Query as QueryCommand, Count as CountCommand};
-ghost use Rattle.tsdb.specs.Replies.{text_of, refusal_of};
-ghost use Rattle.tsdb.specs.Serving.{IsIn, Replied, Took, Did, Stepped};
+ghost use Rattle.tsdb.specs.MarksTexts.{marks_text};
+ghost use Rattle.tsdb.specs.Commands.{OpenWith as OpenWithCommand, Write as WriteCommand, Retain as RetainCommand, SetCertificate as CertificateCommand, Query as QueryCommand, Explain as ExplainCommand, Count as CountCommand};
+ghost use Rattle.tsdb.specs.Replies.{line, text_of, refusal_of};
+ghost use Rattle.tsdb.specs.Serving.{IsIn, Replied, Explained, Took, Did, Refused, Stepped};
 
-use crate::command::Command;
+use crate::certificate_text::with_line_feeds;
+use crate::command::{Command, is_skipped};
 use crate::count::count;
+use crate::marks_text::{MARKS_ROOM, marks_line};
+use crate::opening::{bad_settings, store_with};
 use crate::reply::Reply;
 use std::alloc::{AllocError, Allocator, Global};
 use std::marker::Model;
 use std::str;
-use ts_core::{Settings, Time, TimeUnit};
+use ts_core::{Settings, SettingsError, Time, TimeUnit};
 use ts_line::{Line, ReadLineError, read_line};
-use ts_reply::{Epoch, answer};
-use ts_store::{Store, WriteFault};
+use ts_reply::{Epoch, answer, explain};
+use ts_store::{Store, View, WriteFault};
 
-/// The moment, the precision and the epoch that a script has set, and its store.
+/// The moment, the precision and the epoch that a script has set, whether settings may still come, the certificate for its next query,
+/// and its store.
 #[derive(Drop)]
 pub struct Machine<A: Allocator> {
     alloc: A,
@@ -26,17 +32,20 @@ pub struct Machine<A: Allocator> {
     moment: Time,
     precision: TimeUnit,
     epoch: Epoch,
+    fresh: bool,
+    certificate: Option<String<A>>,
     store: Store<A>,
 }
 
 impl<A: Allocator> Model for Machine<A> {
+    ghost use Rattle.std.specs.Prelude.{option_map, string_bytes};
     ghost use Rattle.tsdb.specs.Serving.{Serving, coded_serving};
 
     ghost Value = { Serving };
 
     ghost coded = { coded_serving };
 
-    ghost view = { λ m. record { moment = m.moment; precision = m.precision; epoch = m.epoch; kept = m.store } };
+    ghost view = { λ m. record { moment = m.moment; precision = m.precision; epoch = m.epoch; fresh = m.fresh; certificate = option_map string_bytes m.certificate; kept = m.store } };
 }
 
 impl<A: Allocator + Copy> Machine<A> {
@@ -51,6 +60,8 @@ impl<A: Allocator + Copy> Machine<A> {
             moment: Time::new(0).unwrap(),
             precision: TimeUnit::Nanoseconds,
             epoch: Epoch::Text,
+            fresh: true,
+            certificate: None,
             store: Store::new(alloc, Settings::open(alloc))?,
         })
     }
@@ -62,9 +73,24 @@ impl<A: Allocator + Copy> Machine<A> {
         ensures { (s : State) → IsIn s self.old → Stepped line.now s (text_of result) self.new }
     {
         match str::from_utf8(line) {
-            Ok(text) => self.apply(Command::of(text)),
-            Err(_) => Reply::Unknown,
+            Ok(text) => {
+                if is_skipped(line) {
+                    return Reply::Nothing;
+                }
+                let reply = self.apply(Command::of(text));
+                self.fresh = false;
+                reply
+            }
+            Err(_) => self.refuse(),
         }
+    }
+
+    /// Answers a line that can't be read: it is no command, and no settings may come any more.
+    pub fn refuse(&mut self) -> Reply
+        ensures { (s : State) → IsIn s self.old → Refused s (text_of result) self.new }
+    {
+        self.fresh = false;
+        Reply::Unknown
     }
 
     /// Does what a command asks.
@@ -72,7 +98,7 @@ impl<A: Allocator + Copy> Machine<A> {
         ensures { (s : State) → IsIn s self.old → Did (command_view command.entry) s (text_of result) self.new }
     {
         match command {
-            Command::Nothing => Reply::Nothing,
+            Command::OpenWith(text) => self.open_with(text),
             Command::At(moment) => {
                 self.moment = moment;
                 Reply::Nothing
@@ -86,7 +112,10 @@ impl<A: Allocator + Copy> Machine<A> {
                 Reply::Nothing
             }
             Command::Write(line) => self.write(line),
+            Command::Retain => self.retain(),
+            Command::SetCertificate(text) => self.hand_in(text),
             Command::Query(text) => self.query(text),
+            Command::Explain(text) => self.explain(text),
             Command::Live => Reply::Count(self.store.raw_points()),
             Command::Count {
                 measurement,
@@ -99,31 +128,112 @@ impl<A: Allocator + Copy> Machine<A> {
         }
     }
 
-    /// Answers a text of queries.
-    fn query(&self, text: &str) -> Reply
-        ensures { (s : State) → IsIn s self.now → Did (QueryCommand text.now) s (text_of result) self.now }
+    /// Opens the script with the settings of a text, where no line but skipped ones has come: an empty store takes the place of what
+    /// there was.
+    fn open_with(&mut self, text: &str) -> Reply
+        ensures { (s : State) → IsIn s self.old → Did (OpenWithCommand text.now) s (text_of result) self.new }
     {
-        match self.reply(text) {
+        if !self.fresh {
+            return Reply::Unknown;
+        }
+        match store_with(self.alloc, self.json, text) {
+            Ok(store) => {
+                self.store = store;
+                Reply::Nothing
+            }
+            Err(SettingsError::Fault(fault)) => bad_settings(self.json, fault),
+            Err(SettingsError::OutOfMemory) => Reply::OutOfMemory,
+        }
+    }
+
+    /// Runs retention at the moment, and tells the marks. Room for these is taken before the run.
+    fn retain(&mut self) -> Reply
+        ensures { (s : State) → IsIn s self.old → Did RetainCommand s (text_of result) self.new }
+    {
+        match String::with_capacity(self.json, MARKS_ROOM) {
+            Ok(text) => self.retain_and_tell(text),
+            Err(_) => Reply::OutOfMemory,
+        }
+    }
+
+    /// Runs retention at the moment, and tells the marks in a text that has room for them.
+    fn retain_and_tell(&mut self, text: String) -> Reply
+        requires empty { string_len text ≡ 0 }
+        requires room { MARKS_ROOM ≤ string_capacity text }
+        ensures { (s : State) → IsIn s self.old → Did RetainCommand s (text_of result) self.new }
+    {
+        if self.store.retain(self.moment).is_err() {
+            return Reply::RunInProgress;
+        }
+        self.marks(text)
+    }
+
+    /// Tells the marks in a text that has room for them.
+    fn marks(&self, text: String) -> Reply
+        requires empty { string_len text ≡ 0 }
+        requires room { MARKS_ROOM ≤ string_capacity text }
+        ensures { text_of result ≡ line (marks_text self.now.kept.settings self.now.kept.marks) }
+    {
+        Reply::Body(marks_line(text, self.store.settings(), self.store.marks()))
+    }
+
+    /// Keeps a certificate for the next query.
+    fn hand_in(&mut self, text: &str) -> Reply
+        ensures { (s : State) → IsIn s self.old → Did (CertificateCommand text.now) s (text_of result) self.new }
+    {
+        match with_line_feeds(self.alloc, text) {
+            Ok(certificate) => {
+                self.certificate = Some(certificate);
+                Reply::Nothing
+            }
+            Err(_) => Reply::OutOfMemory,
+        }
+    }
+
+    /// Answers a text of queries, by the certificate that waited for it, which is forgotten.
+    fn query(&mut self, text: &str) -> Reply
+        ensures { (s : State) → IsIn s self.old → Did (QueryCommand text.now) s (text_of result) self.new }
+    {
+        let certificate = self.certificate.take();
+        match self.reply(text, lent(&certificate)) {
             Ok(body) => Reply::Body(body),
             Err(_) => Reply::OutOfMemory,
         }
     }
 
     /// The body of the reply to a text of queries, with an LF.
-    fn reply(&self, text: &str) -> Result<String, AllocError>
-        ensures { IfOk result (λ body. (s : State) → IsIn s self.now → Replied s text.now (string_bytes body)) }
+    fn reply(&self, text: &str, certificate: Option<&str>) -> Result<String, AllocError>
+        ensures { IfOk result (λ body. (s : State) → IsIn s self.now → Replied s text.now (handed_in certificate.entry) (string_bytes body)) }
     {
-        let mut body = answer(
+        let reply = answer(
             self.alloc,
             self.json,
             &self.store,
             self.moment,
             text,
+            certificate,
             self.epoch,
-        )?
-        .body;
-        body.push_str("\n")?;
-        Ok(body)
+        )?;
+        ended(reply.body)
+    }
+
+    /// Tells the plans of a text of queries.
+    fn explain(&self, text: &str) -> Reply
+        ensures { (s : State) → IsIn s self.now → Did (ExplainCommand text.now) s (text_of result) self.now }
+    {
+        match self.explanation(text) {
+            Ok(body) => Reply::Body(body),
+            Err(_) => Reply::OutOfMemory,
+        }
+    }
+
+    /// The body of the explanation of a text of queries, with an LF.
+    fn explanation(&self, text: &str) -> Result<String, AllocError>
+        ensures { IfOk result (λ body. (s : State) → IsIn s self.now → Explained s text.now (string_bytes body)) }
+    {
+        let now = self.moment;
+        let reply = explain(self.alloc, self.json, &self.store, now, text)?;
+        ended(reply.body)
     }
 
     /// Counts the values of a field from one time on and before another.
@@ -160,11 +270,30 @@ impl<A: Allocator + Copy> Machine<A> {
     }
 }
 
+/// The certificate's text, where there is one.
+fn lent<A: Allocator>(certificate: &Option<String<A>>) -> Option<&str>
+    ensures { handed_in result ≡ option_map string_bytes certificate.now }
+{
+    match certificate {
+        Some(text) => Some(text.as_str()),
+        None => None,
+    }
+}
+
+/// A text with an LF behind it.
+fn ended(mut text: String) -> Result<String, AllocError>
+    ensures { IfOk result (λ ended. string_bytes ended ≡ line (string_bytes text)) }
+{
+    text.push_str("\n")?;
+    Ok(text)
+}
+
 /// How a refused write is told.
 fn refusal_of(fault: WriteFault) -> Reply
     ensures { result ≡ refusal_of fault }
 {
     match fault {
+        WriteFault::BelowRawMark(mark) => Reply::BelowRawMark(mark),
         WriteFault::TooManySeries => Reply::TooManySeries,
         WriteFault::TooManyFacts => Reply::TooManyFacts,
         WriteFault::OutOfMemory => Reply::OutOfMemory,

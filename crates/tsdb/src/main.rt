@@ -1,8 +1,9 @@
-//! The program `tsdb`. It runs scripts from standard input (`tsdb replay`), and stands on ts_reply, ts_store and what these stand on.
+//! The program `tsdb`. It runs scripts from standard input (`tsdb replay`) and tells what faults mean (`tsdb faults`), and stands on ts_reply, ts_store and what these stand on.
 //! It promises, on `engine::run`: what it prints is what the definitions of specs/ say of the script, from
 //! the bytes read to the bytes written; and where a device fails, a beginning of it.
 #![tactic(auto)]
 
+mod certificate_text;
 mod chunk;
 #[cfg(test)]
 mod column_tests;
@@ -14,21 +15,26 @@ mod count;
 #[cfg(test)]
 mod device_tests;
 mod engine;
+mod fault_table;
 #[cfg(test)]
 mod limit_tests;
 mod line_reader;
 #[cfg(test)]
 mod line_tests;
 mod machine;
+mod marks_text;
 #[cfg(test)]
 mod memory_tests;
 mod moment;
+mod opening;
 mod outcome;
 #[cfg(test)]
 mod outcome_tests;
 #[cfg(test)]
 mod query_tests;
 mod reply;
+#[cfg(test)]
+mod retention_tests;
 mod run_fault;
 #[cfg(test)]
 mod script_tests;
@@ -37,6 +43,7 @@ mod store_tests;
 
 use clap::Error;
 use command_line::Told;
+use fault_table::{fault_table, faults_asked};
 use outcome::Outcome;
 use std::process::ExitCode;
 use std::rt::Env;
@@ -67,6 +74,9 @@ fn read_command_line(rt: &(impl Env + AllocGlobal + Print + Eprint)) -> Result<(
         Ok(words) => words,
         Err(_) => return Err(Outcome::NoScript(Told::OutOfMemory)),
     };
+    if let Some(asked) = faults_asked(words.as_slice()) {
+        return Err(tell_faults(rt, asked));
+    }
     match command_line::parse(rt.alloc(), words.as_slice()) {
         Ok(()) => Ok(()),
         Err(error) => Err(Outcome::NoScript(answer(rt, &error))),
@@ -81,6 +91,21 @@ fn answer(rt: &(impl Print + Eprint), error: &Error) -> Told {
             Ok(()) => told,
             Err(_) => Told::Device,
         },
+    }
+}
+
+/// Prints the faults that are asked for: all, or the one of a number.
+fn tell_faults(rt: &(impl Print + AllocGlobal), asked: Option<&str>) -> Outcome {
+    let table = match fault_table(rt.alloc(), asked) {
+        Ok(table) => table,
+        Err(_) => return Outcome::NoScript(Told::OutOfMemory),
+    };
+    if table.is_empty() {
+        return Outcome::NoFault;
+    }
+    match print!(rt; "{table}") {
+        Ok(()) => Outcome::NoScript(Told::Done),
+        Err(_) => Outcome::NoScript(Told::Device),
     }
 }
 

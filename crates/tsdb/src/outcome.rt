@@ -16,6 +16,8 @@ pub enum Outcome {
     Stopped(RunFault),
     /// The command line asked for no script.
     NoScript(Told),
+    /// No fault has the number that the command line asks for.
+    NoFault,
     /// The command line can't be read as text.
     NoText,
 }
@@ -35,7 +37,7 @@ impl Outcome {
             Outcome::Answered | Outcome::NoScript(Told::Done) => 0,
             Outcome::Stopped(RunFault::Reader | RunFault::Writer | RunFault::Turns)
             | Outcome::NoScript(Told::Device) => 1,
-            Outcome::NoScript(Told::Wrong) | Outcome::NoText => 2,
+            Outcome::NoScript(Told::Wrong) | Outcome::NoFault | Outcome::NoText => 2,
             Outcome::Stopped(RunFault::OutOfMemory) | Outcome::NoScript(Told::OutOfMemory) => 3,
         }
     }
@@ -46,6 +48,9 @@ impl Outcome {
     {
         match self {
             Outcome::Answered | Outcome::NoScript(_) => None,
+            Outcome::NoFault => {
+                Some("tsdb: no fault has this number; `tsdb faults` prints them all")
+            }
             Outcome::NoText => Some("tsdb: the command line can't be read as text"),
             Outcome::Stopped(fault) => Some(stopped_line(fault)),
         }

@@ -5,12 +5,17 @@ use crate::run_fault::RunFault;
 use std::test::Fail;
 
 /// An outcome, its exit status, and its line on standard error.
-const OUTCOMES: [(Outcome, u8, Option<&str>); 10] = [
+const OUTCOMES: [(Outcome, u8, Option<&str>); 11] = [
     (Outcome::Answered, 0, None),
     (Outcome::NoScript(Told::Done), 0, None),
     (Outcome::NoScript(Told::Device), 1, None),
     (Outcome::NoScript(Told::Wrong), 2, None),
     (Outcome::NoScript(Told::OutOfMemory), 3, None),
+    (
+        Outcome::NoFault,
+        2,
+        Some("tsdb: no fault has this number; `tsdb faults` prints them all"),
+    ),
     (
         Outcome::NoText,
         2,

@@ -249,7 +249,7 @@ const BETWEEN: &str = "],\"name\":\"m\",\"values\":";
 const BEHIND: &str = "}],\"statement_id\":0}]}\n";
 
 /// Texts one behind the other.
-fn joined(alloc: Global, texts: &[&str]) -> Result<String, AllocError> {
+pub(crate) fn joined(alloc: Global, texts: &[&str]) -> Result<String, AllocError> {
     let mut all = String::new(alloc);
     for text in texts {
         all.push_str(text)?;
@@ -258,7 +258,7 @@ fn joined(alloc: Global, texts: &[&str]) -> Result<String, AllocError> {
 }
 
 /// Whether the last that a script prints is this.
-fn ends_with(alloc: Global, script: &str, printed: &str) -> Result<bool, AllocError> {
+pub(crate) fn ends_with(alloc: Global, script: &str, printed: &str) -> Result<bool, AllocError> {
     let all = answers(alloc, script.as_bytes())?;
     Ok(all.as_slice().ends_with(printed.as_bytes()))
 }

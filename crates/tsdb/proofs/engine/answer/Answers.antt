@@ -1,9 +1,10 @@
 use Rattle.std.proofs.Common.{subst}
 use Rattle.tsdb.specs.LineReading.{NextOf}
+use Rattle.tsdb.specs.Replies.{text_of}
 use Rattle.tsdb.specs.declared.line_reader.Next.{Next}
 use Rattle.tsdb.proofs.MachineLemmas.{long_answered}
 use Rattle.tsdb.proofs.engine.answer.Goals as goal
 
 pub returns-in-TooLong : goal.returns-in-TooLong
 returns-in-TooLong g c = λ bytes left s some n i.
-    long_answered bytes c.args.line.now left s c.args.machine.now (subst (λ (k : Next). NextOf bytes k c.args.line.now left) c.in-TooLong.is n) i
+    long_answered bytes c.args.line.now (text_of c.refuse.result) left s c.refuse.new.self (subst (λ (k : Next). NextOf bytes k c.args.line.now left) c.in-TooLong.is n) (c.refuse.ensures s i)

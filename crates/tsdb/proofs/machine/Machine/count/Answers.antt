@@ -1,4 +1,4 @@
-use Rattle.std.proofs.Common.{rules, ◌<ℤ◌, ◌≤ℤ◌, sym, subst}
+use Rattle.std.proofs.Common.{rules, ◌<ℤ◌, ◌≤ℤ◌, sym, subst, option_map, string_bytes}
 use Rattle.std.specs.Fmt.{digits}
 use Rattle.tsdb.specs.Commands.{Count}
 use Rattle.tsdb.specs.Replies.{text_of}
@@ -8,7 +8,7 @@ use Rattle.tsdb.proofs.machine.Machine.count.Goals as goal
 
 pub returns-then-lt : goal.returns-then-lt
 returns-then-lt g c = λ s i.
-    let m : Serving = serving c.self.inside.moment c.self.inside.precision c.self.inside.epoch c.self.inside.store in
+    let m : Serving = serving c.self.inside.moment c.self.inside.precision c.self.inside.epoch c.self.inside.fresh (option_map string_bytes c.self.inside.certificate) c.self.inside.store in
     let before = subst (λ (k : Serving). IsIn s k) (sym c.self.view_is) i in
     let some : c.args.from <ℤ c.args.to = search rules in
     let did = was_counted c.args.measurement.now c.args.field.now (text_of c.count.result) c.args.from c.args.to s m before some c.count.ensures in

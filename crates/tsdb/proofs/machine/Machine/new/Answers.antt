@@ -9,6 +9,9 @@ returns g c = record {
   moment = search rules;
   precision = search rules;
   epoch = search rules;
+  fresh = search rules;
+  certificate = search rules;
   stands = subst (λ (s : Settings). StandsFor s [] (state_of c.in_ok-new.field-0)) c.open.ensures c.in_ok-new.ensures.stands;
   series = ap (λ (k : StoreData). k.series) c.in_ok-new.ensures.value;
+  idle = λ running. running;
 }

@@ -1,4 +1,4 @@
-use Rattle.std.proofs.Common.{sym, subst, codes, ap, ◌∙◌, Ok}
+use Rattle.std.proofs.Common.{sym, subst, codes, ap, ◌∙◌, Ok, option_map, string_bytes}
 use Rattle.ts_line.specs.FaultText.{line_fault_text}
 use Rattle.tsdb.specs.Commands.{Write}
 use Rattle.tsdb.specs.Replies.{line}
@@ -8,13 +8,13 @@ use Rattle.tsdb.proofs.machine.Machine.write.Goals as goal
 
 pub returns-in-Ok-None : goal.returns-in-Ok-None
 returns-in-Ok-None g c = λ s i.
-    let m : Serving = serving c.self.inside.moment c.self.inside.precision c.self.inside.epoch c.self.inside.store in
+    let m : Serving = serving c.self.inside.moment c.self.inside.precision c.self.inside.epoch c.self.inside.fresh (option_map string_bytes c.self.inside.certificate) c.self.inside.store in
     let before = subst (λ (k : Serving). IsIn s k) (sym c.self.view_is) i in
     subst (λ (k : Serving). Did (Write c.args.text.now) s (line (codes "none")) k) c.self.view_is (was_no_line c.args.text.now s m before (c.in-Ok-None.ensures.value ∙ ap Ok c.in-Ok-None.field-0-is))
 
 pub returns-in-Err-Fault : goal.returns-in-Err-Fault
 returns-in-Err-Fault g c = λ s i.
-    let m : Serving = serving c.self.inside.moment c.self.inside.precision c.self.inside.epoch c.self.inside.store in
+    let m : Serving = serving c.self.inside.moment c.self.inside.precision c.self.inside.epoch c.self.inside.fresh (option_map string_bytes c.self.inside.certificate) c.self.inside.store in
     let before = subst (λ (k : Serving). IsIn s k) (sym c.self.view_is) i in
     subst (λ (k : Serving). Did (Write c.args.text.now) s (line (line_fault_text c.in-Err-Fault.fault)) k) c.self.view_is (was_refused c.args.text.now c.in-Err-Fault.fault s m before (rw c.in-Err-Fault.field-0-is at c.in-Err-Fault.ensures.value))
 
@@ -23,6 +23,6 @@ returns-in-Err-OutOfMemory g c = λ s i. read_no_memory c.args.text.now s c.args
 
 pub returns-in-Ok-Some : goal.returns-in-Ok-Some
 returns-in-Ok-Some g c = λ s i.
-    let m : Serving = serving c.self.inside.moment c.self.inside.precision c.self.inside.epoch c.self.inside.store in
+    let m : Serving = serving c.self.inside.moment c.self.inside.precision c.self.inside.epoch c.self.inside.fresh (option_map string_bytes c.self.inside.certificate) c.self.inside.store in
     let before = subst (λ (k : Serving). IsIn s k) (sym c.self.view_is) i in
     wrote c.args.text.now _ _ s c.accept.new.self (was_said c.args.text.now c.in-Ok-Some.line s m before (c.in-Ok-Some.ensures.value ∙ ap Ok c.in-Ok-Some.field-0-is)) (c.accept.ensures s i)

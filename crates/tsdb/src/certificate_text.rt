@@ -1,0 +1,20 @@
+//! Certificates in a script, whose lines have no LF.
+ghost use Rattle.std.specs.Prelude.{◌≡◌, IfOk, string_bytes};
+ghost use Rattle.tsdb.specs.CertificateTexts.{with_line_feeds};
+
+use std::alloc::{AllocError, Allocator};
+
+/// A text with an LF in place of each `;`.
+pub(crate) fn with_line_feeds<A: Allocator>(alloc: A, text: &str) -> Result<String<A>, AllocError>
+    ensures { IfOk result (λ lines. string_bytes lines ≡ with_line_feeds text.now) }
+{
+    let mut lines = String::with_capacity(alloc, text.len())?;
+    let mut rest = text;
+    while let Some((line, others)) = rest.split_once(';') {
+        lines.push_str(line)?;
+        lines.push_str("\n")?;
+        rest = others;
+    }
+    lines.push_str(rest)?;
+    Ok(lines)
+}

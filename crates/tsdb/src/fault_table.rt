@@ -1,0 +1,73 @@
+//! The table of all faults, as `tsdb faults` prints it.
+ghost use Rattle.std.specs.Prelude.{◌≡◌, ◌++◌, map, drop, IfOk, OnOk, MatchOption, None, Some, option_map, string_bytes};
+ghost use Rattle.ts_reply.specs.Told.{handed_in};
+ghost use Rattle.tsdb.specs.FaultTables.{faults_asked, is_wanted, is_asked, fault_table};
+ghost use Rattle.tsdb.specs.FaultNumbers.{row_where, asked_row};
+
+use itoa::Buffer;
+use std::alloc::{AllocError, Allocator};
+use std::convert::AsStr;
+use ts_core::{FaultCode, append_words};
+
+/// Which faults the words of a command line ask for, if they ask for any: all, or the one of a number. The first word is
+/// the program's name.
+pub fn faults_asked<'a, S: AsStr>(words: &'a [S]) -> Option<Option<&'a str>>
+    ensures { option_map handed_in result ≡ faults_asked (drop 1 (map S.text words.entry.now)) }
+{
+    match words {
+        [_, word] if word.as_str() == "faults" => Some(None),
+        [_, word, number] if word.as_str() == "faults" => Some(Some(number.as_str())),
+        _ => None,
+    }
+}
+
+/// Whether a number is asked for, by its digits.
+fn is_wanted(asked: Option<&str>, digits: &str) -> bool
+    ensures { result ≡ is_wanted (handed_in asked.entry) digits.now }
+{
+    match asked {
+        None => true,
+        Some(number) => digits == number,
+    }
+}
+
+/// Appends the row of a fault, where it is asked for.
+fn row_to<A: Allocator>(
+    text: &mut String<A>,
+    asked: Option<&str>,
+    code: FaultCode,
+) -> Result<(), AllocError>
+    ensures { OnOk result (string_bytes text.new ≡ string_bytes text.old ++ row_where (is_asked (handed_in asked.entry)) code) }
+{
+    let mut digits = Buffer::new();
+    let digits = digits.format(code.number());
+    if !is_wanted(asked, digits) {
+        return Ok(());
+    }
+    append_words(text, &[digits, " ", code.words(), "\n"])
+}
+
+/// Appends the row of the fault of a number, where there is one and it is asked for.
+fn numbered_row_to<A: Allocator>(
+    text: &mut String<A>,
+    asked: Option<&str>,
+    number: u8,
+) -> Result<(), AllocError>
+    ensures { OnOk result (string_bytes text.new ≡ string_bytes text.old ++ asked_row (is_asked (handed_in asked.entry)) number) }
+{
+    match FaultCode::of_number(number) {
+        Some(code) => row_to(text, asked, code),
+        None => Ok(()),
+    }
+}
+
+/// The rows of the faults that are asked for: all, or the one of a number, if there is one.
+pub fn fault_table<A: Allocator>(alloc: A, asked: Option<&str>) -> Result<String<A>, AllocError>
+    ensures { IfOk result (λ text. string_bytes text ≡ fault_table (handed_in asked.entry)) }
+{
+    let mut text = String::new(alloc);
+    for number in 0..128 {
+        numbered_row_to(&mut text, asked, number)?;
+    }
+    Ok(text)
+}

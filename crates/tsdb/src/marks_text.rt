@@ -1,0 +1,106 @@
+//! Marks as a script tells them, also in the fault of a line below the raw mark.
+ghost use Rattle.std.specs.Prelude.{◌≡◌, ◌+◌, ◌*◌, ◌≤◌, ◌++◌, length, IsOk, OnOk, IfOk, string_bytes, string_len, string_capacity};
+ghost use Rattle.std.specs.List.{AllByRecursion};
+ghost use Rattle.ts_core.specs.FaultTexts.{fault_text};
+ghost use Rattle.ts_core.specs.Settings.{Rule as RuleValue};
+ghost use Rattle.tsdb.specs.MarksTexts.{low_text, lows_text, raw_text, marks_text};
+ghost use Rattle.tsdb.specs.Replies.{line};
+
+use crate::reply::TEXT_ROOM;
+use itoa::Buffer;
+use std::alloc::{AllocError, Allocator};
+use ts_core::{FaultCode, FaultDetail, Marks, Rule, Settings, Time, append_words};
+
+/// How much room the text of marks takes at most, with its LF: 32 rules with names of 32 bytes, and 40 for a number.
+pub(crate) const MARKS_ROOM: usize = 2_415;
+
+/// Appends a rule's name and its low index. Where the room is there, no memory is wanted.
+fn low_to<A: Allocator>(text: &mut String<A>, name: &str, low: i128) -> Result<(), AllocError>
+    ensures ok { OnOk result (string_bytes text.new ≡ string_bytes text.old ++ low_text name.now low) }
+    ensures room { string_len text.old + (length name.now + 42) ≤ string_capacity text.old → IsOk result }
+    ensures long { OnOk result (string_len text.new ≤ string_len text.old + (length name.now + 42)) }
+    ensures capacity { string_capacity text.old ≤ string_capacity text.new }
+{
+    append_words(text, &[" ", name, "=", Buffer::new().format(low)])
+}
+
+/// Appends the name and the low index of each rule. Where the room is there, no memory is wanted.
+fn lows_to<A: Allocator, B: Allocator>(
+    text: &mut String<B>,
+    rules: &[Rule<A>],
+    lows: &[i128],
+) -> Result<(), AllocError>
+    requires { AllByRecursion (λ (r : RuleValue). length r.name ≤ 32) rules.now }
+    ensures ok { OnOk result (string_bytes text.new ≡ string_bytes text.old ++ lows_text rules.now lows.now) }
+    ensures room { string_len text.old + 74 * length rules.now ≤ string_capacity text.old → IsOk result }
+    ensures long { OnOk result (string_len text.new ≤ string_len text.old + 74 * length rules.now) }
+    ensures capacity { string_capacity text.old ≤ string_capacity text.new }
+{
+    match (rules.split_first(), lows.split_first()) {
+        (Some((rule, rules)), Some((low, lows))) => {
+            low_to(text, rule.name(), *low)?;
+            lows_to(text, rules, lows)
+        }
+        _ => Ok(()),
+    }
+}
+
+/// Appends the raw mark. Where the room is there, no memory is wanted.
+fn raw_to<A: Allocator>(text: &mut String<A>, mark: i64) -> Result<(), AllocError>
+    ensures ok { OnOk result (string_bytes text.new ≡ string_bytes text.old ++ raw_text mark) }
+    ensures room { string_len text.old + 46 ≤ string_capacity text.old → IsOk result }
+    ensures long { OnOk result (string_len text.new ≤ string_len text.old + 46) }
+    ensures capacity { string_capacity text.old ≤ string_capacity text.new }
+{
+    append_words(text, &["marks ", Buffer::new().format(mark)])
+}
+
+/// Appends the raw mark and the low index of each rule. Where the room is there, no memory is wanted.
+fn marks_to<A: Allocator, B: Allocator>(
+    text: &mut String<B>,
+    settings: &Settings<A>,
+    marks: &Marks<A>,
+) -> Result<(), AllocError>
+    ensures ok { OnOk result (string_bytes text.new ≡ string_bytes text.old ++ marks_text settings.now marks.now) }
+    ensures room { string_len text.old + 2414 ≤ string_capacity text.old → IsOk result }
+    ensures long { OnOk result (string_len text.new ≤ string_len text.old + 2414) }
+    ensures capacity { string_capacity text.old ≤ string_capacity text.new }
+{
+    raw_to(text, marks.raw().nanos())?;
+    lows_to(text, settings.rules(), marks.lows())
+}
+
+/// Makes an empty text that of marks, with an LF. The room is there, so no memory is wanted.
+pub(crate) fn marks_line<A: Allocator, B: Allocator>(
+    mut text: String<B>,
+    settings: &Settings<A>,
+    marks: &Marks<A>,
+) -> String<B>
+    requires empty { string_len text ≡ 0 }
+    requires room { MARKS_ROOM ≤ string_capacity text }
+    ensures { string_bytes result ≡ line (marks_text settings.now marks.now) }
+{
+    match marks_to(&mut text, settings, marks) {
+        Ok(()) => {}
+        Err(_) => unreachable!(),
+    }
+    match text.push_str("\n") {
+        Ok(()) => text,
+        Err(_) => unreachable!(),
+    }
+}
+
+/// Makes the text of the fault of a line below the raw mark, with an LF, in place of what the text was.
+pub(crate) fn mark_fault_line<A: Allocator>(
+    text: &mut String<A>,
+    mark: Time,
+) -> Result<(), AllocError>
+    requires { TEXT_ROOM ≤ string_capacity text.old }
+    ensures room { TEXT_ROOM ≤ string_capacity text.new }
+    ensures text { OnOk result (string_bytes text.new ≡ line (fault_text FaultCode.BelowRawMark (FaultDetail.Mark mark))) }
+    ensures done { IsOk result }
+{
+    text.clear();
+    FaultCode::BelowRawMark.text_to(FaultDetail::Mark(mark.nanos()), text)?;
+    text.push_str("\n")
+}

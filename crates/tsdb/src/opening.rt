@@ -1,0 +1,45 @@
+//! The command `settings`: a store to open a script with.
+ghost use Rattle.std.specs.Prelude.{◌≡◌, ◌⊎◌, IfOk, string_bytes};
+ghost use Rattle.ts_core.specs.SettingsFaults.{settings_fault_text};
+ghost use Rattle.tsdb.specs.Opening.{IsOpening};
+ghost use Rattle.tsdb.specs.Replies.{line, text_of};
+
+use crate::reply::Reply;
+use std::alloc::{AllocError, Allocator, Global};
+use ts_core::{Settings, SettingsError, SettingsFault};
+use ts_store::Store;
+
+/// An empty store with the settings of a text, or their first fault. JSON is read in the memory of `json`.
+pub(crate) fn store_with<A: Allocator + Copy>(
+    alloc: A,
+    json: Global,
+    text: &str,
+) -> Result<Store<A>, SettingsError>
+    ensures { IsOpening text.now result }
+{
+    let settings = Settings::read(alloc, json, text)?;
+    match Store::new(alloc, settings) {
+        Ok(store) => Ok(store),
+        Err(_) => Err(SettingsError::OutOfMemory),
+    }
+}
+
+/// The text of the fault of settings, with an LF.
+fn settings_fault_line(json: Global, fault: SettingsFault) -> Result<String, AllocError>
+    ensures { IfOk result (λ text. string_bytes text ≡ line (settings_fault_text fault)) }
+{
+    let mut text = String::new(json);
+    fault.text_to(&mut text)?;
+    text.push_str("\n")?;
+    Ok(text)
+}
+
+/// Tells the fault of settings.
+pub(crate) fn bad_settings(json: Global, fault: SettingsFault) -> Reply
+    ensures { (text_of result ≡ line (settings_fault_text fault)) ⊎ (result ≡ Reply.OutOfMemory) }
+{
+    match settings_fault_line(json, fault) {
+        Ok(text) => Reply::Body(text),
+        Err(_) => Reply::OutOfMemory,
+    }
+}
