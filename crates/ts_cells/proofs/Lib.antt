@@ -5,7 +5,6 @@ pub mod LaneLemmas
 pub mod LaneOrder
 pub mod RowLemmas
 pub mod PlaceLemmas
-pub mod RowRanges
 pub mod ExpiryLemmas
 pub mod Sweeps
 pub mod WalkLemmas

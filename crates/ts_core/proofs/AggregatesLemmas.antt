@@ -96,7 +96,7 @@ words_of : (ps : List (ℤ × ℤ)) (e : Option Extremes) → MatchOption e (ps 
 words_of ps None h = h
 words_of ps (Some e) h = in_words ps e h
 
-count_of_fold : (ps : List (ℤ × ℤ)) → (aggregate_of_points ps).count ≡ length ps
+pub count_of_fold : (ps : List (ℤ × ℤ)) → (aggregate_of_points ps).count ≡ length ps
 count_of_fold [] = refl
 count_of_fold (p ∷ ps) = ap (λ n. 1 + n) (count_of_fold ps) ∙ one-add (length ps)
 

@@ -69,8 +69,8 @@ keys_changed m q f =
       | Some x ↦ λ e. ap (map (λ (y : Cell × Aggregate). y.0)) (entries-insert cells_total m q (f x)) ∙ put_keys q (f x) (finmap.entries m) x (sym (get-entries m q) ∙ e) (finmap.entries_sorted m)
     ] refl
 
-fits : (part a : Aggregate) → a.count + part.count ≤ 2 ^ 62 → frozen_with part a ≡ merged a part
-fits part a h = ap (λ b. cond b a (merged a part)) (le-ltb (2 ^ 62) (a.count + part.count) h)
+pub frozen_with-fits : (part a : Aggregate) → a.count + part.count ≤ 2 ^ 62 → frozen_with part a ≡ merged a part
+frozen_with-fits part a h = ap (λ b. cond b a (merged a part)) (le-ltb (2 ^ 62) (a.count + part.count) h)
 
 -- ---- points
 
@@ -87,7 +87,7 @@ frozen_gives r c k (p ∷ ps) m a g h =
     let rest : List (ℤ × ℤ) = filter (in_points r c k) ps in
     elim (same_cell k q) as (λ b. same_cell k q ≡ b → a.count + length (cond b (p ∷ rest) rest) ≤ 2 ^ 62 → finmap.get (frozen_points r c ps m') k ≡ Some (merged a (aggregate_of_points (cond b (p ∷ rest) rest)))) [
       | true ↦ λ e few.
-          frozen_gives r c k ps m' (merged a part) (changed_here m q k (frozen_with part) a e g ∙ ap Some (fits part a (omega arith))) (omega arith)
+          frozen_gives r c k ps m' (merged a part) (changed_here m q k (frozen_with part) a e g ∙ ap Some (frozen_with-fits part a (omega arith))) (omega arith)
           ∙ ap Some (aggregate_laws.assoc a part (aggregate_of_points rest))
       | false ↦ λ e few. frozen_gives r c k ps m' a (changed_else m q k (frozen_with part) e ∙ g) few
     ] refl h

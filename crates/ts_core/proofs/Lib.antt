@@ -5,6 +5,7 @@ pub mod ListSteps
 pub mod Folds
 pub mod Groups
 pub mod Places
+pub mod Windows
 pub mod Sorted
 pub mod Ids
 pub mod Latests

@@ -55,7 +55,7 @@ fit_from raw earlier r h =
     let p5 = well _ _ _ p4.1 in
     record { wide = at_least_one r.interval p3.0; lasting = outlasts_from r.duration raw p5.0 }
 
-or_none : (n : ℕ) (f : Option RuleFault) (next : Option SettingsFault) → or_rule_fault n f next ≡ None → (f ≡ None) × (next ≡ None)
+pub or_none : (n : ℕ) (f : Option RuleFault) (next : Option SettingsFault) → or_rule_fault n f next ≡ None → (f ≡ None) × (next ≡ None)
 or_none n None next h = (refl, h)
 or_none n (Some f) next h = absurd (let q : Some (OfRule f n) ≡ None = h in cc)
 

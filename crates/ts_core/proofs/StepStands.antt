@@ -36,7 +36,7 @@ length_latest : (fs : List Fact) → length (latest fs) ≤ length fs
 length_latest [] = omega arith
 length_latest (f ∷ fs) = let h = length_latest fs in let k : length (others f (latest fs)) ≤ length (latest fs) = length-filter _ (latest fs) in omega arith
 
-few_accepted : (opening : Settings) (h : History) → IsLawful opening h → length (accepted h) ≤ 2 ^ 62
+pub few_accepted : (opening : Settings) (h : History) → IsLawful opening h → length (accepted h) ≤ 2 ^ 62
 few_accepted opening [] l = omega arith
 few_accepted opening (Line facts ∷ h) l = l.2
 few_accepted opening (Begin now ∷ h) l = few_accepted opening h l.0
@@ -123,7 +123,7 @@ find_among k (e ∷ es) a h =
       | false ↦ λ q n. ⊎_elim {C = ⊥} (λ s. true≢false (sym (ap (same_cell k) (sym s) ∙ same_cell-refl k) ∙ q)) (λ b. find_among k es b n) a
     ] refl h
 
-keys_column : (r : Rule) (c : Column) (ps : List (ℤ × ℤ)) (m : FrozenCells) → finmap.keys (frozen_column r c ps m) ≡ finmap.keys m
+pub keys_column : (r : Rule) (c : Column) (ps : List (ℤ × ℤ)) (m : FrozenCells) → finmap.keys (frozen_column r c ps m) ≡ finmap.keys m
 keys_column r c ps m = elim (same_text c.series.measurement r.measurement) as (λ b. finmap.keys (cond b (frozen_points r c ps m) m) ≡ finmap.keys m) [ true ↦ keys_frozen r c ps m | false ↦ refl ]
 
 rule_moved : (opening : Settings) (h : History) → IsLawful opening h → (cut : Column → ℤ) (c : Column) (mark : ℤ) (before : List ColumnPoints) (ps : List (ℤ × ℤ)) → AllDistinct (map column_of before) → Among (record { column = c; points = ps }) before

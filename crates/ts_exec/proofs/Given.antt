@@ -23,6 +23,7 @@ use Rattle.ts_core.proofs.Cuts.{one_fact}
 use Rattle.ts_core.proofs.PieceCells.{serving, start_of-high}
 use Rattle.ts_core.proofs.AssembledRows.{assembled-row}
 use Rattle.ts_core.proofs.AssembledAnswers.{assembled-answer}
+use Rattle.ts_core.proofs.StepStands.{few_accepted}
 use Rattle.ts_exec.specs.Answered.{HasRows}
 use Rattle.ts_exec.specs.RowParts.{bucket_grid}
 use Rattle.ts_exec.specs.GroupTables.{Table, rows_for, rows_from, width, group_with, with_pieces, given}
@@ -98,12 +99,6 @@ module _ (opening : Settings) (h : History) (seen : Seen) (q : Query) (shows : S
       ∙ ap₂ merged (piece_total g j p.source p.from p.to e.0 from c.2) (all_shares_total g j p.to ps to c.3 e.1)
 
 -- ---- none is left out
-
-few_accepted : (opening : Settings) (h : History) → IsLawful opening h → length (accepted h) ≤ 2 ^ 62
-few_accepted opening [] l = omega arith
-few_accepted opening (Line facts ∷ h) l = l.2
-few_accepted opening (Begin now ∷ h) l = few_accepted opening h l.0
-few_accepted opening (Step ended ∷ h) l = few_accepted opening h l
 
 shorter : (p : Fact → Bool) (fs : List Fact) → length (filter p fs) ≤ length fs
 shorter p [] = omega arith

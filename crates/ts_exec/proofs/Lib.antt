@@ -5,7 +5,6 @@ mod Entries
 mod Linked
 mod Given
 mod Spans
-mod Seated
 mod Widths
 mod Walked
 mod NamedRules

@@ -19,7 +19,7 @@ use Rattle.ts_core.proofs.MembersLemmas.{Split, split_at, out_of_middle, Among-f
 use Rattle.ts_core.proofs.Cuts.{one_fact}
 use Rattle.ts_core.proofs.Folds.{fold-count}
 use Rattle.ts_core.proofs.StateLemmas.{StandsFor-Holds}
-use Rattle.ts_core.proofs.StepStands.{count_few}
+use Rattle.ts_core.proofs.StepStands.{few_accepted, count_few}
 use Rattle.ts_store.specs.CellCounts.{frozen_count, live_count, HoldFew}
 
 -- ---- how many more by one more fact
@@ -84,12 +84,6 @@ counts-new (r ∷ rs) = (
 )
 
 -- ---- what a store keeps
-
-few_accepted : (opening : Settings) (h : History) → IsLawful opening h → length (accepted h) ≤ 2 ^ 62
-few_accepted opening [] l = omega arith
-few_accepted opening (Line facts ∷ h) l = l.2
-few_accepted opening (Begin now ∷ h) l = few_accepted opening h l.0
-few_accepted opening (Step ended ∷ h) l = few_accepted opening h l
 
 pub accepted-few : (opening : Settings) (h : History) (k : StoreData) → StandsFor opening h (state_of k) → k.accepted ≤ 2 ^ 62
 accepted-few opening h k st = let few = few_accepted opening h st.lawful in omega (arith, st.accepted, few)

@@ -18,6 +18,7 @@ use Rattle.ts_core.proofs.Tests.{same_bool}
 use Rattle.ts_core.proofs.AggregatesLemmas.{aggregate_of-points}
 use Rattle.ts_core.proofs.PieceCells.{same_cell-eq, same_cell-refl}
 use Rattle.ts_core.proofs.RunSteps.{filter-append}
+use Rattle.ts_core.proofs.AggregatesLemmas.{count_of_fold}
 use Rattle.ts_cells.proofs.GridMoves.{all_at}
 use Rattle.ts_cells.specs.Grids.{Lane, IsAt, lane_of, cell_at}
 use Rattle.ts_raw.specs.Columns.{ColumnState, points_in_bucket}
@@ -141,9 +142,6 @@ pub points_more : (total : Aggregate) (ps qs : List (ℤ × ℤ)) → merged (me
 points_more total ps qs =
     aggregate_laws.assoc total (aggregate_of_points ps) (aggregate_of_points qs) ∙ ap (merged total) (sym (fold-append aggregate_laws (λ (p : ℤ × ℤ). aggregate_of_one p.0 p.1) ps qs))
 
-pub count_of_points : (ps : List (ℤ × ℤ)) → (aggregate_of_points ps).count ≡ length ps
-count_of_points ps = fold-count aggregate_laws (λ (p : ℤ × ℤ). aggregate_of_one p.0 p.1) (λ p. refl) ps
-
 -- a number that is read from some that are there, is there
 pub number_there : (columns : List ColumnState) (ns : List ℕ) (i d n : ℕ) → i < length ns → n ≡ get_or ns i d → AllByRecursion (λ m. m < length columns) ns → n < length columns
 number_there columns ns i d n below read all = subst (λ m. m < length columns) (sym read) (all_at (λ m. m < length columns) ns i d below all)
@@ -162,7 +160,7 @@ column_next r columns index ns i total ps whole few below e same fits =
     let rest : List (ℤ × ℤ) = points_in r columns index (drop (i + 1) ns) in
     let parts : points_in r columns index (drop i ns) ≡ ps ++ rest = ap (points_in r columns index) (drop_more ns i 0 below) ∙ ap (λ xs. xs ++ rest) (sym e) in
     let long : length (points_in r columns index (drop i ns)) ≡ length ps + length rest = ap length parts ∙ length-append ps rest in
-    let count = count_of_points ps in
+    let count = count_of_fold ps in
     record {
       fits = omega (arith, fits, long);
       same = points_more total ps rest ∙ ap (λ xs. merged total (aggregate_of_points xs)) (sym parts) ∙ same;

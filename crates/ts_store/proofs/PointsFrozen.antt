@@ -13,6 +13,7 @@ use Rattle.ts_core.specs.Changes.{changed, or_else}
 use Rattle.ts_core.specs.StoreStates.{fact_at}
 use Rattle.ts_core.specs.StoreData.{FrozenCells}
 use Rattle.ts_core.specs.StoreMoves.{frozen_with, frozen_points}
+use Rattle.ts_core.proofs.Freezing.{frozen_with-fits}
 use Rattle.ts_core.proofs.PieceCells.{cells_total, exact_cells, same_cell-eq, same_cell-refl}
 use Rattle.ts_core.proofs.Tests.{same_bool}
 use Rattle.ts_cells.proofs.GridMoves.{get-changed}
@@ -22,9 +23,6 @@ use Rattle.ts_store.specs.Rollups.{RollupState, IsLaneOf, lane_under, lane_at, w
 use Rattle.ts_store.specs.RollupSteps.{points_in_cell, FreezesFit}
 
 -- ---- a part frozen
-
-frozen_with-fits : (part a : Aggregate) → a.count + part.count ≤ 2 ^ 62 → frozen_with part a ≡ merged a part
-frozen_with-fits part a h = ap (λ b. cond b a (merged a part)) (le-ltb (2 ^ 62) (a.count + part.count) h)
 
 empty_behind : (a : Aggregate) → merged a empty_aggregate ≡ a
 empty_behind a = aggregate_laws.comm a empty_aggregate ∙ aggregate_laws.unit a

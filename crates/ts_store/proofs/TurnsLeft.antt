@@ -14,7 +14,7 @@ use Rattle.ts_core.specs.StoreData.{FrozenCells, rules_of}
 use Rattle.ts_core.specs.StoreMoves.{Expired, frozen_points, frozen_column, frozen_all}
 use Rattle.ts_core.specs.Runs.{turns_of, turns_left}
 use Rattle.ts_core.proofs.Folds.{length-same}
-use Rattle.ts_core.proofs.Freezing.{keys_frozen}
+use Rattle.ts_core.proofs.StepStands.{keys_column}
 use Rattle.ts_core.proofs.MembersLemmas.{no_members, Among-filter_was, Among-filter_passes, Among-filter_stays, AllDistinct-filter}
 use Rattle.ts_core.proofs.MovesStand.{keys_once, key_there, key_not}
 use Rattle.ts_core.proofs.PieceCells.{cells_total, same_cell-eq, same_cell-refl}
@@ -133,9 +133,6 @@ counts-removed n cs (r ∷ rs) (low ∷ lows) (m ∷ ms) (x ∷ xs) l few =
     (λ p. (λ k. let same : frozen_count x k ≡ frozen_count m k = ap (λ (y : FrozenCells). frozen_count y k) p.1 in let all = few.0 k in omega arith, counts-removed n cs rs lows ms xs p.2 few.1)) l
 
 -- ---- after points were frozen
-
-keys_column : (r : Rule) (c : Column) (ps : List (ℤ × ℤ)) (m : FrozenCells) → finmap.keys (frozen_column r c ps m) ≡ finmap.keys m
-keys_column r c ps m = elim (same_text c.series.measurement r.measurement) as (λ b. finmap.keys (cond b (frozen_points r c ps m) m) ≡ finmap.keys m) [ true ↦ keys_frozen r c ps m | false ↦ refl ]
 
 pub turns_left-frozen : (c : Column) (ps : List (ℤ × ℤ)) (before after : List ColumnPoints) (rs : List Rule) (lows : List ℤ) (ms : List FrozenCells)
     → turns_left (rules_of after rs lows (frozen_all rs c ps ms)) ≡ turns_left (rules_of before rs lows ms)

@@ -7,13 +7,10 @@ use Rattle.ts_core.specs.Aggregates.{points_of}
 use Rattle.ts_core.specs.Queries.{Query, matches, group_of}
 use Rattle.ts_core.specs.Answers.{Group, bucket_in, all_groups, with_group, is_in_row, row_of, rows_of, answer_of}
 use Rattle.ts_core.proofs.AggregatesLemmas.{aggregate_of-is}
+use Rattle.ts_core.proofs.AnswersLaws.{filter_same}
 use Rattle.ts_ql.specs.Counting.{count_select}
 use Rattle.tsdb.specs.Counted.{rows_count, first_count}
 use Rattle.ts_ql.proofs.CountingLemmas.{IsOneBucket, in_one, one_bucket}
-
-filter_same : {X : Type 0} (p q : X → Bool) → ((x : X) → p x ≡ q x) → (xs : List X) → filter p xs ≡ filter q xs
-filter_same p q e [] = refl
-filter_same p q e (x ∷ xs) = rw (e x, filter_same p q e xs) refl
 
 points_length : (fs : List Fact) → length (points_of fs) ≡ length fs
 points_length [] = refl

@@ -18,6 +18,7 @@ use Rattle.ts_core.specs.SettingsFaults.{unless, is_rule_name, fault_of_rule, or
 use Rattle.ts_core.specs.declared.settings_fault.RuleFault.{RuleFault}
 use Rattle.ts_core.specs.declared.settings_fault.SettingsFault.{SettingsFault}
 use Rattle.ts_core.specs.declared.settings_fault.SettingsFault.TheVariants.{TooManyRules, OfRule}
+use Rattle.ts_core.proofs.SettingsLaws.{or_none}
 use Rattle.tsdb.specs.MarksTexts.{low_text, lows_text, raw_text, marks_text}
 
 -- a rule's, and then those of the others
@@ -60,10 +61,6 @@ short_name raw earlier r h =
     let named = well (is_rule_name r.name) _ _ h in
     let short = and_parts (nat_le 1 (length r.name) && nat_le (length r.name) 32) _ named in
     nat_le_from (length r.name) 32 (and_parts (nat_le 1 (length r.name)) (nat_le (length r.name) 32) short.0).1
-
-or_none : (n : ℕ) (f : Option RuleFault) (next : Option SettingsFault) → or_rule_fault n f next ≡ None → (f ≡ None) × (next ≡ None)
-or_none n None next h = (refl, h)
-or_none n (Some f) next h = absurd (let q : Some (OfRule f n) ≡ None = h in cc)
 
 rules_short : (raw : ℕ) (earlier rules : List Rule) → rules_fault raw earlier rules ≡ None → AllByRecursion HasShortName rules
 rules_short raw earlier [] h = tt

@@ -5,7 +5,7 @@ use Rattle.ts_core.specs.Queries.{Query}
 use Rattle.ts_core.specs.StoreStates.{ColumnPoints}
 use Rattle.ts_store.specs.Seats.{Seat, seats_where}
 use Rattle.ts_exec.specs.GroupTables.{Table, with_seats}
-use Rattle.ts_exec.proofs.Seated.{seats-there}
+use Rattle.ts_store.proofs.SeatLemmas.{seats-there}
 use Rattle.ts_exec.proofs.pieces.add_raw.Goals as goal
 
 pub loop-column-init : goal.loop-column-init

@@ -2,7 +2,7 @@ use Rattle.std.proofs.Common.{rules, arith, ℤ, pos, ◌+ℤ◌, SFits, w64, to
 use Rattle.std.specs.Int.{w128}
 use Rattle.ts_core.specs.Buckets.{bucket_start}
 use Rattle.ts_raw.specs.Edges.{IsEdgeAt}
-use Rattle.ts_raw.proofs.PointRanges.{filter-within, filter-nothing_within}
+use Rattle.ts_core.proofs.Windows.{filter-within, filter-nothing_within}
 use Rattle.ts_raw.proofs.EdgesLemmas.{filter-inside}
 use Rattle.ts_raw.proofs.plain_column.inside.Goals as goal
 

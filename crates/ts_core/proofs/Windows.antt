@@ -1,4 +1,4 @@
--- What lies between two places of rows in the order of their buckets.
+-- What lies between two places of a list in the order of whole numbers, such as times or indices of buckets.
 use Rattle.std.proofs.Common.{◌≡◌, ℕ, ℤ, suc, zero, ◌<◌, ◌≤◌, ◌-◌, ◌+◌, Bool, true, false, cond, T, List, [], ◌∷◌, length, take, drop, filter, get_or, refl, sym, ◌∙◌, ap, arith, slice_index_or, int_lt, ⊎_elim, Less}
 use Rattle.std.proofs.lemmas.Int.{ints}
 use Rattle.std.proofs.lemmas.Bool.{cases_lt}
@@ -11,7 +11,7 @@ use Rattle.ts_core.specs.Facts.{is_within}
 use Rattle.ts_core.proofs.Places.{below_at, both_of}
 
 module _ {X : Type 0} (q : X → Bool) where
-  none_left : (xs : List X) → AllWithin (λ x. q x ≡ false) xs 0 (length xs) → filter q xs ≡ []
+  pub none_left : (xs : List X) → AllWithin (λ x. q x ≡ false) xs 0 (length xs) → filter q xs ≡ []
   none_left [] w = refl
   none_left (x ∷ xs) w = ap (λ b. cond b (x ∷ filter q xs) (filter q xs)) (w 0 x (omega arith) (omega arith)) ∙ none_left xs (λ k d l h. w (suc k) d (omega arith) (omega arith))
 
@@ -21,7 +21,7 @@ module _ {X : Type 0} (q : X → Bool) where
   nothing (suc n) (suc i) = refl
 
   -- a filter that passes one stretch of a list takes that stretch
-  filter-window : (xs : List X) (i n : ℕ)
+  pub filter-window : (xs : List X) (i n : ℕ)
       → AllWithin (λ x. q x ≡ false) xs 0 i → AllWithin (λ x. q x ≡ true) xs i (i + n) → AllWithin (λ x. q x ≡ false) xs (i + n) (length xs)
       → i + n ≤ length xs → filter q xs ≡ take n (drop i xs)
   filter-window [] i n before in' after h = sym (nothing n i)
@@ -32,6 +32,17 @@ module _ {X : Type 0} (q : X → Bool) where
   filter-window (x ∷ xs) (suc i) n before in' after h =
       ap (λ b. cond b (x ∷ filter q xs) (filter q xs)) (before 0 x (omega arith) (omega arith))
       ∙ filter-window xs i n (λ k d l m. before (suc k) d (omega arith) (omega arith)) (λ k d l m. in' (suc k) d (omega arith) (omega arith)) (λ k d l m. after (suc k) d (omega arith) (omega arith)) (omega arith)
+
+  -- a filter that refuses a front and passes the rest
+  pub filter-rest : (xs : List X) (i : ℕ) → AllWithin (λ x. q x ≡ false) xs 0 i → AllWithin (λ x. q x ≡ true) xs i (length xs) → i ≤ length xs → filter q xs ≡ drop i xs
+  filter-rest [] zero before after h = refl
+  filter-rest [] (suc i) before after h = refl
+  filter-rest (x ∷ xs) zero before after h =
+      ap (λ b. cond b (x ∷ filter q xs) (filter q xs)) (after 0 x (omega arith) (omega arith))
+      ∙ ap (λ zs. x ∷ zs) (filter-rest xs zero (λ k d l m. absurd (omega arith)) (λ k d l m. after (suc k) d (omega arith) (omega arith)) (omega arith))
+  filter-rest (x ∷ xs) (suc i) before after h =
+      ap (λ b. cond b (x ∷ filter q xs) (filter q xs)) (before 0 x (omega arith) (omega arith))
+      ∙ filter-rest xs i (λ k d l m. before (suc k) d (omega arith) (omega arith)) (λ k d l m. after (suc k) d (omega arith) (omega arith)) (omega arith)
 
 in_range : (a b t : ℤ) → int_lt t a ≡ false → int_lt t b ≡ true → is_within a b t ≡ true
 in_range a b t p r = grind (arith, ints)
@@ -46,7 +57,7 @@ before_too : (x y t : ℤ) → int_cmp x y ≡ Less → int_lt y t ≡ true → 
 before_too x y t h e = grind (arith, ints)
 
 module _ {X : Type 0} where
-  -- those before a bucket come first
+  -- those before a number come first
   pub rising_first : (rows : List (ℤ × X)) → T (is_sorted int_cmp rows) → (t : ℤ) → IsPartitionedBy (λ (r : ℤ × X). int_lt r.0 t) rows
   rising_first [] s t i j d l h e = absurd (omega arith)
   rising_first (x ∷ xs) s t zero zero d l h e = e
@@ -54,7 +65,7 @@ module _ {X : Type 0} where
   rising_first (x ∷ xs) s t (suc i) zero d l h e = absurd (omega arith)
   rising_first (x ∷ xs) s t (suc i) (suc j) d l h e = rising_first xs (both_of _ _ s).1 t i j d (omega arith) (omega arith) e
 
-  -- i parts the rows before t from the others
+  -- i parts those before t from the others
   abbrev pub IsStartOf : ℤ → List (ℤ × X) → ℕ → Type 0
   IsStartOf t rows i = IsPartitionPoint (λ (r : ℤ × X). int_lt r.0 t ≡ true) (λ (r : ℤ × X). int_lt r.0 t ≡ false) rows i
 
