@@ -20,7 +20,7 @@ use Rattle.ts_core.proofs.Tests.{lt_not}
 use Rattle.ts_core.proofs.Places.{both_of, less_of}
 use Rattle.ts_core.specs.Changes.{or_else}
 use Rattle.std.specs.Bool.{OnTrue, OnFalse}
-use Rattle.ts_cells.specs.Grids.{Lane, lane_of, cell_at, RowOf, held, cell_in, entries_of, IsRising, cells_at, HasLost}
+use Rattle.ts_cells.specs.Grids.{Lane, lane_of, cell_at, RowOf, held, cell_in, entries_of, RowsRise, cells_of_bucket, HasLost}
 use Rattle.ts_cells.specs.Expiry.{HasEmptyFront, LosesOne, RemovesOne}
 use Rattle.ts_cells.proofs.Searches.{find_below}
 use Rattle.ts_cells.proofs.GridLemmas.{get_at, get_none, same_grid, has_lane}
@@ -39,7 +39,7 @@ module _ {P : Type 0} where
         | false ↦ λ e k. found_above x rs i j p.1 k
       ] refl n
 
-  above : (low : ℤ) (r : RowOf P) (rs : List (RowOf P)) → T (below_all int_cmp r.0 rs) → int_lt r.0 low ≡ false → (i : ℤ) (j : ℕ) → held (cells_at (r ∷ rs) i) j ≢ None → low ≤ℤ i
+  above : (low : ℤ) (r : RowOf P) (rs : List (RowOf P)) → T (below_all int_cmp r.0 rs) → int_lt r.0 low ≡ false → (i : ℤ) (j : ℕ) → held (cells_of_bucket (r ∷ rs) i) j ≢ None → low ≤ℤ i
   above low r rs b e i j n =
       let least : low ≤ℤ r.0 = lt_not r.0 low e in
       elim (eq_by_cmp int_cmp i r.0) as (λ q. eq_by_cmp int_cmp i r.0 ≡ q → held (or_else [] (cond q (Some r.1) (find int_cmp i rs))) j ≢ None → low ≤ℤ i) [
@@ -48,7 +48,7 @@ module _ {P : Type 0} where
       ] refl n
 
   -- a first row without cells may go
-  cells_rest : (r : RowOf P) (rs : List (RowOf P)) → IsRising (r ∷ rs) → ((j : ℕ) → held r.1 j ≡ None) → (i : ℤ) (j : ℕ) → held (cells_at rs i) j ≡ held (cells_at (r ∷ rs) i) j
+  cells_rest : (r : RowOf P) (rs : List (RowOf P)) → RowsRise (r ∷ rs) → ((j : ℕ) → held r.1 j ≡ None) → (i : ℤ) (j : ℕ) → held (cells_of_bucket rs i) j ≡ held (cells_of_bucket (r ∷ rs) i) j
   cells_rest r rs s none i j =
       elim (eq_by_cmp int_cmp i r.0) as (λ b. eq_by_cmp int_cmp i r.0 ≡ b → held (or_else [] (find int_cmp i rs)) j ≡ held (or_else [] (cond b (Some r.1) (find int_cmp i rs))) j) [
         | true ↦ λ e.
@@ -57,7 +57,7 @@ module _ {P : Type 0} where
         | false ↦ λ e. refl
       ] refl
 
-  pub rising_drop : (n : ℕ) (rows : List (RowOf P)) → IsRising rows → IsRising (drop n rows)
+  pub rising_drop : (n : ℕ) (rows : List (RowOf P)) → RowsRise rows → RowsRise (drop n rows)
   rising_drop zero rows s = s
   rising_drop (suc n) [] s = s
   rising_drop (suc n) (r ∷ rs) s = rising_drop n rs (both_of _ _ s).1
@@ -68,7 +68,7 @@ module _ {P : Type 0} where
   all_drop Q (suc n) (r ∷ rs) a = all_drop Q n rs a.1
 
   -- nor does any number of them
-  pub cells_drop : (n : ℕ) (rows : List (RowOf P)) → IsRising rows → HasEmptyFront n rows → (i : ℤ) (j : ℕ) → held (cells_at (drop n rows) i) j ≡ held (cells_at rows i) j
+  pub cells_drop : (n : ℕ) (rows : List (RowOf P)) → RowsRise rows → HasEmptyFront n rows → (i : ℤ) (j : ℕ) → held (cells_of_bucket (drop n rows) i) j ≡ held (cells_of_bucket rows i) j
   cells_drop zero rows s f i j = refl
   cells_drop (suc n) [] s f i j = refl
   cells_drop (suc n) (r ∷ rs) s f i j =
@@ -102,12 +102,12 @@ module _ {P : Type 0} where
   first_of zero (r ∷ rs) d h = (h, refl)
   first_of (suc n) (r ∷ rs) d h = first_of n rs d (omega arith)
 
-  least_of_rows : (low : ℤ) (rows : List (RowOf P)) (d : RowOf P) → 0 < length rows → IsRising rows → int_lt (get_or rows 0 d).0 low ≡ false → (i : ℤ) (j : ℕ) → held (cells_at rows i) j ≢ None → low ≤ℤ i
+  least_of_rows : (low : ℤ) (rows : List (RowOf P)) (d : RowOf P) → 0 < length rows → RowsRise rows → int_lt (get_or rows 0 d).0 low ≡ false → (i : ℤ) (j : ℕ) → held (cells_of_bucket rows i) j ≢ None → low ≤ℤ i
   least_of_rows low [] d h s e i j n = absurd (omega arith)
   least_of_rows low (r ∷ rs) d h s e i j n = above low r rs (both_of _ _ s).0 e i j n
 
   -- all cells are above the index where the row behind the empty ones isn't below it
-  pub all_above : (low : ℤ) (n : ℕ) (rows : List (RowOf P)) (d : RowOf P) → HasEmptyFront n rows → n < length rows → IsRising rows → int_lt (get_or rows n d).0 low ≡ false → (i : ℤ) (j : ℕ) → held (cells_at rows i) j ≢ None → low ≤ℤ i
+  pub all_above : (low : ℤ) (n : ℕ) (rows : List (RowOf P)) (d : RowOf P) → HasEmptyFront n rows → n < length rows → RowsRise rows → int_lt (get_or rows n d).0 low ≡ false → (i : ℤ) (j : ℕ) → held (cells_of_bucket rows i) j ≢ None → low ≤ℤ i
   all_above low n rows d f h s e i j some =
       let first = first_of n rows d h in
       least_of_rows low (drop n rows) d first.0 (rising_drop n rows s) (ap (λ (r : RowOf P). int_lt r.0 low) first.1 ∙ e) i j (λ none. some (sym (cells_drop n rows s f i j) ∙ none))
@@ -119,8 +119,8 @@ module _ {P : Type 0} where
   gone (suc n) (r ∷ rs) h = gone n rs (omega arith)
 
   -- and where all rows are empty
-  pub none_left : (low : ℤ) (n : ℕ) (rows : List (RowOf P)) → HasEmptyFront n rows → length rows ≤ n → IsRising rows → (i : ℤ) (j : ℕ) → held (cells_at rows i) j ≢ None → low ≤ℤ i
-  none_left low n rows f h s i j some = absurd (some (sym (cells_drop n rows s f i j) ∙ ap (λ (rs : List (RowOf P)). held (cells_at rs i) j) (gone n rows h)))
+  pub none_left : (low : ℤ) (n : ℕ) (rows : List (RowOf P)) → HasEmptyFront n rows → length rows ≤ n → RowsRise rows → (i : ℤ) (j : ℕ) → held (cells_of_bucket rows i) j ≢ None → low ≤ℤ i
+  none_left low n rows f h s i j some = absurd (some (sym (cells_drop n rows s f i j) ∙ ap (λ (rs : List (RowOf P)). held (cells_of_bucket rs i) j) (gone n rows h)))
 
 -- a row that is looked at, and left as it is
 pub unchanged : {X : Type 0} (xs : List X) (n : ℕ) (x : X) → x ≡ get_or xs n x → set xs n x ≡ xs
@@ -131,14 +131,14 @@ abbrev pub NoWider : {P : Type 0} → List (RowOf P) → List (RowOf P) → Type
 NoWider {P} rows after = (n : ℕ) → AllByRecursion (λ (r : RowOf P). length r.1 ≤ n) rows → AllByRecursion (λ (r : RowOf P). length r.1 ≤ n) after
 
 -- a row in place of one of the same bucket
-module _ {P : Type 0} (rows : List (RowOf P)) (n : ℕ) (d r : RowOf P) (s : IsRising rows) (h : n < length rows) (e : d ≡ get_or rows n d) where
+module _ {P : Type 0} (rows : List (RowOf P)) (n : ℕ) (d r : RowOf P) (s : RowsRise rows) (h : n < length rows) (e : d ≡ get_or rows n d) where
   its_tie : int_cmp (get_or rows n d).0 d.0 ≡ Equal
   its_tie = ap (λ (x : RowOf P). int_cmp x.0 d.0) (sym e) ∙ tied_itself int_cmp_total d.0
 
   pub put_here : r.0 ≡ d.0 → RowPut rows (set rows n r) d.0 r.1
   put_here same = row_set rows d.0 n r d s h its_tie (same ∙ ap (λ (x : RowOf P). x.0) e)
 
-  pub was_here : d.1 ≡ cells_at rows d.0
+  pub was_here : d.1 ≡ cells_of_bucket rows d.0
   was_here = ap (λ (x : RowOf P). x.1) e ∙ cells_here rows d.0 n d s h its_tie
 
   pub no_wider : length r.1 ≤ length d.1 → NoWider rows (set rows n r)
@@ -148,7 +148,7 @@ module _ {P : Type 0} (rows : List (RowOf P)) (n : ℕ) (d r : RowOf P) (s : IsR
       all_set Narrow rows n r a (omega (arith, l, before))
 
 -- a row that lost a cell
-pub loses : {P : Type 0} (low : ℤ) (rows before after : List (RowOf P)) (i : ℤ) (cs : List (Option P)) → ((p : ℤ) (q : ℕ) → held (cells_at before p) q ≡ held (cells_at rows p) q) → i <ℤ low → RowPut before after i cs → HasLost (cells_at before i) cs → LosesOne low rows after
+pub loses : {P : Type 0} (low : ℤ) (rows before after : List (RowOf P)) (i : ℤ) (cs : List (Option P)) → ((p : ℤ) (q : ℕ) → held (cells_of_bucket before p) q ≡ held (cells_of_bucket rows p) q) → i <ℤ low → RowPut before after i cs → HasLost (cells_of_bucket before i) cs → LosesOne low rows after
 loses low rows before after i cs same b moved l = record {
   index = i;
   lane = l.lane;
@@ -156,14 +156,14 @@ loses low rows before after i cs same b moved l = record {
   was = λ e. l.was (same i l.lane ∙ e);
   cells = λ p q.
       ap (λ xs. held xs q) (moved.cells p)
-      ∙ elim (eq_by_cmp int_cmp p i) as (λ x. eq_by_cmp int_cmp p i ≡ x → held (cond x cs (cells_at before p)) q ≡ cond (x && (q == l.lane)) None (held (cells_at rows p) q)) [
-        | true ↦ λ e. let h : p ≡ i = exact_signed p i (equal_of (int_cmp p i) e) in l.cells q ∙ ap (λ z. cond (q == l.lane) None z) (ap (λ z. held (cells_at before z) q) (sym h) ∙ same p q)
+      ∙ elim (eq_by_cmp int_cmp p i) as (λ x. eq_by_cmp int_cmp p i ≡ x → held (cond x cs (cells_of_bucket before p)) q ≡ cond (x && (q == l.lane)) None (held (cells_of_bucket rows p) q)) [
+        | true ↦ λ e. let h : p ≡ i = exact_signed p i (equal_of (int_cmp p i) e) in l.cells q ∙ ap (λ z. cond (q == l.lane) None z) (ap (λ z. held (cells_of_bucket before z) q) (sym h) ∙ same p q)
         | false ↦ λ e. same p q
       ] refl;
 }
 
 -- so the map lost that cell
-pub removes : {P : Type 0} (low : ℤ) (ls : List Lane) (rows after : List (RowOf P)) → AllDistinct ls → IsRising rows → IsRising after → ((i : ℤ) (j : ℕ) → held (cells_at rows i) j ≢ None → j < length ls) → LosesOne low rows after
+pub removes : {P : Type 0} (low : ℤ) (ls : List Lane) (rows after : List (RowOf P)) → AllDistinct ls → RowsRise rows → RowsRise after → ((i : ℤ) (j : ℕ) → held (cells_of_bucket rows i) j ≢ None → j < length ls) → LosesOne low rows after
     → RemovesOne low (from_entries {R = cell_cmp} (entries_of ls rows)) (from_entries {R = cell_cmp} (entries_of ls after))
 removes low ls rows after d s t inside l =
     let k : Cell = cell_in ls l.index l.lane in
@@ -181,7 +181,7 @@ held_within [] j h = absurd (h refl)
 held_within (c ∷ cs) zero h = omega arith
 held_within (c ∷ cs) (suc j) h = let w = held_within cs j h in omega arith
 
-pub inside_of : {P : Type 0} (n : ℕ) (rows : List (RowOf P)) → AllByRecursion (λ (r : RowOf P). length r.1 ≤ n) rows → (i : ℤ) (j : ℕ) → held (cells_at rows i) j ≢ None → j < n
+pub inside_of : {P : Type 0} (n : ℕ) (rows : List (RowOf P)) → AllByRecursion (λ (r : RowOf P). length r.1 ≤ n) rows → (i : ℤ) (j : ℕ) → held (cells_of_bucket rows i) j ≢ None → j < n
 inside_of n [] a i j h = absurd (h refl)
 inside_of n (r ∷ rs) a i j h =
     elim (eq_by_cmp int_cmp i r.0) as (λ b. held (or_else [] (cond b (Some r.1) (find int_cmp i rs))) j ≢ None → j < n) [
@@ -197,7 +197,7 @@ pub on_false : {A B : Type 0} (b : Bool) → (A → B) → OnFalse b A → OnFal
 on_false true f a = tt
 on_false false f a = f a
 
-pub above_all : {P : Type 0} (low : ℤ) (ls : List Lane) (rows : List (RowOf P)) → AllDistinct ls → IsRising rows → ((i : ℤ) (j : ℕ) → held (cells_at rows i) j ≢ None → low ≤ℤ i) → (k : Cell) → finmap.get (from_entries {R = cell_cmp} (entries_of ls rows)) k ≢ None → low ≤ℤ k.index
+pub above_all : {P : Type 0} (low : ℤ) (ls : List Lane) (rows : List (RowOf P)) → AllDistinct ls → RowsRise rows → ((i : ℤ) (j : ℕ) → held (cells_of_bucket rows i) j ≢ None → low ≤ℤ i) → (k : Cell) → finmap.get (from_entries {R = cell_cmp} (entries_of ls rows)) k ≢ None → low ≤ℤ k.index
 above_all low ls rows d s h k n =
     ⊎_elim {C = low ≤ℤ k.index}
     (λ p. h k.index p.0 (λ e. n (ap (λ (l : Lane). finmap.get (from_entries {R = cell_cmp} (entries_of ls rows)) (cell_at k.index l)) (sym p.2) ∙ get_at ls rows k.index p.0 d s p.1 ∙ e)))

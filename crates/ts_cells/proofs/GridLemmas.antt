@@ -14,7 +14,7 @@ use Rattle.std.proofs.lemmas.Cmp.{tied_itself}
 use Rattle.std.proofs.Common.{pos}
 use Rattle.ts_core.specs.Changes.{or_else}
 use Rattle.ts_cells.proofs.Searches.{find_below}
-use Rattle.ts_cells.specs.Grids.{Lane, no_lane, lane_of, cell_at, cell_in, RowOf, held, row_entries, entries_of, IsRising, cells_at}
+use Rattle.ts_cells.specs.Grids.{Lane, no_lane, lane_of, cell_at, cell_in, RowOf, held, row_entries, entries_of, RowsRise, cells_of_bucket}
 
 -- the first answer, else the second
 abbrev pub first_of : {X : Type 0} → Option X → Option X → Option X
@@ -70,7 +70,7 @@ module _ {P : Type 0} where
       find-both k (row_entries r.0 ls r.1) (entries_of ls rs) ∙ ap₂ first_of (row_none k r.0 ls r.1 (λ e a. h a)) (entries_none k ls rs h)
 
   -- a cell is in the row of its bucket
-  pub entries_at : (ls : List Lane) (rows : List (RowOf P)) (i : ℤ) (j : ℕ) → AllDistinct ls → IsRising rows → j < length ls → find cell_cmp (cell_in ls i j) (entries_of ls rows) ≡ held (cells_at rows i) j
+  pub entries_at : (ls : List Lane) (rows : List (RowOf P)) (i : ℤ) (j : ℕ) → AllDistinct ls → RowsRise rows → j < length ls → find cell_cmp (cell_in ls i j) (entries_of ls rows) ≡ held (cells_of_bucket rows i) j
   entries_at ls [] i j d s h = refl
   entries_at ls (r ∷ rs) i j d s h =
       let k : Cell = cell_in ls i j in
@@ -86,7 +86,7 @@ module _ {P : Type 0} where
             ap (λ o. first_of o (find cell_cmp k (entries_of ls rs))) (row_none k r.0 ls r.1 (λ q a. true≢false (sym (ap (λ x. eq_by_cmp int_cmp x r.0) q ∙ ap is_eq (tied_itself int_cmp_total r.0)) ∙ e))) ∙ rest
       ] refl
 
-  pub get_at : (ls : List Lane) (rows : List (RowOf P)) (i : ℤ) (j : ℕ) → AllDistinct ls → IsRising rows → j < length ls → get (from_entries {R = cell_cmp} (entries_of ls rows)) (cell_in ls i j) ≡ held (cells_at rows i) j
+  pub get_at : (ls : List Lane) (rows : List (RowOf P)) (i : ℤ) (j : ℕ) → AllDistinct ls → RowsRise rows → j < length ls → get (from_entries {R = cell_cmp} (entries_of ls rows)) (cell_in ls i j) ≡ held (cells_of_bucket rows i) j
   get_at ls rows i j d s h = get-from_entries cells_total (entries_of ls rows) (cell_in ls i j) ∙ entries_at ls rows i j d s h
 
   pub get_none : (k : Cell) (ls : List Lane) (rows : List (RowOf P)) → (Among (lane_of k) ls → ⊥) → get (from_entries {R = cell_cmp} (entries_of ls rows)) k ≡ None
@@ -111,8 +111,8 @@ has_lane l (m ∷ ms) =
 
 -- two maps with the same cells in every bucket and lane, and none elsewhere
 module _ {P : Type 0} where
-  pub same_grid : (ls : List Lane) (rows : List (RowOf P)) (m : FinMap cell_cmp P) → AllDistinct ls → IsRising rows
-      → ((i : ℤ) (j : ℕ) → j < length ls → get m (cell_in ls i j) ≡ held (cells_at rows i) j) → ((k : Cell) → (Among (lane_of k) ls → ⊥) → get m k ≡ None)
+  pub same_grid : (ls : List Lane) (rows : List (RowOf P)) (m : FinMap cell_cmp P) → AllDistinct ls → RowsRise rows
+      → ((i : ℤ) (j : ℕ) → j < length ls → get m (cell_in ls i j) ≡ held (cells_of_bucket rows i) j) → ((k : Cell) → (Among (lane_of k) ls → ⊥) → get m k ≡ None)
       → from_entries {R = cell_cmp} (entries_of ls rows) ≡ m
   same_grid ls rows m d s there none =
       same_map cells_total exact_cells (from_entries {R = cell_cmp} (entries_of ls rows)) m (λ k.

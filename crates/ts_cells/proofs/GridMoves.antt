@@ -16,8 +16,8 @@ use Rattle.ts_core.proofs.PieceCells.{cells_total, same_cell-eq, same_cell-refl}
 use Rattle.ts_core.proofs.Places.{put_at, put_between, found_at}
 use Rattle.ts_core.proofs.Tests.{same_bool}
 use Rattle.ts_core.specs.Changes.{or_else, changed, with_change}
-use Rattle.ts_cells.specs.Changes.{roomy, with_room}
-use Rattle.ts_cells.specs.Grids.{Lane, no_lane, lane_of, cell_in, RowOf, held, entries_of, IsRising, cells_at}
+use Rattle.ts_cells.specs.CellChanges.{roomy, with_room}
+use Rattle.ts_cells.specs.Grids.{Lane, no_lane, lane_of, cell_in, RowOf, held, entries_of, RowsRise, cells_of_bucket}
 use Rattle.ts_cells.proofs.Searches.{missing}
 use Rattle.ts_cells.proofs.GridLemmas.{get_among, get_none, get_at, same_grid}
 
@@ -70,37 +70,37 @@ module _ {P : Type 0} where
 
   -- rows after one was put
   pub record RowPut (rows after : List (RowOf P)) (i : ℤ) (cs : List (Option P)) : Type 0 where
-    pub rising : IsRising after
-    pub cells : (q : ℤ) → cells_at after q ≡ cond (eq_by_cmp int_cmp q i) cs (cells_at rows q)
+    pub rising : RowsRise after
+    pub cells : (q : ℤ) → cells_of_bucket after q ≡ cond (eq_by_cmp int_cmp q i) cs (cells_of_bucket rows q)
 
-  pub row_put : (rows : List (RowOf P)) (i : ℤ) (cs : List (Option P)) → IsRising rows → RowPut rows (put int_cmp i cs rows) i cs
+  pub row_put : (rows : List (RowOf P)) (i : ℤ) (cs : List (Option P)) → RowsRise rows → RowPut rows (put int_cmp i cs rows) i cs
   row_put rows i cs s = record {
     rising = is_sorted-put int_cmp int_cmp_total i cs rows s;
     cells = λ q. ap (or_else []) (find-put int_cmp int_cmp_total q i cs rows) ∙ or_cond (eq_by_cmp int_cmp q i) cs (find int_cmp q rows);
   }
 
-  pub row_set : (rows : List (RowOf P)) (i : ℤ) (at : ℕ) (r d : RowOf P) → IsRising rows → at < length rows → int_cmp (get_or rows at d).0 i ≡ Equal → r.0 ≡ (get_or rows at d).0 → RowPut rows (set rows at r) i r.1
+  pub row_set : (rows : List (RowOf P)) (i : ℤ) (at : ℕ) (r d : RowOf P) → RowsRise rows → at < length rows → int_cmp (get_or rows at d).0 i ≡ Equal → r.0 ≡ (get_or rows at d).0 → RowPut rows (set rows at r) i r.1
   row_set rows i at r d s h e same =
       subst (λ rs. RowPut rows rs i r.1) (put_at int_cmp_total rows s i r.1 at d h e ∙ ap (λ x. set rows at (x, r.1)) (sym same)) (row_put rows i r.1 s)
 
-  pub row_new : (rows : List (RowOf P)) (i : ℤ) (at : ℕ) (cs : List (Option P)) → IsRising rows → at ≤ length rows
+  pub row_new : (rows : List (RowOf P)) (i : ℤ) (at : ℕ) (cs : List (Option P)) → RowsRise rows → at ≤ length rows
       → IsPartitionPoint (λ (r : RowOf P). int_cmp r.0 i ≡ Less) (λ (r : RowOf P). int_cmp r.0 i ≡ Greater) rows at → RowPut rows (insert rows at (i, cs)) i cs
   row_new rows i at cs s h p = subst (λ rs. RowPut rows rs i cs) (put_between int_cmp_total rows i cs at h p) (row_put rows i cs s)
 
   -- the cells of a row that is there
-  pub cells_here : (rows : List (RowOf P)) (i : ℤ) (at : ℕ) (d : RowOf P) → IsRising rows → at < length rows → int_cmp (get_or rows at d).0 i ≡ Equal → (get_or rows at d).1 ≡ cells_at rows i
+  pub cells_here : (rows : List (RowOf P)) (i : ℤ) (at : ℕ) (d : RowOf P) → RowsRise rows → at < length rows → int_cmp (get_or rows at d).0 i ≡ Equal → (get_or rows at d).1 ≡ cells_of_bucket rows i
   cells_here rows i at d s h e = sym (ap (or_else []) (found_at int_cmp_total rows s i at d h e))
 
-  pub cells_missing : (rows : List (RowOf P)) (i : ℤ) (at : ℕ) → at ≤ length rows → IsPartitionPoint (λ (r : RowOf P). int_cmp r.0 i ≡ Less) (λ (r : RowOf P). int_cmp r.0 i ≡ Greater) rows at → cells_at rows i ≡ []
+  pub cells_missing : (rows : List (RowOf P)) (i : ℤ) (at : ℕ) → at ≤ length rows → IsPartitionPoint (λ (r : RowOf P). int_cmp r.0 i ≡ Less) (λ (r : RowOf P). int_cmp r.0 i ≡ Greater) rows at → cells_of_bucket rows i ≡ []
   cells_missing rows i at h p = ap (or_else []) (missing int_cmp_total rows i at h p)
 
   -- one put after another in the same row
   pub row_again : (rows between after : List (RowOf P)) (i : ℤ) (cs ds : List (Option P)) → RowPut rows between i cs → RowPut between after i ds → RowPut rows after i ds
   row_again rows between after i cs ds a b = record {
     rising = b.rising;
-    cells = λ q. b.cells q ∙ elim (eq_by_cmp int_cmp q i) as (λ x. eq_by_cmp int_cmp q i ≡ x → cond x ds (cells_at between q) ≡ cond x ds (cells_at rows q)) [
+    cells = λ q. b.cells q ∙ elim (eq_by_cmp int_cmp q i) as (λ x. eq_by_cmp int_cmp q i ≡ x → cond x ds (cells_of_bucket between q) ≡ cond x ds (cells_of_bucket rows q)) [
       | true ↦ λ e. refl
-      | false ↦ λ e. a.cells q ∙ ap (λ x. cond x cs (cells_at rows q)) e
+      | false ↦ λ e. a.cells q ∙ ap (λ x. cond x cs (cells_of_bucket rows q)) e
     ] refl;
   }
 
@@ -135,44 +135,44 @@ false_none ls i j k h n =
     ] refl
 
 -- one lane's cell put in one row
-pub grid_put : {P : Type 0} (ls : List Lane) (rows after : List (RowOf P)) (i : ℤ) (j : ℕ) (cs : List (Option P)) (v : Option P) (m : FinMap cell_cmp P) → AllDistinct ls → IsRising rows → j < length ls → RowPut rows after i cs
-    → ((q : ℕ) → held cs q ≡ cond (q == j) v (held (cells_at rows i) q)) → ((k : Cell) → get m k ≡ cond (same_cell k (cell_in ls i j)) v (get (from_entries {R = cell_cmp} (entries_of ls rows)) k))
+pub grid_put : {P : Type 0} (ls : List Lane) (rows after : List (RowOf P)) (i : ℤ) (j : ℕ) (cs : List (Option P)) (v : Option P) (m : FinMap cell_cmp P) → AllDistinct ls → RowsRise rows → j < length ls → RowPut rows after i cs
+    → ((q : ℕ) → held cs q ≡ cond (q == j) v (held (cells_of_bucket rows i) q)) → ((k : Cell) → get m k ≡ cond (same_cell k (cell_in ls i j)) v (get (from_entries {R = cell_cmp} (entries_of ls rows)) k))
     → from_entries {R = cell_cmp} (entries_of ls after) ≡ m
 grid_put ls rows after i j cs v m d s h moved here law =
     same_grid ls after m d moved.rising
     (λ p q l. law (cell_in ls p q) ∙ ap₂ (λ b o. cond b v o) (same_in ls p i q j d l h) (get_at ls rows p q d s l)
-    ∙ elim (eq_by_cmp int_cmp p i) as (λ b. eq_by_cmp int_cmp p i ≡ b → cond (b && (q == j)) v (held (cells_at rows p) q) ≡ held (cells_at after p) q) [
+    ∙ elim (eq_by_cmp int_cmp p i) as (λ b. eq_by_cmp int_cmp p i ≡ b → cond (b && (q == j)) v (held (cells_of_bucket rows p) q) ≡ held (cells_of_bucket after p) q) [
       | true ↦ λ e. let same : p ≡ i = exact_signed p i (equal_of (int_cmp p i) e) in
-          ap (λ x. cond (q == j) v (held (cells_at rows x) q)) same ∙ sym (here q) ∙ sym (ap (λ x. held x q) (moved.cells p ∙ ap (λ b. cond b cs (cells_at rows p)) e))
-      | false ↦ λ e. sym (ap (λ x. held x q) (moved.cells p ∙ ap (λ b. cond b cs (cells_at rows p)) e))
+          ap (λ x. cond (q == j) v (held (cells_of_bucket rows x) q)) same ∙ sym (here q) ∙ sym (ap (λ x. held x q) (moved.cells p ∙ ap (λ b. cond b cs (cells_of_bucket rows p)) e))
+      | false ↦ λ e. sym (ap (λ x. held x q) (moved.cells p ∙ ap (λ b. cond b cs (cells_of_bucket rows p)) e))
     ] refl)
     (λ k n. law k ∙ ap₂ (λ b o. cond b v o) (false_none ls i j k h n) (get_none k ls rows n))
 
 -- the same rows again, or an empty one more
-pub grid_kept : {P : Type 0} (ls : List Lane) (rows after : List (RowOf P)) → AllDistinct ls → IsRising rows → IsRising after → ((i : ℤ) (j : ℕ) → held (cells_at after i) j ≡ held (cells_at rows i) j)
+pub grid_kept : {P : Type 0} (ls : List Lane) (rows after : List (RowOf P)) → AllDistinct ls → RowsRise rows → RowsRise after → ((i : ℤ) (j : ℕ) → held (cells_of_bucket after i) j ≡ held (cells_of_bucket rows i) j)
     → from_entries {R = cell_cmp} (entries_of ls after) ≡ from_entries {R = cell_cmp} (entries_of ls rows)
 grid_kept ls rows after d s t same = same_grid ls after (from_entries {R = cell_cmp} (entries_of ls rows)) d t (λ i j l. get_at ls rows i j d s l ∙ sym (same i j)) (λ k n. get_none k ls rows n)
 
 -- a row without cells, where there was none
-pub row_unseen : {P : Type 0} (rows after : List (RowOf P)) (i : ℤ) → cells_at rows i ≡ [] → RowPut rows after i [] → (q : ℤ) → cells_at after q ≡ cells_at rows q
+pub row_unseen : {P : Type 0} (rows after : List (RowOf P)) (i : ℤ) → cells_of_bucket rows i ≡ [] → RowPut rows after i [] → (q : ℤ) → cells_of_bucket after q ≡ cells_of_bucket rows q
 row_unseen rows after i none moved q =
     moved.cells q
-    ∙ elim (eq_by_cmp int_cmp q i) as (λ b. eq_by_cmp int_cmp q i ≡ b → cond b [] (cells_at rows q) ≡ cells_at rows q) [
-      | true ↦ λ e. sym (ap (cells_at rows) (exact_signed q i (equal_of (int_cmp q i) e)) ∙ none)
+    ∙ elim (eq_by_cmp int_cmp q i) as (λ b. eq_by_cmp int_cmp q i ≡ b → cond b [] (cells_of_bucket rows q) ≡ cells_of_bucket rows q) [
+      | true ↦ λ e. sym (ap (cells_of_bucket rows) (exact_signed q i (equal_of (int_cmp q i) e)) ∙ none)
       | false ↦ λ e. refl
     ] refl
 
 -- rows with the same cells at each bucket, but for empty lanes
-pub grid_same : {P : Type 0} (ls : List Lane) (rows after : List (RowOf P)) → AllDistinct ls → IsRising rows → IsRising after → ((i : ℤ) → cells_at after i ≡ cells_at rows i)
+pub grid_same : {P : Type 0} (ls : List Lane) (rows after : List (RowOf P)) → AllDistinct ls → RowsRise rows → RowsRise after → ((i : ℤ) → cells_of_bucket after i ≡ cells_of_bucket rows i)
     → from_entries {R = cell_cmp} (entries_of ls after) ≡ from_entries {R = cell_cmp} (entries_of ls rows)
 grid_same ls rows after d s t same = grid_kept ls rows after d s t (λ i j. ap (λ cs. held cs j) (same i))
 
 -- a row put with the cells that it had
-pub row_kept : {P : Type 0} (rows after : List (RowOf P)) (i : ℤ) (cs : List (Option P)) → RowPut rows after i cs → ((j : ℕ) → held cs j ≡ held (cells_at rows i) j) → (q : ℤ) (j : ℕ) → held (cells_at after q) j ≡ held (cells_at rows q) j
+pub row_kept : {P : Type 0} (rows after : List (RowOf P)) (i : ℤ) (cs : List (Option P)) → RowPut rows after i cs → ((j : ℕ) → held cs j ≡ held (cells_of_bucket rows i) j) → (q : ℤ) (j : ℕ) → held (cells_of_bucket after q) j ≡ held (cells_of_bucket rows q) j
 row_kept rows after i cs moved same q j =
     ap (λ x. held x j) (moved.cells q)
-    ∙ elim (eq_by_cmp int_cmp q i) as (λ b. eq_by_cmp int_cmp q i ≡ b → held (cond b cs (cells_at rows q)) j ≡ held (cells_at rows q) j) [
-      | true ↦ λ e. same j ∙ ap (λ x. held (cells_at rows x) j) (sym (exact_signed q i (equal_of (int_cmp q i) e)))
+    ∙ elim (eq_by_cmp int_cmp q i) as (λ b. eq_by_cmp int_cmp q i ≡ b → held (cond b cs (cells_of_bucket rows q)) j ≡ held (cells_of_bucket rows q) j) [
+      | true ↦ λ e. same j ∙ ap (λ x. held (cells_of_bucket rows x) j) (sym (exact_signed q i (equal_of (int_cmp q i) e)))
       | false ↦ λ e. refl
     ] refl
 

@@ -7,7 +7,7 @@ use Rattle.ts_core.proofs.MembersLemmas.{AllDistinct-append}
 use Rattle.std.proofs.lemmas.List.{take_more}
 use Rattle.ts_core.specs.Facts.{Text}
 use Rattle.ts_core.proofs.ListSteps.{map-push}
-use Rattle.ts_cells.specs.Grids.{lent, Lane, RowOf, row_entries, entries_of, IsGrid, IsAt, Gains}
+use Rattle.ts_cells.specs.Grids.{lent_texts, Lane, RowOf, row_entries, entries_of, IsGrid, IsAt, Gains}
 
 module _ {P : Type 0} where
   row_wider : (i : ℤ) (ls : List Lane) (l : Lane) (cs : List (Option P)) → length cs ≤ length ls → row_entries i (ls ++ l ∷ []) cs ≡ row_entries i ls cs
@@ -56,6 +56,6 @@ gained_entries ls after l rows g (inr p) = ap (λ xs. entries_of xs rows) p.1 �
 
 -- one more text is owned
 pub texts_more : {A : Type 0} (xs : List (String A)) (x : String A) (ts : List (Bor Text)) (i : ℕ) (d : Bor Text) → i < length ts → string_bytes x ≡ (get_or ts i d).now
-    → map string_bytes xs ≡ lent (take i ts) → map string_bytes (xs ++ x ∷ []) ≡ lent (take (i + 1) ts)
+    → map string_bytes xs ≡ lent_texts (take i ts) → map string_bytes (xs ++ x ∷ []) ≡ lent_texts (take (i + 1) ts)
 texts_more xs x ts i d l e ih =
-    map-push string_bytes xs x ∙ ap (λ zs. zs ++ string_bytes x ∷ []) ih ∙ ap (λ k. lent (take i ts) ++ k ∷ []) e ∙ sym (map-push (λ (t : Bor Text). t.now) (take i ts) (get_or ts i d)) ∙ ap lent (sym (take_more ts i d l))
+    map-push string_bytes xs x ∙ ap (λ zs. zs ++ string_bytes x ∷ []) ih ∙ ap (λ k. lent_texts (take i ts) ++ k ∷ []) e ∙ sym (map-push (λ (t : Bor Text). t.now) (take i ts) (get_or ts i d)) ∙ ap lent_texts (sym (take_more ts i d l))

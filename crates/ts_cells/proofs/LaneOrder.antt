@@ -18,7 +18,7 @@ use Rattle.ts_core.specs.Facts.{Text, text_cmp}
 use Rattle.ts_core.proofs.Ids.{equal_of}
 use Rattle.ts_core.proofs.Places.{rises, put_between}
 use Rattle.ts_cells.specs.Grids.{Lane, no_lane, IsAt}
-use Rattle.ts_cells.specs.Lanes.{lane_cmp, found_cmp, numbered, AreInside, IsOrdered}
+use Rattle.ts_cells.specs.Lanes.{lane_cmp, found_cmp, lanes_numbered, AreInside, IsOrdered}
 use Rattle.ts_cells.proofs.Searches.{missing}
 use Rattle.ts_cells.proofs.GridLemmas.{get_among, has_lane}
 use Rattle.ts_cells.proofs.GridMoves.{all_at, all_insert}
@@ -35,18 +35,18 @@ found_inside : (ls : List Lane) (n : ℕ) (l : Lane) → n < length ls → found
 found_inside ls n l h = ap (λ o. found_cmp o l) (slice_get-get_or ls n no_lane h)
 
 -- the lane at a place of the order
-entry_at : (ls : List Lane) (order : List ℕ) (i d : ℕ) (e : Lane × ℕ) → i < length order → get_or (numbered ls order) i e ≡ (get_or ls (get_or order i d) no_lane, get_or order i d)
+entry_at : (ls : List Lane) (order : List ℕ) (i d : ℕ) (e : Lane × ℕ) → i < length order → get_or (lanes_numbered ls order) i e ≡ (get_or ls (get_or order i d) no_lane, get_or order i d)
 entry_at ls [] i d e h = absurd (omega arith)
 entry_at ls (n ∷ ns) zero d e h = refl
 entry_at ls (n ∷ ns) (suc i) d e h = entry_at ls ns i d e (omega arith)
 
-length-numbered : (ls : List Lane) (order : List ℕ) → length (numbered ls order) ≡ length order
+length-numbered : (ls : List Lane) (order : List ℕ) → length (lanes_numbered ls order) ≡ length order
 length-numbered ls [] = refl
 length-numbered ls (n ∷ ns) = ap suc (length-numbered ls ns)
 
 module _ (ls : List Lane) (order : List ℕ) (is : IsOrdered ls order) (l : Lane) where
   -- what the search compares at a place
-  compared : (i d : ℕ) (e : Lane × ℕ) → i < length order → found_cmp (slice_get ls (get_or order i d)) l ≡ lane_cmp (get_or (numbered ls order) i e).0 l
+  compared : (i d : ℕ) (e : Lane × ℕ) → i < length order → found_cmp (slice_get ls (get_or order i d)) l ≡ lane_cmp (get_or (lanes_numbered ls order) i e).0 l
   compared i d e h =
       found_inside ls (get_or order i d) l (all_at (λ n. n < length ls) order i d h is.inside)
       ∙ ap (λ (x : Lane × ℕ). lane_cmp x.0 l) (sym (entry_at ls order i d e h))
@@ -54,9 +54,9 @@ module _ (ls : List Lane) (order : List ℕ) (is : IsOrdered ls order) (l : Lane
   pub order_rises : IsNonDecreasingBy (λ n. ordering_index (found_cmp (slice_get ls n) l)) order
   order_rises i j d a b =
       let e : Lane × ℕ = (no_lane, d) in
-      let up = rises lanes_total (numbered ls order) is.rising l i j e a (let n = length-numbered ls order in omega arith) in
+      let up = rises lanes_total (lanes_numbered ls order) is.rising l i j e a (let n = length-numbered ls order in omega arith) in
       subst (λ x. ordering_index x ≤ ordering_index (found_cmp (slice_get ls (get_or order j d)) l)) (sym (compared i d e (omega arith)))
-      (subst (λ x. ordering_index (lane_cmp (get_or (numbered ls order) i e).0 l) ≤ ordering_index x) (sym (compared j d e b)) up)
+      (subst (λ x. ordering_index (lane_cmp (get_or (lanes_numbered ls order) i e).0 l) ≤ ordering_index x) (sym (compared j d e b)) up)
 
   pub order_found : (at : ℕ) → at < length order → HoldsAt (λ n. found_cmp (slice_get ls n) l ≡ Equal) order at → (d : ℕ) → IsAt ls (get_or order at d) l
   order_found at h e d =
@@ -67,7 +67,7 @@ module _ (ls : List Lane) (order : List ℕ) (is : IsOrdered ls order) (l : Lane
 
   -- where it would stand between others
   between : (at : ℕ) → at ≤ length order → IsPartitionPoint (λ n. found_cmp (slice_get ls n) l ≡ Less) (λ n. found_cmp (slice_get ls n) l ≡ Greater) order at
-      → IsPartitionPoint (λ (e : Lane × ℕ). lane_cmp e.0 l ≡ Less) (λ (e : Lane × ℕ). lane_cmp e.0 l ≡ Greater) (numbered ls order) at
+      → IsPartitionPoint (λ (e : Lane × ℕ). lane_cmp e.0 l ≡ Less) (λ (e : Lane × ℕ). lane_cmp e.0 l ≡ Greater) (lanes_numbered ls order) at
   between at h p = (
     λ k e a b. sym (compared k 0 e (omega arith)) ∙ p.0 k 0 a b,
     λ k e a b. let n = length-numbered ls order in let m : k < length order = omega arith in sym (compared k 0 e m) ∙ p.1 k 0 a m,
@@ -77,18 +77,18 @@ module _ (ls : List Lane) (order : List ℕ) (is : IsOrdered ls order) (l : Lane
   order_absent at h p a =
       ⊎_elim {C = ⊥}
       (λ q.
-      let none : find lane_cmp l (numbered ls order) ≡ None = missing lanes_total (numbered ls order) l at (let n = length-numbered ls order in omega arith) (between at h p) in
-      let some : find lane_cmp l (numbered ls order) ≡ Some q.0 = subst (λ (x : Lane). find lane_cmp x (numbered ls order) ≡ Some q.0) q.2 (is.all q.0 q.1) in
+      let none : find lane_cmp l (lanes_numbered ls order) ≡ None = missing lanes_total (lanes_numbered ls order) l at (let n = length-numbered ls order in omega arith) (between at h p) in
+      let some : find lane_cmp l (lanes_numbered ls order) ≡ Some q.0 = subst (λ (x : Lane). find lane_cmp x (lanes_numbered ls order) ≡ Some q.0) q.2 (is.all q.0 q.1) in
       let both : None ≡ Some q.0 = sym none ∙ some in cc)
       (λ n. n a) (has_lane l ls)
 
 -- ---- one more lane
 
-numbered_wider : (ls : List Lane) (l : Lane) (order : List ℕ) → AreInside ls order → numbered (ls ++ l ∷ []) order ≡ numbered ls order
+numbered_wider : (ls : List Lane) (l : Lane) (order : List ℕ) → AreInside ls order → lanes_numbered (ls ++ l ∷ []) order ≡ lanes_numbered ls order
 numbered_wider ls l [] a = refl
 numbered_wider ls l (n ∷ ns) a = ap₂ (λ (m : Lane) es. (m, n) ∷ es) (get_or_append_left ls (l ∷ []) no_lane n a.0) (numbered_wider ls l ns a.1)
 
-numbered_more : (ls : List Lane) (l : Lane) (order : List ℕ) (at : ℕ) → at ≤ length order → AreInside ls order → numbered (ls ++ l ∷ []) (insert order at (length ls)) ≡ insert (numbered ls order) at (l, length ls)
+numbered_more : (ls : List Lane) (l : Lane) (order : List ℕ) (at : ℕ) → at ≤ length order → AreInside ls order → lanes_numbered (ls ++ l ∷ []) (insert order at (length ls)) ≡ insert (lanes_numbered ls order) at (l, length ls)
 numbered_more ls l order zero h a = ap₂ (λ (m : Lane) es. (m, length ls) ∷ es) (get_or-append_seam ls l [] no_lane) (numbered_wider ls l order a)
 numbered_more ls l [] (suc at) h a = absurd (omega arith)
 numbered_more ls l (n ∷ ns) (suc at) h a = ap₂ (λ (m : Lane) es. (m, n) ∷ es) (get_or_append_left ls (l ∷ []) no_lane n a.0) (numbered_more ls l ns at (omega arith) a.1)
@@ -107,10 +107,10 @@ other_lane a b n =
 pub order_more : (ls : List Lane) (order : List ℕ) (l : Lane) (at : ℕ) → IsOrdered ls order → at ≤ length order
     → IsPartitionPoint (λ n. found_cmp (slice_get ls n) l ≡ Less) (λ n. found_cmp (slice_get ls n) l ≡ Greater) order at → IsOrdered (ls ++ l ∷ []) (insert order at (length ls))
 order_more ls order l at is h p =
-    let es : List (Lane × ℕ) = numbered ls order in
+    let es : List (Lane × ℕ) = lanes_numbered ls order in
     let n : ℕ = length ls in
     let here : at ≤ length es = let k = length-numbered ls order in omega arith in
-    let after : numbered (ls ++ l ∷ []) (insert order at n) ≡ put lane_cmp l n es = numbered_more ls l order at h is.inside ∙ sym (put_between lanes_total es l n at here (between ls order is l at h p)) in
+    let after : lanes_numbered (ls ++ l ∷ []) (insert order at n) ≡ put lane_cmp l n es = numbered_more ls l order at h is.inside ∙ sym (put_between lanes_total es l n at here (between ls order is l at h p)) in
     let absent : Among l ls → ⊥ = order_absent ls order is l at h p in
     record {
       rising = subst (λ xs. T (is_sorted lane_cmp xs)) (sym after) (is_sorted-put lane_cmp lanes_total l n es is.rising);

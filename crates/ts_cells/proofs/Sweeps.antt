@@ -1,28 +1,28 @@
 -- Expiry on its way: cells are removed one by one, and the rows that are emptied go together.
 use Rattle.std.proofs.Common.{◌≡◌, ◌≤◌, ◌+◌, ℕ, ℤ, List, length, drop, sym, subst, add-one, refl, arith}
-use Rattle.ts_cells.specs.Grids.{Lane, RowOf, held, cells_at, IsRising, IsGrid, grid_of}
+use Rattle.ts_cells.specs.Grids.{Lane, RowOf, held, cells_of_bucket, RowsRise, IsGrid, grid_of}
 use Rattle.ts_cells.specs.Expiry.{HasEmptyFront, LosesOne, Removes}
 use Rattle.ts_cells.proofs.GridMoves.{grid_kept}
 use Rattle.ts_cells.proofs.ExpiryLemmas.{removes, inside_of, no_front, NoWider, rising_drop, all_drop, cells_drop}
 
 -- so many cells were removed, and so many rows at the front are empty
 pub record IsSwept {P : Type 0} (low : ℤ) (before : List (RowOf P)) (removed emptied : ℕ) (rows : List (RowOf P)) : Type 0 where
-  pub rising : IsRising rows
+  pub rising : RowsRise rows
   pub front : HasEmptyFront emptied rows
   pub few : removed ≤ 256
   pub grid : (ls : List Lane) → IsGrid ls before → IsGrid ls rows
   pub cells : (ls : List Lane) → IsGrid ls before → Removes low removed (grid_of ls before).cells (grid_of ls rows).cells
 
 -- none was removed yet
-pub no_sweep : {P : Type 0} (low : ℤ) (rows : List (RowOf P)) → IsRising rows → IsSwept low rows 0 0 rows
+pub no_sweep : {P : Type 0} (low : ℤ) (rows : List (RowOf P)) → RowsRise rows → IsSwept low rows 0 0 rows
 no_sweep low rows s = record { rising = s; front = no_front rows; few = omega arith; grid = λ ls g. g; cells = λ ls g. refl }
 
 module _ {P : Type 0} (low : ℤ) (before rows after : List (RowOf P)) where
-  grid_after : IsRising after → NoWider rows after → (ls : List Lane) → IsGrid ls rows → IsGrid ls after
+  grid_after : RowsRise after → NoWider rows after → (ls : List Lane) → IsGrid ls rows → IsGrid ls after
   grid_after t w ls g = record { once = g.once; rising = t; narrow = w (length ls) g.narrow }
 
   -- one cell more
-  pub swept_more : (n e f : ℕ) → n + 1 ≤ 256 → IsSwept low before n e rows → IsRising after → HasEmptyFront f after → NoWider rows after → LosesOne low rows after → IsSwept low before (n + 1) f after
+  pub swept_more : (n e f : ℕ) → n + 1 ≤ 256 → IsSwept low before n e rows → RowsRise after → HasEmptyFront f after → NoWider rows after → LosesOne low rows after → IsSwept low before (n + 1) f after
   swept_more n e f few s t front w l = record {
     rising = t;
     front = front;
@@ -35,7 +35,7 @@ module _ {P : Type 0} (low : ℤ) (before rows after : List (RowOf P)) where
   }
 
   -- the same cells
-  pub swept_same : (n e f : ℕ) → IsSwept low before n e rows → IsRising after → HasEmptyFront f after → NoWider rows after → ((i : ℤ) (j : ℕ) → held (cells_at after i) j ≡ held (cells_at rows i) j) → IsSwept low before n f after
+  pub swept_same : (n e f : ℕ) → IsSwept low before n e rows → RowsRise after → HasEmptyFront f after → NoWider rows after → ((i : ℤ) (j : ℕ) → held (cells_of_bucket after i) j ≡ held (cells_of_bucket rows i) j) → IsSwept low before n f after
   swept_same n e f s t front w same = record {
     rising = t;
     front = front;

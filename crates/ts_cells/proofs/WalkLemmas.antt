@@ -18,8 +18,8 @@ use Rattle.ts_core.specs.Changes.{or_else}
 use Rattle.ts_core.proofs.Ids.{equal_of}
 use Rattle.ts_core.proofs.PieceCells.{cells_total, exact_cells, same_cell-eq}
 use Rattle.ts_core.proofs.Places.{both_of, less_of}
-use Rattle.ts_cells.specs.Grids.{Lane, no_lane, lane_of, cell_at, cell_in, RowOf, held, entries_of, IsRising, cells_at, IsAt}
-use Rattle.ts_cells.specs.Lanes.{lane_cmp, numbered, AreInside, IsOrdered}
+use Rattle.ts_cells.specs.Grids.{Lane, no_lane, lane_of, cell_at, cell_in, RowOf, held, entries_of, RowsRise, cells_of_bucket, IsAt}
+use Rattle.ts_cells.specs.Lanes.{lane_cmp, lanes_numbered, AreInside, IsOrdered}
 use Rattle.ts_cells.specs.Walks.{KeptCell, entry_of, with_kept, row_left, walk_left, entries_within}
 use Rattle.ts_cells.proofs.Searches.{find_below}
 use Rattle.ts_cells.proofs.GridLemmas.{first_of, first_none, find-both, get_among, same_grid}
@@ -37,10 +37,10 @@ earlier_bucket : (i j : ℤ) (a b : Lane) → int_cmp i j ≡ Less → cell_cmp 
 earlier_bucket i j a b h = ap (λ o. ordering_then o (lane_cmp a b)) h
 
 -- a lane that isn't there has no number
-absent_lane : (ls : List Lane) (l : Lane) (order : List ℕ) → AreInside ls order → (Among l ls → ⊥) → find lane_cmp l (numbered ls order) ≡ None
+absent_lane : (ls : List Lane) (l : Lane) (order : List ℕ) → AreInside ls order → (Among l ls → ⊥) → find lane_cmp l (lanes_numbered ls order) ≡ None
 absent_lane ls l [] a n = refl
 absent_lane ls l (m ∷ ms) a n =
-    elim (eq_by_cmp lane_cmp l (get_or ls m no_lane)) as (λ b. eq_by_cmp lane_cmp l (get_or ls m no_lane) ≡ b → cond b (Some m) (find lane_cmp l (numbered ls ms)) ≡ None) [
+    elim (eq_by_cmp lane_cmp l (get_or ls m no_lane)) as (λ b. eq_by_cmp lane_cmp l (get_or ls m no_lane) ≡ b → cond b (Some m) (find lane_cmp l (lanes_numbered ls ms)) ≡ None) [
       | true ↦ λ e. absurd (n (subst (λ (x : Lane). Among x ls) (sym (exact_lanes l (get_or ls m no_lane) (equal_of (lane_cmp l (get_or ls m no_lane)) e))) (get_among ls m a.0)))
       | false ↦ λ e. absent_lane ls l ms a.1 n
     ] refl
@@ -58,24 +58,24 @@ module _ {P : Type 0} where
 module _ {P : Type 0} (ls : List Lane) where
   -- ---- what is found
 
-  row_find : (i : ℤ) (l : Lane) (cs : List (Option P)) (order : List ℕ) → T (is_sorted lane_cmp (numbered ls order))
-      → find cell_cmp (cell_at i l) (map entry_of (row_left ls i cs order)) ≡ then_held (find lane_cmp l (numbered ls order)) cs
+  row_find : (i : ℤ) (l : Lane) (cs : List (Option P)) (order : List ℕ) → T (is_sorted lane_cmp (lanes_numbered ls order))
+      → find cell_cmp (cell_at i l) (map entry_of (row_left ls i cs order)) ≡ then_held (find lane_cmp l (lanes_numbered ls order)) cs
   row_find i l cs [] s = refl
   row_find i l cs (n ∷ ns) s =
       let m : Lane = get_or ls n no_lane in
       let p = both_of _ _ s in
       let rest = row_find i l cs ns p.1 in
       let left : List (KeptCell P) = row_left ls i cs ns in
-      elim (eq_by_cmp lane_cmp l m) as (λ b. eq_by_cmp lane_cmp l m ≡ b → find cell_cmp (cell_at i l) (map entry_of (with_kept (held cs n) n (cell_at i m) left)) ≡ then_held (cond b (Some n) (find lane_cmp l (numbered ls ns))) cs) [
+      elim (eq_by_cmp lane_cmp l m) as (λ b. eq_by_cmp lane_cmp l m ≡ b → find cell_cmp (cell_at i l) (map entry_of (with_kept (held cs n) n (cell_at i m) left)) ≡ then_held (cond b (Some n) (find lane_cmp l (lanes_numbered ls ns))) cs) [
         | true ↦ λ e.
             let same : l ≡ m = exact_lanes l m (equal_of (lane_cmp l m) e) in
-            let none : find lane_cmp l (numbered ls ns) ≡ None = find_below lane_cmp l (numbered ls ns) (subst (λ (x : Lane). T (below_all lane_cmp x (numbered ls ns))) (sym same) p.0) in
+            let none : find lane_cmp l (lanes_numbered ls ns) ≡ None = find_below lane_cmp l (lanes_numbered ls ns) (subst (λ (x : Lane). T (below_all lane_cmp x (lanes_numbered ls ns))) (sym same) p.0) in
             elim (held cs n) as (λ o. find cell_cmp (cell_at i l) (map entry_of (with_kept o n (cell_at i m) left)) ≡ o) [
               | None ↦ rest ∙ ap (λ o. then_held o cs) none
               | Some x ↦ ap (λ b. cond b (Some x) (find cell_cmp (cell_at i l) (map entry_of left))) (ap is_eq (same_bucket i l m) ∙ e)
             ]
         | false ↦ λ e.
-            elim (held cs n) as (λ o. find cell_cmp (cell_at i l) (map entry_of (with_kept o n (cell_at i m) left)) ≡ then_held (find lane_cmp l (numbered ls ns)) cs) [
+            elim (held cs n) as (λ o. find cell_cmp (cell_at i l) (map entry_of (with_kept o n (cell_at i m) left)) ≡ then_held (find lane_cmp l (lanes_numbered ls ns)) cs) [
               | None ↦ rest
               | Some x ↦ ap (λ b. cond b (Some x) (find cell_cmp (cell_at i l) (map entry_of left))) (ap is_eq (same_bucket i l m) ∙ e) ∙ rest
             ]
@@ -94,14 +94,14 @@ module _ {P : Type 0} (ls : List Lane) where
         ] refl
       ]
 
-  walk_find : (k : Cell) (order : List ℕ) (rows : List (RowOf P)) → T (is_sorted lane_cmp (numbered ls order)) → IsRising rows
-      → find cell_cmp k (map entry_of (walk_left ls order rows order)) ≡ then_held (find lane_cmp (lane_of k) (numbered ls order)) (cells_at rows k.index)
-  walk_find k order [] s t = sym (then_none (find lane_cmp (lane_of k) (numbered ls order)))
+  walk_find : (k : Cell) (order : List ℕ) (rows : List (RowOf P)) → T (is_sorted lane_cmp (lanes_numbered ls order)) → RowsRise rows
+      → find cell_cmp k (map entry_of (walk_left ls order rows order)) ≡ then_held (find lane_cmp (lane_of k) (lanes_numbered ls order)) (cells_of_bucket rows k.index)
+  walk_find k order [] s t = sym (then_none (find lane_cmp (lane_of k) (lanes_numbered ls order)))
   walk_find k order (r ∷ rs) s t =
       let row : List (KeptCell P) = row_left ls r.0 r.1 order in
       let left : List (KeptCell P) = walk_left ls order rs order in
-      let number : Option ℕ = find lane_cmp (lane_of k) (numbered ls order) in
-      let rest : find cell_cmp k (map entry_of left) ≡ then_held number (cells_at rs k.index) = walk_find k order rs s (both_of _ _ t).1 in
+      let number : Option ℕ = find lane_cmp (lane_of k) (lanes_numbered ls order) in
+      let rest : find cell_cmp k (map entry_of left) ≡ then_held number (cells_of_bucket rs k.index) = walk_find k order rs s (both_of _ _ t).1 in
       ap (find cell_cmp k) (map-append entry_of row left) ∙ find-both k (map entry_of row) (map entry_of left)
       ∙ elim (eq_by_cmp int_cmp k.index r.0) as (λ b. eq_by_cmp int_cmp k.index r.0 ≡ b → first_of (find cell_cmp k (map entry_of row)) (find cell_cmp k (map entry_of left)) ≡ then_held number (or_else [] (cond b (Some r.1) (find int_cmp k.index rs)))) [
         | true ↦ λ e.
@@ -116,7 +116,7 @@ module _ {P : Type 0} (ls : List Lane) where
 
   -- ---- the order
 
-  row_below : (i : ℤ) (l : Lane) (cs : List (Option P)) (order : List ℕ) (ys : List (Cell × P)) → T (below_all lane_cmp l (numbered ls order)) → T (below_all cell_cmp (cell_at i l) ys)
+  row_below : (i : ℤ) (l : Lane) (cs : List (Option P)) (order : List ℕ) (ys : List (Cell × P)) → T (below_all lane_cmp l (lanes_numbered ls order)) → T (below_all cell_cmp (cell_at i l) ys)
       → T (below_all cell_cmp (cell_at i l) (map entry_of (row_left ls i cs order) ++ ys))
   row_below i l cs [] ys h k = k
   row_below i l cs (n ∷ ns) ys h k =
@@ -144,7 +144,7 @@ module _ {P : Type 0} (ls : List Lane) where
       subst (λ es. T (below_all cell_cmp (cell_at i l) es)) (sym (map-append entry_of (row_left ls r.0 r.1 order) (walk_left ls order rs order)))
       (later_below i r.0 l r.1 order (map entry_of (walk_left ls order rs order)) (less_of _ b.0) (rows_below i l order rs b.1))
 
-  row_sorted : (i : ℤ) (cs : List (Option P)) (order : List ℕ) (ys : List (Cell × P)) → T (is_sorted lane_cmp (numbered ls order)) → T (is_sorted cell_cmp ys) → ((l : Lane) → T (below_all cell_cmp (cell_at i l) ys))
+  row_sorted : (i : ℤ) (cs : List (Option P)) (order : List ℕ) (ys : List (Cell × P)) → T (is_sorted lane_cmp (lanes_numbered ls order)) → T (is_sorted cell_cmp ys) → ((l : Lane) → T (below_all cell_cmp (cell_at i l) ys))
       → T (is_sorted cell_cmp (map entry_of (row_left ls i cs order) ++ ys))
   row_sorted i cs [] ys s t b = t
   row_sorted i cs (n ∷ ns) ys s t b =
@@ -155,7 +155,7 @@ module _ {P : Type 0} (ls : List Lane) where
         | Some x ↦ together _ _ (row_below i (get_or ls n no_lane) cs ns ys p.0 (b (get_or ls n no_lane))) rest
       ]
 
-  walk_sorted : (order : List ℕ) (rows : List (RowOf P)) → T (is_sorted lane_cmp (numbered ls order)) → IsRising rows → T (is_sorted cell_cmp (map entry_of (walk_left ls order rows order)))
+  walk_sorted : (order : List ℕ) (rows : List (RowOf P)) → T (is_sorted lane_cmp (lanes_numbered ls order)) → RowsRise rows → T (is_sorted cell_cmp (map entry_of (walk_left ls order rows order)))
   walk_sorted order [] s t = tt
   walk_sorted order (r ∷ rs) s t =
       let p = both_of _ _ t in
@@ -218,13 +218,13 @@ module _ {P : Type 0} (ls : List Lane) where
   walk_lanes order [] a = tt
   walk_lanes order (r ∷ rs) a = row_lanes r.0 r.1 order (walk_left ls order rs order) a (walk_lanes order rs a)
 
-module _ {P : Type 0} (ls : List Lane) (order : List ℕ) (rows : List (RowOf P)) (d : AllDistinct ls) (t : IsRising rows) (is : IsOrdered ls order) where
+module _ {P : Type 0} (ls : List Lane) (order : List ℕ) (rows : List (RowOf P)) (d : AllDistinct ls) (t : RowsRise rows) (is : IsOrdered ls order) where
   walk_map : from_entries {R = cell_cmp} (entries_of ls rows) ≡ from_entries {R = cell_cmp} (map entry_of (walk_left ls order rows order))
   walk_map =
       let es : List (Cell × P) = map entry_of (walk_left ls order rows order) in
       same_grid ls rows (from_entries {R = cell_cmp} es) d t
-      (λ i j h. get-from_entries cells_total es (cell_in ls i j) ∙ walk_find ls (cell_in ls i j) order rows is.rising t ∙ ap (λ o. then_held o (cells_at rows i)) (is.all j h))
-      (λ k n. get-from_entries cells_total es k ∙ walk_find ls k order rows is.rising t ∙ ap (λ o. then_held o (cells_at rows k.index)) (absent_lane ls (lane_of k) order is.inside n))
+      (λ i j h. get-from_entries cells_total es (cell_in ls i j) ∙ walk_find ls (cell_in ls i j) order rows is.rising t ∙ ap (λ o. then_held o (cells_of_bucket rows i)) (is.all j h))
+      (λ k n. get-from_entries cells_total es k ∙ walk_find ls k order rows is.rising t ∙ ap (λ o. then_held o (cells_of_bucket rows k.index)) (absent_lane ls (lane_of k) order is.inside n))
 
   walk_whole : finmap.entries (from_entries {R = cell_cmp} (entries_of ls rows)) ≡ map entry_of (walk_left ls order rows order)
   walk_whole =

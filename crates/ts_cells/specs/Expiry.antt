@@ -5,7 +5,7 @@ use Rattle.std.specs.List.{AllWithin}
 use Rattle.std.specs.FinMap as finmap
 use Rattle.std.specs.FinMap.{FinMap}
 use Rattle.ts_core.specs.Cells.{Cell, cell_cmp}
-use Rattle.ts_cells.specs.Grids.{RowOf, held, cells_at}
+use Rattle.ts_cells.specs.Grids.{RowOf, held, cells_of_bucket}
 
 -- so many rows at the front have no cells
 pub record HasEmptyFront {P : Type 0} (count : ℕ) (rows : List (RowOf P)) : Type 0 where
@@ -17,13 +17,13 @@ pub record LosesOne {P : Type 0} (low : ℤ) (before after : List (RowOf P)) : T
   pub index : ℤ
   pub lane : ℕ
   pub below : index <ℤ low
-  pub was : held (cells_at before index) lane ≢ None
-  pub cells : (i : ℤ) (j : ℕ) → held (cells_at after i) j ≡ (if eq_by_cmp int_cmp i index && (j == lane) then None else held (cells_at before i) j)
+  pub was : held (cells_of_bucket before index) lane ≢ None
+  pub cells : (i : ℤ) (j : ℕ) → held (cells_of_bucket after i) j ≡ (if eq_by_cmp int_cmp i index && (j == lane) then None else held (cells_of_bucket before i) j)
 
 -- no cell is below the index, and none was removed
-pub record AreAbove {P : Type 0} (low : ℤ) (before after : List (RowOf P)) : Type 0 where
-  pub above : (i : ℤ) (j : ℕ) → held (cells_at after i) j ≢ None → low ≤ℤ i
-  pub cells : (i : ℤ) (j : ℕ) → held (cells_at after i) j ≡ held (cells_at before i) j
+pub record HasNoneBelow {P : Type 0} (low : ℤ) (before after : List (RowOf P)) : Type 0 where
+  pub above : (i : ℤ) (j : ℕ) → held (cells_of_bucket after i) j ≢ None → low ≤ℤ i
+  pub cells : (i : ℤ) (j : ℕ) → held (cells_of_bucket after i) j ≡ held (cells_of_bucket before i) j
 
 -- one cell below the index is removed
 abbrev pub RemovesOne : {P : Type 0} → ℤ → FinMap cell_cmp P → FinMap cell_cmp P → Type 0

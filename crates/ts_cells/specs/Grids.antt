@@ -21,11 +21,11 @@ abbrev pub no_lane : Lane
 no_lane = record { field = []; group = [] }
 
 -- what is lent, by its values
-abbrev pub lent : List (Bor Text) → List Text
-lent xs = map (λ (x : Bor Text). x.now) xs
+abbrev pub lent_texts : List (Bor Text) → List Text
+lent_texts xs = map (λ (x : Bor Text). x.now) xs
 
 abbrev pub lane_named : Text → List (Bor Text) → Lane
-lane_named field group = record { field = field; group = lent group }
+lane_named field group = record { field = field; group = lent_texts group }
 
 -- x has the number n
 abbrev pub IsAt : {X : Type 0} → List X → ℕ → X → Type 0
@@ -72,17 +72,17 @@ entries_of ls (r ∷ rs) = row_entries r.0 ls r.1 ++ entries_of ls rs
 abbrev pub grid_of : {P : Type 0} → List Lane → List (RowOf P) → Grid P
 grid_of ls rows = record { lanes = ls; cells = from_entries (entries_of ls rows) }
 
-abbrev pub IsRising : {P : Type 0} → List (RowOf P) → Type 0
-IsRising rows = T (is_sorted int_cmp rows)
+abbrev pub RowsRise : {P : Type 0} → List (RowOf P) → Type 0
+RowsRise rows = T (is_sorted int_cmp rows)
 
 pub record IsGrid {P : Type 0} (ls : List Lane) (rows : List (RowOf P)) : Type 0 where
   pub once : AllDistinct ls
-  pub rising : IsRising rows
+  pub rising : RowsRise rows
   pub narrow : AllByRecursion (λ (r : RowOf P). length r.1 ≤ length ls) rows
 
 -- what a bucket's cells are
-abbrev pub cells_at : {P : Type 0} → List (RowOf P) → ℤ → List (Option P)
-cells_at rows index = or_else [] (find int_cmp index rows)
+abbrev pub cells_of_bucket : {P : Type 0} → List (RowOf P) → ℤ → List (Option P)
+cells_of_bucket rows index = or_else [] (find int_cmp index rows)
 
 -- a row lost the cell of one lane, and no other
 pub record HasLost {P : Type 0} (before after : List (Option P)) : Type 0 where

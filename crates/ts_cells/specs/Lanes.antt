@@ -19,8 +19,8 @@ found_cmp None l = Less
 found_cmp (Some m) l = lane_cmp m l
 
 -- the lanes of some numbers, with these
-abbrev pub numbered : List Lane → List ℕ → List (Lane × ℕ)
-numbered lanes order = map (λ (n : ℕ). (get_or lanes n no_lane, n)) order
+abbrev pub lanes_numbered : List Lane → List ℕ → List (Lane × ℕ)
+lanes_numbered lanes order = map (λ (n : ℕ). (get_or lanes n no_lane, n)) order
 
 -- the numbers are those of lanes
 abbrev pub AreInside : List Lane → List ℕ → Type 0
@@ -28,6 +28,6 @@ AreInside lanes order = AllByRecursion (λ (n : ℕ). n < length lanes) order
 
 -- the numbers of all lanes, in the order of the lanes
 pub record IsOrdered (lanes : List Lane) (order : List ℕ) : Type 0 where
-  pub rising : T (is_sorted lane_cmp (numbered lanes order))
+  pub rising : T (is_sorted lane_cmp (lanes_numbered lanes order))
   pub inside : AreInside lanes order
-  pub all : (j : ℕ) → j < length lanes → find lane_cmp (get_or lanes j no_lane) (numbered lanes order) ≡ Some j
+  pub all : (j : ℕ) → j < length lanes → find lane_cmp (get_or lanes j no_lane) (lanes_numbered lanes order) ≡ Some j

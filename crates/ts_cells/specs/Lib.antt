@@ -1,4 +1,4 @@
-pub mod Changes
+pub mod CellChanges
 pub mod Grids
 pub mod Lanes
 pub mod Rows

@@ -1,7 +1,7 @@
 //! The cells of a rule.
 ghost use Rattle.std.specs.Bool.{OnTrue, OnFalse};
 ghost use Rattle.ts_core.specs.Cells.{Cell};
-ghost use Rattle.ts_cells.specs.Expiry.{HasEmptyFront, LosesOne, AreAbove, Removes};
+ghost use Rattle.ts_cells.specs.Expiry.{HasEmptyFront, LosesOne, HasNoneBelow, Removes};
 ghost use Rattle.std.specs.Prelude.{◌≡◌, ◌≢◌, ◌≤ℤ◌, None, vec_len, drop, ℕ, ◌<◌, ◌≤◌, ◌++◌, ℤ, List, [], ◌∷◌, length, get_or, OnOk, OnErr, IfOk, MatchResult, map};
 ghost use Rattle.std.specs.declared.cmp.Ordering.{Ordering};
 ghost use Rattle.std.specs.Ordering.{int_cmp};
@@ -9,8 +9,8 @@ ghost use Rattle.std.specs.List.{HoldsAt, AllByRecursion};
 ghost use Rattle.std.specs.List.Sorted.{IsPartitionPoint, IsSearchInRange};
 ghost use Rattle.std.specs.FinMap as finmap;
 ghost use Rattle.ts_core.specs.Changes.{changed, joined_within};
-ghost use Rattle.ts_cells.specs.Changes.{roomy};
-ghost use Rattle.ts_cells.specs.Grids.{Lane, IsRising, IsGrid, grid_of, held, cells_at, cell_in, lane_named, lane_of, IsAt, Gains};
+ghost use Rattle.ts_cells.specs.CellChanges.{roomy};
+ghost use Rattle.ts_cells.specs.Grids.{Lane, RowsRise, IsGrid, grid_of, held, cells_of_bucket, cell_in, lane_named, lane_of, IsAt, Gains};
 ghost use Rattle.ts_cells.specs.Walks.{entry_of, entries_within};
 
 use crate::lane::LaneId;
@@ -46,7 +46,7 @@ fn search_row<P: Partial + Drop, A: Allocator + Copy>(
     rows: &[Row<P, A>],
     index: &i128,
 ) -> Result<usize, usize>
-    requires { IsRising rows.now }
+    requires { RowsRise rows.now }
     ensures bound { IsSearchInRange result (length rows.now) }
     ensures place { MatchResult result (HoldsAt (λ r. int_cmp r.0 index.now ≡ Ordering.Equal) rows.now) (IsPartitionPoint (λ r. int_cmp r.0 index.now ≡ Ordering.Less) (λ r. int_cmp r.0 index.now ≡ Ordering.Greater) rows.now) }
 {
@@ -58,7 +58,7 @@ fn place_of<P: Partial + Drop, A: Allocator + Copy>(
     rows: &[Row<P, A>],
     index: &i128,
 ) -> Result<usize, usize>
-    requires { IsRising rows.now }
+    requires { RowsRise rows.now }
     ensures bound { IsSearchInRange result (length rows.now) }
     ensures place { MatchResult result (HoldsAt (λ r. int_cmp r.0 index.now ≡ Ordering.Equal) rows.now) (IsPartitionPoint (λ r. int_cmp r.0 index.now ≡ Ordering.Less) (λ r. int_cmp r.0 index.now ≡ Ordering.Greater) rows.now) }
 {
@@ -75,11 +75,11 @@ fn row_for<P: Partial + Drop, A: Allocator + Copy>(
     rows: &mut Vec<Row<P, A>, A>,
     index: &i128,
 ) -> Result<usize, AllocError>
-    requires { IsRising rows.old.items }
-    ensures rising { IsRising rows.new.items }
+    requires { RowsRise rows.old.items }
+    ensures rising { RowsRise rows.new.items }
     ensures inside { IfOk result (λ at. at < length rows.new.items) }
     ensures place { IfOk result (λ at. HoldsAt (λ r. int_cmp r.0 index.now ≡ Ordering.Equal) rows.new.items at) }
-    ensures cells { (i : ℤ) → cells_at rows.new.items i ≡ cells_at rows.old.items i }
+    ensures cells { (i : ℤ) → cells_of_bucket rows.new.items i ≡ cells_of_bucket rows.old.items i }
     ensures narrow { (n : ℕ) → AllByRecursion (λ r. length r.1 ≤ n) rows.old.items → AllByRecursion (λ r. length r.1 ≤ n) rows.new.items }
 {
     match place_of(rows.as_slice(), index) {
@@ -107,13 +107,13 @@ fn remove_one<P: Partial + Drop, A: Allocator + Copy>(
     emptied: &mut usize,
     low: &i128,
 ) -> bool
-    requires rising { IsRising rows.old.items }
+    requires rising { RowsRise rows.old.items }
     requires front { HasEmptyFront emptied.old rows.old.items }
-    ensures rising { IsRising rows.new.items }
+    ensures rising { RowsRise rows.new.items }
     ensures front { HasEmptyFront emptied.new rows.new.items }
     ensures narrow { (n : ℕ) → AllByRecursion (λ r. length r.1 ≤ n) rows.old.items → AllByRecursion (λ r. length r.1 ≤ n) rows.new.items }
     ensures removed { OnTrue result (LosesOne low.now rows.old.items rows.new.items) }
-    ensures none { OnFalse result (AreAbove low.now rows.old.items rows.new.items) }
+    ensures none { OnFalse result (HasNoneBelow low.now rows.old.items rows.new.items) }
 {
     while *emptied < rows.len() {
         let row = &mut rows[*emptied];
@@ -134,11 +134,11 @@ fn remove_below<P: Partial + Drop, A: Allocator + Copy>(
     rows: &mut Vec<Row<P, A>, A>,
     low: &i128,
 ) -> usize
-    requires { IsRising rows.old.items }
+    requires { RowsRise rows.old.items }
     ensures rows { (ls : List Lane) → IsGrid ls rows.old.items → IsGrid ls rows.new.items }
     ensures few { result ≤ 256 }
     ensures removed { (ls : List Lane) → IsGrid ls rows.old.items → Removes low.now result (grid_of ls rows.old.items).cells (grid_of ls rows.new.items).cells }
-    ensures all { result < 256 → (i : ℤ) (j : ℕ) → held (cells_at rows.new.items i) j ≢ None → low.now ≤ℤ i }
+    ensures all { result < 256 → (i : ℤ) (j : ℕ) → held (cells_of_bucket rows.new.items i) j ≢ None → low.now ≤ℤ i }
 {
     let mut emptied = 0;
     let mut removed = 0;

@@ -2,7 +2,7 @@
 ghost use Rattle.std.specs.Prelude.{◌≡◌, IfOk, map, string_bytes};
 ghost use Rattle.std.specs.Cmp.Lexicographic.{slice_cmp};
 ghost use Rattle.ts_core.specs.Facts.{text_cmp};
-ghost use Rattle.ts_cells.specs.Grids.{lent, lane_named};
+ghost use Rattle.ts_cells.specs.Grids.{lent_texts, lane_named};
 ghost use Rattle.ts_cells.specs.Lanes.{lane_cmp};
 
 use std::alloc::{AllocError, Allocator};
@@ -60,7 +60,7 @@ impl<A: Allocator> Model for Lane<A> {
 }
 
 fn owned<A: Allocator + Copy>(alloc: A, texts: &[&str]) -> Result<Vec<String<A>, A>, AllocError>
-    ensures { IfOk result (λ v. map string_bytes v.items ≡ lent texts.now) }
+    ensures { IfOk result (λ v. map string_bytes v.items ≡ lent_texts texts.now) }
 {
     let mut all = Vec::new(alloc);
     for text in texts {
@@ -71,7 +71,7 @@ fn owned<A: Allocator + Copy>(alloc: A, texts: &[&str]) -> Result<Vec<String<A>,
 
 /// The order of texts, each by its bytes.
 fn compare_texts<A: Allocator>(texts: &[String<A>], others: &[&str]) -> Ordering
-    ensures { result ≡ slice_cmp text_cmp (map string_bytes texts.now) (lent others.now) }
+    ensures { result ≡ slice_cmp text_cmp (map string_bytes texts.now) (lent_texts others.now) }
 {
     match (texts.split_first(), others.split_first()) {
         (None, None) => Ordering::Equal,

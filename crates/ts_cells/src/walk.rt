@@ -4,7 +4,7 @@ ghost use Rattle.std.specs.Iterator.{YieldsFirst, item_count};
 ghost use Rattle.std.specs.List.{AllByRecursion};
 ghost use Rattle.std.specs.List.Sorted.{IsPartitionPoint};
 ghost use Rattle.ts_core.specs.Facts.{is_within};
-ghost use Rattle.ts_cells.specs.Grids.{Lane as LaneValue, no_lane, cell_in, IsRising};
+ghost use Rattle.ts_cells.specs.Grids.{Lane as LaneValue, no_lane, cell_in, RowsRise};
 ghost use Rattle.ts_cells.specs.Lanes.{AreInside};
 ghost use Rattle.ts_cells.specs.Walks.{row_left, walk_left};
 
@@ -184,7 +184,7 @@ impl<'a, P: Partial + Drop, A: Allocator + Copy> Iterator for Walk<'a, P, A> {
 
 /// How many rows are before a bucket.
 fn count_before<P: Partial + Drop, A: Allocator + Copy>(rows: &[Row<P, A>], index: &i128) -> usize
-    requires { IsRising rows.now }
+    requires { RowsRise rows.now }
     ensures bound { result ≤ length rows.now }
     ensures start { IsPartitionPoint (λ r. int_lt r.0 index.now ≡ true) (λ r. int_lt r.0 index.now ≡ false) rows.now result }
 {
@@ -197,7 +197,7 @@ pub(crate) fn rows_between<'a, P: Partial + Drop, A: Allocator + Copy>(
     from: &i128,
     to: &i128,
 ) -> &'a [Row<P, A>]
-    requires { IsRising rows.now }
+    requires { RowsRise rows.now }
     ensures { result.now ≡ filter (λ r. is_within from.now to.now r.0) rows.now }
 {
     let start = count_before(rows, from);

@@ -9,7 +9,7 @@ use Rattle.ts_core.specs.Marks.{low_of, marks_of}
 use Rattle.ts_core.specs.Aggregates.{empty_aggregate}
 use Rattle.ts_core.specs.RawFacts.{kept_from}
 use Rattle.ts_core.specs.Cells.{Cell}
-use Rattle.ts_core.specs.StoreStates.{Parts, RuleCells, StoreState, StandsFor, HasCells, rule_of, lowest_of}
+use Rattle.ts_core.specs.StoreStates.{CellParts, RuleCells, StoreState, StandsFor, HasCells, rule_of, lowest_of}
 
 -- a rule without cells
 pub record IsWithoutCells (r : RuleCells) : Type 0 where
@@ -34,8 +34,8 @@ no_cells cut (r ∷ rs) a = (
   record {
     once = subst AllDistinct (sym a.0.cells) tt;
     there = λ f n m l. absurd n;
-    frozen = λ k l. ap (λ (p : Parts). p.frozen) (a.0.parts k);
-    live = λ k l. ap (λ (p : Parts). p.live) (a.0.parts k);
+    frozen = λ k l. ap (λ (p : CellParts). p.frozen) (a.0.parts k);
+    live = λ k l. ap (λ (p : CellParts). p.live) (a.0.parts k);
   },
   no_cells cut rs a.1,
 )

@@ -22,7 +22,7 @@ use Rattle.ts_core.specs.Settings.{Rule, Settings}
 use Rattle.ts_core.specs.TimeUnits.{duration_unit_of}
 use Rattle.ts_core.specs.declared.time_unit.TimeUnit.TheVariants.{Nanoseconds}
 use Rattle.ts_core.specs.Durations.{duration_of, span_of, offset_of, keeping_of, counted_up, counted_down}
-use Rattle.ts_core.specs.SettingsTexts.{filled, filled_text, each, rule_of, settings_of}
+use Rattle.ts_core.specs.SettingsTexts.{if_not_empty, filled_text, each, rule_parsed, settings_parsed}
 use Rattle.ts_core.specs.SettingsWritten.{nanoseconds_text, keeping_text, rule_data, settings_data, settings_text, MayBeWritten, HaveText, SettingsReadBack}
 use Rattle.ts_core.proofs.DurationLaws.{digit_is, either, term_of, no_terms, spelled_read}
 use Rattle.ts_core.proofs.SettingsForms.{rule_read, parts_read, faultless}
@@ -113,7 +113,7 @@ keeping_back n lt =
 
 -- ---- rules and settings
 
-filled_back : (text : Text) → text ≢ [] → filled text ≡ Some text
+filled_back : (text : Text) → text ≢ [] → if_not_empty text ≡ Some text
 filled_back [] some = absurd (some refl)
 filled_back (b ∷ bs) some = refl
 
@@ -121,17 +121,17 @@ tags_back : (tags : List Text) → AllByRecursion (λ tag. tag ≢ []) tags → 
 tags_back [] w = refl
 tags_back (t ∷ ts) w = rw (filled_back t w.0) (ap (option_map (λ xs. t ∷ xs)) (tags_back ts w.1))
 
-rule_back : (r : Rule) → pos 1 ≤ℤ r.interval → MayBeWritten r → rule_of (rule_data r) ≡ Some r
+rule_back : (r : Rule) → pos 1 ≤ℤ r.interval → MayBeWritten r → rule_parsed (rule_data r) ≡ Some r
 rule_back r some w =
     rule_read (rule_data r) (items_of (map string r.kept_tags)) r.name r.measurement r.interval r.offset r.kept_tags (pos r.duration)
     refl refl (filled_back r.measurement w.measured) (interval_back r.interval some w.interval) (offset_back r.offset w.offset)
     refl (tags_back r.kept_tags w.tagged) (keeping_back r.duration w.duration)
 
-rules_back : (rs : List Rule) → AllByRecursion (λ (r : Rule). pos 1 ≤ℤ r.interval) rs → AllByRecursion MayBeWritten rs → each rule_of (items_of (map rule_data rs)) ≡ Some rs
+rules_back : (rs : List Rule) → AllByRecursion (λ (r : Rule). pos 1 ≤ℤ r.interval) rs → AllByRecursion MayBeWritten rs → each rule_parsed (items_of (map rule_data rs)) ≡ Some rs
 rules_back [] some w = refl
 rules_back (r ∷ rs) some w = rw (rule_back r some.0 w.0) (ap (option_map (λ xs. r ∷ xs)) (rules_back rs some.1 w.1))
 
-data_back : (s : Settings) → HaveText s → settings_of (settings_data s) ≡ Some s
+data_back : (s : Settings) → HaveText s → settings_parsed (settings_data s) ≡ Some s
 data_back s w =
     parts_read (settings_data s) (items_of (map rule_data s.rules)) (pos s.raw_duration) s.rules refl (keeping_back s.raw_duration w.raw) refl
     (rules_back s.rules (settings_are s w.faultless).intervals w.rules)

@@ -8,7 +8,7 @@ use Rattle.ts_core.specs.Facts.{Text}
 use Rattle.ts_core.specs.Settings.{Rule, Settings}
 use Rattle.ts_core.specs.SettingsFaults.{settings_fault}
 use Rattle.ts_core.specs.Durations.{span_of, offset_of, keeping_of}
-use Rattle.ts_core.specs.SettingsTexts.{has_keys, text_at, filled, filled_text, each, rule_with, rule_of, settings_with, settings_of, told, unless_fault, settings_read, IsRefusal}
+use Rattle.ts_core.specs.SettingsTexts.{has_keys, text_at, if_not_empty, filled_text, each, rule_with, rule_parsed, settings_with, settings_parsed, settings_or_fault, unless_fault, settings_read, IsRefusal}
 use Rattle.ts_core.specs.declared.settings_fault.SettingsError.{SettingsError}
 use Rattle.ts_core.specs.declared.settings_fault.SettingsError.TheVariants.{Fault, OutOfMemory}
 use Rattle.ts_core.specs.declared.settings_fault.SettingsFault.{SettingsFault}
@@ -23,7 +23,7 @@ abbrev pub name_in : Data → Option Text
 name_in d = text_at (codes "name") d
 
 abbrev pub measurement_in : Data → Option Text
-measurement_in d = option_and_then filled (text_at (codes "measurement") d)
+measurement_in d = option_and_then if_not_empty (text_at (codes "measurement") d)
 
 abbrev pub interval_in : Data → Option ℤ
 interval_in d = option_and_then span_of (text_at (codes "interval") d)
@@ -79,40 +79,40 @@ without_duration true (Some n) None i o t = refl
 without_duration true None m i o t = refl
 without_duration false n m i o t = refl
 
-pub other_keys : (d : Data) → has_keys 6 d ≡ false → rule_of d ≡ None
-unfolding rule_of
+pub other_keys : (d : Data) → has_keys 6 d ≡ false → rule_parsed d ≡ None
+unfolding rule_parsed
 other_keys d e = ap (λ b. rule_with b (name_in d) (measurement_in d) (interval_in d) (offset_in d) (tags_in d) (duration_in d)) e
 
-pub no_name : (d : Data) → name_in d ≡ None → rule_of d ≡ None
-unfolding rule_of
+pub no_name : (d : Data) → name_in d ≡ None → rule_parsed d ≡ None
+unfolding rule_parsed
 no_name d e = ap (λ n. rule_with (has_keys 6 d) n (measurement_in d) (interval_in d) (offset_in d) (tags_in d) (duration_in d)) e
     ∙ without_name (has_keys 6 d) (measurement_in d) (interval_in d) (offset_in d) (tags_in d) (duration_in d)
 
-pub no_measurement : (d : Data) → measurement_in d ≡ None → rule_of d ≡ None
-unfolding rule_of
+pub no_measurement : (d : Data) → measurement_in d ≡ None → rule_parsed d ≡ None
+unfolding rule_parsed
 no_measurement d e = ap (λ m. rule_with (has_keys 6 d) (name_in d) m (interval_in d) (offset_in d) (tags_in d) (duration_in d)) e
     ∙ without_measurement (has_keys 6 d) (name_in d) (interval_in d) (offset_in d) (tags_in d) (duration_in d)
 
-pub no_interval : (d : Data) → interval_in d ≡ None → rule_of d ≡ None
-unfolding rule_of
+pub no_interval : (d : Data) → interval_in d ≡ None → rule_parsed d ≡ None
+unfolding rule_parsed
 no_interval d e = ap (λ i. rule_with (has_keys 6 d) (name_in d) (measurement_in d) i (offset_in d) (tags_in d) (duration_in d)) e
     ∙ without_interval (has_keys 6 d) (name_in d) (measurement_in d) (offset_in d) (tags_in d) (duration_in d)
 
-pub no_offset : (d : Data) → offset_in d ≡ None → rule_of d ≡ None
-unfolding rule_of
+pub no_offset : (d : Data) → offset_in d ≡ None → rule_parsed d ≡ None
+unfolding rule_parsed
 no_offset d e = ap (λ o. rule_with (has_keys 6 d) (name_in d) (measurement_in d) (interval_in d) o (tags_in d) (duration_in d)) e
     ∙ without_offset (has_keys 6 d) (name_in d) (measurement_in d) (interval_in d) (tags_in d) (duration_in d)
 
-pub no_tags : (d : Data) → tags_in d ≡ None → rule_of d ≡ None
-unfolding rule_of
+pub no_tags : (d : Data) → tags_in d ≡ None → rule_parsed d ≡ None
+unfolding rule_parsed
 no_tags d e = ap (λ t. rule_with (has_keys 6 d) (name_in d) (measurement_in d) (interval_in d) (offset_in d) t (duration_in d)) e
     ∙ without_tags (has_keys 6 d) (name_in d) (measurement_in d) (interval_in d) (offset_in d) (duration_in d)
 
-pub no_tag_values : (d : Data) → values_in (codes "keep") d ≡ None → rule_of d ≡ None
+pub no_tag_values : (d : Data) → values_in (codes "keep") d ≡ None → rule_parsed d ≡ None
 no_tag_values d e = no_tags d (ap (option_and_then (each filled_text)) e)
 
-pub no_duration : (d : Data) → duration_in d ≡ None → rule_of d ≡ None
-unfolding rule_of
+pub no_duration : (d : Data) → duration_in d ≡ None → rule_parsed d ≡ None
+unfolding rule_parsed
 no_duration d e = ap (λ l. rule_with (has_keys 6 d) (name_in d) (measurement_in d) (interval_in d) (offset_in d) (tags_in d) l) e
     ∙ without_duration (has_keys 6 d) (name_in d) (measurement_in d) (interval_in d) (offset_in d) (tags_in d)
 
@@ -124,8 +124,8 @@ all_there name measurement interval offset tags duration eb en em ei eo et el = 
 pub rule_read : (d : Data) (values : Items) (name measurement : Text) (interval offset : ℤ) (tags : List Text) (duration : ℤ)
     → has_keys 6 d ≡ true → name_in d ≡ Some name → measurement_in d ≡ Some measurement → interval_in d ≡ Some interval → offset_in d ≡ Some offset
     → values_in (codes "keep") d ≡ Some values → each filled_text values ≡ Some tags → duration_in d ≡ Some duration
-    → rule_of d ≡ Some (record { name = name; measurement = measurement; interval = interval; offset = offset; kept_tags = tags; duration = unsigned_abs duration })
-unfolding rule_of
+    → rule_parsed d ≡ Some (record { name = name; measurement = measurement; interval = interval; offset = offset; kept_tags = tags; duration = unsigned_abs duration })
+unfolding rule_parsed
 rule_read d values name measurement interval offset tags duration keys en em ei eo ev et el =
     all_there name measurement interval offset tags duration keys en em ei eo (ap (option_and_then (each filled_text)) ev ∙ et) el
 
@@ -141,7 +141,7 @@ abbrev pub raw_in : Data → Option ℤ
 raw_in d = option_and_then keeping_of (text_at (codes "raw") d)
 
 abbrev pub rules_in : Data → Option (List Rule)
-rules_in d = option_and_then (each rule_of) (values_in (codes "rules") d)
+rules_in d = option_and_then (each rule_parsed) (values_in (codes "rules") d)
 
 without_raw : (b : Bool) (rs : Option (List Rule)) → settings_with b None rs ≡ None
 without_raw true rs = refl
@@ -152,30 +152,30 @@ without_rules true (Some raw) = refl
 without_rules true None = refl
 without_rules false raw = refl
 
-pub other_settings_keys : (d : Data) → has_keys 2 d ≡ false → settings_of d ≡ None
-unfolding settings_of
+pub other_settings_keys : (d : Data) → has_keys 2 d ≡ false → settings_parsed d ≡ None
+unfolding settings_parsed
 other_settings_keys d e = ap (λ b. settings_with b (raw_in d) (rules_in d)) e
 
-pub no_raw : (d : Data) → raw_in d ≡ None → settings_of d ≡ None
-unfolding settings_of
+pub no_raw : (d : Data) → raw_in d ≡ None → settings_parsed d ≡ None
+unfolding settings_parsed
 no_raw d e = ap (λ raw. settings_with (has_keys 2 d) raw (rules_in d)) e ∙ without_raw (has_keys 2 d) (rules_in d)
 
-pub no_rules : (d : Data) → rules_in d ≡ None → settings_of d ≡ None
-unfolding settings_of
+pub no_rules : (d : Data) → rules_in d ≡ None → settings_parsed d ≡ None
+unfolding settings_parsed
 no_rules d e = ap (settings_with (has_keys 2 d) (raw_in d)) e ∙ without_rules (has_keys 2 d) (raw_in d)
 
-pub no_rule_values : (d : Data) → values_in (codes "rules") d ≡ None → settings_of d ≡ None
-no_rule_values d e = no_rules d (ap (option_and_then (each rule_of)) e)
+pub no_rule_values : (d : Data) → values_in (codes "rules") d ≡ None → settings_parsed d ≡ None
+no_rule_values d e = no_rules d (ap (option_and_then (each rule_parsed)) e)
 
 both_there : {b : Bool} {r : Option ℤ} {rs : Option (List Rule)} (raw : ℤ) (rules : List Rule) → b ≡ true → r ≡ Some raw → rs ≡ Some rules
     → settings_with b r rs ≡ Some (record { raw_duration = unsigned_abs raw; rules = rules })
 both_there raw rules eb er es = rw (eb, er, es) refl
 
 pub parts_read : (d : Data) (values : Items) (raw : ℤ) (rules : List Rule) → has_keys 2 d ≡ true → raw_in d ≡ Some raw
-    → values_in (codes "rules") d ≡ Some values → each rule_of values ≡ Some rules
-    → settings_of d ≡ Some (record { raw_duration = unsigned_abs raw; rules = rules })
-unfolding settings_of
-parts_read d values raw rules keys er ev es = both_there raw rules keys er (ap (option_and_then (each rule_of)) ev ∙ es)
+    → values_in (codes "rules") d ≡ Some values → each rule_parsed values ≡ Some rules
+    → settings_parsed d ≡ Some (record { raw_duration = unsigned_abs raw; rules = rules })
+unfolding settings_parsed
+parts_read d values raw rules keys er ev es = both_there raw rules keys er (ap (option_and_then (each rule_parsed)) ev ∙ es)
 
 -- ---- the text
 
@@ -184,25 +184,25 @@ pub refused_by : {X Y : Type 0} (e : SettingsError) (part : Option X) (whole : O
 refused_by OutOfMemory part whole lacks r = tt
 refused_by (Fault fault) part whole lacks r = (r.0, lacks r.1)
 
-form_told : (o : Option Settings) (e : SettingsError) (f : SettingsFault) → IsRefusal e o → e ≡ Fault f → told o ≡ Err f
+form_told : (o : Option Settings) (e : SettingsError) (f : SettingsFault) → IsRefusal e o → e ≡ Fault f → settings_or_fault o ≡ Err f
 form_told o OutOfMemory f r is = absurd (cc)
 form_told o (Fault g) f r is = let same : f ≡ Form = cc in rw (r.1, same) refl
 
 pub no_data : (text : Text) (e : SettingsError) (f : SettingsFault) → IsRefusal e (read text) → e ≡ Fault f → settings_read text ≡ Err f
 unfolding settings_read
-no_data text e f r is = form_told (option_and_then settings_of (read text)) e f (refused_by e (read text) (option_and_then settings_of (read text)) (λ none. ap (option_and_then settings_of) none) r) is
+no_data text e f r is = form_told (option_and_then settings_parsed (read text)) e f (refused_by e (read text) (option_and_then settings_parsed (read text)) (λ none. ap (option_and_then settings_parsed) none) r) is
 
-pub no_settings : (text : Text) (d : Data) (e : SettingsError) (f : SettingsFault) → read text ≡ Some d → IsRefusal e (settings_of d) → e ≡ Fault f → settings_read text ≡ Err f
+pub no_settings : (text : Text) (d : Data) (e : SettingsError) (f : SettingsFault) → read text ≡ Some d → IsRefusal e (settings_parsed d) → e ≡ Fault f → settings_read text ≡ Err f
 unfolding settings_read
-no_settings text d e f is r err = ap (λ o. told (option_and_then settings_of o)) is ∙ form_told (settings_of d) e f r err
+no_settings text d e f is r err = ap (λ o. settings_or_fault (option_and_then settings_parsed o)) is ∙ form_told (settings_parsed d) e f r err
 
-pub at_fault : (text : Text) (d : Data) (s : Settings) (f : SettingsFault) → read text ≡ Some d → settings_of d ≡ Some s → settings_fault s ≡ Some f → settings_read text ≡ Err f
+pub at_fault : (text : Text) (d : Data) (s : Settings) (f : SettingsFault) → read text ≡ Some d → settings_parsed d ≡ Some s → settings_fault s ≡ Some f → settings_read text ≡ Err f
 unfolding settings_read
-at_fault text d s f is so fault = ap (λ o. told (option_and_then settings_of o)) is ∙ ap told so ∙ ap (unless_fault s) fault
+at_fault text d s f is so fault = ap (λ o. settings_or_fault (option_and_then settings_parsed o)) is ∙ ap settings_or_fault so ∙ ap (unless_fault s) fault
 
-pub faultless : (text : Text) (d : Data) (s : Settings) → read text ≡ Some d → settings_of d ≡ Some s → settings_fault s ≡ None → settings_read text ≡ Ok s
+pub faultless : (text : Text) (d : Data) (s : Settings) → read text ≡ Some d → settings_parsed d ≡ Some s → settings_fault s ≡ None → settings_read text ≡ Ok s
 unfolding settings_read
-faultless text d s is so none = ap (λ o. told (option_and_then settings_of o)) is ∙ ap told so ∙ ap (unless_fault s) none
+faultless text d s is so none = ap (λ o. settings_or_fault (option_and_then settings_parsed o)) is ∙ ap settings_or_fault so ∙ ap (unless_fault s) none
 
 -- a fault that `?` hands on is the fault
 pub handed_on : {X : Type 0} (r : Result X SettingsError) (fault : SettingsFault) (out : Result Settings SettingsFault) → IsErrAnd r (λ e. e ≡ Fault fault) → out ≡ Err fault
@@ -212,5 +212,5 @@ handed_on (Err e) fault out h is = λ f same. let one : fault ≡ f = cc in is �
 
 pub error_handed_on : {X : Type 0} (r : Result X SettingsError) (error : SettingsError) (out : Result Settings SettingsFault) → IsErrAnd r (λ e. e ≡ error)
     → ((f : SettingsFault) → error ≡ Fault f → out ≡ Err f) → IfErr r (λ e. (f : SettingsFault) → e ≡ Fault f → out ≡ Err f)
-error_handed_on (Ok x) error out h told = tt
-error_handed_on (Err e) error out h told = λ f same. told f (sym h ∙ same)
+error_handed_on (Ok x) error out h settings_or_fault = tt
+error_handed_on (Err e) error out h settings_or_fault = λ f same. settings_or_fault f (sym h ∙ same)

@@ -27,12 +27,12 @@ abbrev pub text_at : Text → Data → Option Text
 text_at key d = option_and_then as_str (get key d)
 
 -- a text that isn't empty
-abbrev pub filled : Text → Option Text
-filled [] = None
-filled (b ∷ bs) = Some (b ∷ bs)
+abbrev pub if_not_empty : Text → Option Text
+if_not_empty [] = None
+if_not_empty (b ∷ bs) = Some (b ∷ bs)
 
 abbrev pub filled_text : Data → Option Text
-filled_text d = option_and_then filled (as_str d)
+filled_text d = option_and_then if_not_empty (as_str d)
 
 -- each item, read the same way
 abbrev pub each : {X : Type 0} → (Data → Option X) → Items → Option (List X)
@@ -51,10 +51,10 @@ rule_with true (Some name) (Some measurement) (Some interval) (Some offset) (Som
 rule_with _ _ _ _ _ _ _ = None
 
 -- exactly six keys; a measurement and kept tags aren't empty
-unfoldable pub rule_of : Data → Option Rule
-rule_of d = rule_with (has_keys 6 d)
+unfoldable pub rule_parsed : Data → Option Rule
+rule_parsed d = rule_with (has_keys 6 d)
     (text_at (codes "name") d)
-    (option_and_then filled (text_at (codes "measurement") d))
+    (option_and_then if_not_empty (text_at (codes "measurement") d))
     (option_and_then span_of (text_at (codes "interval") d))
     (option_and_then offset_of (text_at (codes "offset") d))
     (each_at (codes "keep") filled_text d)
@@ -65,23 +65,23 @@ settings_with true (Some raw) (Some rules) = Some (record { raw_duration = unsig
 settings_with _ _ _ = None
 
 -- exactly two keys
-unfoldable pub settings_of : Data → Option Settings
-settings_of d = settings_with (has_keys 2 d)
+unfoldable pub settings_parsed : Data → Option Settings
+settings_parsed d = settings_with (has_keys 2 d)
     (option_and_then keeping_of (text_at (codes "raw") d))
-    (each_at (codes "rules") rule_of d)
+    (each_at (codes "rules") rule_parsed d)
 
 -- settings, or their first fault
 abbrev pub unless_fault : Settings → Option SettingsFault → Result Settings SettingsFault
 unless_fault s None = Ok s
 unless_fault s (Some fault) = Err fault
 
-abbrev pub told : Option Settings → Result Settings SettingsFault
-told None = Err Form
-told (Some s) = unless_fault s (settings_fault s)
+abbrev pub settings_or_fault : Option Settings → Result Settings SettingsFault
+settings_or_fault None = Err Form
+settings_or_fault (Some s) = unless_fault s (settings_fault s)
 
 -- what a text of settings says. The form of the whole text comes first.
 unfoldable pub settings_read : Text → Result Settings SettingsFault
-settings_read text = told (option_and_then settings_of (read text))
+settings_read text = settings_or_fault (option_and_then settings_parsed (read text))
 
 -- ---- for private clauses
 

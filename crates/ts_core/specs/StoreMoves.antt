@@ -16,12 +16,12 @@ use Rattle.ts_core.specs.StoreData.{FrozenCells, StoreData}
 
 -- ---- a step moves a column: its points below the mark are frozen
 
-abbrev pub count_of : Aggregate → ℕ
-count_of a = a.count
+abbrev pub count_in : Aggregate → ℕ
+count_in a = a.count
 
 -- a part merged in, where the counts fit together
 abbrev pub frozen_with : Aggregate → Aggregate → Aggregate
-frozen_with = joined_within count_of merged
+frozen_with = joined_within count_in merged
 
 -- point by point, each in its cell, where that is there
 abbrev pub frozen_points : Rule → Column → List (ℤ × ℤ) → FrozenCells → FrozenCells

@@ -17,7 +17,7 @@ pub record ColumnPoints : Type 0 where
   pub points : List (ℤ × ℤ)
 
 -- the two parts of a cell
-pub record Parts : Type 0 where
+pub record CellParts : Type 0 where
   pub frozen : Aggregate
   pub live : Aggregate
 
@@ -26,7 +26,7 @@ pub record RuleCells : Type 0 where
   pub rule : Rule
   pub low : ℤ
   pub cells : List Cell
-  pub parts : Cell → Parts
+  pub parts : Cell → CellParts
 
 -- what a store keeps, as its calls show it
 pub record StoreState : Type 0 where

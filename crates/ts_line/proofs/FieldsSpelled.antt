@@ -10,9 +10,9 @@ use Rattle.std.proofs.lemmas.Slice.Eq.{bytes_eq-Decides}
 use Rattle.ts_core.specs.Facts.{Text}
 use Rattle.ts_line.specs.declared.scan.Stops.TheVariants.{Space, Equals, Plain}
 use Rattle.ts_line.specs.Numbers.{is_number, without_minus, is_from_to, whole_of}
-use Rattle.ts_line.specs.Parts.{Piece}
+use Rattle.ts_line.specs.Parts.{LinePart}
 use Rattle.ts_line.specs.Scan.{end_of}
-use Rattle.ts_line.specs.Pieces.{unescaped}
+use Rattle.ts_line.specs.PartTexts.{unescaped}
 use Rattle.ts_line.specs.Values.{value_said, value_begun_at, integer_by}
 use Rattle.ts_line.specs.Fields.{next_field, with_field, fields_at}
 use Rattle.ts_line.specs.Spelling.{is_closed, field_spelling, more_fields_text, IsWrittenField, field_from, with_fields}
@@ -139,7 +139,7 @@ plain_end : (rest : Text) → is_end Space rest ≡ true → is_end Plain rest �
 plain_end [] e = refl
 plain_end (b ∷ rest) e = or_left (eqb b 32) (eqb b 44) e
 
-pub fields_read : (more : List (Text × Text)) (first : Text × Text) (line rest : Text) (at n : ℕ) (before : List (Piece × ℤ)) → At line at (field_spelling first ++ (more_fields_text more ++ rest))
+pub fields_read : (more : List (Text × Text)) (first : Text × Text) (line rest : Text) (at n : ℕ) (before : List (LinePart × ℤ)) → At line at (field_spelling first ++ (more_fields_text more ++ rest))
     → IsWrittenField first → AllByRecursion IsWrittenField more → is_end Space rest ≡ true → length more + 1 ≤ n
     → fields_at n before line at ≡ Ok (with_fields (with_field before (field_from at first)) (at + length (field_spelling first)) more, at + length (field_spelling first) + length (more_fields_text more))
 unfolding fields_at

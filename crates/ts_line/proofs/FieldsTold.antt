@@ -13,12 +13,12 @@ use Rattle.ts_line.specs.declared.fault.LineFaultKind.TheVariants.{BadField, Fie
 use Rattle.ts_line.specs.FaultText.{fault_at}
 use Rattle.ts_line.specs.declared.scan.Stops.TheVariants.{Equals, Plain}
 use Rattle.ts_line.specs.Numbers.{is_number, is_from_to, whole_of}
-use Rattle.ts_line.specs.Parts.{Piece}
+use Rattle.ts_line.specs.Parts.{LinePart}
 use Rattle.ts_line.specs.Scan.{is_stop, end_of}
-use Rattle.ts_line.specs.Pieces.{unescaped, piece_at}
+use Rattle.ts_line.specs.PartTexts.{unescaped, piece_at}
 use Rattle.ts_line.specs.Values.{is_integer, is_unsigned, is_boolean, is_float, behind_quotes, is_value_end, then_is, value_said, value_begun_at, integer_by}
 use Rattle.ts_line.specs.Fields.{next_field, with_field, fields_at}
-use Rattle.ts_line.specs.Steps.{◌>>=◌}
+use Rattle.ts_line.specs.ReadSteps.{◌>>=◌}
 use Rattle.ts_line.specs.Spelling.{is_closed, written_piece, field_spelling, more_fields_text, IsWrittenField, field_from, with_fields}
 use Rattle.ts_line.proofs.NumberLemmas.{within_fits}
 use Rattle.ts_line.proofs.PartsTold.{bind_ok, not_err, cut, first_of, slice_len, within, end_within, part_closes}
@@ -118,7 +118,7 @@ value_told start line n v le e = value_at_by start line n v (eqb (slice_index li
 
 -- ---- a field
 
-pub record IsFieldAt (line : Text) (n : ℕ) (g : Piece × ℤ) (end : ℕ) : Type 0 where
+pub record IsFieldAt (line : Text) (n : ℕ) (g : LinePart × ℤ) (end : ℕ) : Type 0 where
   pub field : Text × Text
   pub spelled : drop n line ≡ field_spelling field ++ drop end line
   pub is : IsWrittenField field
@@ -146,7 +146,7 @@ field_of line n key_end value end le e ne equals other v =
       ends = v.ends;
     }
 
-pub field_told : (line : Text) (n : ℕ) (g : (Piece × ℤ) × ℕ) → n ≤ length line → next_field line n ≡ Ok g → IsFieldAt line n g.0 g.1
+pub field_told : (line : Text) (n : ℕ) (g : (LinePart × ℤ) × ℕ) → n ≤ length line → next_field line n ≡ Ok g → IsFieldAt line n g.0 g.1
 unfolding next_field
 field_told line n g le e =
     let key_end = end_of Equals line n in
@@ -160,11 +160,11 @@ field_told line n g le e =
     let other : key.text ≡ codes "time" → ⊥ = λ is. both_ways (bytes_eq key.text (codes "time")) b.0 ((bytes_eq-Decides key.text (codes "time")).1 is) in
     let lt : key_end < length line = within line key_end 61 equals (omega arith) in
     let same : ((key, v.0.0), v.0.1) ≡ g = let all = v.2 in cc in
-    subst (λ (x : (Piece × ℤ) × ℕ). IsFieldAt line n x.0 x.1) same (field_of line n key_end v.0.0 v.0.1 le refl ne equals other (value_told n line (key_end + 1) v.0 (omega arith) v.1))
+    subst (λ (x : (LinePart × ℤ) × ℕ). IsFieldAt line n x.0 x.1) same (field_of line n key_end v.0.0 v.0.1 le refl ne equals other (value_told n line (key_end + 1) v.0 (omega arith) v.1))
 
 -- ---- all fields
 
-pub record AreFieldsTold (n : ℕ) (line : Text) (at : ℕ) (before out : List (Piece × ℤ)) (end : ℕ) : Type 0 where
+pub record AreFieldsTold (n : ℕ) (line : Text) (at : ℕ) (before out : List (LinePart × ℤ)) (end : ℕ) : Type 0 where
   pub first : Text × Text
   pub more : List (Text × Text)
   pub spelled : drop at line ≡ field_spelling first ++ (more_fields_text more ++ drop end line)
@@ -176,7 +176,7 @@ pub record AreFieldsTold (n : ℕ) (line : Text) (at : ℕ) (before out : List (
   pub inside : end ≤ length line
   pub behind : end < length line → slice_index line end ≡ 32
 
-last_field : (n : ℕ) (line : Text) (at : ℕ) (before : List (Piece × ℤ)) (g : Piece × ℤ) (end : ℕ) → IsFieldAt line at g end → eqb (slice_index line end) 44 ≡ false → AreFieldsTold (suc n) line at before (with_field before g) end
+last_field : (n : ℕ) (line : Text) (at : ℕ) (before : List (LinePart × ℤ)) (g : LinePart × ℤ) (end : ℕ) → IsFieldAt line at g end → eqb (slice_index line end) 44 ≡ false → AreFieldsTold (suc n) line at before (with_field before g) end
 last_field n line at before g end f none = record {
   first = f.field;
   more = [];
@@ -190,7 +190,7 @@ last_field n line at before g end f none = record {
   behind = λ lt. ⊎_elim (λ is. let c : eqb (slice_index line end) 44 ≡ true = grind (arith, nat_tests) in absurd (both_ways (eqb (slice_index line end) 44) none c)) (λ is. is) (f.ends lt);
 }
 
-next_fields : (n : ℕ) (line : Text) (at : ℕ) (before : List (Piece × ℤ)) (g : Piece × ℤ) (next : ℕ) (out : List (Piece × ℤ)) (end : ℕ) → IsFieldAt line at g next → slice_index line next ≡ 44 → next < length line
+next_fields : (n : ℕ) (line : Text) (at : ℕ) (before : List (LinePart × ℤ)) (g : LinePart × ℤ) (next : ℕ) (out : List (LinePart × ℤ)) (end : ℕ) → IsFieldAt line at g next → slice_index line next ≡ 44 → next < length line
     → AreFieldsTold n line (next + 1) (with_field before g) out end → AreFieldsTold (suc n) line at before out end
 next_fields n line at before g next out end f comma lt later = record {
   first = f.field;
@@ -206,8 +206,8 @@ next_fields n line at before g next out end f comma lt later = record {
   behind = later.behind;
 }
 
-fields_by : (n : ℕ) (before : List (Piece × ℤ)) (line : Text) (at : ℕ) (r : List (Piece × ℤ) × ℕ) (g : (Piece × ℤ) × ℕ) (comma : Bool) → eqb (slice_index line g.1) 44 ≡ comma → IsFieldAt line at g.0 g.1
-    → ((before' : List (Piece × ℤ)) (at' : ℕ) → at' ≤ length line → fields_at n before' line at' ≡ Ok r → AreFieldsTold n line at' before' r.0 r.1)
+fields_by : (n : ℕ) (before : List (LinePart × ℤ)) (line : Text) (at : ℕ) (r : List (LinePart × ℤ) × ℕ) (g : (LinePart × ℤ) × ℕ) (comma : Bool) → eqb (slice_index line g.1) 44 ≡ comma → IsFieldAt line at g.0 g.1
+    → ((before' : List (LinePart × ℤ)) (at' : ℕ) → at' ≤ length line → fields_at n before' line at' ≡ Ok r → AreFieldsTold n line at' before' r.0 r.1)
     → cond (eqb (slice_index line g.1) 44) (fields_at n (with_field before g.0) line (g.1 + 1)) (Ok (with_field before g.0, g.1)) ≡ Ok r → AreFieldsTold (suc n) line at before r.0 r.1
 fields_by n before line at r g true comma f ih e =
     let step : fields_at n (with_field before g.0) line (g.1 + 1) ≡ Ok r = rw comma at e in
@@ -217,9 +217,9 @@ fields_by n before line at r g true comma f ih e =
 fields_by n before line at r g false comma f ih e =
     let done : Ok (with_field before g.0, g.1) ≡ Ok r = rw comma at e in
     let same : (with_field before g.0, g.1) ≡ r = cc in
-    subst (λ (x : List (Piece × ℤ) × ℕ). AreFieldsTold (suc n) line at before x.0 x.1) same (last_field n line at before g.0 g.1 f comma)
+    subst (λ (x : List (LinePart × ℤ) × ℕ). AreFieldsTold (suc n) line at before x.0 x.1) same (last_field n line at before g.0 g.1 f comma)
 
-pub fields_told : (n : ℕ) (before : List (Piece × ℤ)) (line : Text) (at : ℕ) (r : List (Piece × ℤ) × ℕ) → at ≤ length line → fields_at n before line at ≡ Ok r → AreFieldsTold n line at before r.0 r.1
+pub fields_told : (n : ℕ) (before : List (LinePart × ℤ)) (line : Text) (at : ℕ) (r : List (LinePart × ℤ) × ℕ) → at ≤ length line → fields_at n before line at ≡ Ok r → AreFieldsTold n line at before r.0 r.1
 unfolding fields_at
 fields_told zero before line at r le e = absurd cc
 fields_told (suc n) before line at r le e =

@@ -4,7 +4,7 @@ use Rattle.ts_core.specs.Facts.{Text}
 use Rattle.ts_line.specs.declared.fault.LineFault.{LineFault}
 use Rattle.ts_line.specs.declared.fault.ReadLineError.{ReadLineError}
 use Rattle.ts_line.specs.Parts.{Parts}
-use Rattle.ts_line.specs.Steps.{GivesIfRoom}
+use Rattle.ts_line.specs.ReadSteps.{GivesIfRoom}
 use Rattle.ts_line.specs.Lines.{line_of}
 use Rattle.ts_line.specs.Spelling.{IsSpelling}
 use Rattle.ts_line.proofs.SpellingRead.{spelling_read}

@@ -3,10 +3,10 @@ use Rattle.std.proofs.Common.{◌≡◌, ℕ, ℤ, zero, suc, ◌+◌, ◌-◌, 
 use Rattle.std.proofs.lemmas.Bool.{le-ltb}
 use Rattle.ts_core.specs.Facts.{Text}
 use Rattle.ts_line.specs.declared.fault.LineFault.{LineFault}
-use Rattle.ts_line.specs.Parts.{Piece, Parts}
+use Rattle.ts_line.specs.Parts.{LinePart, Parts}
 use Rattle.ts_line.specs.declared.scan.Stops.TheVariants.{Space}
 use Rattle.ts_line.specs.Scan.{end_of, spaces_end}
-use Rattle.ts_line.specs.Tags.{tags_at}
+use Rattle.ts_line.specs.TagParts.{tags_at}
 use Rattle.ts_line.specs.Fields.{fields_at}
 use Rattle.ts_line.specs.Lines.{is_bare_space, trimmed, content, measurement_at, time_at, parts_at, line_of}
 use Rattle.ts_line.proofs.PartsTold.{end_within}
@@ -23,14 +23,14 @@ short_key line start le short = le-ltb (start + 4096) (end_of Space line start) 
 
 -- ---- a line is read step by step
 
-pub parts_read : (unit now : ℤ) (line : Text) (start end end' end'' : ℕ) (m : Piece) (tags : List (Piece × Piece)) (fields : List (Piece × ℤ)) (time : ℤ)
+pub parts_read : (unit now : ℤ) (line : Text) (start end end' end'' : ℕ) (m : LinePart) (tags : List (LinePart × LinePart)) (fields : List (LinePart × ℤ)) (time : ℤ)
     → measurement_at line start ≡ Ok (m, end) → tags_at 65 [] line end ≡ Ok (tags, end') → eqb (spaces_end line end') (length line) ≡ false
     → fields_at 256 [] line (spaces_end line end') ≡ Ok (fields, end'') → time_at unit now line end'' ≡ Ok time
     → parts_at unit now line start ≡ Ok (record { measurement = m; tags = tags; fields = fields; time = time })
 unfolding parts_at
 parts_read unit now line start end end' end'' m tags fields time a b c d e = rw (a, b, c, d, e) refl
 
-pub time_fails : (unit now : ℤ) (line : Text) (start end end' end'' : ℕ) (m : Piece) (tags : List (Piece × Piece)) (fields : List (Piece × ℤ)) (f : LineFault)
+pub time_fails : (unit now : ℤ) (line : Text) (start end end' end'' : ℕ) (m : LinePart) (tags : List (LinePart × LinePart)) (fields : List (LinePart × ℤ)) (f : LineFault)
     → measurement_at line start ≡ Ok (m, end) → tags_at 65 [] line end ≡ Ok (tags, end') → eqb (spaces_end line end') (length line) ≡ false
     → fields_at 256 [] line (spaces_end line end') ≡ Ok (fields, end'') → time_at unit now line end'' ≡ Err f
     → parts_at unit now line start ≡ Err f

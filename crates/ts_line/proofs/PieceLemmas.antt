@@ -7,7 +7,7 @@ use Rattle.std.proofs.lemmas.List.{at_drop_more}
 use Rattle.ts_core.specs.Facts.{Text}
 use Rattle.ts_line.specs.declared.scan.Stops.{Stops}
 use Rattle.ts_line.specs.Scan.{is_backslash, is_stop}
-use Rattle.ts_line.specs.Pieces.{begins_escapable, unescaped}
+use Rattle.ts_line.specs.PartTexts.{begins_escapable, unescaped}
 use Rattle.ts_line.proofs.ScanLemmas.{slice_step}
 
 abbrev pub is_escape_at : Stops → Text → ℕ → Bool

@@ -7,7 +7,7 @@ use Rattle.std.specs.declared.cmp.Ordering.{Ordering}
 use Rattle.std.specs.declared.cmp.Ordering.TheVariants.{Less, Equal, Greater}
 use Rattle.ts_core.specs.Facts.{Text, text_cmp}
 use Rattle.ts_core.specs.Texts.{lent_pairs, IsTagSet}
-use Rattle.ts_line.specs.Parts.{Piece, tag_texts}
+use Rattle.ts_line.specs.Parts.{LinePart, tag_texts}
 use Rattle.ts_line.specs.Sorting.{key_place_from}
 use Rattle.std.proofs.lemmas.List.{take_more, take_all, map_push}
 
@@ -97,7 +97,7 @@ pub put_all_set : (ts : List (Text × Text)) (lent : Lent) → lent_pairs lent �
 put_all_set ts lent e = subst (λ (es : List (Text × Text)). T (is_sorted text_cmp es)) (sym (e ∙ sym (entries_put_all ts))) (entries_sorted (finmap.from_entries {R = text_cmp} ts))
 
 -- the last tag is put first
-pub put_last : (tags : List (Piece × Piece)) (t : Piece × Piece) (es all : List (Text × Text)) → 1 ≤ length tags → t ≡ get_or tags (length tags - 1) t
+pub put_last : (tags : List (LinePart × LinePart)) (t : LinePart × LinePart) (es all : List (Text × Text)) → 1 ≤ length tags → t ≡ get_or tags (length tags - 1) t
     → put_all (map tag_texts tags) es ≡ all → put_all (map tag_texts (take (length tags - 1) tags)) (put text_cmp t.0.text t.1.text es) ≡ all
 put_last tags t es all some is so_far =
     let within : length tags - 1 < length tags = omega arith in

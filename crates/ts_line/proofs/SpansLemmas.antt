@@ -3,7 +3,7 @@ use Rattle.std.proofs.Common.{◌≡◌, ℕ, ℤ, ◌+◌, ◌≤◌, Bool, tru
 use Rattle.ts_core.specs.Facts.{Text}
 use Rattle.ts_line.specs.declared.fault.ReadLineError.{ReadLineError}
 use Rattle.ts_line.specs.declared.scan.Stops.TheVariants.{Comma, Equals}
-use Rattle.ts_line.specs.Parts.{Piece, Parts}
+use Rattle.ts_line.specs.Parts.{LinePart, Parts}
 use Rattle.ts_line.specs.Fields.{with_field}
 use Rattle.ts_line.specs.Spelling.{written_piece, tags_text, tags_from, field_spelling, more_fields_text, field_from, with_fields, IsSpelling}
 use Rattle.ts_line.specs.Spans.{IsPartOf, ArePlaced, tag_pieces, field_piece, pieces_of}
@@ -12,11 +12,11 @@ use Rattle.ts_line.proofs.TagsSpelled.{flat}
 use Rattle.ts_line.proofs.Suffixes.{At, at_next, at_after, at_slice}
 
 -- where the last of the parts ends
-abbrev place_end : ℕ → List Piece → ℕ
+abbrev place_end : ℕ → List LinePart → ℕ
 place_end n [] = n
 place_end n (p ∷ ps) = place_end (p.start + length p.raw) ps
 
-placed_both : (line : Text) (n m : ℕ) (xs ys : List Piece) → ArePlaced line n xs → place_end n xs ≤ m → ArePlaced line m ys → ArePlaced line n (xs ++ ys)
+placed_both : (line : Text) (n m : ℕ) (xs ys : List LinePart) → ArePlaced line n xs → place_end n xs ≤ m → ArePlaced line m ys → ArePlaced line n (xs ++ ys)
 placed_both line n m [] [] a le b = tt
 placed_both line n m [] (y ∷ ys) a le b = (omega (arith, le, b.0), b.1, b.2)
 placed_both line n m (x ∷ xs) ys a le b = (a.0, a.1, placed_both line (x.start + length x.raw) m xs ys a.2 le b)
@@ -39,35 +39,35 @@ tags_placed (t ∷ ts) line rest at h =
 
 -- ---- fields
 
-names_by : (b : Bool) (g f : Piece × ℤ) (gs : List (Piece × ℤ)) → bytes_eq g.0.text f.0.text ≡ b
+names_by : (b : Bool) (g f : LinePart × ℤ) (gs : List (LinePart × ℤ)) → bytes_eq g.0.text f.0.text ≡ b
     → ((map field_piece (with_field gs f) ≡ map field_piece gs) ⊎ (map field_piece (with_field gs f) ≡ map field_piece gs ++ f.0 ∷ []))
     → (map field_piece (with_field (g ∷ gs) f) ≡ map field_piece (g ∷ gs)) ⊎ (map field_piece (with_field (g ∷ gs) f) ≡ map field_piece (g ∷ gs) ++ f.0 ∷ [])
 names_by true g f gs e ih = inl (rw e refl)
 names_by false g f gs e ih =
-    ⊎_elim (λ same. inl (rw e (ap (λ (ps : List Piece). g.0 ∷ ps) same))) (λ more. inr (rw e (ap (λ (ps : List Piece). g.0 ∷ ps) more))) ih
+    ⊎_elim (λ same. inl (rw e (ap (λ (ps : List LinePart). g.0 ∷ ps) same))) (λ more. inr (rw e (ap (λ (ps : List LinePart). g.0 ∷ ps) more))) ih
 
 -- the names of fields stay, and a new one stands last
-names_with : (fields : List (Piece × ℤ)) (f : Piece × ℤ) → (map field_piece (with_field fields f) ≡ map field_piece fields) ⊎ (map field_piece (with_field fields f) ≡ map field_piece fields ++ f.0 ∷ [])
+names_with : (fields : List (LinePart × ℤ)) (f : LinePart × ℤ) → (map field_piece (with_field fields f) ≡ map field_piece fields) ⊎ (map field_piece (with_field fields f) ≡ map field_piece fields ++ f.0 ∷ [])
 names_with [] f = inr refl
 names_with (g ∷ gs) f = names_by (bytes_eq g.0.text f.0.text) g f gs refl (names_with gs f)
 
-end_push : (n : ℕ) (ps : List Piece) (p : Piece) → place_end n (ps ++ p ∷ []) ≡ p.start + length p.raw
+end_push : (n : ℕ) (ps : List LinePart) (p : LinePart) → place_end n (ps ++ p ∷ []) ≡ p.start + length p.raw
 end_push n [] p = refl
 end_push n (q ∷ ps) p = end_push (q.start + length q.raw) ps p
 
-abbrev ArePlacedTo : Text → ℕ → List Piece → ℕ → Type 0
+abbrev ArePlacedTo : Text → ℕ → List LinePart → ℕ → Type 0
 ArePlacedTo line n ps end = ArePlaced line n ps × (place_end n ps ≤ end)
 
-with_placed : (line : Text) (n at : ℕ) (before : List (Piece × ℤ)) (f : Piece × ℤ) → ArePlacedTo line n (map field_piece before) at → at ≤ f.0.start → IsPartOf line f.0
+with_placed : (line : Text) (n at : ℕ) (before : List (LinePart × ℤ)) (f : LinePart × ℤ) → ArePlacedTo line n (map field_piece before) at → at ≤ f.0.start → IsPartOf line f.0
     → ArePlacedTo line n (map field_piece (with_field before f)) (f.0.start + length f.0.raw)
 with_placed line n at before f a le part =
     ⊎_elim {C = ArePlacedTo line n (map field_piece (with_field before f)) (f.0.start + length f.0.raw)}
-    (λ same. subst (λ (ps : List Piece). ArePlacedTo line n ps (f.0.start + length f.0.raw)) (sym same) (a.0, omega (arith, a.1, le)))
-    (λ more. subst (λ (ps : List Piece). ArePlacedTo line n ps (f.0.start + length f.0.raw)) (sym more)
+    (λ same. subst (λ (ps : List LinePart). ArePlacedTo line n ps (f.0.start + length f.0.raw)) (sym same) (a.0, omega (arith, a.1, le)))
+    (λ more. subst (λ (ps : List LinePart). ArePlacedTo line n ps (f.0.start + length f.0.raw)) (sym more)
     (placed_both line n f.0.start (map field_piece before) (f.0 ∷ []) a.0 (omega (arith, a.1, le)) (omega arith, part, tt), omega (arith, end_push n (map field_piece before) f.0)))
     (names_with before f)
 
-fields_placed : (more : List (Text × Text)) (line rest : Text) (n at : ℕ) (before : List (Piece × ℤ)) → At line at (more_fields_text more ++ rest) → ArePlacedTo line n (map field_piece before) at → ArePlaced line n (map field_piece (with_fields before at more))
+fields_placed : (more : List (Text × Text)) (line rest : Text) (n at : ℕ) (before : List (LinePart × ℤ)) → At line at (more_fields_text more ++ rest) → ArePlacedTo line n (map field_piece before) at → ArePlaced line n (map field_piece (with_fields before at more))
 fields_placed [] line rest n at before h a = a.0
 fields_placed (f ∷ more) line rest n at before h a =
     let behind = more_fields_text more ++ rest in

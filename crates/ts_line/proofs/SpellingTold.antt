@@ -8,11 +8,11 @@ use Rattle.ts_line.specs.declared.fault.LineFault.{LineFault}
 use Rattle.ts_line.specs.declared.fault.LineFaultKind.TheVariants.{NoMeasurement, NoField, OverLimit}
 use Rattle.ts_line.specs.FaultText.{fault_at}
 use Rattle.ts_line.specs.declared.scan.Stops.TheVariants.{Space, Comma}
-use Rattle.ts_line.specs.Parts.{Piece, Parts}
+use Rattle.ts_line.specs.Parts.{LinePart, Parts}
 use Rattle.ts_line.specs.Scan.{is_stop, end_of, spaces_end}
-use Rattle.ts_line.specs.Pieces.{piece_at}
-use Rattle.ts_line.specs.Steps.{◌>>=◌}
-use Rattle.ts_line.specs.Tags.{tags_at, next_tag}
+use Rattle.ts_line.specs.PartTexts.{piece_at}
+use Rattle.ts_line.specs.ReadSteps.{◌>>=◌}
+use Rattle.ts_line.specs.TagParts.{tags_at, next_tag}
 use Rattle.ts_line.specs.Fields.{fields_at}
 use Rattle.ts_line.specs.Lines.{content, measurement_at, time_at, parts_at, line_of}
 use Rattle.ts_line.specs.Spelling.{are_spaces, is_closed, written_piece, tags_text, tags_from, AreTags, field_spelling, more_fields_text, field_from, with_fields, IsSpelling}
@@ -25,7 +25,7 @@ use Rattle.ts_line.proofs.LineTold.{IsGap, gap_told, IsTimeAt, time_told, IsCont
 
 -- ---- the measurement
 
-pub record IsMeasurement (line : Text) (n : ℕ) (m : Piece) (end : ℕ) : Type 0 where
+pub record IsMeasurement (line : Text) (n : ℕ) (m : LinePart) (end : ℕ) : Type 0 where
   raw : Text
   spelled : drop n line ≡ raw ++ drop end line
   some : 1 ≤ length raw
@@ -40,7 +40,7 @@ comma_cases : (b : ℕ) (s : Bool) → eqb b 32 ≡ s → is_stop Comma b ≡ tr
 comma_cases b true s e = inr (eqb-true b 32 s)
 comma_cases b false s e = inl (grind (arith, nat_tests))
 
-measurement_told : (line : Text) (n : ℕ) (m : Piece × ℕ) → n ≤ length line → measurement_at line n ≡ Ok m → IsMeasurement line n m.0 m.1
+measurement_told : (line : Text) (n : ℕ) (m : LinePart × ℕ) → n ≤ length line → measurement_at line n ≡ Ok m → IsMeasurement line n m.0 m.1
 unfolding measurement_at
 measurement_told line n m le e =
     let end = end_of Comma line n in
@@ -51,7 +51,7 @@ measurement_told line n m le e =
     let some : n < end = let ne = b.0 in grind (arith, nat_tests) in
     let len : length raw ≡ end - n = slice_len line n end inside.0 inside.1 in
     let same : (piece_at Comma line n end, end) ≡ m = let all = b.1 in cc in
-    subst (λ (x : Piece × ℕ). IsMeasurement line n x.0 x.1) same (record {
+    subst (λ (x : LinePart × ℕ). IsMeasurement line n x.0 x.1) same (record {
       raw = raw;
       spelled = cut line n end inside.0;
       some = omega (arith, len, some);
@@ -65,8 +65,8 @@ measurement_told line n m le e =
 
 -- ---- tags end in the line
 
-inside_by : (n : ℕ) (before : List (Piece × Piece)) (line : Text) (at : ℕ) (r : List (Piece × Piece) × ℕ) (comma : Bool) → eqb (slice_index line at) 44 ≡ comma → at ≤ length line
-    → ((before' : List (Piece × Piece)) (at' : ℕ) → at' ≤ length line → tags_at n before' line at' ≡ Ok r → r.1 ≤ length line)
+inside_by : (n : ℕ) (before : List (LinePart × LinePart)) (line : Text) (at : ℕ) (r : List (LinePart × LinePart) × ℕ) (comma : Bool) → eqb (slice_index line at) 44 ≡ comma → at ≤ length line
+    → ((before' : List (LinePart × LinePart)) (at' : ℕ) → at' ≤ length line → tags_at n before' line at' ≡ Ok r → r.1 ≤ length line)
     → cond (eqb (slice_index line at) 44) (next_tag before line (at + 1) >>= λ t. tags_at n (before ++ t.0 ∷ []) line t.1) (Ok (before, at)) ≡ Ok r → r.1 ≤ length line
 inside_by n before line at r true comma le ih e =
     let step : (next_tag before line (at + 1) >>= λ t. tags_at n (before ++ t.0 ∷ []) line t.1) ≡ Ok r = rw comma at e in
@@ -77,19 +77,19 @@ inside_by n before line at r true comma le ih e =
 inside_by n before line at r false comma le ih e =
     let done : Ok (before, at) ≡ Ok r = rw comma at e in
     let same : (before, at) ≡ r = cc in
-    subst (λ (x : List (Piece × Piece) × ℕ). x.1 ≤ length line) same le
+    subst (λ (x : List (LinePart × LinePart) × ℕ). x.1 ≤ length line) same le
 
-tags_inside : (n : ℕ) (before : List (Piece × Piece)) (line : Text) (at : ℕ) (r : List (Piece × Piece) × ℕ) → at ≤ length line → tags_at n before line at ≡ Ok r → r.1 ≤ length line
+tags_inside : (n : ℕ) (before : List (LinePart × LinePart)) (line : Text) (at : ℕ) (r : List (LinePart × LinePart) × ℕ) → at ≤ length line → tags_at n before line at ≡ Ok r → r.1 ≤ length line
 unfolding tags_at
-tags_inside zero before line at r le e = let same : (before, at) ≡ r = cc in subst (λ (x : List (Piece × Piece) × ℕ). x.1 ≤ length line) same le
+tags_inside zero before line at r le e = let same : (before, at) ≡ r = cc in subst (λ (x : List (LinePart × LinePart) × ℕ). x.1 ≤ length line) same le
 tags_inside (suc n) before line at r le e = inside_by n before line at r (eqb (slice_index line at) 44) refl le (λ before' at'. tags_inside n before' line at' r) e
 
 -- ---- the parts from a place on
 
 pub record ArePartsAt (unit now : ℤ) (line : Text) (n : ℕ) (parts : Parts) : Type 0 where
-  m : Piece × ℕ
-  tags : List (Piece × Piece) × ℕ
-  fields : List (Piece × ℤ) × ℕ
+  m : LinePart × ℕ
+  tags : List (LinePart × LinePart) × ℕ
+  fields : List (LinePart × ℤ) × ℕ
   time : ℤ
   measurement_is : IsMeasurement line n m.0 m.1
   inside : tags.1 < length line
@@ -99,7 +99,7 @@ pub record ArePartsAt (unit now : ℤ) (line : Text) (n : ℕ) (parts : Parts) :
   time_is : IsTimeAt unit now line fields.1 time
   told : parts ≡ record { measurement = m.0; tags = tags.0; fields = fields.0; time = time }
 
-tags_gap : (unit now : ℤ) (line : Text) (n : ℕ) (parts : Parts) (m : Piece × ℕ) (tags : List (Piece × Piece) × ℕ) (fields : List (Piece × ℤ) × ℕ) (time : ℤ) → IsMeasurement line n m.0 m.1
+tags_gap : (unit now : ℤ) (line : Text) (n : ℕ) (parts : Parts) (m : LinePart × ℕ) (tags : List (LinePart × LinePart) × ℕ) (fields : List (LinePart × ℤ) × ℕ) (time : ℤ) → IsMeasurement line n m.0 m.1
     → tags_at 65 [] line m.1 ≡ Ok tags → eqb (spaces_end line tags.1) (length line) ≡ false → fields_at 256 [] line (spaces_end line tags.1) ≡ Ok fields → time_at unit now line fields.1 ≡ Ok time
     → parts ≡ record { measurement = m.0; tags = tags.0; fields = fields.0; time = time } → ArePartsAt unit now line n parts
 tags_gap unit now line n parts m tags fields time measurement tags_read more fields_read time_read told =
@@ -156,7 +156,7 @@ no_comment line raw rest n h lt e more is =
     let yes : eqb (slice_index line n) 35 ≡ true = grind (arith, nat_tests) in
     both_ways (eqb (slice_index line n) 35) e yes
 
-told_parts : (parts : Parts) (m : Piece) (tags : List (Piece × Piece)) (fields : List (Piece × ℤ)) (time : ℤ) (start m_end tags_end gap_end : ℕ) (raw : Text) (ts : List (Text × Text)) (gap : ℕ) (first : Text × Text) (more : List (Text × Text))
+told_parts : (parts : Parts) (m : LinePart) (tags : List (LinePart × LinePart)) (fields : List (LinePart × ℤ)) (time : ℤ) (start m_end tags_end gap_end : ℕ) (raw : Text) (ts : List (Text × Text)) (gap : ℕ) (first : Text × Text) (more : List (Text × Text))
     → parts ≡ record { measurement = m; tags = tags; fields = fields; time = time } → m ≡ written_piece Comma start raw → m_end ≡ start + length raw → tags ≡ tags_from m_end ts → tags_end ≡ m_end + length (tags_text ts)
     → gap_end ≡ tags_end + 1 + gap → fields ≡ with_fields (field_from gap_end first ∷ []) (gap_end + length (field_spelling first)) more
     → parts ≡ record {

@@ -3,13 +3,13 @@ use Rattle.std.proofs.Common.{◌≡◌, ℕ, suc, ◌+◌, ◌-◌, ◌≤◌, 
 use Rattle.std.proofs.lemmas.Bool.Decides.{nat_tests}
 use Rattle.ts_line.specs.declared.fault.LineFault.{LineFault}
 use Rattle.ts_core.specs.Facts.{Text}
-use Rattle.ts_line.specs.Parts.{Piece}
+use Rattle.ts_line.specs.Parts.{LinePart}
 use Rattle.ts_line.specs.declared.fault.ReadLineError.{ReadLineError}
 use Rattle.ts_line.specs.declared.fault.ReadLineError.TheVariants as errors
-use Rattle.ts_line.specs.Steps.{FailsIfRoom}
-use Rattle.ts_line.specs.Tags.{next_tag, tags_at}
+use Rattle.ts_line.specs.ReadSteps.{FailsIfRoom}
+use Rattle.ts_line.specs.TagParts.{next_tag, tags_at}
 
-pub tag_taken : (n : ℕ) (before : List (Piece × Piece)) (line : Text) (at : ℕ) (t : Piece × Piece) (end : ℕ) (total : Result (List (Piece × Piece) × ℕ) LineFault) → n ≤ 64 → slice_index line at ≡ 44
+pub tag_taken : (n : ℕ) (before : List (LinePart × LinePart)) (line : Text) (at : ℕ) (t : LinePart × LinePart) (end : ℕ) (total : Result (List (LinePart × LinePart) × ℕ) LineFault) → n ≤ 64 → slice_index line at ≡ 44
     → next_tag before line (at + 1) ≡ Ok (t, end) → tags_at (65 - n) before line at ≡ total → tags_at (65 - (n + 1)) (before ++ t ∷ []) line end ≡ total
 unfolding tags_at
 tag_taken n before line at t end total le comma read so_far =
@@ -17,7 +17,7 @@ tag_taken n before line at t end total le comma read so_far =
     let one : tags_at (65 - n) before line at ≡ tags_at (65 - (n + 1)) (before ++ t ∷ []) line end = rw (k, comma, read) refl in
     sym one ∙ so_far
 
-pub tag_failed : (n : ℕ) (before : List (Piece × Piece)) (line : Text) (at : ℕ) (f : LineFault) (total : Result (List (Piece × Piece) × ℕ) LineFault) → n ≤ 64 → slice_index line at ≡ 44
+pub tag_failed : (n : ℕ) (before : List (LinePart × LinePart)) (line : Text) (at : ℕ) (f : LineFault) (total : Result (List (LinePart × LinePart) × ℕ) LineFault) → n ≤ 64 → slice_index line at ≡ 44
     → next_tag before line (at + 1) ≡ Err f → tags_at (65 - n) before line at ≡ total → total ≡ Err f
 unfolding tags_at
 tag_failed n before line at f total le comma read so_far =
@@ -25,7 +25,7 @@ tag_failed n before line at f total le comma read so_far =
     let one : tags_at (65 - n) before line at ≡ Err f = rw (k, comma, read) refl in
     sym so_far ∙ one
 
-pub tags_ended : (n : ℕ) (before : List (Piece × Piece)) (line : Text) (at : ℕ) (total : Result (List (Piece × Piece) × ℕ) LineFault) → n ≤ 64 → (slice_index line at ≡ 44 → ⊥)
+pub tags_ended : (n : ℕ) (before : List (LinePart × LinePart)) (line : Text) (at : ℕ) (total : Result (List (LinePart × LinePart) × ℕ) LineFault) → n ≤ 64 → (slice_index line at ≡ 44 → ⊥)
     → tags_at (65 - n) before line at ≡ total → total ≡ Ok (before, at)
 unfolding tags_at
 tags_ended n before line at total le comma so_far =
@@ -33,7 +33,7 @@ tags_ended n before line at total le comma so_far =
     let one : tags_at (65 - n) before line at ≡ Ok (before, at) = let no : eqb (slice_index line at) 44 ≡ false = grind (arith, nat_tests) in rw (k, no) refl in
     sym so_far ∙ one
 
-pub tag_fails : (n : ℕ) (before : List (Piece × Piece)) (line : Text) (at : ℕ) (e : ReadLineError) (total : Result (List (Piece × Piece) × ℕ) LineFault) → n ≤ 64 → slice_index line at ≡ 44
+pub tag_fails : (n : ℕ) (before : List (LinePart × LinePart)) (line : Text) (at : ℕ) (e : ReadLineError) (total : Result (List (LinePart × LinePart) × ℕ) LineFault) → n ≤ 64 → slice_index line at ≡ 44
     → FailsIfRoom e (next_tag before line (at + 1)) → tags_at (65 - n) before line at ≡ total → FailsIfRoom e total
 tag_fails n before line at errors.OutOfMemory total le comma read so_far = tt
 tag_fails n before line at (errors.Fault f) total le comma read so_far = tag_failed n before line at f total le comma read so_far

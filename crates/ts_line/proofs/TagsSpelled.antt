@@ -6,15 +6,15 @@ use Rattle.std.proofs.lemmas.Slice.Eq.{bytes_eq-Decides}
 use Rattle.ts_core.specs.Facts.{Text}
 use Rattle.ts_core.specs.Members.{Among, AllDistinct}
 use Rattle.ts_line.specs.declared.scan.Stops.TheVariants.{Equals}
-use Rattle.ts_line.specs.Parts.{Piece}
+use Rattle.ts_line.specs.Parts.{LinePart}
 use Rattle.ts_line.specs.Scan.{end_of}
-use Rattle.ts_line.specs.Pieces.{unescaped, piece_at}
-use Rattle.ts_line.specs.Tags.{pair_at, has_key, next_tag, tags_at}
+use Rattle.ts_line.specs.PartTexts.{unescaped, piece_at}
+use Rattle.ts_line.specs.TagParts.{pair_at, has_key, next_tag, tags_at}
 use Rattle.ts_line.specs.Spelling.{IsWrittenPart, written_piece, tags_text, tags_from, tag_key, AreTags}
 use Rattle.ts_line.proofs.Suffixes.{At, at_next, at_byte, at_after, at_slice, is_end, at_end}
 
 abbrev Tags : Type 0
-Tags = List (Piece × Piece)
+Tags = List (LinePart × LinePart)
 
 -- a part that is read where it stands
 pub at_piece : (line raw rest : Text) (n end : ℕ) → At line n (raw ++ rest) → end ≡ n + length raw → piece_at Equals line n end ≡ written_piece Equals n raw
@@ -39,7 +39,7 @@ pair_read line k v rest n at kw vw e other =
     let one : eqb (slice_index line (n + length k + 1 + length v)) 61 ≡ false = not_eqb (slice_index line (n + length k + 1 + length v)) 61 other in
     let key = at_piece line k (61 ∷ (v ++ rest)) n (n + length k) at refl in
     let value = at_piece line v rest (n + length k + 1) (n + length k + 1 + length v) at_value refl in
-    rw (key_end, value_end, equals, some_key, some_value, one) (ap (λ (p : Piece × Piece). Ok (p, n + length k + 1 + length v)) (λ i. (key i, value i)))
+    rw (key_end, value_end, equals, some_key, some_value, one) (ap (λ (p : LinePart × LinePart). Ok (p, n + length k + 1 + length v)) (λ i. (key i, value i)))
 
 -- ---- keys that differ
 
@@ -51,10 +51,10 @@ pub distinct_mid : (y : Text) (xs ys : List Text) → AllDistinct (xs ++ y ∷ y
 distinct_mid y [] ys d a = a
 distinct_mid y (x ∷ xs) ys d a = ⊎_elim (λ e. d.0 (among_mid x y xs ys (sym e))) (λ later. distinct_mid y xs ys d.1 later) a
 
-abbrev pub piece_key : Piece × Piece → Text
+abbrev pub piece_key : LinePart × LinePart → Text
 piece_key t = t.0.text
 
-key_by : (b : Bool) (t : Piece × Piece) (ts : Tags) (key : Text) → bytes_eq t.0.text key ≡ b → (Among key (map piece_key (t ∷ ts)) → ⊥) → (has_key ts key ≡ false) → has_key (t ∷ ts) key ≡ false
+key_by : (b : Bool) (t : LinePart × LinePart) (ts : Tags) (key : Text) → bytes_eq t.0.text key ≡ b → (Among key (map piece_key (t ∷ ts)) → ⊥) → (has_key ts key ≡ false) → has_key (t ∷ ts) key ≡ false
 key_by true t ts key e absent ih = absurd (absent (inl (sym ((bytes_eq-Decides t.0.text key).0 e))))
 key_by false t ts key e absent ih = rw e ih
 
@@ -64,7 +64,7 @@ no_key (t ∷ ts) key absent = key_by (bytes_eq t.0.text key) t ts key refl abse
 
 -- ---- all tags
 
-pub map_snoc : (before : Tags) (t : Piece × Piece) (keys : List Text) → map piece_key (before ++ t ∷ []) ++ keys ≡ map piece_key before ++ piece_key t ∷ keys
+pub map_snoc : (before : Tags) (t : LinePart × LinePart) (keys : List Text) → map piece_key (before ++ t ∷ []) ++ keys ≡ map piece_key before ++ piece_key t ∷ keys
 map_snoc [] t keys = refl
 map_snoc (b ∷ before) t keys = ap (λ (ks : List Text). piece_key b ∷ ks) (map_snoc before t keys)
 
@@ -100,7 +100,7 @@ tags_read (t ∷ ts) line rest at (suc n) before h w d few fuel =
     let at_value : At line (at + 1 + length k + 1) (v ++ behind) = at_after line 61 (v ++ behind) (at + 1 + length k) at_equals in
     let end = at + 1 + length k + 1 + length v in
     let at_behind : At line end behind = at_next line v behind (at + 1 + length k + 1) at_value in
-    let tag : Piece × Piece = (written_piece Equals (at + 1) k, written_piece Equals (at + 1 + length k + 1) v) in
+    let tag : LinePart × LinePart = (written_piece Equals (at + 1) k, written_piece Equals (at + 1 + length k + 1) v) in
     let pair : pair_at line (at + 1) ≡ Ok (tag, end) = pair_read line k v behind (at + 1) at_key w.0.0 w.0.1 (tags_end ts rest) (tags_next ts line rest end at_behind) in
     let room : leb 64 (length before) ≡ false = grind (arith, nat_tests) in
     let other : bytes_eq (tag_key t) (codes "time") ≡ false = false_from_ne_true (bytes_eq (tag_key t) (codes "time")) (λ e. w.0.2 ((bytes_eq-Decides (tag_key t) (codes "time")).0 e)) in

@@ -9,17 +9,17 @@ use Rattle.ts_core.specs.Members.{Among, AllDistinct}
 use Rattle.ts_line.specs.declared.fault.LineFaultKind.TheVariants.{BadTag, RepeatedTagKey, OverLimit, ReservedKey}
 use Rattle.ts_line.specs.FaultText.{fault_at}
 use Rattle.ts_line.specs.declared.scan.Stops.TheVariants.{Equals}
-use Rattle.ts_line.specs.Parts.{Piece}
+use Rattle.ts_line.specs.Parts.{LinePart}
 use Rattle.ts_line.specs.Scan.{is_stop, end_of}
-use Rattle.ts_line.specs.Pieces.{piece_at}
-use Rattle.ts_line.specs.Tags.{pair_at, has_key, next_tag, tags_at}
-use Rattle.ts_line.specs.Steps.{◌>>=◌}
+use Rattle.ts_line.specs.PartTexts.{piece_at}
+use Rattle.ts_line.specs.TagParts.{pair_at, has_key, next_tag, tags_at}
+use Rattle.ts_line.specs.ReadSteps.{◌>>=◌}
 use Rattle.ts_line.specs.Spelling.{IsWrittenPart, written_piece, tags_text, tags_from, tag_key, AreTags}
 use Rattle.ts_line.proofs.TagsSpelled.{piece_key, flat, map_snoc}
 use Rattle.ts_line.proofs.PartsTold.{bind_ok, not_err, cut, first_of, slice_len, within, end_within, part_closes}
 
 abbrev Tags : Type 0
-Tags = List (Piece × Piece)
+Tags = List (LinePart × LinePart)
 
 -- a part ended there, or the line did
 abbrev pub EndsKey : Text → ℕ → Type 0
@@ -27,7 +27,7 @@ EndsKey line n = n < length line → (slice_index line n ≡ 44) ⊎ (slice_inde
 
 -- ---- a pair
 
-pub record IsPair (line : Text) (n : ℕ) (t : Piece × Piece) (end : ℕ) : Type 0 where
+pub record IsPair (line : Text) (n : ℕ) (t : LinePart × LinePart) (end : ℕ) : Type 0 where
   pub key : Text
   pub value : Text
   pub spelled : drop n line ≡ key ++ (61 ∷ (value ++ drop end line))
@@ -46,7 +46,7 @@ ends_cases b false s e other = inl (grind (arith, nat_tests))
 ends_with : (b : ℕ) → is_stop Equals b ≡ true → eqb b 61 ≡ false → (b ≡ 44) ⊎ (b ≡ 32)
 ends_with b e other = ends_cases b (eqb b 32) refl e other
 
-pub pair_told : (line : Text) (n : ℕ) (t : Piece × Piece) (end : ℕ) → n ≤ length line → pair_at line n ≡ Ok (t, end) → IsPair line n t end
+pub pair_told : (line : Text) (n : ℕ) (t : LinePart × LinePart) (end : ℕ) → n ≤ length line → pair_at line n ≡ Ok (t, end) → IsPair line n t end
 unfolding pair_at
 pair_told line n t end le e =
     let key_end = end_of Equals line n in
@@ -67,7 +67,7 @@ pair_told line n t end le e =
     let value_len : length value ≡ value_end - (key_end + 1) = slice_len line (key_end + 1) value_end value_in.0 value_in.1 in
     let back : n + length key ≡ key_end = omega (arith, key_len) in
     let whole : ((piece_at Equals line n key_end, piece_at Equals line (key_end + 1) value_end), value_end) ≡ (t, end) = let same = all.1 in cc in
-    let end_is : value_end ≡ end = ap (λ (p : (Piece × Piece) × ℕ). p.1) whole in
+    let end_is : value_end ≡ end = ap (λ (p : (LinePart × LinePart) × ℕ). p.1) whole in
     subst (λ (m : ℕ). IsPair line n t m) end_is (record {
       key = key;
       value = value;
@@ -75,7 +75,7 @@ pair_told line n t end le e =
       key_is = record { some = omega (arith, key_len); closed = (part_closes Equals line n le key_lt).0 };
       some_value = omega (arith, value_len);
       value_is = λ lt. record { some = omega (arith, value_len); closed = (part_closes Equals line (key_end + 1) (omega arith) lt).0 };
-      told = sym (ap (λ (p : (Piece × Piece) × ℕ). p.0) whole) ∙ ap (λ m. (written_piece Equals n key, written_piece Equals (m + 1) value)) (sym back);
+      told = sym (ap (λ (p : (LinePart × LinePart) × ℕ). p.0) whole) ∙ ap (λ m. (written_piece Equals n key, written_piece Equals (m + 1) value)) (sym back);
       end_is = omega (arith, key_len, value_len);
       inside = value_in.1;
       ends = λ lt. ends_with (slice_index line value_end) (part_closes Equals line (key_end + 1) (omega arith) lt).1 a.1;
@@ -109,13 +109,13 @@ key_missing (t ∷ ts) key e a =
     ⊎_elim (λ is. both_ways (bytes_eq t.0.text key) p.0 ((bytes_eq-Decides t.0.text key).1 (sym is))) (λ later. key_missing ts key p.1 later) a
 
 -- what a tag that was taken tells
-pub record IsTag (before : Tags) (line : Text) (n : ℕ) (tag : Piece × Piece) (next : ℕ) : Type 0 where
+pub record IsTag (before : Tags) (line : Text) (n : ℕ) (tag : LinePart × LinePart) (next : ℕ) : Type 0 where
   pub pair : IsPair line n tag next
   pub room : length before < 64
   pub other : bytes_eq (piece_key tag) (codes "time") ≡ false
   pub new : has_key before (piece_key tag) ≡ false
 
-pub tag_is : (before : Tags) (line : Text) (n : ℕ) (t : (Piece × Piece) × ℕ) → n ≤ length line → next_tag before line n ≡ Ok t → IsTag before line n t.0 t.1
+pub tag_is : (before : Tags) (line : Text) (n : ℕ) (t : (LinePart × LinePart) × ℕ) → n ≤ length line → next_tag before line n ≡ Ok t → IsTag before line n t.0 t.1
 unfolding next_tag
 tag_is before line n t le e =
     let p = bind_ok (pair_at line n) _ t e in
@@ -124,7 +124,7 @@ tag_is before line n t le e =
     let new = not_err (has_key before p.0.0.0.text) (fault_at RepeatedTagKey n) _ t other.1 in
     let same : p.0 ≡ t = let all = new.1 in cc in
     let less : length before < 64 = let r = room.0 in grind (arith, nat_tests) in
-    subst (λ (x : (Piece × Piece) × ℕ). IsTag before line n x.0 x.1) same (record { pair = pair_told line n p.0.0 p.0.1 le p.1; room = less; other = other.0; new = new.0 })
+    subst (λ (x : (LinePart × LinePart) × ℕ). IsTag before line n x.0 x.1) same (record { pair = pair_told line n p.0.0 p.0.1 le p.1; room = less; other = other.0; new = new.0 })
 
 next_inside : (line : Text) (tags : List (Text × Text)) (next end : ℕ) → next ≤ length line → end < length line → drop next line ≡ tags_text tags ++ drop end line → next < length line
 next_inside line tags next end le lt spelled = omega (arith, ap length spelled, length-append (tags_text tags) (drop end line), length-drop next line, length-drop end line)
@@ -135,24 +135,24 @@ join_text line key value tags at next end here byte first later =
     first_of line at here ∙ ap (λ b. b ∷ drop (at + 1) line) byte
     ∙ ap (λ (x : Text). 44 ∷ x) (first ∙ ap (λ (x : Text). key ++ (61 ∷ (value ++ x))) later ∙ sym (flat key value (tags_text tags) (drop end line)))
 
-join_told : (before out : Tags) (tag : Piece × Piece) (key value : Text) (tags : List (Text × Text)) (at next : ℕ) → out ≡ (before ++ tag ∷ []) ++ tags_from next tags
+join_told : (before out : Tags) (tag : LinePart × LinePart) (key value : Text) (tags : List (Text × Text)) (at next : ℕ) → out ≡ (before ++ tag ∷ []) ++ tags_from next tags
     → next ≡ at + 1 + length key + 1 + length value → tag ≡ (written_piece Equals (at + 1) key, written_piece Equals (at + 1 + length key + 1) value) → out ≡ before ++ tags_from at ((key, value) ∷ tags)
 join_told before out tag key value tags at next later at_is is =
     later ∙ ap (λ m. (before ++ tag ∷ []) ++ tags_from m tags) at_is
-    ∙ ap (λ (t : Piece × Piece). (before ++ t ∷ []) ++ tags_from (at + 1 + length key + 1 + length value) tags) is
+    ∙ ap (λ (t : LinePart × LinePart). (before ++ t ∷ []) ++ tags_from (at + 1 + length key + 1 + length value) tags) is
     ∙ append_assoc before ((written_piece Equals (at + 1) key, written_piece Equals (at + 1 + length key + 1) value) ∷ []) (tags_from (at + 1 + length key + 1 + length value) tags)
 
-join_keys : (before : Tags) (tag : Piece × Piece) (key value : Text) (tags : List (Text × Text)) → piece_key tag ≡ tag_key (key, value) → AllDistinct (map piece_key (before ++ tag ∷ []) ++ map tag_key tags)
+join_keys : (before : Tags) (tag : LinePart × LinePart) (key value : Text) (tags : List (Text × Text)) → piece_key tag ≡ tag_key (key, value) → AllDistinct (map piece_key (before ++ tag ∷ []) ++ map tag_key tags)
     → AllDistinct (map piece_key before ++ map tag_key ((key, value) ∷ tags))
 join_keys before tag key value tags key_is d =
     subst (λ (ks : List Text). AllDistinct ks) (map_snoc before tag (map tag_key tags) ∙ ap (λ k. map piece_key before ++ k ∷ map tag_key tags) key_is) d
 
-joined : (before : Tags) (line : Text) (at : ℕ) (out : Tags) (end : ℕ) (tag : Piece × Piece) (next : ℕ) → at < length line → slice_index line at ≡ 44 → end < length line
+joined : (before : Tags) (line : Text) (at : ℕ) (out : Tags) (end : ℕ) (tag : LinePart × LinePart) (next : ℕ) → at < length line → slice_index line at ≡ 44 → end < length line
     → IsTag before line (at + 1) tag next → AreTold line next (before ++ tag ∷ []) out end → AreTold line at before out end
 joined before line at out end tag next here byte lt is later =
     let pair = is.pair in
     let inside : next < length line = next_inside line later.tags next end pair.inside lt later.spelled in
-    let key_is : piece_key tag ≡ tag_key (pair.key, pair.value) = ap (λ (t : Piece × Piece). t.0.text) pair.told in
+    let key_is : piece_key tag ≡ tag_key (pair.key, pair.value) = ap (λ (t : LinePart × LinePart). t.0.text) pair.told in
     record {
       tags = (pair.key, pair.value) ∷ later.tags;
       spelled = join_text line pair.key pair.value later.tags at next end here byte pair.spelled later.spelled;
@@ -164,7 +164,7 @@ joined before line at out end tag next here byte lt is later =
       behind = later.behind;
     }
 
-taken : (n : ℕ) (before : Tags) (line : Text) (at : ℕ) (out : Tags) (end : ℕ) (tag : Piece × Piece) (next : ℕ) → at < length line → slice_index line at ≡ 44 → end < length line → AllDistinct (map piece_key before)
+taken : (n : ℕ) (before : Tags) (line : Text) (at : ℕ) (out : Tags) (end : ℕ) (tag : LinePart × LinePart) (next : ℕ) → at < length line → slice_index line at ≡ 44 → end < length line → AllDistinct (map piece_key before)
     → suc n + length before ≡ 65 → IsTag before line (at + 1) tag next
     → ((before' : Tags) (at' : ℕ) → at' ≤ length line → end < length line → EndsKey line at' → AllDistinct (map piece_key before') → length before' ≤ 64 → n + length before' ≡ 65 → tags_at n before' line at' ≡ Ok (out, end) → AreTold line at' before' out end)
     → tags_at n (before ++ tag ∷ []) line next ≡ Ok (out, end) → AreTold line at before out end

@@ -7,7 +7,7 @@ use Rattle.ts_core.specs.Facts.{Text}
 use Rattle.ts_line.specs.declared.scan.Stops.{Stops}
 use Rattle.ts_line.specs.declared.scan.Stops.TheVariants.{Space, Comma, Equals, Plain}
 use Rattle.ts_line.specs.Scan.{is_backslash, is_stop, is_escaped, ends, part_len}
-use Rattle.ts_line.specs.Pieces.{unescaped}
+use Rattle.ts_line.specs.PartTexts.{unescaped}
 
 -- the byte may be escaped in such a part
 abbrev pub is_escapable : Stops → ℕ → Bool

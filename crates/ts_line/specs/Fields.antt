@@ -5,14 +5,14 @@ use Rattle.ts_line.specs.declared.fault.LineFault.{LineFault}
 use Rattle.ts_line.specs.declared.fault.LineFaultKind.TheVariants.{BadField, OverLimit, ReservedKey}
 use Rattle.ts_line.specs.FaultText.{fault_at}
 use Rattle.ts_line.specs.declared.scan.Stops.TheVariants.{Equals}
-use Rattle.ts_line.specs.Parts.{Piece}
+use Rattle.ts_line.specs.Parts.{LinePart}
 use Rattle.ts_line.specs.Scan.{end_of}
-use Rattle.ts_line.specs.Pieces.{piece_at}
-use Rattle.ts_line.specs.Steps.{◌>>=◌}
+use Rattle.ts_line.specs.PartTexts.{piece_at}
+use Rattle.ts_line.specs.ReadSteps.{◌>>=◌}
 use Rattle.ts_line.specs.Values.{value_begun_at}
 
 -- the field that begins at `start`, and its end
-unfoldable pub next_field : Text → ℕ → Result ((Piece × ℤ) × ℕ) LineFault
+unfoldable pub next_field : Text → ℕ → Result ((LinePart × ℤ) × ℕ) LineFault
 next_field line start =
     let key_end = end_of Equals line start in
     let key = piece_at Equals line start key_end in
@@ -21,17 +21,17 @@ next_field line start =
     (value_begun_at start line (key_end + 1) >>= λ v. Ok ((key, v.0), v.1)))
 
 -- the place of the first field of a name, where the first field is at `at`
-abbrev pub place_from : ℕ → Text → List (Piece × ℤ) → Option ℕ
+abbrev pub place_from : ℕ → Text → List (LinePart × ℤ) → Option ℕ
 place_from at name [] = None
 place_from at name (f ∷ fs) = if bytes_eq f.0.text name then Some at else place_from (at + 1) name fs
 
 -- a field behind others. A name that stands already keeps its place, and has the last value
-abbrev pub with_field : List (Piece × ℤ) → Piece × ℤ → List (Piece × ℤ)
+abbrev pub with_field : List (LinePart × ℤ) → LinePart × ℤ → List (LinePart × ℤ)
 with_field [] f = f ∷ []
 with_field (g ∷ gs) f = if bytes_eq g.0.text f.0.text then ((g.0, f.1) ∷ gs) else (g ∷ with_field gs f)
 
 -- the fields from `at` on, with commas between them, put behind others, and the end of the last; so many are taken
-unfoldable pub fields_at : ℕ → List (Piece × ℤ) → Text → ℕ → Result (List (Piece × ℤ) × ℕ) LineFault
+unfoldable pub fields_at : ℕ → List (LinePart × ℤ) → Text → ℕ → Result (List (LinePart × ℤ) × ℕ) LineFault
 fields_at zero before line at = Err (fault_at OverLimit at)
 fields_at (suc n) before line at = next_field line at >>= λ f.
     if slice_index line f.1 == 44 then fields_at n (with_field before f.0) line (f.1 + 1) else Ok (with_field before f.0, f.1)

@@ -3,9 +3,9 @@ pub mod Sorting
 pub mod FaultText
 pub mod Numbers
 pub mod Scan
-pub mod Pieces
-pub mod Steps
-pub mod Tags
+pub mod PartTexts
+pub mod ReadSteps
+pub mod TagParts
 pub mod Values
 pub mod Fields
 pub mod Lines

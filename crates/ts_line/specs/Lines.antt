@@ -8,12 +8,12 @@ use Rattle.ts_line.specs.declared.fault.LineFault.{LineFault}
 use Rattle.ts_line.specs.declared.fault.LineFaultKind.TheVariants.{NoMeasurement, NoField, BadTimestamp, TimestampRange, OverLimit}
 use Rattle.ts_line.specs.FaultText.{fault_at}
 use Rattle.ts_line.specs.declared.scan.Stops.TheVariants.{Space, Comma}
-use Rattle.ts_line.specs.Parts.{Piece, Parts}
+use Rattle.ts_line.specs.Parts.{LinePart, Parts}
 use Rattle.ts_line.specs.Numbers.{is_number, is_from_to}
 use Rattle.ts_line.specs.Scan.{is_backslash, end_of, spaces_end}
-use Rattle.ts_line.specs.Pieces.{piece_at}
-use Rattle.ts_line.specs.Steps.{◌>>=◌}
-use Rattle.ts_line.specs.Tags.{tags_at}
+use Rattle.ts_line.specs.PartTexts.{piece_at}
+use Rattle.ts_line.specs.ReadSteps.{◌>>=◌}
+use Rattle.ts_line.specs.TagParts.{tags_at}
 use Rattle.ts_line.specs.Fields.{fields_at}
 
 -- a space that no backslash escapes
@@ -34,7 +34,7 @@ unfoldable pub content : Text → Text
 content source = take (trimmed source (without_return source)) source
 
 -- the measurement, and its end; with the tags it has no more than 4,096 bytes
-unfoldable pub measurement_at : Text → ℕ → Result (Piece × ℕ) LineFault
+unfoldable pub measurement_at : Text → ℕ → Result (LinePart × ℕ) LineFault
 measurement_at line start =
     if nat_lt (start + 4096) (end_of Space line start) then Err (fault_at OverLimit (start + 4096)) else
     (if end_of Comma line start == start then Err (fault_at NoMeasurement start) else Ok (piece_at Comma line start (end_of Comma line start), end_of Comma line start))

@@ -6,19 +6,19 @@ use Rattle.ts_core.specs.Facts.{Text, text_cmp, Series, Fact}
 use Rattle.ts_core.specs.Members.{AllDistinct}
 
 -- a part of a line: where it starts, its bytes there, and the text that they spell
-pub record Piece : Type 0 where
+pub record LinePart : Type 0 where
   pub start : ℕ
   pub raw : Text
   pub text : Text
 
 -- what a line says, part by part in the order of the line; of a repeated field key the value that stands last
 pub record Parts : Type 0 where
-  pub measurement : Piece
-  pub tags : List (Piece × Piece)
-  pub fields : List (Piece × ℤ)
+  pub measurement : LinePart
+  pub tags : List (LinePart × LinePart)
+  pub fields : List (LinePart × ℤ)
   pub time : ℤ
 
-abbrev pub tag_texts : Piece × Piece → Text × Text
+abbrev pub tag_texts : LinePart × LinePart → Text × Text
 tag_texts t = (t.0.text, t.1.text)
 
 -- the series: the order of tags in the line doesn't matter
@@ -28,23 +28,23 @@ series_of p = record {
   tags = finmap.entries (finmap.from_entries {R = text_cmp} (map tag_texts p.tags));
 }
 
-abbrev pub fact_of : Parts → Piece × ℤ → Fact
+abbrev pub fact_of : Parts → LinePart × ℤ → Fact
 fact_of p field = record { column = record { series = series_of p; field = field.0.text }; time = p.time; value = field.1 }
 
 -- one fact for each field
-abbrev pub facts_of : Parts → List Fact
-facts_of p = map (fact_of p) p.fields
+abbrev pub line_facts : Parts → List Fact
+line_facts p = map (fact_of p) p.fields
 
-abbrev pub field_text : Piece × ℤ → Text
+abbrev pub field_text : LinePart × ℤ → Text
 field_text f = f.0.text
 
 -- the fields of a line: some, no more than 256, no two of one name
-pub record AreFields (fields : List (Piece × ℤ)) : Type 0 where
+pub record AreFields (fields : List (LinePart × ℤ)) : Type 0 where
   pub some : 1 ≤ length fields
   pub few : length fields ≤ 256
   pub once : AllDistinct (map field_text fields)
 
 -- the tags and the fields of a line: no more than 64 tags
-pub record AreParts (ts : List (Piece × Piece)) (fs : List (Piece × ℤ)) : Type 0 where
+pub record AreParts (ts : List (LinePart × LinePart)) (fs : List (LinePart × ℤ)) : Type 0 where
   pub few_tags : length ts ≤ 64
   pub fields : AreFields fs

@@ -10,9 +10,9 @@ use Rattle.ts_core.specs.Times.{IsTime}
 use Rattle.ts_line.specs.declared.scan.Stops.{Stops}
 use Rattle.ts_line.specs.declared.scan.Stops.TheVariants.{Comma, Equals}
 use Rattle.ts_line.specs.Numbers.{is_number}
-use Rattle.ts_line.specs.Parts.{Piece, Parts}
+use Rattle.ts_line.specs.Parts.{LinePart, Parts}
 use Rattle.ts_line.specs.Scan.{is_escaped, ends}
-use Rattle.ts_line.specs.Pieces.{unescaped}
+use Rattle.ts_line.specs.PartTexts.{unescaped}
 use Rattle.ts_line.specs.Fields.{with_field}
 
 abbrev pub are_spaces : Text → Bool
@@ -28,7 +28,7 @@ pub record IsWrittenPart (stops : Stops) (raw : Text) : Type 0 where
   pub some : 1 ≤ length raw
   pub closed : is_closed stops 0 raw ≡ true
 
-abbrev pub written_piece : Stops → ℕ → Text → Piece
+abbrev pub written_piece : Stops → ℕ → Text → LinePart
 written_piece stops start raw = record { start = start; raw = raw; text = unescaped stops raw }
 
 -- ---- tags
@@ -38,7 +38,7 @@ tags_text [] = []
 tags_text (t ∷ ts) = codes "," ++ (t.0 ++ (codes "=" ++ (t.1 ++ tags_text ts)))
 
 -- the tags, where the comma of the first stands at `at`
-abbrev pub tags_from : ℕ → List (Text × Text) → List (Piece × Piece)
+abbrev pub tags_from : ℕ → List (Text × Text) → List (LinePart × LinePart)
 tags_from at [] = []
 tags_from at (t ∷ ts) =
     (written_piece Equals (at + 1) t.0, written_piece Equals (at + 1 + length t.0 + 1) t.1) ∷ tags_from (at + 1 + length t.0 + 1 + length t.1) ts
@@ -62,11 +62,11 @@ abbrev pub IsWrittenField : Text × Text → Type 0
 IsWrittenField f = IsWrittenPart Equals f.0 × (unescaped Equals f.0 ≡ codes "time" → ⊥) × (is_number f.1 ≡ true) × FitsSigned w64 (signed_digits_value 10 f.1)
 
 -- a field that starts there
-abbrev pub field_from : ℕ → Text × Text → Piece × ℤ
+abbrev pub field_from : ℕ → Text × Text → LinePart × ℤ
 field_from at f = (written_piece Equals at f.0, signed_digits_value 10 f.1)
 
 -- more fields behind others, where the comma of the first stands at `at`; of one name the last value counts
-abbrev pub with_fields : List (Piece × ℤ) → ℕ → List (Text × Text) → List (Piece × ℤ)
+abbrev pub with_fields : List (LinePart × ℤ) → ℕ → List (Text × Text) → List (LinePart × ℤ)
 with_fields before at [] = before
 with_fields before at (f ∷ fs) = with_fields (with_field before (field_from (at + 1) f)) (at + 1 + length (field_spelling f)) fs
 

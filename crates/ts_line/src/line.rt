@@ -30,9 +30,9 @@ pub struct Part<'a, A: Allocator> {
 
 impl<'a, A: Allocator> Model for Part<'a, A> {
     ghost use Rattle.std.specs.Cow.{cow_str_bytes};
-    ghost use Rattle.ts_line.specs.Parts.{Piece};
+    ghost use Rattle.ts_line.specs.Parts.{LinePart};
 
-    ghost Value = { Piece };
+    ghost Value = { LinePart };
 
     ghost view = { λ p. record { start = p.start; raw = p.raw.now; text = cow_str_bytes p.text } };
 }
@@ -75,9 +75,9 @@ pub struct Tag<'a, A: Allocator> {
 }
 
 impl<'a, A: Allocator> Model for Tag<'a, A> {
-    ghost use Rattle.ts_line.specs.Parts.{Piece};
+    ghost use Rattle.ts_line.specs.Parts.{LinePart};
 
-    ghost Value = { Piece × Piece };
+    ghost Value = { LinePart × LinePart };
 
     ghost view = { λ t. (t.key, t.value) };
 }
@@ -113,9 +113,9 @@ pub struct Field<'a, A: Allocator> {
 
 impl<'a, A: Allocator> Model for Field<'a, A> {
     ghost use Rattle.std.specs.Prelude.{ℤ};
-    ghost use Rattle.ts_line.specs.Parts.{Piece};
+    ghost use Rattle.ts_line.specs.Parts.{LinePart};
 
-    ghost Value = { Piece × ℤ };
+    ghost Value = { LinePart × ℤ };
 
     ghost view = { λ f. (f.name, f.value) };
 }

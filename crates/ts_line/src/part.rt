@@ -4,7 +4,7 @@ ghost use Rattle.std.specs.Cow.{cow_str_bytes};
 ghost use Rattle.std.specs.List.{list_any};
 ghost use Rattle.std.specs.Str.{IsCharBoundary};
 ghost use Rattle.ts_line.specs.Scan.{is_backslash, is_stop};
-ghost use Rattle.ts_line.specs.Pieces.{begins_escapable, unescaped, piece_at};
+ghost use Rattle.ts_line.specs.PartTexts.{begins_escapable, unescaped, piece_at};
 
 use crate::line::Part;
 use crate::scan::{End, Stops, after, is_stop};

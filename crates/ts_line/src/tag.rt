@@ -1,8 +1,8 @@
 //! The tags of a line.
 ghost use Rattle.std.specs.Prelude.{◌≡◌, ◌<◌, ◌≤◌, length, [], IfOk};
 ghost use Rattle.std.specs.Str.{IsCharBoundary};
-ghost use Rattle.ts_line.specs.Steps.{GivesIfRoom};
-ghost use Rattle.ts_line.specs.Tags.{has_key, next_tag, tags_at};
+ghost use Rattle.ts_line.specs.ReadSteps.{GivesIfRoom};
+ghost use Rattle.ts_line.specs.TagParts.{has_key, next_tag, tags_at};
 
 use crate::fault::{LineFaultKind, ReadLineError};
 use crate::line::{TAG_LIMIT, Tag};
@@ -18,7 +18,7 @@ fn has_key<A: Allocator>(tags: &[Tag<'_, A>], key: &str) -> bool
 }
 
 /// The tag that begins at `start`, behind others, and its end.
-#[tactic(auto, unfolding(crate::specs::Tags::pair_at, crate::specs::Tags::next_tag))]
+#[tactic(auto, unfolding(crate::specs::TagParts::pair_at, crate::specs::TagParts::next_tag))]
 fn next<'a, A: Allocator + Copy>(
     alloc: A,
     before: &[Tag<'a, A>],

@@ -10,16 +10,16 @@ use Rattle.std.proofs.Math.Nat.{mul-le-mul_left}
 use Rattle.std.proofs.lemmas.Bool.Decides.{nat_tests}
 use Rattle.ts_core.specs.Facts.{Text}
 use Rattle.ts_ql.proofs.LexingLemmas.{next_byte}
-use Rattle.ts_ql.specs.Literals.{added_up, within, escape, spelled}
+use Rattle.ts_ql.specs.Literals.{units_added_up, within, escape, characters_spelled}
 use Rattle.ts_ql.specs.DurationUnits.{nanos_of_unit}
 
 -- ---- numbers
 
 pub added_up_step : (total number : ℕ) (text : Text) (i : ℕ) → i < length text
-    → added_up total number (drop i text) ≡ cond (is_ascii_digit (get_or text i 0))
-    (added_up total (number * 10 + (get_or text i 0 - 48)) (drop (i + 1) text))
-    (added_up (total + number * nanos_of_unit (get_or text i 0) (get_or text (i + 1) 0)) 0 (drop (i + 1) text))
-added_up_step total number text i lt = at_drop_more (added_up total number) text i 0 lt ∙ rw (next_byte text i) refl
+    → units_added_up total number (drop i text) ≡ cond (is_ascii_digit (get_or text i 0))
+    (units_added_up total (number * 10 + (get_or text i 0 - 48)) (drop (i + 1) text))
+    (units_added_up (total + number * nanos_of_unit (get_or text i 0) (get_or text (i + 1) 0)) 0 (drop (i + 1) text))
+added_up_step total number text i lt = at_drop_more (units_added_up total number) text i 0 lt ∙ rw (next_byte text i) refl
 
 unit_some : (byte next : ℕ) → 1 ≤ nanos_of_unit byte next
 unfolding nanos_of_unit
@@ -30,19 +30,19 @@ least_by true n x y h k = h
 least_by false n x y h k = k
 
 -- what is added up never falls
-pub at_least : (total number : ℕ) (text : Text) → total + number ≤ added_up total number text
+pub at_least : (total number : ℕ) (text : Text) → total + number ≤ units_added_up total number text
 at_least total number [] = omega arith
 at_least total number (b ∷ bs) =
     let digit = at_least total (number * 10 + (b - 48)) bs in
     let other = at_least (total + number * nanos_of_unit b (get_or bs 0 0)) 0 bs in
     let some = mul-le-mul_left number (unit_some b (get_or bs 0 0)) in
-    least_by (is_ascii_digit b) (total + number) (added_up total (number * 10 + (b - 48)) bs) (added_up (total + number * nanos_of_unit b (get_or bs 0 0)) 0 bs) (omega arith) (omega arith)
+    least_by (is_ascii_digit b) (total + number) (units_added_up total (number * 10 + (b - 48)) bs) (units_added_up (total + number * nanos_of_unit b (get_or bs 0 0)) 0 bs) (omega arith) (omega arith)
 
 pub none_within : (limit n : ℕ) → limit ≤ n → None ≡ within limit n
 none_within limit n le = rw (le-ltb n limit le) refl
 
 -- past the limit with one digit more
-pub digit_past : (total number limit : ℕ) (text : Text) (i whole : ℕ) → i < length text → added_up total number (drop i text) ≡ whole
+pub digit_past : (total number limit : ℕ) (text : Text) (i whole : ℕ) → i < length text → units_added_up total number (drop i text) ≡ whole
     → is_ascii_digit (get_or text i 0) ≡ true → (number * 10 + (get_or text i 0 - 48) < limit → ⊥) → None ≡ within limit whole
 digit_past total number limit text i whole lt is digit past =
     let step = added_up_step total number text i lt in
@@ -51,7 +51,7 @@ digit_past total number limit text i whole lt is digit past =
     none_within limit whole (omega arith)
 
 -- past the limit with one number more
-pub unit_past : (total number limit : ℕ) (text : Text) (i whole : ℕ) → i < length text → added_up total number (drop i text) ≡ whole
+pub unit_past : (total number limit : ℕ) (text : Text) (i whole : ℕ) → i < length text → units_added_up total number (drop i text) ≡ whole
     → is_ascii_digit (get_or text i 0) ≡ false → (total + number * nanos_of_unit (get_or text i 0) (get_or text (i + 1) 0) < limit → ⊥) → None ≡ within limit whole
 unit_past total number limit text i whole lt is digit past =
     let step = added_up_step total number text i lt in
@@ -63,18 +63,18 @@ unit_past total number limit text i whole lt is digit past =
 
 -- what is spelled after these bytes, from a text on
 abbrev pub spelled_on : Text → Bool → Text → Text
-spelled_on before escaped text = before ++ encode_utf8_all (spelled escaped (chars text))
+spelled_on before escaped text = before ++ encode_utf8_all (characters_spelled escaped (chars text))
 
 pub spelled_escape : (before text rest : Text) (c : ℕ) → IsUtf8 text → text ≡ encode_utf8 c ++ rest → spelled_on before true text ≡ spelled_on (before ++ encode_utf8 (escape c)) false rest
 spelled_escape before text rest c utf8 e =
-    rw (chars_past_char text rest c utf8 e) (sym (append_assoc before (encode_utf8 (escape c)) (encode_utf8_all (spelled false (chars rest)))))
+    rw (chars_past_char text rest c utf8 e) (sym (append_assoc before (encode_utf8 (escape c)) (encode_utf8_all (characters_spelled false (chars rest)))))
 
 pub spelled_backslash : (before text rest : Text) (c : ℕ) → IsUtf8 text → text ≡ encode_utf8 c ++ rest → c ≡ 92 → spelled_on before false text ≡ spelled_on before true rest
 spelled_backslash before text rest c utf8 e is = rw (chars_past_char text rest c utf8 e, eq-eqb c 92 is) refl
 
 pub spelled_plain : (before text rest : Text) (c : ℕ) → IsUtf8 text → text ≡ encode_utf8 c ++ rest → (c ≡ 92 → ⊥) → spelled_on before false text ≡ spelled_on (before ++ encode_utf8 c) false rest
 spelled_plain before text rest c utf8 e is =
-    rw (chars_past_char text rest c utf8 e, ne_eqb c 92 is) (sym (append_assoc before (encode_utf8 c) (encode_utf8_all (spelled false (chars rest)))))
+    rw (chars_past_char text rest c utf8 e, ne_eqb c 92 is) (sym (append_assoc before (encode_utf8 c) (encode_utf8_all (characters_spelled false (chars rest)))))
 
 no_chars : (text : Text) → length text ≡ 0 → chars text ≡ []
 unfolding chars

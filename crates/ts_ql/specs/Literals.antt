@@ -10,15 +10,15 @@ use Rattle.ts_ql.specs.DurationUnits.{Unit, unit_text, unit_nanos, nanos_of_unit
 
 -- the numbers with their units added up, after a total and a number so far; a number without a unit counts as it is.
 -- (The second byte of a unit has no number before it, and adds nothing.)
-abbrev pub added_up : ℕ → ℕ → Text → ℕ
-added_up total number [] = total + number
-added_up total number (b ∷ bs) =
-    if is_ascii_digit b then added_up total (number * 10 + (b - 48)) bs
-    else added_up (total + number * nanos_of_unit b (slice_index bs 0)) 0 bs
+abbrev pub units_added_up : ℕ → ℕ → Text → ℕ
+units_added_up total number [] = total + number
+units_added_up total number (b ∷ bs) =
+    if is_ascii_digit b then units_added_up total (number * 10 + (b - 48)) bs
+    else units_added_up (total + number * nanos_of_unit b (slice_index bs 0)) 0 bs
 
 -- what an integer counts, or how many nanoseconds a duration has
 unfoldable pub magnitude : Text → ℕ
-magnitude text = added_up 0 0 text
+magnitude text = units_added_up 0 0 text
 
 -- ---- the same as it is written: numbers with their units
 
@@ -68,14 +68,14 @@ abbrev pub escape : ℕ → ℕ
 escape c = if c == 110 then 10 else c
 
 -- the characters that these spell, the first of them escaped or not
-abbrev pub spelled : Bool → List ℕ → List ℕ
-spelled escaped [] = []
-spelled true (c ∷ cs) = escape c ∷ spelled false cs
-spelled false (c ∷ cs) = if c == 92 then spelled true cs else c ∷ spelled false cs
+abbrev pub characters_spelled : Bool → List ℕ → List ℕ
+characters_spelled escaped [] = []
+characters_spelled true (c ∷ cs) = escape c ∷ characters_spelled false cs
+characters_spelled false (c ∷ cs) = if c == 92 then characters_spelled true cs else c ∷ characters_spelled false cs
 
 -- the text that a text with its escapes spells
 unfoldable pub text_spelled : Text → Text
-text_spelled text = encode_utf8_all (spelled false (chars text))
+text_spelled text = encode_utf8_all (characters_spelled false (chars text))
 
 -- the word in any case
 abbrev pub is_word : Text → Text → Bool

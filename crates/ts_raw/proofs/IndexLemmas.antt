@@ -9,13 +9,13 @@ use Rattle.ts_core.proofs.Ids.{same_text-eq}
 use Rattle.ts_core.proofs.Tests.{same_text-from_eq, same_bool}
 use Rattle.ts_raw.specs.FieldKeys.{FieldKey, field_key}
 use Rattle.ts_raw.specs.ColumnTables.{ColumnNumbers, has_field}
-use Rattle.ts_raw.specs.Indexed.{IsSound, no_series, column_in}
+use Rattle.ts_raw.specs.Indexed.{IsSoundIndex, no_series, column_in}
 use Rattle.ts_raw.specs.IndexParts.{no_field, column_named, IsNamed, index_by_numbers, IsIndex}
-use Rattle.ts_raw.specs.Numbered.{IsAt, numbers_where, numbers_from}
+use Rattle.ts_raw.specs.Numbered.{IsAt, numbers_where, numbers_where_from}
 use Rattle.ts_core.proofs.MembersLemmas.{Among-map, map_back}
 use Rattle.ts_raw.proofs.NumberedLemmas.{at_among, among_at, at_within, same_place, AllDistinct-map, numbers_from-map, numbers_from-none}
 
-none_pass : {X : Type 0} (n : ℕ) (xs : List X) → numbers_from (λ x. false) n xs ≡ []
+none_pass : {X : Type 0} (n : ℕ) (xs : List X) → numbers_where_from (λ x. false) n xs ≡ []
 none_pass n xs = numbers_from-none (λ x. false) n xs (λ x a. refl)
 
 -- the measurement of a series by its number
@@ -39,7 +39,7 @@ module _ (series : List Series) (fields : List FieldKey) (t : ColumnNumbers) (is
       let second : x.1 ≡ y.1 = same_place fields no_field x.1 y.1 is.fields_once s.field_there u.field_there same_key in
       λ i. (first i, second i)
 
-  pub index_sound : IsSound (index_by_numbers series fields t)
+  pub index_sound : IsSoundIndex (index_by_numbers series fields t)
   index_sound = record {
     series_once = is.series_once;
     columns_once = AllDistinct-map (column_named series fields) t.columns is.columns_once (λ x y a b e. named_apart x y (among_named x a) (among_named y b) e);

@@ -3,7 +3,7 @@ use Rattle.std.proofs.Common.{◌≡◌, ℕ, zero, suc, ◌+◌, ◌<◌, List,
 use Rattle.std.proofs.lemmas.Option.{slice_get_within, slice_get-get_or, same_Some}
 use Rattle.ts_core.specs.Members.{Among, AllDistinct}
 use Rattle.ts_core.proofs.MembersLemmas.{AllDistinct-append, map_back}
-use Rattle.ts_raw.specs.Numbered.{IsAt, numbers_from, numbers_where}
+use Rattle.ts_raw.specs.Numbered.{IsAt, numbers_where_from, numbers_where}
 
 module _ {X : Type 0} where
   pub at_within : (xs : List X) (n : ℕ) (x : X) → IsAt xs n x → n < length xs
@@ -45,28 +45,28 @@ module _ {X : Type 0} (p : X → Bool) where
   push_case n x true ns ms = refl
   push_case n x false ns ms = refl
 
-  numbers_from-push : (n : ℕ) (xs : List X) (x : X) → numbers_from p n (xs ++ x ∷ []) ≡ numbers_from p n xs ++ cond (p x) ((n + length xs) ∷ []) []
+  numbers_from-push : (n : ℕ) (xs : List X) (x : X) → numbers_where_from p n (xs ++ x ∷ []) ≡ numbers_where_from p n xs ++ cond (p x) ((n + length xs) ∷ []) []
   numbers_from-push n [] x = ap (λ m. cond (p x) (m ∷ []) []) (sym (add-zero n))
   numbers_from-push n (y ∷ ys) x =
-      let rest : numbers_from p (n + 1) (ys ++ x ∷ []) ≡ numbers_from p (n + 1) ys ++ cond (p x) ((n + length (y ∷ ys)) ∷ []) [] =
-      numbers_from-push (n + 1) ys x ∙ ap (λ m. numbers_from p (n + 1) ys ++ cond (p x) (m ∷ []) []) (let e : n + 1 + length ys ≡ n + suc (length ys) = omega arith in e) in
-      ap (λ ns. cond (p y) (n ∷ ns) ns) rest ∙ push_case n x (p y) (numbers_from p (n + 1) ys) (cond (p x) ((n + length (y ∷ ys)) ∷ []) [])
+      let rest : numbers_where_from p (n + 1) (ys ++ x ∷ []) ≡ numbers_where_from p (n + 1) ys ++ cond (p x) ((n + length (y ∷ ys)) ∷ []) [] =
+      numbers_from-push (n + 1) ys x ∙ ap (λ m. numbers_where_from p (n + 1) ys ++ cond (p x) (m ∷ []) []) (let e : n + 1 + length ys ≡ n + suc (length ys) = omega arith in e) in
+      ap (λ ns. cond (p y) (n ∷ ns) ns) rest ∙ push_case n x (p y) (numbers_where_from p (n + 1) ys) (cond (p x) ((n + length (y ∷ ys)) ∷ []) [])
 
   -- one more behind the others
   pub numbers_where-push : (xs : List X) (x : X) → numbers_where p (xs ++ x ∷ []) ≡ numbers_where p xs ++ cond (p x) (length xs ∷ []) []
   numbers_where-push xs x = numbers_from-push 0 xs x ∙ ap (λ m. numbers_where p xs ++ cond (p x) (m ∷ []) []) (zero-add (length xs))
 
-  pub numbers_from-none : (n : ℕ) (xs : List X) → ((x : X) → Among x xs → p x ≡ false) → numbers_from p n xs ≡ []
+  pub numbers_from-none : (n : ℕ) (xs : List X) → ((x : X) → Among x xs → p x ≡ false) → numbers_where_from p n xs ≡ []
   numbers_from-none n [] none = refl
   numbers_from-none n (y ∷ ys) none =
-      ap (λ b. cond b (n ∷ numbers_from p (n + 1) ys) (numbers_from p (n + 1) ys)) (none y (inl refl)) ∙ numbers_from-none (n + 1) ys (λ x k. none x (inr k))
+      ap (λ b. cond b (n ∷ numbers_where_from p (n + 1) ys) (numbers_where_from p (n + 1) ys)) (none y (inl refl)) ∙ numbers_from-none (n + 1) ys (λ x k. none x (inr k))
 
   -- two lists whose members pass alike have the same numbers
   pub numbers_from-map : {Y : Type 0} (f : Y → X) (q : Y → Bool) (n : ℕ) (ys : List Y) → ((y : Y) → Among y ys → p (f y) ≡ q y)
-      → numbers_from p n (map f ys) ≡ numbers_from q n ys
+      → numbers_where_from p n (map f ys) ≡ numbers_where_from q n ys
   numbers_from-map f q n [] alike = refl
   numbers_from-map f q n (y ∷ ys) alike =
-      ap (λ b. cond b (n ∷ numbers_from p (n + 1) (map f ys)) (numbers_from p (n + 1) (map f ys))) (alike y (inl refl))
+      ap (λ b. cond b (n ∷ numbers_where_from p (n + 1) (map f ys)) (numbers_where_from p (n + 1) (map f ys))) (alike y (inl refl))
       ∙ ap (λ ns. cond (q y) (n ∷ ns) ns) (numbers_from-map f q (n + 1) ys (λ z k. alike z (inr k)))
 
 -- ---- members and places

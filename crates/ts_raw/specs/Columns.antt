@@ -28,5 +28,5 @@ pub record ColumnState : Type 0 where
   pub points : PointMap
   pub aside : Option (ℤ × ℤ)
 
-abbrev pub coded_column : Coded ColumnState
-coded_column = code_by (PointMap × Option (ℤ × ℤ)) (coded× (map.code coded_ℤ coded_ℤ) (coded_option (coded× coded_ℤ coded_ℤ))) (λ c. (c.points, c.aside)) (λ p. record { points = p.0; aside = p.1 }) (λ _. refl)
+abbrev pub coded_column_state : Coded ColumnState
+coded_column_state = code_by (PointMap × Option (ℤ × ℤ)) (coded× (map.code coded_ℤ coded_ℤ) (coded_option (coded× coded_ℤ coded_ℤ))) (λ c. (c.points, c.aside)) (λ p. record { points = p.0; aside = p.1 }) (λ _. refl)

@@ -16,7 +16,7 @@ abbrev pub column_in : Indexed → ℕ → Text → Column
 column_in index series field = record { series = slice_index_or index.series series no_series; field = field }
 
 -- each series is there once, each column once, and each column is one of a registered series
-pub record IsSound (index : Indexed) : Type 0 where
+pub record IsSoundIndex (index : Indexed) : Type 0 where
   pub series_once : AllDistinct index.series
   pub columns_once : AllDistinct index.columns
   pub registered : (c : Column) → Among c index.columns → Among c.series index.series

@@ -11,10 +11,10 @@ abbrev pub Gains : {X : Type 0} → List X → List X → X → Type 0
 Gains before after x = (Among x before × (after ≡ before)) ⊎ ((Among x before → ⊥) × (after ≡ before ++ x ∷ []))
 
 -- the numbers of those that pass, counted from n on
-abbrev pub numbers_from : {X : Type 0} → (X → Bool) → ℕ → List X → List ℕ
-numbers_from p n [] = []
-numbers_from p n (x ∷ xs) = if p x then n ∷ numbers_from p (n + 1) xs else numbers_from p (n + 1) xs
+abbrev pub numbers_where_from : {X : Type 0} → (X → Bool) → ℕ → List X → List ℕ
+numbers_where_from p n [] = []
+numbers_where_from p n (x ∷ xs) = if p x then n ∷ numbers_where_from p (n + 1) xs else numbers_where_from p (n + 1) xs
 
 -- the numbers of those that pass, in the order of making
 abbrev pub numbers_where : {X : Type 0} → (X → Bool) → List X → List ℕ
-numbers_where p xs = numbers_from p 0 xs
+numbers_where p xs = numbers_where_from p 0 xs

@@ -4,7 +4,7 @@ ghost use Rattle.std.specs.Prelude.{◌≡◌, ◌≤◌, ◌<◌, ◌↔◌, �
 ghost use Rattle.ts_core.specs.Facts.{Column, is_of};
 ghost use Rattle.ts_core.specs.Members.{Among};
 ghost use Rattle.ts_core.specs.Texts.{lent_pairs, lent_series, IsTagSet};
-ghost use Rattle.ts_raw.specs.Indexed.{IsSound, column_in};
+ghost use Rattle.ts_raw.specs.Indexed.{IsSoundIndex, column_in};
 ghost use Rattle.ts_raw.specs.Numbered.{IsAt, Gains, numbers_where};
 
 mod chains;
@@ -66,7 +66,7 @@ impl<A: Allocator + Copy> Index<A> {
     /// How many series are registered.
     pub fn series_count(&self) -> usize
         ensures value { result ≡ length self.now.series }
-        ensures sound { IsSound self.now }
+        ensures sound { IsSoundIndex self.now }
     {
         self.series.len()
     }
@@ -74,7 +74,7 @@ impl<A: Allocator + Copy> Index<A> {
     /// How many columns there are.
     pub fn column_count(&self) -> usize
         ensures value { result ≡ length self.now.columns }
-        ensures sound { IsSound self.now }
+        ensures sound { IsSoundIndex self.now }
     {
         self.columns.len()
     }
@@ -102,7 +102,7 @@ impl<A: Allocator + Copy> Index<A> {
         // Only a series that isn't there takes memory or is one too many.
         ensures known { Among (lent_series measurement.now tags.now) self.old.series → IsOk result }
         ensures full { (result ≡ Err IndexFault.TooManySeries) ↔ ((1_000_000 ≤ length self.old.series) × (Among (lent_series measurement.now tags.now) self.old.series → ⊥)) }
-        ensures sound { IsSound self.new }
+        ensures sound { IsSoundIndex self.new }
     {
         self.series.register(SERIES_LIMIT, measurement, tags)
     }
@@ -139,7 +139,7 @@ impl<A: Allocator + Copy> Index<A> {
         requires { series < length self.now.series }
         ensures found { IfSome result (λ id. IsAt self.now.columns id (column_in self.now series field.now)) }
         ensures absent { IfNone result (Among (column_in self.now series field.now) self.now.columns → ⊥) }
-        ensures sound { IsSound self.now }
+        ensures sound { IsSoundIndex self.now }
     {
         let measurement = self.series.key(series).measurement();
         let field = self.fields.lookup(measurement, field)?;
@@ -156,7 +156,7 @@ impl<A: Allocator + Copy> Index<A> {
         requires { series < length self.now.series }
         ensures found { IfSome result (λ id. IsAt self.now.columns id (column_in self.now series field.now)) }
         ensures absent { IfNone result (Among (column_in self.now series field.now) self.now.columns → ⊥) }
-        ensures sound { IsSound self.now }
+        ensures sound { IsSoundIndex self.now }
     {
         if let Some(before) = before {
             let next = before.next();
@@ -203,7 +203,7 @@ impl<A: Allocator + Copy> Index<A> {
 
         // Only a column that isn't there takes memory.
         ensures known { Among (column_in self.old series field.now) self.old.columns → IsOk result }
-        ensures sound { IsSound self.new }
+        ensures sound { IsSoundIndex self.new }
     {
         match self.column_after(before, series, field) {
             Some(column) => Ok(column),
@@ -218,7 +218,7 @@ impl<A: Allocator + Copy> Index<A> {
         ensures ok { OnOk result (self.new.columns ≡ self.old.columns ++ column_in self.old series field.now ∷ []) }
         ensures series { self.new.series ≡ self.old.series }
         ensures err { OnErr result (self.new ≡ self.old) }
-        ensures sound { IsSound self.new }
+        ensures sound { IsSoundIndex self.new }
     {
         self.columns.make_room(self.fields.len())?;
         let measurement = self.series.key(series).measurement();

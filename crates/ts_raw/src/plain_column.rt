@@ -27,12 +27,12 @@ pub struct PlainColumn<A: Allocator> {
 impl<A: Allocator> Model for PlainColumn<A> {
     ghost use Rattle.std.specs.Prelude.{vec_len, vec_capacity};
     ghost use Rattle.std.specs.FinMap as map;
-    ghost use Rattle.ts_raw.specs.Columns.{ColumnState, coded_column};
+    ghost use Rattle.ts_raw.specs.Columns.{ColumnState, coded_column_state};
     ghost use Rattle.ts_raw.specs.PlainColumns.{IsReady};
 
     ghost Value = { ColumnState };
 
-    ghost coded = { coded_column };
+    ghost coded = { coded_column_state };
 
     ghost view = { λ c. record { points = map.from_sorted c.points.items; aside = c.aside } };
 

@@ -34,7 +34,7 @@ use Rattle.ts_plan.specs.declared.fault.PlanError.{PlanError}
 use Rattle.ts_plan.specs.declared.fault.PlanError.TheVariants as errors
 use Rattle.ts_plan.specs.declared.fault.PlanFault.{PlanFault}
 use Rattle.ts_ql.specs.Selects.{Select}
-use Rattle.ts_reply.specs.Answering.{IsPlanned, answered, refused, IsChecked, invalid, valid, IsCertified, misspelled}
+use Rattle.ts_reply.specs.Answering.{IsPlannedOutcome, answered, refused, IsChecked, invalid, valid, IsCertified, misspelled}
 use Rattle.ts_reply.specs.Explaining as explaining
 use Rattle.ts_reply.specs.Explaining.{IsExplained}
 use Rattle.ts_reply.specs.declared.epoch.Epoch.{Epoch}
@@ -67,15 +67,15 @@ plan_carried k settings marks opening h s result plan shows stands st mt is p =
 
 pub planned_rows : (k : StoreData) (settings : Settings) (marks : Marks) (s : Select) (result : Result (List Piece) PlanError) (plan : List Piece) (o : Outcome)
     → ShowsEach k → settings ≡ k.settings → marks ≡ k.marks → IsPlanFor settings marks s.query result → result ≡ Ok plan
-    → OfEachHistory k (λ opening h. o ≡ rows_over (latest_of h) s) → OfEachHistory k (λ opening h. IsPlanned opening h s o)
+    → OfEachHistory k (λ opening h. o ≡ rows_over (latest_of h) s) → OfEachHistory k (λ opening h. IsPlannedOutcome opening h s o)
 planned_rows k settings marks s result plan o shows st mt p is e opening h stands =
-    subst (IsPlanned opening h s) (sym (e opening h stands)) (answered plan (plan_carried k settings marks opening h s result (Ok plan) shows stands st mt is p))
+    subst (IsPlannedOutcome opening h s) (sym (e opening h stands)) (answered plan (plan_carried k settings marks opening h s result (Ok plan) shows stands st mt is p))
 
 pub planned_fault : (k : StoreData) (settings : Settings) (marks : Marks) (s : Select) (result : Result (List Piece) PlanError) (fault : PlanFault) (o : Outcome)
     → ShowsEach k → settings ≡ k.settings → marks ≡ k.marks → IsPlanFor settings marks s.query result → result ≡ Err (errors.Fault fault)
-    → o ≡ Fault (plan_fault_text fault) → OfEachHistory k (λ opening h. IsPlanned opening h s o)
+    → o ≡ Fault (plan_fault_text fault) → OfEachHistory k (λ opening h. IsPlannedOutcome opening h s o)
 planned_fault k settings marks s result fault o shows st mt p is e opening h stands =
-    subst (IsPlanned opening h s) (sym e) (refused fault (plan_carried k settings marks opening h s result (Err (errors.Fault fault)) shows stands st mt is p))
+    subst (IsPlannedOutcome opening h s) (sym e) (refused fault (plan_carried k settings marks opening h s result (Err (errors.Fault fault)) shows stands st mt is p))
 
 pub explained_plan : (k : StoreData) (settings : Settings) (marks : Marks) (s : Select) (result : Result (List Piece) PlanError) (plan : List Piece) (o : Outcome)
     → ShowsEach k → settings ≡ k.settings → marks ≡ k.marks → IsPlanFor settings marks s.query result → result ≡ Ok plan

@@ -29,9 +29,9 @@ use Rattle.ts_reply.specs.Outcomes.{Outcome, Fault, rows_over}
 use Rattle.ts_reply.specs.Replies.{TellsOutcomes, refusal_text}
 
 -- What becomes of a query: where it has a plan its rows over all facts ever accepted, and else the fault of its plan.
-pub data IsPlanned (opening : Settings) (h : History) (s : Select) : Outcome → Type 0 where
-  answered : (plan : List Piece) → IsPlanFor (settings_of opening h) (marks_of opening h) s.query (Ok plan) → IsPlanned opening h s (rows_over (latest_of h) s)
-  refused : (fault : PlanFault) → IsPlanFor (settings_of opening h) (marks_of opening h) s.query (Err (errors.Fault fault)) → IsPlanned opening h s (Fault (plan_fault_text fault))
+pub data IsPlannedOutcome (opening : Settings) (h : History) (s : Select) : Outcome → Type 0 where
+  answered : (plan : List Piece) → IsPlanFor (settings_of opening h) (marks_of opening h) s.query (Ok plan) → IsPlannedOutcome opening h s (rows_over (latest_of h) s)
+  refused : (fault : PlanFault) → IsPlanFor (settings_of opening h) (marks_of opening h) s.query (Err (errors.Fault fault)) → IsPlannedOutcome opening h s (Fault (plan_fault_text fault))
 
 -- What becomes of a query by pieces that are handed in: their first fault, or, where they are valid, its rows over all facts ever accepted.
 pub data IsChecked (opening : Settings) (h : History) (pieces : List Piece) (s : Select) : Outcome → Type 0 where
@@ -45,7 +45,7 @@ pub data IsCertified (opening : Settings) (h : History) (certificate : Text) (s 
 
 -- what becomes of a query, by the certificate that was handed in or else by its plan
 abbrev pub IsOutcome : Settings → History → Option Text → Select → Outcome → Type 0
-IsOutcome opening h None s o = IsPlanned opening h s o
+IsOutcome opening h None s o = IsPlannedOutcome opening h s o
 IsOutcome opening h (Some certificate) s o = IsCertified opening h certificate s o
 
 -- of each query this becomes of it

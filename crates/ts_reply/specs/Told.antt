@@ -6,10 +6,10 @@ use Rattle.ts_reply.specs.declared.reply.Outcome as declared
 use Rattle.ts_reply.specs.declared.reply.Outcome.TheVariants as variants
 use Rattle.ts_reply.specs.Outcomes.{Outcome, Certificate, Fault, rows_outcome}
 
-abbrev pub told : {A : Type 0} → declared.Outcome A → Outcome
-told (variants.Rows rows) = rows_outcome rows
-told (variants.Certificate text) = Certificate (string_bytes text)
-told (variants.Fault fault) = Fault (string_bytes fault)
+abbrev pub outcome_view : {A : Type 0} → declared.Outcome A → Outcome
+outcome_view (variants.Rows rows) = rows_outcome rows
+outcome_view (variants.Certificate text) = Certificate (string_bytes text)
+outcome_view (variants.Fault fault) = Fault (string_bytes fault)
 
 abbrev pub handed_in : Option (Bor Text) → Option Text
 handed_in certificate = option_map (λ (text : Bor Text). text.now) certificate

@@ -3,9 +3,9 @@ ghost use Rattle.std.specs.Prelude.{◌≡◌, map, IfOk, string_bytes};
 ghost use Rattle.ts_core.specs.Latest.{latest_of};
 ghost use Rattle.ts_core.specs.Pieces.{IsValid};
 ghost use Rattle.ts_core.specs.StoreData.{OfEachHistory, ShowsEach};
-ghost use Rattle.ts_reply.specs.Answering.{IsPlanned, IsChecked, IsCertified, IsOutcome, AreOutcomes, is_of_several, IsReplyTo, IsReply};
+ghost use Rattle.ts_reply.specs.Answering.{IsPlannedOutcome, IsChecked, IsCertified, IsOutcome, AreOutcomes, is_of_several, IsReplyTo, IsReply};
 ghost use Rattle.ts_reply.specs.Outcomes.{rows_outcome, rows_over};
-ghost use Rattle.ts_reply.specs.Told.{told, handed_in};
+ghost use Rattle.ts_reply.specs.Told.{outcome_view, handed_in};
 
 use crate::epoch::Epoch;
 use crate::faults::{
@@ -71,7 +71,7 @@ fn planned<'a, A: Allocator + Copy + 'a>(
     store: &'a Store<A>,
     query: &Query<A>,
 ) -> Result<Outcome<'a, A>, AllocError>
-    ensures { IfOk result (λ o. OfEachHistory store.now (λ opening h. IsPlanned opening h query.now (told o))) }
+    ensures { IfOk result (λ o. OfEachHistory store.now (λ opening h. IsPlannedOutcome opening h query.now (outcome_view o))) }
 {
     match plan(alloc, store.settings(), store.marks(), query) {
         Ok(plan) => Ok(Outcome::Rows(rows_by_plan(alloc, store, query, &plan)?)),
@@ -88,7 +88,7 @@ fn outcome_by<'a, A: Allocator + Copy + 'a>(
     query: &Query<A>,
     certificate: &Certificate<'_, A>,
 ) -> Result<Outcome<'a, A>, AllocError>
-    ensures { IfOk result (λ o. OfEachHistory store.now (λ opening h. IsChecked opening h certificate.now query.now (told o))) }
+    ensures { IfOk result (λ o. OfEachHistory store.now (λ opening h. IsChecked opening h certificate.now query.now (outcome_view o))) }
 {
     match check(alloc, store.settings(), store.marks(), query, certificate) {
         Ok(checked) => Ok(Outcome::Rows(rows_of(alloc, store, &checked)?)),
@@ -105,7 +105,7 @@ fn certified<'a, A: Allocator + Copy + 'a>(
     query: &Query<A>,
     certificate: &str,
 ) -> Result<Outcome<'a, A>, AllocError>
-    ensures { IfOk result (λ o. OfEachHistory store.now (λ opening h. IsCertified opening h certificate.now query.now (told o))) }
+    ensures { IfOk result (λ o. OfEachHistory store.now (λ opening h. IsCertified opening h certificate.now query.now (outcome_view o))) }
 {
     match read_certificate(alloc, certificate) {
         Ok(certificate) => outcome_by(alloc, json, store, query, &certificate),
@@ -124,7 +124,7 @@ fn outcome_of<'a, A: Allocator + Copy + 'a>(
     query: &Query<A>,
     certificate: Option<&str>,
 ) -> Result<Outcome<'a, A>, AllocError>
-    ensures { IfOk result (λ o. OfEachHistory store.now (λ opening h. IsOutcome opening h (handed_in certificate.entry) query.now (told o))) }
+    ensures { IfOk result (λ o. OfEachHistory store.now (λ opening h. IsOutcome opening h (handed_in certificate.entry) query.now (outcome_view o))) }
 {
     match certificate {
         None => planned(alloc, json, store, query),
@@ -140,7 +140,7 @@ fn outcomes_of<'a, A: Allocator + Copy + 'a>(
     queries: &[Query<A>],
     certificate: Option<&str>,
 ) -> Result<Vec<Outcome<'a, A>, A>, AllocError>
-    ensures { IfOk result (λ v. OfEachHistory store.now (λ opening h. AreOutcomes (IsOutcome opening h (handed_in certificate.entry)) queries.now (map told v.items))) }
+    ensures { IfOk result (λ v. OfEachHistory store.now (λ opening h. AreOutcomes (IsOutcome opening h (handed_in certificate.entry)) queries.now (map outcome_view v.items))) }
 {
     let mut outcomes = Vec::new(alloc);
     for query in queries {

@@ -3,7 +3,7 @@ ghost use Rattle.std.specs.Prelude.{map, IfOk, string_bytes};
 ghost use Rattle.ts_core.specs.StoreData.{OfEachHistory};
 ghost use Rattle.ts_reply.specs.Answering.{AreOutcomes};
 ghost use Rattle.ts_reply.specs.Explaining.{IsExplained, IsExplanation};
-ghost use Rattle.ts_reply.specs.Told.{told};
+ghost use Rattle.ts_reply.specs.Told.{outcome_view};
 
 use crate::answering::Reply;
 use crate::epoch::Epoch;
@@ -23,7 +23,7 @@ fn explained<'a, A: Allocator + Copy + 'a>(
     store: &'a Store<A>,
     query: &Query<A>,
 ) -> Result<Outcome<'a, A>, AllocError>
-    ensures { IfOk result (λ o. OfEachHistory store.now (λ opening h. IsExplained opening h query.now (told o))) }
+    ensures { IfOk result (λ o. OfEachHistory store.now (λ opening h. IsExplained opening h query.now (outcome_view o))) }
 {
     match plan(alloc, store.settings(), store.marks(), query) {
         Ok(plan) => Ok(Outcome::Certificate(write_certificate(json, &plan)?)),
@@ -39,7 +39,7 @@ fn each_explained<'a, A: Allocator + Copy + 'a>(
     store: &'a Store<A>,
     queries: &[Query<A>],
 ) -> Result<Vec<Outcome<'a, A>, A>, AllocError>
-    ensures { IfOk result (λ v. OfEachHistory store.now (λ opening h. AreOutcomes (IsExplained opening h) queries.now (map told v.items))) }
+    ensures { IfOk result (λ v. OfEachHistory store.now (λ opening h. AreOutcomes (IsExplained opening h) queries.now (map outcome_view v.items))) }
 {
     let mut outcomes = Vec::new(alloc);
     for query in queries {

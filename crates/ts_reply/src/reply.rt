@@ -4,7 +4,7 @@ ghost use Rattle.serde_json.specs.View.{view};
 ghost use Rattle.serde_json.specs.Written.{has_float, comma_if, compact_text};
 ghost use Rattle.ts_reply.specs.Appending.{AppendsData, AppendsItems, IsArray};
 ghost use Rattle.ts_reply.specs.Replies.{AreEach, IsSeriesData, IsResultData, AreResults, TellsOutcomes};
-ghost use Rattle.ts_reply.specs.Told.{told};
+ghost use Rattle.ts_reply.specs.Told.{outcome_view};
 ghost use Rattle.ts_reply.specs.Outcomes.{rows_outcome};
 
 use crate::epoch::Epoch;
@@ -114,7 +114,7 @@ fn push_result<A: Allocator>(
     outcome: &Outcome<'_, A>,
     number: usize,
 ) -> Result<(), AllocError>
-    ensures { OnOk result (AppendsData (IsResultData epoch number (told outcome.now)) (string_bytes text.old) (string_bytes text.new)) }
+    ensures { OnOk result (AppendsData (IsResultData epoch number (outcome_view outcome.now)) (string_bytes text.old) (string_bytes text.new)) }
 {
     match outcome {
         Outcome::Rows(rows) => push_rows(alloc, text, epoch, rows, number),
@@ -149,7 +149,7 @@ fn push_results<A: Allocator>(
     number: usize,
 ) -> Result<(), AllocError>
     requires { number + length outcomes.now < 2 ^ 64 }
-    ensures { OnOk result (AppendsItems (AreResults epoch number (map told outcomes.now)) (nat_lt 0 number) (string_bytes text.old) (string_bytes text.new)) }
+    ensures { OnOk result (AppendsItems (AreResults epoch number (map outcome_view outcomes.now)) (nat_lt 0 number) (string_bytes text.old) (string_bytes text.new)) }
 {
     match outcomes.split_first() {
         None => text.push_str("]"),
@@ -167,7 +167,7 @@ pub fn reply_json<A: Allocator>(
     outcomes: &[Outcome<'_, A>],
     epoch: Epoch,
 ) -> Result<String, AllocError>
-    ensures { IfOk result (λ s. TellsOutcomes epoch (map told outcomes.now) (string_bytes s)) }
+    ensures { IfOk result (λ s. TellsOutcomes epoch (map outcome_view outcomes.now) (string_bytes s)) }
 {
     let mut text = String::new(alloc);
     text.push_str("{\"results\":[")?;

@@ -8,12 +8,12 @@ use Rattle.std.proofs.lemmas.List.Elements.{filter-append}
 use Rattle.std.proofs.Math.Seq.{map-set_same}
 use Rattle.ts_core.specs.Members.{Among, AllDistinct}
 use Rattle.ts_core.specs.Facts.{Text, Column, Fact}
-use Rattle.ts_line.specs.Parts.{Piece, Parts, field_text, series_of, fact_of, facts_of}
+use Rattle.ts_line.specs.Parts.{LinePart, Parts, field_text, series_of, fact_of, line_facts}
 use Rattle.ts_raw.specs.Columns.{PointMap, ColumnState}
 use Rattle.ts_raw.specs.Indexed.{Indexed, no_series, column_in}
 use Rattle.ts_core.specs.StoreStates.{ColumnPoints, column_of}
 use Rattle.ts_core.specs.StoreMoves.{Puts, PutsFacts}
-use Rattle.ts_store.specs.ColumnsKept.{with_points, columns_in, facts_of_columns, points_of, no_column, with_aside, with_point_aside, committed, all_committed, AreReady, AreAside, MayGrow}
+use Rattle.ts_store.specs.ColumnsKept.{with_points, columns_in, facts_of_columns, point_maps, no_column, with_aside, with_point_aside, committed, all_committed, AreReady, AreAside, MayGrow}
 use Rattle.ts_store.specs.Registered.{new_columns, without_points, with_columns, MakesAll, MakesFirst}
 use Rattle.ts_store.proofs.ColumnsLemmas.{columns_puts, names_of, grown_behind}
 use Rattle.ts_core.specs.RawFacts.{is_waiting}
@@ -21,7 +21,7 @@ use Rattle.ts_core.proofs.MembersLemmas.{Among-left, Among-append, Among-map, Am
 use Rattle.ts_core.proofs.StateLemmas.{is_waiting-there, is_waiting-not}
 use Rattle.ts_raw.proofs.NumberedLemmas.{at_among}
 
-pub points_at : (ss : List ColumnState) (n : ℕ) → get_or (points_of ss) n finmap.empty ≡ (get_or ss n no_column).points
+pub points_at : (ss : List ColumnState) (n : ℕ) → get_or (point_maps ss) n finmap.empty ≡ (get_or ss n no_column).points
 points_at [] n = refl
 points_at (s ∷ ss) zero = refl
 points_at (s ∷ ss) (suc n) = points_at ss n
@@ -29,15 +29,15 @@ points_at (s ∷ ss) (suc n) = points_at ss n
 -- one point is put in
 one_committed : (cs : List Column) (ss : List ColumnState) (n : ℕ) (f : Fact) → AllDistinct cs → length ss ≡ length cs → slice_get cs n ≡ Some f.column
     → (get_or ss n no_column).aside ≡ Some (f.time, f.value)
-    → Puts (facts_of_columns cs (points_of ss)) (facts_of_columns cs (points_of (set ss n (committed (get_or ss n no_column))))) f
+    → Puts (facts_of_columns cs (point_maps ss)) (facts_of_columns cs (point_maps (set ss n (committed (get_or ss n no_column))))) f
 one_committed cs ss n f d l at is =
     let s : ColumnState = get_or ss n no_column in
-    let after : finmap.insert (get_or (points_of ss) n finmap.empty) f.time f.value ≡ (committed s).points =
+    let after : finmap.insert (get_or (point_maps ss) n finmap.empty) f.time f.value ≡ (committed s).points =
     ap (λ (m : PointMap). finmap.insert m f.time f.value) (points_at ss n) ∙ sym (ap (with_aside s.points) is) in
-    let all : set (points_of ss) n (finmap.insert (get_or (points_of ss) n finmap.empty) f.time f.value) ≡ points_of (set ss n (committed s)) =
-    ap (set (points_of ss) n) after ∙ sym (map-set (λ (t : ColumnState). t.points) ss n (committed s)) in
-    subst (λ (ms : List PointMap). Puts (facts_of_columns cs (points_of ss)) (facts_of_columns cs ms) f) all
-    (columns_puts cs (points_of ss) n f.column f.time f.value d (length-map ss (λ (t : ColumnState). t.points) ∙ l) at)
+    let all : set (point_maps ss) n (finmap.insert (get_or (point_maps ss) n finmap.empty) f.time f.value) ≡ point_maps (set ss n (committed s)) =
+    ap (set (point_maps ss) n) after ∙ sym (map-set (λ (t : ColumnState). t.points) ss n (committed s)) in
+    subst (λ (ms : List PointMap). Puts (facts_of_columns cs (point_maps ss)) (facts_of_columns cs ms) f) all
+    (columns_puts cs (point_maps ss) n f.column f.time f.value d (length-map ss (λ (t : ColumnState). t.points) ∙ l) at)
 
 -- what is aside in other columns stays there
 pub aside_others : (cs : List Column) (ss : List ColumnState) (ns : List ℕ) (fs : List Fact) (n : ℕ) (s : ColumnState) → (Among n ns → ⊥) → AreAside cs ss ns fs → AreAside cs (set ss n s) ns fs
@@ -64,20 +64,20 @@ numbers_distinct cs ss [] fs a d = tt
 numbers_distinct cs ss (n ∷ ns) [] a d = absurd a
 numbers_distinct cs ss (n ∷ ns) (f ∷ fs) a d = (λ k. d.0 (column_of_number cs ss ns fs n f.column a.2 a.0 k), numbers_distinct cs ss ns fs a.2 d.1)
 
-same_names : (cs : List Column) (ss : List ColumnState) (n : ℕ) (s : ColumnState) → length ss ≡ length cs → map column_of (with_points cs (points_of (set ss n s))) ≡ map column_of (with_points cs (points_of ss))
+same_names : (cs : List Column) (ss : List ColumnState) (n : ℕ) (s : ColumnState) → length ss ≡ length cs → map column_of (with_points cs (point_maps (set ss n s))) ≡ map column_of (with_points cs (point_maps ss))
 same_names cs ss n s l =
-    names_of cs (points_of (set ss n s)) (length-map (set ss n s) (λ (t : ColumnState). t.points) ∙ length-set ss n s ∙ l) ∙ sym (names_of cs (points_of ss) (length-map ss (λ (t : ColumnState). t.points) ∙ l))
+    names_of cs (point_maps (set ss n s)) (length-map (set ss n s) (λ (t : ColumnState). t.points) ∙ length-set ss n s ∙ l) ∙ sym (names_of cs (point_maps ss) (length-map ss (λ (t : ColumnState). t.points) ∙ l))
 
 -- all are put in, one after another
 pub all_put : (cs : List Column) (ss : List ColumnState) (ns : List ℕ) (fs : List Fact) → AllDistinct cs → length ss ≡ length cs → AllDistinct ns → AreAside cs ss ns fs
-    → PutsFacts (with_points cs (points_of ss)) (with_points cs (points_of (all_committed ss ns))) fs
+    → PutsFacts (with_points cs (point_maps ss)) (with_points cs (point_maps (all_committed ss ns))) fs
 all_put cs ss [] [] d l once a = refl
 all_put cs ss [] (f ∷ fs) d l once a = absurd a
 all_put cs ss (n ∷ ns) [] d l once a = absurd a
 all_put cs ss (n ∷ ns) (f ∷ fs) d l once a =
     let s' : ColumnState = committed (get_or ss n no_column) in
     let ss' : List ColumnState = set ss n s' in (
-      with_points cs (points_of ss'),
+      with_points cs (point_maps ss'),
       (same_names cs ss n s' l, one_committed cs ss n f d l a.0 a.1),
       all_put cs ss' ns fs d (length-set ss n s' ∙ l) once.1 (aside_others cs ss ns fs n s' once.0 a.2),
     )
@@ -113,19 +113,19 @@ aside_grown cs ss (n ∷ ns) (f ∷ fs) c s l a =
     )
 
 -- what is set aside changes no points
-pub aside_leaves : (ss : List ColumnState) (n : ℕ) (s : ColumnState) → s.points ≡ (get_or ss n no_column).points → points_of (set ss n s) ≡ points_of ss
+pub aside_leaves : (ss : List ColumnState) (n : ℕ) (s : ColumnState) → s.points ≡ (get_or ss n no_column).points → point_maps (set ss n s) ≡ point_maps ss
 aside_leaves ss n s e = map-set_same (λ (t : ColumnState). t.points) ss n s no_column e
 
 -- ---- the facts of a line are of different columns
 
-column_text : (p : Parts) (f g : Piece × ℤ) → (fact_of p f).column ≡ (fact_of p g).column → field_text f ≡ field_text g
+column_text : (p : Parts) (f g : LinePart × ℤ) → (fact_of p f).column ≡ (fact_of p g).column → field_text f ≡ field_text g
 column_text p f g e = ap (λ (c : Column). c.field) e
 
-text_among : (p : Parts) (f : Piece × ℤ) (fields : List (Piece × ℤ)) → Among (fact_of p f).column (map (λ (x : Fact). x.column) (map (fact_of p) fields)) → Among (field_text f) (map field_text fields)
+text_among : (p : Parts) (f : LinePart × ℤ) (fields : List (LinePart × ℤ)) → Among (fact_of p f).column (map (λ (x : Fact). x.column) (map (fact_of p) fields)) → Among (field_text f) (map field_text fields)
 text_among p f [] a = absurd a
 text_among p f (g ∷ fields) a = ⊎_elim {C = Among (field_text f) (map field_text (g ∷ fields))} (λ e. inl (column_text p f g e)) (λ k. inr (text_among p f fields k)) a
 
-pub line_columns : (p : Parts) (fields : List (Piece × ℤ)) → AllDistinct (map field_text fields) → AllDistinct (map (λ (f : Fact). f.column) (map (fact_of p) fields))
+pub line_columns : (p : Parts) (fields : List (LinePart × ℤ)) → AllDistinct (map field_text fields) → AllDistinct (map (λ (f : Fact). f.column) (map (fact_of p) fields))
 line_columns p [] d = tt
 line_columns p (f ∷ fields) d = (λ a. d.0 (text_among p f fields a), line_columns p fields d.1)
 
@@ -169,13 +169,13 @@ ready_of cs ss (n ∷ ns) (f ∷ fs) l a d = (
 
 -- ---- one field after another
 
-field_at : (fields : List (Piece × ℤ)) (i : ℕ) (x : Piece × ℤ) → i < length fields → x ≡ get_or fields i x → Among x fields
+field_at : (fields : List (LinePart × ℤ)) (i : ℕ) (x : LinePart × ℤ) → i < length fields → x ≡ get_or fields i x → Among x fields
 field_at [] i x l e = absurd (omega arith)
 field_at (f ∷ fields) zero x l e = inl e
 field_at (f ∷ fields) (suc i) x l e = inr (field_at fields i x (omega (arith, l)) e)
 
 -- the name of a field doesn't stand before it
-fresh : (fields : List (Piece × ℤ)) (i : ℕ) (x : Piece × ℤ) → AllDistinct (map field_text fields) → i < length fields → x ≡ get_or fields i x → Among (field_text x) (map field_text (take i fields)) → ⊥
+fresh : (fields : List (LinePart × ℤ)) (i : ℕ) (x : LinePart × ℤ) → AllDistinct (map field_text fields) → i < length fields → x ≡ get_or fields i x → Among (field_text x) (map field_text (take i fields)) → ⊥
 fresh [] i x d l e a = absurd (omega arith)
 fresh (f ∷ fields) zero x d l e a = absurd a
 fresh (f ∷ fields) (suc i) x d l e a =
@@ -211,11 +211,11 @@ names_without (c ∷ cs) = ap (λ ds. c ∷ ds) (names_without cs)
 pub names_with : (before : List ColumnPoints) (made : List Column) → map column_of (with_columns before made) ≡ map column_of before ++ made
 names_with before made = map-append column_of before (map without_points made) ∙ ap (λ cs. map column_of before ++ cs) (names_without made)
 
-pub facts_next : (p : Parts) (i : ℕ) (x : Piece × ℤ) → i < length p.fields → x ≡ get_or p.fields i x → map (fact_of p) (take i p.fields) ++ fact_of p x ∷ [] ≡ map (fact_of p) (take (i + 1) p.fields)
+pub facts_next : (p : Parts) (i : ℕ) (x : LinePart × ℤ) → i < length p.fields → x ≡ get_or p.fields i x → map (fact_of p) (take i p.fields) ++ fact_of p x ∷ [] ≡ map (fact_of p) (take (i + 1) p.fields)
 facts_next p i x within is =
-    sym (map-append (fact_of p) (take i p.fields) (x ∷ [])) ∙ ap (λ (xs : List (Piece × ℤ)). map (fact_of p) xs) (ap (λ (y : Piece × ℤ). take i p.fields ++ y ∷ []) is ∙ sym (take_more p.fields i x within))
+    sym (map-append (fact_of p) (take i p.fields) (x ∷ [])) ∙ ap (λ (xs : List (LinePart × ℤ)). map (fact_of p) xs) (ap (λ (y : LinePart × ℤ). take i p.fields ++ y ∷ []) is ∙ sym (take_more p.fields i x within))
 
-pub next_aside : (p : Parts) (cs cs' : List Column) (ss ss' ss'' : List ColumnState) (ns : List ℕ) (n i : ℕ) (x : Piece × ℤ) → length ss ≡ length cs
+pub next_aside : (p : Parts) (cs cs' : List Column) (ss ss' ss'' : List ColumnState) (ns : List ℕ) (n i : ℕ) (x : LinePart × ℤ) → length ss ≡ length cs
     → AreAside cs ss ns (map (fact_of p) (take i p.fields)) → MayGrow (fact_of p x).column cs ss cs' ss' → slice_get cs' n ≡ Some (fact_of p x).column → i < length p.fields → x ≡ get_or p.fields i x
     → AllDistinct (map field_text p.fields) → ss'' ≡ set ss' n (with_point_aside (get_or ss' n no_column) p.time x.1)
     → AreAside cs' ss'' (ns ++ n ∷ []) (map (fact_of p) (take (i + 1) p.fields)) × (length ss'' ≡ length cs')
@@ -233,7 +233,7 @@ next_aside p cs cs' ss ss' ss'' ns n i x l a grown at within is once set_is =
     )
 
 -- the column that an index gives for a field of the line
-pub column_is : (p : Parts) (index : Indexed) (series : ℕ) (field : Text) (x : Piece × ℤ) → slice_get index.series series ≡ Some (series_of p) → field ≡ x.0.text → column_in index series field ≡ (fact_of p x).column
+pub column_is : (p : Parts) (index : Indexed) (series : ℕ) (field : Text) (x : LinePart × ℤ) → slice_get index.series series ≡ Some (series_of p) → field ≡ x.0.text → column_in index series field ≡ (fact_of p x).column
 column_is p index series field x there name = λ i. record { series = get_or_from_slice_get index.series series (series_of p) no_series there i; field = name i }
 
 new_more : (cs : List Column) (fs : List Fact) (f : Fact) → new_columns cs (fs ++ f ∷ []) ≡ new_columns cs fs ++ filter (λ (c : Column). not (is_waiting cs c)) (f.column ∷ [])
@@ -245,53 +245,53 @@ with_more : (before : List ColumnPoints) (made : List Column) (c : Column) → w
 with_more before made c = ap (λ (ds : List ColumnPoints). before ++ ds) (map-append without_points made (c ∷ [])) ∙ sym (append_assoc before (map without_points made) (without_points c ∷ []))
 
 -- the columns of the first fields are made, and then that of one more
-pub next_made : (p : Parts) (before : List ColumnPoints) (cs cs' : List Column) (ss ss' : List ColumnState) (i : ℕ) (x : Piece × ℤ) → length ss ≡ length cs → MayGrow (fact_of p x).column cs ss cs' ss' → i < length p.fields
-    → x ≡ get_or p.fields i x → AllDistinct (map field_text p.fields) → with_points cs (points_of ss) ≡ with_columns before (new_columns (map column_of before) (map (fact_of p) (take i p.fields)))
-    → with_points cs' (points_of ss') ≡ with_columns before (new_columns (map column_of before) (map (fact_of p) (take (i + 1) p.fields)))
+pub next_made : (p : Parts) (before : List ColumnPoints) (cs cs' : List Column) (ss ss' : List ColumnState) (i : ℕ) (x : LinePart × ℤ) → length ss ≡ length cs → MayGrow (fact_of p x).column cs ss cs' ss' → i < length p.fields
+    → x ≡ get_or p.fields i x → AllDistinct (map field_text p.fields) → with_points cs (point_maps ss) ≡ with_columns before (new_columns (map column_of before) (map (fact_of p) (take i p.fields)))
+    → with_points cs' (point_maps ss') ≡ with_columns before (new_columns (map column_of before) (map (fact_of p) (take (i + 1) p.fields)))
 next_made p before cs cs' ss ss' i x l grown within is once so =
     let names : List Column = map column_of before in
     let front : List Fact = map (fact_of p) (take i p.fields) in
     let f : Fact = fact_of p x in
     let made : List Column = new_columns names front in
     let last : List Column = filter (λ (c : Column). not (is_waiting names c)) (f.column ∷ []) in
-    let all : cs ≡ names ++ made = sym (names_of cs (points_of ss) (length-map ss (λ (s : ColumnState). s.points) ∙ l)) ∙ ap (map column_of) so ∙ names_with before made in
+    let all : cs ≡ names ++ made = sym (names_of cs (point_maps ss) (length-map ss (λ (s : ColumnState). s.points) ∙ l)) ∙ ap (map column_of) so ∙ names_with before made in
     let more : new_columns names (map (fact_of p) (take (i + 1) p.fields)) ≡ made ++ last = ap (new_columns names) (sym (facts_next p i x within is)) ∙ new_more names front f in
-    ⊎_elim {C = with_points cs' (points_of ss') ≡ with_columns before (new_columns names (map (fact_of p) (take (i + 1) p.fields)))}
+    ⊎_elim {C = with_points cs' (point_maps ss') ≡ with_columns before (new_columns names (map (fact_of p) (take (i + 1) p.fields)))}
     (λ same.
     let there : Among f.column names = ⊎_elim {C = Among f.column names} (λ k. k)
     (λ k. absurd (fresh p.fields i x once within is (text_among p x (take i p.fields) (Among-filter_was (λ (c : Column). not (is_waiting names c)) f.column (map (λ (g : Fact). g.column) front) k))))
     (Among-append f.column names made (subst (Among f.column) all same.0)) in
     let none : last ≡ [] = ap (λ b. cond (not b) (f.column ∷ []) []) (is_waiting-there f.column names there) in
-    (λ j. with_points (same.1 j) (points_of (same.2 j))) ∙ so ∙ ap (with_columns before) (sym (more ∙ ap (λ cs. made ++ cs) none ∙ append-nil made)))
+    (λ j. with_points (same.1 j) (point_maps (same.2 j))) ∙ so ∙ ap (with_columns before) (sym (more ∙ ap (λ cs. made ++ cs) none ∙ append-nil made)))
     (λ new.
     let away : Among f.column names → ⊥ = λ k. new.0 (subst (Among f.column) (sym all) (Among-left f.column names made k)) in
     let one : last ≡ f.column ∷ [] = ap (λ b. cond (not b) (f.column ∷ []) []) (is_waiting-not f.column names away) in
-    (λ j. with_points (new.1 j) (points_of (new.2 j))) ∙ ap (with_points (cs ++ f.column ∷ [])) (map-append (λ (s : ColumnState). s.points) ss (no_column ∷ []))
-    ∙ grown_behind cs (points_of ss) f.column (length-map ss (λ (s : ColumnState). s.points) ∙ l) ∙ ap (λ (ds : List ColumnPoints). ds ++ without_points f.column ∷ []) so
+    (λ j. with_points (new.1 j) (point_maps (new.2 j))) ∙ ap (with_points (cs ++ f.column ∷ [])) (map-append (λ (s : ColumnState). s.points) ss (no_column ∷ []))
+    ∙ grown_behind cs (point_maps ss) f.column (length-map ss (λ (s : ColumnState). s.points) ∙ l) ∙ ap (λ (ds : List ColumnPoints). ds ++ without_points f.column ∷ []) so
     ∙ sym (ap (with_columns before) (more ∙ ap (λ cs. made ++ cs) one) ∙ with_more before made f.column))
     grown
 
 -- the column that an index gives for a field of the line is there or made
-pub made_next : (p : Parts) (index : Indexed) (series : ℕ) (field : Text) (before : List ColumnPoints) (cs' : List Column) (ss ss' : List ColumnState) (fields : List (Piece × ℤ)) (i : ℕ) (x : Piece × ℤ)
+pub made_next : (p : Parts) (index : Indexed) (series : ℕ) (field : Text) (before : List ColumnPoints) (cs' : List Column) (ss ss' : List ColumnState) (fields : List (LinePart × ℤ)) (i : ℕ) (x : LinePart × ℤ)
     → MayGrow (column_in index series field) index.columns ss cs' ss' → slice_get index.series series ≡ Some (series_of p) → field ≡ x.0.text → fields ≡ p.fields → AllDistinct (map field_text fields) → i < length fields → x ≡ get_or fields i x
-    → length ss ≡ length index.columns → MakesAll before (columns_in index ss) (map (fact_of p) (take i fields)) → MakesAll before (with_points cs' (points_of ss')) (map (fact_of p) (take (i + 1) fields))
+    → length ss ≡ length index.columns → MakesAll before (columns_in index ss) (map (fact_of p) (take i fields)) → MakesAll before (with_points cs' (point_maps ss')) (map (fact_of p) (take (i + 1) fields))
 made_next p index series field before cs' ss ss' fields i x grown there name e once within is l so =
-    let whole : AllDistinct (map field_text p.fields) = subst (λ (fs : List (Piece × ℤ)). AllDistinct (map field_text fs)) e once in
-    let here : i < length p.fields = subst (λ (fs : List (Piece × ℤ)). i < length fs) e within in
-    let at : x ≡ get_or p.fields i x = subst (λ (fs : List (Piece × ℤ)). x ≡ get_or fs i x) e is in
+    let whole : AllDistinct (map field_text p.fields) = subst (λ (fs : List (LinePart × ℤ)). AllDistinct (map field_text fs)) e once in
+    let here : i < length p.fields = subst (λ (fs : List (LinePart × ℤ)). i < length fs) e within in
+    let at : x ≡ get_or p.fields i x = subst (λ (fs : List (LinePart × ℤ)). x ≡ get_or fs i x) e is in
     let may : MayGrow (fact_of p x).column index.columns ss cs' ss' = subst (λ (d : Column). MayGrow d index.columns ss cs' ss') (column_is p index series field x there name) grown in
-    let front : MakesAll before (columns_in index ss) (map (fact_of p) (take i p.fields)) = subst (λ (fs : List (Piece × ℤ)). MakesAll before (columns_in index ss) (map (fact_of p) (take i fs))) e so in
-    subst (λ (fs : List (Piece × ℤ)). MakesAll before (with_points cs' (points_of ss')) (map (fact_of p) (take (i + 1) fs))) (sym e)
+    let front : MakesAll before (columns_in index ss) (map (fact_of p) (take i p.fields)) = subst (λ (fs : List (LinePart × ℤ)). MakesAll before (columns_in index ss) (map (fact_of p) (take i fs))) e so in
+    subst (λ (fs : List (LinePart × ℤ)). MakesAll before (with_points cs' (point_maps ss')) (map (fact_of p) (take (i + 1) fs))) (sym e)
     (next_made p before index.columns cs' ss ss' i x l may here at whole front)
 
 -- what is made is a beginning of what all fields make
-pub first_made : (p : Parts) (before after : List ColumnPoints) (fields : List (Piece × ℤ)) (i : ℕ) → fields ≡ p.fields → MakesAll before after (map (fact_of p) (take i fields)) → MakesFirst before after (facts_of p)
+pub first_made : (p : Parts) (before after : List ColumnPoints) (fields : List (LinePart × ℤ)) (i : ℕ) → fields ≡ p.fields → MakesAll before after (map (fact_of p) (take i fields)) → MakesFirst before after (line_facts p)
 first_made p before after fields i e so =
     let names : List Column = map column_of before in
     let column : Fact → Column = λ f. f.column in
     let front : List Fact = map (fact_of p) (take i fields) in
     let back : List Fact = map (fact_of p) (drop i fields) in
-    let split : facts_of p ≡ front ++ back = ap (map (fact_of p)) (sym e ∙ sym (take-append-drop i fields)) ∙ map-append (fact_of p) (take i fields) (drop i fields) in
+    let split : line_facts p ≡ front ++ back = ap (map (fact_of p)) (sym e ∙ sym (take-append-drop i fields)) ∙ map-append (fact_of p) (take i fields) (drop i fields) in
     record {
       made = new_columns names front;
       others = new_columns names back;

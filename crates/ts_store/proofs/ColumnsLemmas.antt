@@ -19,7 +19,7 @@ use Rattle.ts_raw.specs.Columns.{PointMap, ColumnState}
 use Rattle.ts_raw.specs.Indexed.{Indexed}
 use Rattle.ts_raw.proofs.NumberedLemmas.{at_among}
 use Rattle.ts_core.specs.StoreStates.{ColumnPoints, column_of, fact_at}
-use Rattle.ts_store.specs.ColumnsKept.{facts_in, points_of, with_points, columns_in, facts_of_columns, held_of, AreKnown, IsHeld}
+use Rattle.ts_store.specs.ColumnsKept.{facts_in, point_maps, with_points, columns_in, facts_of_columns, held_of, AreKnown, IsHeld}
 use Rattle.ts_store.specs.Rollups.{RollupState}
 
 -- ---- in one column
@@ -161,7 +161,7 @@ names_of (c ∷ cs) (m ∷ ms) l = ap (λ ds. c ∷ ds) (names_of cs ms (omega (
 
 -- so those of an index
 pub names_held : (index : Indexed) (ss : List ColumnState) → length ss ≡ length index.columns → map column_of (columns_in index ss) ≡ index.columns
-names_held index ss each = names_of index.columns (points_of ss) (length-map ss (λ (s : ColumnState). s.points) ∙ each)
+names_held index ss each = names_of index.columns (point_maps ss) (length-map ss (λ (s : ColumnState). s.points) ∙ each)
 
 -- each column of an index is known
 pub known_of : (index : Indexed) (ss : List ColumnState) (rollups : List RollupState) → IsHeld index ss → AreKnown (held_of index ss rollups)

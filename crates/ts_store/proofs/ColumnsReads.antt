@@ -7,19 +7,19 @@ use Rattle.std.proofs.lemmas.List.Sums.{sum_by-cons}
 use Rattle.ts_core.specs.Facts.{Column}
 use Rattle.ts_core.specs.StoreStates.{column_of, fact_at}
 use Rattle.ts_raw.specs.Columns.{PointMap, ColumnState}
-use Rattle.ts_store.specs.ColumnsKept.{facts_in, with_points, facts_of_columns, points_of}
+use Rattle.ts_store.specs.ColumnsKept.{facts_in, with_points, facts_of_columns, point_maps}
 use Rattle.ts_store.specs.PointsRead.{number_of_points}
 use Rattle.ts_store.proofs.ColumnsLemmas.{names_of}
 
 -- ---- how many
 
-pub facts-length : (cs : List Column) (ss : List ColumnState) → length ss ≡ length cs → length (facts_of_columns cs (points_of ss)) ≡ number_of_points ss
+pub facts-length : (cs : List Column) (ss : List ColumnState) → length ss ≡ length cs → length (facts_of_columns cs (point_maps ss)) ≡ number_of_points ss
 facts-length [] [] l = refl
 facts-length [] (s ∷ ss) l = absurd (omega (arith, l))
 facts-length (c ∷ cs) [] l = absurd (omega (arith, l))
 facts-length (c ∷ cs) (s ∷ ss) l =
-    length-append (facts_in c s.points) (facts_of_columns cs (points_of ss))
-    ∙ ap (λ k. k + length (facts_of_columns cs (points_of ss))) (length-map (entries s.points) (fact_at c) ∙ sym (len-entries s.points))
+    length-append (facts_in c s.points) (facts_of_columns cs (point_maps ss))
+    ∙ ap (λ k. k + length (facts_of_columns cs (point_maps ss))) (length-map (entries s.points) (fact_at c) ∙ sym (len-entries s.points))
     ∙ ap (λ k. finmap.len s.points + k) (facts-length cs ss (omega (arith, l)))
     ∙ sym (sum_by-cons (λ (t : ColumnState). finmap.len t.points) s ss)
 

@@ -22,9 +22,9 @@ use Rattle.ts_core.proofs.AggregatesLemmas.{count_of_fold}
 use Rattle.ts_cells.proofs.GridMoves.{all_at}
 use Rattle.ts_cells.specs.Grids.{Lane, IsAt, lane_of, cell_at}
 use Rattle.ts_raw.specs.Columns.{ColumnState, points_in_bucket}
-use Rattle.ts_raw.specs.Numbered.{numbers_from}
+use Rattle.ts_raw.specs.Numbered.{numbers_where_from}
 use Rattle.ts_raw.proofs.NumberedLemmas.{at_among, same_at}
-use Rattle.ts_store.specs.ColumnsKept.{with_points, points_of, no_column}
+use Rattle.ts_store.specs.ColumnsKept.{with_points, point_maps, no_column}
 use Rattle.ts_store.specs.Rollups.{RollupState, IsLaneOf, HaveLanes, lane_under, is_of_lane, columns_of_lane}
 use Rattle.ts_store.specs.LiveCells.{points_in}
 
@@ -86,7 +86,7 @@ points_append (f ∷ fs) gs = ap (λ xs. (f.time, f.value) ∷ xs) (points_appen
 
 columns_parts : (r : Rule) (k : Cell) (l : ℕ) (lanes : List Lane) → AllDistinct lanes → IsAt lanes l (lane_of k) → (all : List ColumnState) (n : ℕ) (cs : List Column) (ss : List ColumnState) (os : List (Option ℕ))
     → length ss ≡ length cs → HaveLanes r lanes cs os → ((i : ℕ) → i < length ss → get_or all (n + i) no_column ≡ get_or ss i no_column)
-    → points_of_facts (filter (is_in_cell r k) (facts_of (with_points cs (points_of ss)))) ≡ points_in r all k.index (numbers_from (is_of_lane l) n os)
+    → points_of_facts (filter (is_in_cell r k) (facts_of (with_points cs (point_maps ss)))) ≡ points_in r all k.index (numbers_where_from (is_of_lane l) n os)
 columns_parts r k l lanes d at all n [] ss [] len have same = refl
 columns_parts r k l lanes d at all n [] ss (o ∷ os) len have same = absurd have
 columns_parts r k l lanes d at all n (c ∷ cs) ss [] len have same = absurd have
@@ -100,31 +100,31 @@ columns_parts r k l lanes d at all n (c ∷ cs) (s ∷ ss) (o ∷ os) len have s
     let first = column_part test c (is_of_lane l o) q (in_cell r k l lanes d at c o have.0) ps in
     let e : n ≡ n + 0 = omega arith in
     let here : get_or all n no_column ≡ s = ap (λ j. get_or all j no_column) e ∙ same 0 (omega arith) in
-    ap points_of_facts (filter-append test (facts_at c ps) (facts_of (with_points cs (points_of ss))))
-    ∙ points_append (filter test (facts_at c ps)) (filter test (facts_of (with_points cs (points_of ss))))
+    ap points_of_facts (filter-append test (facts_at c ps) (facts_of (with_points cs (point_maps ss))))
+    ∙ points_append (filter test (facts_at c ps)) (filter test (facts_of (with_points cs (point_maps ss))))
     ∙ ap₂ (λ (xs ys : List (ℤ × ℤ)). xs ++ ys) first rest
-    ∙ elim (is_of_lane l o) as (λ b. cond b (filter q ps) [] ++ points_in r all k.index (numbers_from (is_of_lane l) (n + 1) os) ≡ points_in r all k.index (cond b (n ∷ numbers_from (is_of_lane l) (n + 1) os) (numbers_from (is_of_lane l) (n + 1) os))) [
-      | true ↦ ap (λ (x : ColumnState). points_in_bucket x.points k.index r.interval r.offset ++ points_in r all k.index (numbers_from (is_of_lane l) (n + 1) os)) (sym here)
+    ∙ elim (is_of_lane l o) as (λ b. cond b (filter q ps) [] ++ points_in r all k.index (numbers_where_from (is_of_lane l) (n + 1) os) ≡ points_in r all k.index (cond b (n ∷ numbers_where_from (is_of_lane l) (n + 1) os) (numbers_where_from (is_of_lane l) (n + 1) os))) [
+      | true ↦ ap (λ (x : ColumnState). points_in_bucket x.points k.index r.interval r.offset ++ points_in r all k.index (numbers_where_from (is_of_lane l) (n + 1) os)) (sym here)
       | false ↦ refl
     ]
 
 -- of a whole store's columns
 pub cell_points : (r : Rule) (s : RollupState) (k : Cell) (l : ℕ) (cs : List Column) (ss : List ColumnState) → AllDistinct s.grid.lanes → IsAt s.grid.lanes l (lane_of k) → length ss ≡ length cs → HaveLanes r s.grid.lanes cs s.lanes
-    → points_of_facts (filter (is_in_cell r k) (facts_of (with_points cs (points_of ss)))) ≡ points_in r ss k.index (columns_of_lane l s)
+    → points_of_facts (filter (is_in_cell r k) (facts_of (with_points cs (point_maps ss)))) ≡ points_in r ss k.index (columns_of_lane l s)
 cell_points r s k l cs ss d at len have =
     columns_parts r k l s.grid.lanes d at ss 0 cs ss s.lanes len have (λ i below. let e : 0 + i ≡ i = omega arith in ap (λ j. get_or ss j no_column) e)
 
 -- what they add up to
 pub cell_total : (r : Rule) (s : RollupState) (k : Cell) (l : ℕ) (cs : List Column) (ss : List ColumnState) → AllDistinct s.grid.lanes → IsAt s.grid.lanes l (lane_of k) → length ss ≡ length cs → HaveLanes r s.grid.lanes cs s.lanes
-    → aggregate_of_points (points_in r ss k.index (columns_of_lane l s)) ≡ total_of r k (facts_of (with_points cs (points_of ss)))
+    → aggregate_of_points (points_in r ss k.index (columns_of_lane l s)) ≡ total_of r k (facts_of (with_points cs (point_maps ss)))
 cell_total r s k l cs ss d at len have =
-    sym (aggregate_of-points (filter (is_in_cell r k) (facts_of (with_points cs (points_of ss)))) ∙ ap aggregate_of_points (cell_points r s k l cs ss d at len have))
+    sym (aggregate_of-points (filter (is_in_cell r k) (facts_of (with_points cs (point_maps ss)))) ∙ ap aggregate_of_points (cell_points r s k l cs ss d at len have))
 
 -- and how many they are
 pub cell_count : (r : Rule) (s : RollupState) (k : Cell) (l : ℕ) (cs : List Column) (ss : List ColumnState) → AllDistinct s.grid.lanes → IsAt s.grid.lanes l (lane_of k) → length ss ≡ length cs → HaveLanes r s.grid.lanes cs s.lanes
-    → length (points_in r ss k.index (columns_of_lane l s)) ≡ length (filter (is_in_cell r k) (facts_of (with_points cs (points_of ss))))
+    → length (points_in r ss k.index (columns_of_lane l s)) ≡ length (filter (is_in_cell r k) (facts_of (with_points cs (point_maps ss))))
 cell_count r s k l cs ss d at len have =
-    let fs : List Fact = filter (is_in_cell r k) (facts_of (with_points cs (points_of ss))) in
+    let fs : List Fact = filter (is_in_cell r k) (facts_of (with_points cs (point_maps ss))) in
     ap length (sym (cell_points r s k l cs ss d at len have)) ∙ length-map fs (λ (f : Fact). (f.time, f.value))
 
 -- ---- points merged in

@@ -21,7 +21,7 @@ use Rattle.ts_core.proofs.MembersLemmas.{at_map_of}
 use Rattle.ts_raw.specs.Columns.{PointMap, ColumnState, points_from}
 use Rattle.ts_raw.specs.Indexed.{Indexed}
 use Rattle.ts_raw.proofs.NumberedLemmas.{at_among}
-use Rattle.ts_store.specs.ColumnsKept.{points_of, with_points, columns_in, no_column, held_of, IsHeld}
+use Rattle.ts_store.specs.ColumnsKept.{point_maps, with_points, columns_in, no_column, held_of, IsHeld}
 use Rattle.ts_store.specs.PointsRead.{number_of_points}
 use Rattle.ts_store.specs.Rollups.{RollupState, IsLaneOf, AreRollups, lane_at, with_frozen, cells_of}
 use Rattle.ts_store.specs.RollupSteps.{with_frozen_all, FreezesFit, FreezeFit, held_moved}
@@ -150,12 +150,12 @@ pub held_moves : (index : Indexed) (ss : List ColumnState) (us vs : List RollupS
     → (s : ColumnPoints) → slice_get (columns_in index ss) n ≡ Some s → FreezeFit rs s.column (points_below mark s.points) (cells_of us) → held_of index (set ss n y) vs ≡ held_moved rs s mark (held_of index ss us)
 held_moves index ss us vs rs mark n x y held within is left a frozen s at fit =
     let cs : List Column = index.columns in
-    let ms : List PointMap = points_of ss in
+    let ms : List PointMap = point_maps ss in
     let each : length ms ≡ length cs = length-map ss (λ (t : ColumnState). t.points) ∙ held.each in
     let place = with_points-at cs ms n s at in
     let its : get_or ms n finmap.empty ≡ x.points = points_at ss n ∙ ap (λ (t : ColumnState). t.points) (sym (get_or_default ss n x no_column within) ∙ sym is) in
     let points : s.points ≡ entries x.points = place.1 ∙ ap entries its in
-    let rest : points_of (set ss n y) ≡ set ms n (points_from (get_or ms n finmap.empty) mark) =
+    let rest : point_maps (set ss n y) ≡ set ms n (points_from (get_or ms n finmap.empty) mark) =
     map-set (λ (t : ColumnState). t.points) ss n y ∙ ap (set ms n) (left ∙ ap (λ (m : PointMap). points_from m mark) (sym its)) in
     let columns : columns_in index (set ss n y) ≡ map (kept_points s.column mark) (columns_in index ss) = ap (with_points cs) rest ∙ columns_left s.column mark cs ms n held.sound.columns_once each place.0 in
     let names : slice_get (map column_of (columns_in index ss)) n ≡ Some s.column = at_map_of column_of (columns_in index ss) n s at in

@@ -8,7 +8,7 @@ use Rattle.ts_core.specs.Settings.{Rule}
 use Rattle.ts_core.specs.StoreStates.{column_of}
 use Rattle.ts_core.specs.StoreData.{FrozenCells}
 use Rattle.ts_core.specs.StoreMoves.{HaveRoom}
-use Rattle.ts_line.specs.Parts.{Piece, Parts, fact_of, facts_of}
+use Rattle.ts_line.specs.Parts.{LinePart, Parts, fact_of, line_facts}
 use Rattle.ts_raw.specs.Columns.{ColumnState}
 use Rattle.ts_raw.specs.Indexed.{Indexed}
 use Rattle.ts_store.specs.ColumnsKept.{columns_in, AreAside}
@@ -29,7 +29,7 @@ aside_inside cs ss (n ∷ ns) (f ∷ fs) a = (slice_get_within cs n f.column a.0
 
 -- ---- the facts of a line
 
-line_time : (p : Parts) (fields : List (Piece × ℤ)) (f : Fact) → Among f (map (fact_of p) fields) → f.time ≡ p.time
+line_time : (p : Parts) (fields : List (LinePart × ℤ)) (f : Fact) → Among f (map (fact_of p) fields) → f.time ≡ p.time
 line_time p [] f a = absurd a
 line_time p (x ∷ fields) f a = ⊎_elim {C = f.time ≡ p.time} (λ e. ap (λ (g : Fact). g.time) e) (λ k. line_time p fields f k) a
 
@@ -40,10 +40,10 @@ aside_at cs ss time (n ∷ ns) [] same a = absurd a
 aside_at cs ss time (n ∷ ns) (f ∷ fs) same a = (a.0, same f (inl refl), aside_at cs ss time ns fs (λ g k. same g (inr k)) a.2)
 
 -- room is made for those that are aside
-pub line_rooms : (rs : List Rule) (cs : List Column) (ss : List ColumnState) (p : Parts) (time : ℤ) (ns : List ℕ) (old : List FrozenCells) (us ts : List RollupState) → AreRollups rs cs us → AreAside cs ss ns (facts_of p) → time ≡ p.time
-    → cells_of us ≡ old → ts ≡ roomed_under rs time ns us → HaveRoom rs (facts_of p) old (cells_of ts)
+pub line_rooms : (rs : List Rule) (cs : List Column) (ss : List ColumnState) (p : Parts) (time : ℤ) (ns : List ℕ) (old : List FrozenCells) (us ts : List RollupState) → AreRollups rs cs us → AreAside cs ss ns (line_facts p) → time ≡ p.time
+    → cells_of us ≡ old → ts ≡ roomed_under rs time ns us → HaveRoom rs (line_facts p) old (cells_of ts)
 line_rooms rs cs ss p time ns old us ts h a at same made =
-    let fs : List Fact = facts_of p in
+    let fs : List Fact = line_facts p in
     let rooms : HaveRoom rs fs (cells_of us) (cells_of (roomed_under rs p.time ns us)) = rooms_made rs cs p.time ns fs us h (aside_at cs ss p.time ns fs (line_time p p.fields) a) in
     subst (λ (ms : List FrozenCells). HaveRoom rs fs ms (cells_of ts)) same
     (subst (λ (xs : List RollupState). HaveRoom rs fs (cells_of us) (cells_of xs)) (sym (made ∙ ap (λ (t : ℤ). roomed_under rs t ns us) at)) rooms)

@@ -12,7 +12,7 @@ use Rattle.ts_core.specs.Changes.{or_else}
 use Rattle.ts_core.specs.StoreData.{FrozenCells}
 use Rattle.ts_core.specs.StoreMoves.{HasRoom, HaveRoom}
 use Rattle.ts_core.proofs.PieceCells.{same_cell-eq, same_cell-refl}
-use Rattle.ts_cells.specs.Changes.{roomy}
+use Rattle.ts_cells.specs.CellChanges.{roomy}
 use Rattle.ts_cells.specs.Grids.{Lane, no_lane, cell_at, cell_in}
 use Rattle.ts_cells.proofs.GridMoves.{get-roomy}
 use Rattle.ts_store.specs.Rollups.{RollupState, cells_of, lane_under, IsLaneOf, HaveLanes, AreRollups, with_frozen, roomed_in, lane_at}

@@ -8,7 +8,7 @@ use Rattle.ts_core.specs.StoreStates.{ColumnPoints}
 use Rattle.ts_core.specs.StoreData.{rules_of}
 use Rattle.ts_core.specs.Views.{totals_in}
 use Rattle.ts_raw.specs.Columns.{PointMap, points_within}
-use Rattle.ts_raw.specs.Numbered.{numbers_from, numbers_where}
+use Rattle.ts_raw.specs.Numbered.{numbers_where_from, numbers_where}
 use Rattle.ts_store.specs.ColumnsKept.{with_points}
 use Rattle.ts_store.specs.Seats.{Seat, seats_from, seats_where, seat_in, points_at}
 
@@ -18,7 +18,7 @@ abbrev seat_by : (ℕ → Column) → ℕ → Seat
 seat_by f n = record { number = n; series = (f n).series }
 
 numbers_seats : (p : Column → Bool) (f : ℕ → Column) (d : Column) (n : ℕ) (cs : List Column) (ms : List PointMap) → length ms ≡ length cs → ((k : ℕ) → k < length cs → f (n + k) ≡ get_or cs k d)
-    → map (seat_by f) (numbers_from p n cs) ≡ seats_from p n (with_points cs ms)
+    → map (seat_by f) (numbers_where_from p n cs) ≡ seats_from p n (with_points cs ms)
 numbers_seats p f d n [] ms l at = refl
 numbers_seats p f d n (c ∷ cs) [] l at = absurd (omega (arith, l))
 numbers_seats p f d n (c ∷ cs) (m ∷ ms) l at =
@@ -26,7 +26,7 @@ numbers_seats p f d n (c ∷ cs) (m ∷ ms) l at =
     let rest = numbers_seats p f d (n + 1) cs ms (omega (arith, l)) after in
     let e : n ≡ n + 0 = omega arith in
     let here : f n ≡ c = ap f e ∙ at 0 (omega arith) in
-    elim (p c) as (λ b. map (seat_by f) (cond b (n ∷ numbers_from p (n + 1) cs) (numbers_from p (n + 1) cs)) ≡ cond b (record { number = n; series = c.series } ∷ seats_from p (n + 1) (with_points cs ms)) (seats_from p (n + 1) (with_points cs ms))) [
+    elim (p c) as (λ b. map (seat_by f) (cond b (n ∷ numbers_where_from p (n + 1) cs) (numbers_where_from p (n + 1) cs)) ≡ cond b (record { number = n; series = c.series } ∷ seats_from p (n + 1) (with_points cs ms)) (seats_from p (n + 1) (with_points cs ms))) [
       | true ↦ ap₂ (λ (s : Seat) (ss : List Seat). s ∷ ss) (ap (λ (x : Column). record { number = n; series = x.series }) here) rest
       | false ↦ rest
     ]
@@ -36,11 +36,11 @@ numbers-seats p cs ms l =
     let none : Column = record { series = record { measurement = []; tags = [] }; field = [] } in
     numbers_seats p (λ i. get_or cs i none) none 0 cs ms l (λ k _. let e : 0 + k ≡ k = omega arith in ap (λ i. get_or cs i none) e)
 
-numbers_below : {X : Type 0} (p : X → Bool) (n m : ℕ) (cs : List X) → n + length cs ≡ m → AllByRecursion (λ i. i < m) (numbers_from p n cs)
+numbers_below : {X : Type 0} (p : X → Bool) (n m : ℕ) (cs : List X) → n + length cs ≡ m → AllByRecursion (λ i. i < m) (numbers_where_from p n cs)
 numbers_below p n m [] e = tt
 numbers_below p n m (c ∷ cs) e =
     let rest = numbers_below p (n + 1) m cs (omega arith) in
-    elim (p c) as (λ b. AllByRecursion (λ i. i < m) (cond b (n ∷ numbers_from p (n + 1) cs) (numbers_from p (n + 1) cs))) [
+    elim (p c) as (λ b. AllByRecursion (λ i. i < m) (cond b (n ∷ numbers_where_from p (n + 1) cs) (numbers_where_from p (n + 1) cs))) [
       | true ↦ (omega arith, rest)
       | false ↦ rest
     ]

@@ -25,7 +25,7 @@ use Rattle.ts_cells.specs.Walks.{KeptCell, entry_of, entries_within}
 use Rattle.ts_raw.specs.Columns.{ColumnState}
 use Rattle.ts_raw.proofs.NumberedLemmas.{at_within}
 use Rattle.ts_store.specs.CellCounts.{HoldsFew, HoldFew, frozen_count}
-use Rattle.ts_store.specs.ColumnsKept.{Held, with_points, points_of}
+use Rattle.ts_store.specs.ColumnsKept.{Held, with_points, point_maps}
 use Rattle.ts_store.specs.OpenRuns.{Run, IsKept, kept_data}
 use Rattle.ts_store.specs.LiveCells.{walked_cell, walked_cells, rollup_at, cells_of_rule, IsWhole, AreWhole, IsRuled}
 use Rattle.ts_store.specs.Rollups.{RollupState, new_rollup, HaveLanes, AreRollups, cells_of, is_of_lane, columns_of_lane}
@@ -50,13 +50,13 @@ pub record IsFound (s : RollupState) (k : KeptCell Aggregate) : Type 0 where
   pub part : finmap.get s.grid.cells k.cell ≡ Some k.part
 
 total_shown : (r : Rule) (low : ℤ) (s : RollupState) (cs : List Column) (ss : List ColumnState) → IsShown r s cs ss → (k : KeptCell Aggregate) → IsFound s k
-    → walked_cell r s ss k ≡ with_total (totals_in (rule_cells (with_points cs (points_of ss)) r low s.grid.cells)).total k.cell
+    → walked_cell r s ss k ≡ with_total (totals_in (rule_cells (with_points cs (point_maps ss)) r low s.grid.cells)).total k.cell
 total_shown r low s cs ss shown k found =
     let part : k.part ≡ or_else empty_aggregate (finmap.get s.grid.cells k.cell) = sym (ap (or_else empty_aggregate) found.part) in
     let live = cell_total r s k.cell k.lane cs ss shown.once found.lane shown.each shown.lanes in
     λ i. record { cell = k.cell; total = merged (part i) (live i) }
 
-cell_whole : (r : Rule) (n : ℕ) (s : RollupState) (cs : List Column) (ss : List ColumnState) → IsShown r s cs ss → HoldsFew n (with_points cs (points_of ss)) r s.grid.cells → n ≤ 2 ^ 62 → (k : KeptCell Aggregate) → IsFound s k → IsWhole r s ss k
+cell_whole : (r : Rule) (n : ℕ) (s : RollupState) (cs : List Column) (ss : List ColumnState) → IsShown r s cs ss → HoldsFew n (with_points cs (point_maps ss)) r s.grid.cells → n ≤ 2 ^ 62 → (k : KeptCell Aggregate) → IsFound s k → IsWhole r s ss k
 cell_whole r n s cs ss shown counts few k found =
     let frozen : k.part.count ≡ frozen_count s.grid.cells k.cell = sym (ap (λ o. (or_else empty_aggregate o).count) found.part) in
     let live = cell_count r s k.cell k.lane cs ss shown.once found.lane shown.each shown.lanes in
@@ -87,18 +87,18 @@ walk_found s a b ks e lanes =
     all_found s (entries_within a b s.grid.cells)
     (λ x m. entry_found s.grid.cells x (Among-filter_was (λ (y : Cell × Aggregate). is_within a b y.0.index) x (finmap.entries s.grid.cells) m)) ks e lanes
 
-all_whole : (r : Rule) (n : ℕ) (s : RollupState) (cs : List Column) (ss : List ColumnState) → IsShown r s cs ss → HoldsFew n (with_points cs (points_of ss)) r s.grid.cells → n ≤ 2 ^ 62
+all_whole : (r : Rule) (n : ℕ) (s : RollupState) (cs : List Column) (ss : List ColumnState) → IsShown r s cs ss → HoldsFew n (with_points cs (point_maps ss)) r s.grid.cells → n ≤ 2 ^ 62
     → (ks : List (KeptCell Aggregate)) → AllByRecursion (IsFound s) ks → AllByRecursion (IsWhole r s ss) ks
 all_whole r n s cs ss shown counts few [] found = tt
 all_whole r n s cs ss shown counts few (k ∷ ks) found = (cell_whole r n s cs ss shown counts few k found.0, all_whole r n s cs ss shown counts few ks found.1)
 
 -- the walk's cells are whole
 pub walk_whole : (r : Rule) (n : ℕ) (s : RollupState) (cs : List Column) (ss : List ColumnState) (a b : ℤ) (ks : List (KeptCell Aggregate)) → pos 1 ≤ℤ r.interval → IsShown r s cs ss
-    → HoldsFew n (with_points cs (points_of ss)) r s.grid.cells → n ≤ 2 ^ 62 → map entry_of ks ≡ entries_within a b s.grid.cells → AllByRecursion (λ (k : KeptCell Aggregate). IsAt s.grid.lanes k.lane (lane_of k.cell)) ks → AreWhole r s ss ks
+    → HoldsFew n (with_points cs (point_maps ss)) r s.grid.cells → n ≤ 2 ^ 62 → map entry_of ks ≡ entries_within a b s.grid.cells → AllByRecursion (λ (k : KeptCell Aggregate). IsAt s.grid.lanes k.lane (lane_of k.cell)) ks → AreWhole r s ss ks
 walk_whole r n s cs ss a b ks interval shown counts few e lanes = record { interval = interval; each = all_whole r n s cs ss shown counts few ks (walk_found s a b ks e lanes) }
 
 all_shown : (r : Rule) (low : ℤ) (s : RollupState) (cs : List Column) (ss : List ColumnState) → IsShown r s cs ss → (ks : List (KeptCell Aggregate)) → AllByRecursion (IsFound s) ks
-    → walked_cells r s ss ks ≡ map (with_total (totals_in (rule_cells (with_points cs (points_of ss)) r low s.grid.cells)).total) (map (λ (e : Cell × Aggregate). e.0) (map entry_of ks))
+    → walked_cells r s ss ks ≡ map (with_total (totals_in (rule_cells (with_points cs (point_maps ss)) r low s.grid.cells)).total) (map (λ (e : Cell × Aggregate). e.0) (map entry_of ks))
 all_shown r low s cs ss shown [] found = refl
 all_shown r low s cs ss shown (k ∷ ks) found = ap₂ (λ (x : CellTotal) (xs : List CellTotal). x ∷ xs) (total_shown r low s cs ss shown k found.0) (all_shown r low s cs ss shown ks found.1)
 
@@ -115,9 +115,9 @@ keys_within a b (e ∷ es) =
 -- and they are those that are shown
 pub walk_shows : (r : Rule) (low : ℤ) (s : RollupState) (cs : List Column) (ss : List ColumnState) (a b : ℤ) (ks : List (KeptCell Aggregate)) → IsShown r s cs ss
     → map entry_of ks ≡ entries_within a b s.grid.cells → AllByRecursion (λ (k : KeptCell Aggregate). IsAt s.grid.lanes k.lane (lane_of k.cell)) ks
-    → walked_cells r s ss ks ≡ cells_within (totals_in (rule_cells (with_points cs (points_of ss)) r low s.grid.cells)) a b
+    → walked_cells r s ss ks ≡ cells_within (totals_in (rule_cells (with_points cs (point_maps ss)) r low s.grid.cells)) a b
 walk_shows r low s cs ss a b ks shown e lanes =
-    let total : Cell → Aggregate = (totals_in (rule_cells (with_points cs (points_of ss)) r low s.grid.cells)).total in
+    let total : Cell → Aggregate = (totals_in (rule_cells (with_points cs (point_maps ss)) r low s.grid.cells)).total in
     all_shown r low s cs ss shown ks (walk_found s a b ks e lanes)
     ∙ ap (λ es. map (with_total total) (map (λ (x : Cell × Aggregate). x.0) es)) e
     ∙ ap (map (with_total total)) (keys_within a b (finmap.entries s.grid.cells))
@@ -191,7 +191,7 @@ store_shows settings marks accepted held run n r a b kept there read =
 -- ---- a walk over the rule of a number, of columns by an index
 
 pub record IsWalked (held : Held) (cs : List Column) (ss : List ColumnState) (n : ℕ) (s : RollupState) (given : List ColumnState) (a b : ℤ) (ks : List (KeptCell Aggregate)) : Type 0 where
-  pub columns : with_points cs (points_of ss) ≡ held.columns
+  pub columns : with_points cs (point_maps ss) ≡ held.columns
   pub each : length ss ≡ length cs
   pub rollup : s ≡ get_or held.rollups n s
   pub states : given ≡ ss
@@ -205,12 +205,12 @@ module _ (held : Held) (cs : List Column) (ss : List ColumnState) (r : Rule) (n 
 
   its_lanes : IsShown r s cs ss
   its_lanes =
-      let names : map column_of held.columns ≡ cs = ap (map column_of) (sym walked.columns) ∙ names_of cs (points_of ss) (length-map ss (λ (x : ColumnState). x.points) ∙ walked.each) in
+      let names : map column_of held.columns ≡ cs = ap (map column_of) (sym walked.columns) ∙ names_of cs (point_maps ss) (length-map ss (λ (x : ColumnState). x.points) ∙ walked.each) in
       record { once = walked.once; each = walked.each; lanes = subst (λ (t : RollupState). HaveLanes r t.grid.lanes cs t.lanes) its_rollup (subst (λ xs. HaveLanes r (rollup_at held.rollups n).grid.lanes xs (rollup_at held.rollups n).lanes) names ruled.lanes) }
 
   pub facts_whole : AreWhole r s given ks
   facts_whole =
-      let few : HoldsFew (2 ^ 62) (with_points cs (points_of ss)) r s.grid.cells = subst (λ (t : RollupState). HoldsFew (2 ^ 62) (with_points cs (points_of ss)) r t.grid.cells) its_rollup
+      let few : HoldsFew (2 ^ 62) (with_points cs (point_maps ss)) r s.grid.cells = subst (λ (t : RollupState). HoldsFew (2 ^ 62) (with_points cs (point_maps ss)) r t.grid.cells) its_rollup
       (subst (λ columns. HoldsFew (2 ^ 62) columns r (rollup_at held.rollups n).grid.cells) (sym walked.columns) ruled.few) in
       subst (λ x. AreWhole r s x ks) (sym walked.states) (walk_whole r (2 ^ 62) s cs ss a b ks ruled.interval its_lanes few (omega arith) walked.entries walked.lanes)
 

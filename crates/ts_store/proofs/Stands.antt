@@ -33,7 +33,7 @@ use Rattle.ts_core.proofs.ColumnFacts.{facts_of-there, facts_of-here}
 use Rattle.ts_core.proofs.MovesStand.{grows}
 use Rattle.ts_core.proofs.LineStands.{length_before, line_put}
 use Rattle.ts_core.specs.SettingsFaults.{unless, settings_fault}
-use Rattle.ts_line.specs.Parts.{Piece, Parts, series_of, fact_of, facts_of as line_facts}
+use Rattle.ts_line.specs.Parts.{LinePart, Parts, series_of, fact_of, line_facts as line_facts}
 use Rattle.ts_raw.specs.Numbered.{IsAt}
 use Rattle.ts_raw.proofs.NumberedLemmas.{at_among}
 use Rattle.ts_store.specs.ColumnsKept.{Held, AreKnown}
@@ -45,7 +45,7 @@ use Rattle.ts_store.specs.Refusals.{is_registered, is_too_many, write_fault}
 use Rattle.ts_store.specs.OpenRuns.{Run, waiting_in, kept_data, IsKept}
 use Rattle.ts_store.specs.CellCounts.{HoldFew}
 use Rattle.ts_store.specs.Rollups.{new_rollup, AreRollups, cells_of}
-use Rattle.ts_store.specs.LinesPut.{Puts, Grows, Accepts, Leaves}
+use Rattle.ts_store.specs.LinesPut.{PutsLine, GrowsForLine, Accepts, Leaves}
 use Rattle.ts_store.proofs.ColumnsAside.{names_with}
 use Rattle.ts_store.proofs.ColumnsLemmas.{in_column}
 use Rattle.ts_store.proofs.CountsKept.{counts-put, counts-grown, counts-new}
@@ -160,7 +160,7 @@ grown_stands opening h settings marks n before after run made facts e known room
     (λ c a. subst (λ (cs : List ColumnPoints). Among c (map column_of cs)) (sym e) (names_stay before.columns made c a)) known.registered (ap facts_of e ∙ same_facts before.columns made) room)
 
 -- after want of memory
-pub left_by : (settings : Settings) (marks : Marks) (n : ℕ) (before after : Held) (run : Option Run) (p : Parts) → IsKept (kept_data settings marks n before run) before run → Grows settings.rules before after p → AreKnown after
+pub left_by : (settings : Settings) (marks : Marks) (n : ℕ) (before after : Held) (run : Option Run) (p : Parts) → IsKept (kept_data settings marks n before run) before run → GrowsForLine settings.rules before after p → AreKnown after
     → Leaves (kept_data settings marks n before run) (kept_data settings marks n after run) p
 left_by settings marks n before after run p kept g known = record {
   history = λ opening h st. grown_stands opening h settings marks n before after run g.columns.made [] g.columns.columns known g.rooms kept.few st;
@@ -169,7 +169,7 @@ left_by settings marks n before after run p kept g known = record {
 }
 
 -- the store is as it was between two calls
-pub kept_left : (settings : Settings) (marks : Marks) (n : ℕ) (before after : Held) (run : Option Run) (p : Parts) → IsKept (kept_data settings marks n before run) before run → Grows settings.rules before after p → AreKnown after
+pub kept_left : (settings : Settings) (marks : Marks) (n : ℕ) (before after : Held) (run : Option Run) (p : Parts) → IsKept (kept_data settings marks n before run) before run → GrowsForLine settings.rules before after p → AreKnown after
     → IsKept (kept_data settings marks n after run) after run
 kept_left settings marks n before after run p kept g known =
     let made : List Column = g.columns.made in
@@ -225,7 +225,7 @@ line_names before after fs puts =
 abbrev made_for : Held → Held → List Fact → Held
 made_for before after fs = record { series = after.series; columns = with_columns before.columns (new_columns (map column_of before.columns) fs); rollups = after.rollups }
 
-write_stands : (opening : Settings) (h : History) (settings : Settings) (marks : Marks) (n : ℕ) (before after : Held) (run : Option Run) (p : Parts) → Puts settings.rules before after p → AreKnown after → AllByRecursion (MayBeTaken marks.raw) (line_facts p)
+write_stands : (opening : Settings) (h : History) (settings : Settings) (marks : Marks) (n : ℕ) (before after : Held) (run : Option Run) (p : Parts) → PutsLine settings.rules before after p → AreKnown after → AllByRecursion (MayBeTaken marks.raw) (line_facts p)
     → n + length (line_facts p) ≤ 2 ^ 62 → IsWithin run before.columns → StandsFor opening h (state_of (kept_data settings marks n before run))
     → StandsFor opening (Line (line_facts p) ∷ h) (state_of (kept_data settings marks (n + length (line_facts p)) after run))
 write_stands opening h settings marks n before after run p put known taken few within st =
@@ -243,7 +243,7 @@ write_stands opening h settings marks n before after run p put known taken few w
     (line_put opening h (kept_data settings marks n mid run) after.columns fs (cells_of after.rollups) grown (room_there settings.rules fs (cells_of before.rollups) (cells_of after.rollups) put.rooms)
     (λ f a. column_new before.columns fs f a) put.facts (st.lawful, subst (λ (m : ℤ). AllByRecursion (MayBeTaken m) fs) mark taken, omega (arith, st.accepted, more, few)))
 
-pub accepted_by : (settings : Settings) (marks : Marks) (n : ℕ) (before after : Held) (run : Option Run) (p : Parts) → IsKept (kept_data settings marks n before run) before run → Puts settings.rules before after p → AreKnown after
+pub accepted_by : (settings : Settings) (marks : Marks) (n : ℕ) (before after : Held) (run : Option Run) (p : Parts) → IsKept (kept_data settings marks n before run) before run → PutsLine settings.rules before after p → AreKnown after
     → AllByRecursion (MayBeTaken marks.raw) (line_facts p) → n + length (line_facts p) ≤ 2 ^ 62 → Accepts (kept_data settings marks n before run) (kept_data settings marks (n + length (line_facts p)) after run) p
 accepted_by settings marks n before after run p kept put known taken few =
     let fs : List Fact = line_facts p in
@@ -254,7 +254,7 @@ accepted_by settings marks n before after run p kept put known taken few =
     }
 
 -- the store is again what it is between two calls
-pub kept_accepted : (settings : Settings) (marks : Marks) (n : ℕ) (before after : Held) (run : Option Run) (p : Parts) → IsKept (kept_data settings marks n before run) before run → Puts settings.rules before after p → AreKnown after
+pub kept_accepted : (settings : Settings) (marks : Marks) (n : ℕ) (before after : Held) (run : Option Run) (p : Parts) → IsKept (kept_data settings marks n before run) before run → PutsLine settings.rules before after p → AreKnown after
     → AllByRecursion (MayBeTaken marks.raw) (line_facts p) → n + length (line_facts p) ≤ 2 ^ 62 → IsKept (kept_data settings marks (n + length (line_facts p)) after run) after run
 kept_accepted settings marks n before after run p kept put known taken few =
     let fs : List Fact = line_facts p in
@@ -390,7 +390,7 @@ welcome mark series n p late registers few =
     let rest : Option WriteFault = unless (nat_le (n + length (line_facts p)) (2 ^ 62)) TooManyFacts None in
     ap (λ b. unless b (BelowRawMark mark) (unless (not (is_too_many series (series_of p))) TooManySeries rest)) (le_true mark p.time late) ∙ ap (λ b. unless (not b) TooManySeries rest) registers ∙ ap (λ b. unless b TooManyFacts None) (nat_le_yes (n + length (line_facts p)) (2 ^ 62) few)
 
-taken_fields : (mark : ℤ) (p : Parts) → mark ≤ℤ p.time → (fields : List (Piece × ℤ)) → AllByRecursion (MayBeTaken least_time) (map (fact_of p) fields) → AllByRecursion (MayBeTaken mark) (map (fact_of p) fields)
+taken_fields : (mark : ℤ) (p : Parts) → mark ≤ℤ p.time → (fields : List (LinePart × ℤ)) → AllByRecursion (MayBeTaken least_time) (map (fact_of p) fields) → AllByRecursion (MayBeTaken mark) (map (fact_of p) fields)
 taken_fields mark p late [] all = tt
 taken_fields mark p late (f ∷ fields) all = (record { valid = all.0.valid; fits = all.0.fits; raw = late }, taken_fields mark p late fields all.1)
 

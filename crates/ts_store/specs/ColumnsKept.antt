@@ -5,7 +5,7 @@ use Rattle.ts_core.specs.Members.{Among, AllDistinct}
 use Rattle.ts_core.specs.Facts.{Series, Column, Fact}
 use Rattle.ts_core.specs.StoreStates.{ColumnPoints, column_of, fact_at, facts_of}
 use Rattle.ts_raw.specs.Columns.{PointMap, ColumnState}
-use Rattle.ts_raw.specs.Indexed.{Indexed, IsSound}
+use Rattle.ts_raw.specs.Indexed.{Indexed, IsSoundIndex}
 use Rattle.ts_store.specs.Rollups.{RollupState, coded_rollup}
 use Rattle.std.specs.Coded.{Coded, code_by, coded×, coded_list}
 use Rattle.ts_core.specs.StoreCodes.{coded_series, coded_column_points}
@@ -13,8 +13,8 @@ use Rattle.ts_core.specs.StoreCodes.{coded_series, coded_column_points}
 abbrev pub facts_in : Column → PointMap → List Fact
 facts_in c points = map (fact_at c) (finmap.entries points)
 
-abbrev pub points_of : List ColumnState → List PointMap
-points_of states = map (λ (s : ColumnState). s.points) states
+abbrev pub point_maps : List ColumnState → List PointMap
+point_maps states = map (λ (s : ColumnState). s.points) states
 
 -- the columns with their points, in the order of making
 abbrev pub with_points : List Column → List PointMap → List ColumnPoints
@@ -24,7 +24,7 @@ with_points (c ∷ cs) (m ∷ ms) = record { column = c; points = finmap.entries
 
 -- those of an index
 abbrev pub columns_in : Indexed → List ColumnState → List ColumnPoints
-columns_in index states = with_points index.columns (points_of states)
+columns_in index states = with_points index.columns (point_maps states)
 
 -- the facts of all columns
 abbrev pub facts_of_columns : List Column → List PointMap → List Fact
@@ -92,5 +92,5 @@ pub record AreKnown (held : Held) : Type 0 where
 
 -- each column of the index has its points
 pub record IsHeld (index : Indexed) (states : List ColumnState) : Type 0 where
-  pub sound : IsSound index
+  pub sound : IsSoundIndex index
   pub each : length states ≡ length index.columns

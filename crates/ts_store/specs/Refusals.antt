@@ -5,7 +5,7 @@ use Rattle.std.specs.List.{list_any}
 use Rattle.std.specs.Ordering.{eq_by_cmp}
 use Rattle.ts_core.specs.Facts.{Series, series_cmp}
 use Rattle.ts_core.specs.SettingsFaults.{unless}
-use Rattle.ts_line.specs.Parts.{Parts, series_of, facts_of}
+use Rattle.ts_line.specs.Parts.{Parts, series_of, line_facts}
 use Rattle.ts_store.specs.declared.fault.WriteFault.{WriteFault}
 use Rattle.ts_store.specs.declared.fault.WriteFault.TheVariants.{BelowRawMark, TooManySeries, TooManyFacts}
 
@@ -21,4 +21,4 @@ abbrev pub write_fault : ℤ → List Series → ℕ → Parts → Option WriteF
 write_fault mark series accepted p =
     unless (int_le mark p.time) (BelowRawMark mark)
     (unless (not (is_too_many series (series_of p))) TooManySeries
-    (unless (nat_le (accepted + length (facts_of p)) (2 ^ 62)) TooManyFacts None))
+    (unless (nat_le (accepted + length (line_facts p)) (2 ^ 62)) TooManyFacts None))

@@ -12,7 +12,7 @@ use Rattle.ts_core.specs.Changes.{changed}
 use Rattle.ts_core.specs.StoreMoves.{frozen_with}
 use Rattle.ts_core.specs.StoreCodes.{coded_aggregate}
 use Rattle.ts_core.specs.StoreData.{FrozenCells}
-use Rattle.ts_cells.specs.Changes.{roomy}
+use Rattle.ts_cells.specs.CellChanges.{roomy}
 use Rattle.ts_cells.specs.Grids.{Lane, Grid, IsAt, cell_in, coded_grid}
 use Rattle.ts_raw.specs.Numbered.{numbers_where}
 

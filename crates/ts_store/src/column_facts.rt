@@ -6,12 +6,12 @@ ghost use Rattle.ts_core.specs.Facts.{is_of};
 ghost use Rattle.ts_core.specs.History.{MayBeTaken};
 ghost use Rattle.ts_core.specs.StoreStates.{facts_of as facts_in};
 ghost use Rattle.ts_core.specs.Texts.{lent_pairs, lent_series, IsTagSet};
-ghost use Rattle.ts_line.specs.Parts.{series_of, facts_of};
+ghost use Rattle.ts_line.specs.Parts.{series_of, line_facts};
 ghost use Rattle.ts_raw.specs.PlainColumns.{IsRising};
 ghost use Rattle.ts_store.specs.ColumnsKept.{AreKnown};
 ghost use Rattle.ts_store.specs.Refusals.{is_too_many};
 ghost use Rattle.ts_store.specs.Seats.{seats_where, points_at};
-ghost use Rattle.ts_store.specs.LinesPut.{Puts, Grows};
+ghost use Rattle.ts_store.specs.LinesPut.{PutsLine, GrowsForLine};
 ghost use Rattle.ts_store.specs.Rollups.{new_rollup, AreRollups};
 ghost use Rattle.ts_core.specs.StoreStates.{column_of};
 
@@ -82,9 +82,9 @@ impl<A: Allocator + Copy> ColumnFacts<A> {
         requires few { is_too_many self.old.series (series_of line.now) ≡ false }
         requires rollups { AreRollups rules.now (map column_of self.old.columns) self.old.rollups }
         requires intervals { AllByRecursion (λ r. pos 1 ≤ℤ r.interval) rules.now }
-        ensures ok { OnOk result (Puts rules.now self.old self.new line.now) }
-        ensures err { OnErr result (Grows rules.now self.old self.new line.now) }
-        ensures taken { OnOk result (AllByRecursion (MayBeTaken least_time) (facts_of line.now)) }
+        ensures ok { OnOk result (PutsLine rules.now self.old self.new line.now) }
+        ensures err { OnErr result (GrowsForLine rules.now self.old self.new line.now) }
+        ensures taken { OnOk result (AllByRecursion (MayBeTaken least_time) (line_facts line.now)) }
         ensures known { AreKnown self.new }
     {
         let series = match self.index.register(line.measurement().text(), tags) {

@@ -3,7 +3,7 @@ ghost use Rattle.std.specs.Prelude.{◌≡◌, ◌+◌, ◌*◌, ◌≤◌, ◌<
 ghost use Rattle.std.specs.FinMap as map;
 ghost use Rattle.ts_raw.specs.Columns.{points_within};
 ghost use Rattle.ts_raw.specs.PlainColumns.{IsRising};
-ghost use Rattle.ts_store.specs.ColumnsKept.{points_of};
+ghost use Rattle.ts_store.specs.ColumnsKept.{point_maps};
 ghost use Rattle.ts_store.specs.PointsRead.{number_of_points};
 
 use std::alloc::Allocator;
@@ -43,7 +43,7 @@ pub(crate) fn raw_range<'a, A: Allocator + Copy>(
     to: i64,
 ) -> Points<'a>
     requires { at < length columns.now }
-    ensures points { result ≡ points_within (get_or (points_of columns.now) at map.empty) from to }
+    ensures points { result ≡ points_within (get_or (point_maps columns.now) at map.empty) from to }
     ensures rising { IsRising result }
 {
     columns[at].range(from, to)

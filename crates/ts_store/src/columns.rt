@@ -3,10 +3,10 @@ ghost use Rattle.std.specs.Prelude.{◌≡◌, ◌<◌, [], ◌∷◌, ◌++◌,
 ghost use Rattle.std.specs.List.{AllByRecursion};
 ghost use Rattle.ts_core.specs.Times.{least_time};
 ghost use Rattle.ts_core.specs.History.{MayBeTaken};
-ghost use Rattle.ts_line.specs.Parts.{series_of, facts_of};
-ghost use Rattle.ts_raw.specs.Indexed.{IsSound, column_in};
+ghost use Rattle.ts_line.specs.Parts.{series_of, line_facts};
+ghost use Rattle.ts_raw.specs.Indexed.{IsSoundIndex, column_in};
 ghost use Rattle.ts_raw.specs.Numbered.{IsAt};
-ghost use Rattle.ts_store.specs.ColumnsKept.{no_column, points_of, columns_in, with_point_aside, all_committed, AreReady, AreAside, MayGrow, IsHeld};
+ghost use Rattle.ts_store.specs.ColumnsKept.{no_column, point_maps, columns_in, with_point_aside, all_committed, AreReady, AreAside, MayGrow, IsHeld};
 ghost use Rattle.ts_store.specs.Registered.{MakesFirst, MakesAll};
 ghost use Rattle.ts_store.specs.Rollups.{AreRollups, KeepCells, HaveNext, with_next, cells_of};
 ghost use Rattle.ts_core.specs.Members.{Among};
@@ -69,7 +69,7 @@ fn make_column<A: Allocator + Copy>(
     ensures made { OnOk result ((index.new.columns ≡ index.old.columns ++ column_in index.old series field.now ∷ []) × (columns.new.items ≡ columns.old.items ++ no_column ∷ [])) }
     ensures err { OnErr result ((index.new.columns ≡ index.old.columns) × (columns.new.items ≡ columns.old.items)) }
     ensures series { index.new.series ≡ index.old.series }
-    ensures sound { IsSound index.old → IsSound index.new }
+    ensures sound { IsSoundIndex index.old → IsSoundIndex index.new }
     ensures rollups { AreRollups rules.now index.new.columns rollups.new }
     ensures cells { cells_of rollups.new ≡ cells_of rollups.old }
 {
@@ -101,7 +101,7 @@ fn column_for<A: Allocator + Copy>(
     ensures grown { OnOk result (MayGrow (column_in index.old series field.now) index.old.columns columns.old.items index.new.columns columns.new.items) }
     ensures err { OnErr result ((index.new.columns ≡ index.old.columns) × (columns.new.items ≡ columns.old.items)) }
     ensures series { index.new.series ≡ index.old.series }
-    ensures sound { IsSound index.old → IsSound index.new }
+    ensures sound { IsSoundIndex index.old → IsSoundIndex index.new }
     ensures rollups { AreRollups rules.now index.new.columns rollups.new }
     ensures cells { cells_of rollups.new ≡ cells_of rollups.old }
 {
@@ -121,7 +121,7 @@ fn prepare_at<A: Allocator + Copy>(
     requires { at < length columns.old.items }
     ensures ok { OnOk result (columns.new.items ≡ set columns.old.items at (with_point_aside (get_or columns.old.items at no_column) time value)) }
     ensures len { length columns.new.items ≡ length columns.old.items }
-    ensures unchanged { points_of columns.new.items ≡ points_of columns.old.items }
+    ensures unchanged { point_maps columns.new.items ≡ point_maps columns.old.items }
 {
     columns[at].prepare(time, value)
 }
@@ -153,10 +153,10 @@ pub(crate) fn prepare_line<A: Allocator + Copy>(
     requires rollups { AreRollups rules.now index.old.columns rollups.old }
     requires series { IsAt index.old.series series (series_of line.now) }
     requires none { touched.old.items ≡ [] }
-    ensures aside { OnOk result (AreAside index.new.columns columns.new.items touched.new.items (facts_of line.now)) }
-    ensures taken { OnOk result (AllByRecursion (MayBeTaken least_time) (facts_of line.now)) }
-    ensures all { OnOk result (MakesAll (columns_in index.old columns.old.items) (columns_in index.new columns.new.items) (facts_of line.now)) }
-    ensures made { MakesFirst (columns_in index.old columns.old.items) (columns_in index.new columns.new.items) (facts_of line.now) }
+    ensures aside { OnOk result (AreAside index.new.columns columns.new.items touched.new.items (line_facts line.now)) }
+    ensures taken { OnOk result (AllByRecursion (MayBeTaken least_time) (line_facts line.now)) }
+    ensures all { OnOk result (MakesAll (columns_in index.old columns.old.items) (columns_in index.new columns.new.items) (line_facts line.now)) }
+    ensures made { MakesFirst (columns_in index.old columns.old.items) (columns_in index.new columns.new.items) (line_facts line.now) }
     ensures held { IsHeld index.new columns.new.items }
     ensures series { index.new.series ≡ index.old.series }
     ensures rollups { AreRollups rules.now index.new.columns rollups.new }

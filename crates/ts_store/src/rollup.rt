@@ -6,7 +6,7 @@ ghost use Rattle.ts_core.specs.Cells.{Cell};
 ghost use Rattle.ts_core.specs.Members.{AllDistinct};
 ghost use Rattle.ts_core.specs.Tags.{tag_values};
 ghost use Rattle.ts_cells.specs.Expiry.{Removes};
-ghost use Rattle.ts_cells.specs.Grids.{IsAt, lane_of, lane_named, lent};
+ghost use Rattle.ts_cells.specs.Grids.{IsAt, lane_of, lane_named, lent_texts};
 ghost use Rattle.ts_cells.specs.Walks.{entry_of, entries_within};
 ghost use Rattle.ts_raw.specs.Lists.{lists_of};
 ghost use Rattle.ts_store.specs.Rollups.{new_rollup, HasSpareAt, Extends, KeepsCells, HasNext, with_next, with_frozen, roomed_in, frozen_in, lane_at, columns_of_lane};
@@ -63,7 +63,7 @@ fn group_of<'a, A: Allocator + Copy>(
     rule: &Rule<A>,
     key: &'a Key<A>,
 ) -> Result<Vec<&'a str, A>, AllocError>
-    ensures { IfOk result (λ group. lent group.items ≡ tag_values rule.now.kept_tags key.now) }
+    ensures { IfOk result (λ group. lent_texts group.items ≡ tag_values rule.now.kept_tags key.now) }
 {
     let tags = rule.kept_tags();
     let mut group = Vec::with_capacity(alloc, tags.len())?;

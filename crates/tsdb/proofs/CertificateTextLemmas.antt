@@ -3,7 +3,7 @@ use Rattle.std.proofs.Common.{◌≡◌, ◌≢◌, ◌∙◌, ℕ, suc, ◌<◌
 use Rattle.std.proofs.lemmas.Bool.Decides.{nat_tests}
 use Rattle.std.proofs.lemmas.List.{map-append}
 use Rattle.ts_core.specs.Facts.{Text}
-use Rattle.tsdb.specs.CertificateTexts.{with_line_feeds}
+use Rattle.tsdb.specs.ScriptCertificates.{with_line_feeds}
 
 abbrev pub HasNone : Text → Type 0
 HasNone text = (i : ℕ) → i < length text → get_or text i 0 ≢ 59

@@ -26,7 +26,7 @@ use Rattle.ts_ql.specs.declared.fault.ParseError.TheVariants as parse
 use Rattle.ts_ql.specs.Selects.{Select}
 use Rattle.tsdb.specs.Counted.{first_count, IsCounted}
 use Rattle.tsdb.specs.Machine.{Counts, counted, has_no_plan, is_too_long, counts_no_memory}
-use Rattle.tsdb.specs.Replies.{line}
+use Rattle.tsdb.specs.ScriptReplies.{line}
 use Rattle.tsdb.proofs.CountAnswers.{first_count_is}
 
 -- ---- what is printed

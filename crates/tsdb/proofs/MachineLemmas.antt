@@ -26,17 +26,17 @@ use Rattle.ts_reply.specs.Answering.{IsReply}
 use Rattle.ts_reply.specs.Explaining.{IsExplanation}
 use Rattle.ts_reply.specs.declared.epoch.Epoch.{Epoch}
 use Rattle.tsdb.specs.ScriptLines.{script_line_limit}
-use Rattle.tsdb.specs.CertificateTexts.{with_line_feeds}
+use Rattle.tsdb.specs.ScriptCertificates.{with_line_feeds}
 use Rattle.tsdb.specs.Commands.{OpenWith, At, SetPrecision, SetEpoch, Write, Live, Retain, SetCertificate, Query, Explain, Count, CountFault, Unknown, is_skipped, command_of}
 use Rattle.tsdb.specs.MarksTexts.{marks_text}
 use Rattle.tsdb.specs.Opening.{IsEmptyWith}
 use Rattle.ts_store.specs.declared.fault.WriteFault.{WriteFault}
 use Rattle.ts_store.specs.declared.fault.WriteFault.TheVariants as write
-use Rattle.tsdb.specs.Replies.{line, text_of, refusal_of, write_fault_text}
+use Rattle.tsdb.specs.ScriptReplies.{line, text_of, refusal_of, write_fault_text}
 use Rattle.tsdb.specs.declared.reply.Reply.{Reply}
 use Rattle.tsdb.specs.declared.reply.Reply.TheVariants.{Done, OutOfMemory}
-use Rattle.tsdb.specs.Machine.{State, begun, with_certificate, opened_with, with_run, marks_told, with_line, with_series, at_moment, in_precision, line_in, refusal_in, in_epoch, refused, accepted_whole, found_no_memory, Counts, Does, Step, opens, refuses_settings, opens_no_memory, opens_late, moves, sets, shows, writes, passes_over, refuses, reads_no_memory, retains, retains_no_memory, hands_in, hands_in_no_memory, replies, replies_no_memory, explains, explains_no_memory, tells_live, counts, counts_nothing, refuses_count, refuses_unknown, too_long, no_text, skips, does}
-use Rattle.tsdb.specs.Serving.{Serving, IsIn, Replied, Explained, Took, Did, Refused, Stepped, IsAnswered}
+use Rattle.tsdb.specs.Machine.{State, no_longer_fresh, with_certificate, opened_with, with_run, marks_told, with_line, with_series, at_moment, in_precision, line_in, refusal_in, in_epoch, refused, accepted_whole, found_no_memory, Counts, Does, Step, opens, refuses_settings, opens_no_memory, opens_late, moves, sets, shows, writes, passes_over, refuses, reads_no_memory, retains, retains_no_memory, hands_in, hands_in_no_memory, replies, replies_no_memory, explains, explains_no_memory, tells_live, counts, counts_nothing, refuses_count, refuses_unknown, too_long, no_text, skips, does}
+use Rattle.tsdb.specs.Serving.{Serving, IsIn, Replied, HasExplanation, Took, Did, Refused, Stepped, IsAnswered}
 use Rattle.tsdb.specs.LineReading.{NextOf}
 use Rattle.tsdb.specs.declared.line_reader.Next.TheVariants as next
 
@@ -223,7 +223,7 @@ reply_ended {X} {E} (Ok x) bytes text body certificate good m e each = λ s i.
     (body, (good, reply), e)
 
 pub explanation_ended : {X E : Type 0} (r : Result X E) (bytes : X → Text) (text body : Text) (good : Bool) (m : Serving) → IfOk r (λ x. bytes x ≡ line body)
-    → OfEachHistory m.kept (λ opening h. IsExplanation opening h m.moment text good body) → IfOk r (λ x. (s : State) → IsIn s m → Explained s text (bytes x))
+    → OfEachHistory m.kept (λ opening h. IsExplanation opening h m.moment text good body) → IfOk r (λ x. (s : State) → IsIn s m → HasExplanation s text (bytes x))
 explanation_ended {X} {E} (Err x) bytes text body good m e each = tt
 explanation_ended {X} {E} (Ok x) bytes text body good m e each = λ s i.
     (body, (good, subst (λ (t : ℤ). IsExplanation s.opening s.history t text good body) i.moment (each s.opening s.history i.stands)), e)
@@ -243,7 +243,7 @@ was_replied text answer certificate after s m i own none each =
 pub replied_no_memory : (text : Text) (after : Option Text) (s : State) (m : Serving) → IsIn s m → after ≡ None → Did (Query text) s (line (codes "fault memory")) (holding after m)
 replied_no_memory text after s m i none = (with_certificate None s, replies_no_memory text, forgotten after s m i none)
 
-pub was_explained : (text answer : Text) (s : State) (m : Serving) → IsIn s m → Explained s text answer → Did (Explain text) s answer m
+pub was_explained : (text answer : Text) (s : State) (m : Serving) → IsIn s m → HasExplanation s text answer → Did (Explain text) s answer m
 was_explained text answer s m i r = (s, subst (λ (a : Text). Does s (Explain text) a s) (sym r.2) (explains text r.0 r.1.0 r.1.1), i)
 
 pub explained_no_memory : (text : Text) (s : State) (m : Serving) → IsIn s m → Did (Explain text) s (line (codes "fault memory")) m
@@ -265,11 +265,11 @@ not_known s m i = (s, refuses_unknown, i)
 -- ---- lines
 
 -- settings may no longer come
-begun_in : (s : State) (m : Serving) → IsIn s m → IsIn (begun s) (record m { fresh = false })
+begun_in : (s : State) (m : Serving) → IsIn s m → IsIn (no_longer_fresh s) (record m { fresh = false })
 begun_in s m i = record { moment = i.moment; precision = i.precision; epoch = i.epoch; fresh = refl; certificate = i.certificate; stands = i.stands; series = i.series; idle = i.idle }
 
 pub did_it : (bytes answer : Text) (s : State) (m : Serving) → length bytes ≤ script_line_limit → IsUtf8 bytes → is_skipped bytes ≡ false → Did (command_of bytes) s answer m → Stepped bytes s answer (record m { fresh = false })
-did_it bytes answer s m short text some d = (begun d.0, does bytes answer d.0 short text some d.1, begun_in d.0 m d.2)
+did_it bytes answer s m short text some d = (no_longer_fresh d.0, does bytes answer d.0 short text some d.1, begun_in d.0 m d.2)
 
 pub was_skipped : (bytes : Text) (s : State) (m : Serving) → length bytes ≤ script_line_limit → IsUtf8 bytes → is_skipped bytes ≡ true → IsIn s m → Stepped bytes s [] m
 was_skipped bytes s m short text none i = (s, skips bytes short text none, i)
@@ -278,7 +278,7 @@ pub was_not_read : (s : State) (m : Serving) → IsIn s m → Refused s (line (c
 was_not_read s m i = (refl, begun_in s m i)
 
 pub was_no_text : (bytes answer : Text) (s : State) (m : Serving) → (IsUtf8 bytes → ⊥) → Refused s answer m → Stepped bytes s answer m
-was_no_text bytes answer s m not_text r = (begun s, subst (λ (a : Text). Step s bytes a (begun s)) (sym r.0) (no_text bytes not_text), r.1)
+was_no_text bytes answer s m not_text r = (no_longer_fresh s, subst (λ (a : Text). Step s bytes a (no_longer_fresh s)) (sym r.0) (no_text bytes not_text), r.1)
 
 pub long_answered : (bytes text answer : Text) (left : Option Text) (s : State) (m : Serving) → NextOf bytes next.TooLong text left → Refused s answer m → IsAnswered bytes left s m answer
 long_answered bytes text answer left s m n r = record {
@@ -286,5 +286,5 @@ long_answered bytes text answer left s m n r = record {
   left_is = n.1;
   text = n.2;
   lines_are = n.3;
-  stepped = (begun s, subst (λ (a : Text). Step s n.2 a (begun s)) (sym r.0) (too_long n.2 n.4), r.1);
+  stepped = (no_longer_fresh s, subst (λ (a : Text). Step s n.2 a (no_longer_fresh s)) (sym r.0) (too_long n.2 n.4), r.1);
 }

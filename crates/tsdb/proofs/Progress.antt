@@ -8,7 +8,7 @@ use Rattle.ts_core.specs.Facts.{Text}
 use Rattle.ts_core.specs.Devices.{AppendsFront}
 use Rattle.tsdb.specs.ScriptLines.{lines_of}
 use Rattle.tsdb.specs.LineReading.{NextOf}
-use Rattle.tsdb.specs.Machine.{State, start, Step, Run}
+use Rattle.tsdb.specs.Machine.{State, start, Step, Prints}
 use Rattle.tsdb.specs.Serving.{Serving, IsIn, IsAnswered}
 use Rattle.tsdb.specs.Script.{AnswersAll, AnswersSome}
 use Rattle.ts_core.specs.ReadingAhead.{one_if_device}
@@ -28,7 +28,7 @@ pub record Done (input : Text) (left old new : Option Text) (m : Serving) : Type
   pub lines_are : lines_of input ≡ done ++ lines_of rest
   pub answers : List Text
   pub state : State
-  pub run : Run start done answers state
+  pub run : Prints start done answers state
   pub is_in : IsIn state m
   pub written : Appends old new (concat answers)
 
@@ -50,7 +50,7 @@ begins (Some bytes) contents buffered m e i = record {
 }
 
 -- a run goes on by one step
-run_more : (old mid new : State) (texts answers : List Text) (text answer : Text) → Run old texts answers mid → Step mid text answer new → Run old (texts ++ text ∷ []) (answers ++ answer ∷ []) new
+run_more : (old mid new : State) (texts answers : List Text) (text answer : Text) → Prints old texts answers mid → Step mid text answer new → Prints old (texts ++ text ∷ []) (answers ++ answer ∷ []) new
 run_more old mid new [] [] text answer r s = (new, subst (λ (m : State). Step m text answer new) r s, refl)
 run_more old mid new (t ∷ ts) (a ∷ as') text answer r s = (r.0, r.1, run_more r.0 mid new ts as' text answer r.2 s)
 run_more old mid new [] (a ∷ as') text answer r s = absurd r
@@ -91,7 +91,7 @@ all_answered None left old new m p e = tt
 all_answered (Some input) left old new m p e =
     let none : p.rest ≡ [] = let P : Option Text → Type 0 = λ o. IfSome o (λ bytes. bytes ≡ []) in subst P p.left_is e in
     let lines : lines_of input ≡ p.done = p.lines_are ∙ ap (λ (l : Text). p.done ++ lines_of l) none ∙ append-nil p.done in
-    (concat p.answers, record { answers = p.answers; state = p.state; run = subst (λ (ls : List Text). Run start ls p.answers p.state) (sym lines) p.run; output_is = refl }, p.written)
+    (concat p.answers, record { answers = p.answers; state = p.state; run = subst (λ (ls : List Text). Prints start ls p.answers p.state) (sym lines) p.run; output_is = refl }, p.written)
 
 -- a device refused
 pub some_answered : (input left old new : Option Text) (m : Serving) → Progress input left old new m → AnswersSome input old new

@@ -5,7 +5,7 @@ use Rattle.std.specs.List.{concat}
 use Rattle.ts_core.specs.Facts.{Text, same_text}
 use Rattle.ts_core.specs.FaultCodes.{code_number, code_words, all_codes}
 use Rattle.ts_core.specs.declared.fault_code.FaultCode.{FaultCode}
-use Rattle.tsdb.specs.Replies.{line}
+use Rattle.tsdb.specs.ScriptReplies.{line}
 
 -- the words behind the program's name: `faults` asks for all, `faults N` for the one of a number; others ask for none
 abbrev pub faults_asked : List Text → Option (Option Text)
@@ -18,12 +18,12 @@ abbrev pub is_wanted : Option Text → Text → Bool
 is_wanted None digits = true
 is_wanted (Some number) digits = same_text digits number
 
-abbrev pub is_asked : Option Text → FaultCode → Bool
-is_asked number code = is_wanted number (decimal (code_number code))
+abbrev pub is_listed : Option Text → FaultCode → Bool
+is_listed number code = is_wanted number (decimal (code_number code))
 
 -- a fault's number and its words
 abbrev pub fault_row : FaultCode → Text
 fault_row code = line (decimal (code_number code) ++ (codes " " ++ code_words code))
 
 unfoldable pub fault_table : Option Text → Text
-fault_table number = concat (map fault_row (filter (is_asked number) all_codes))
+fault_table number = concat (map fault_row (filter (is_listed number) all_codes))

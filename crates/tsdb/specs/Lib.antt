@@ -2,15 +2,15 @@
 pub mod ScriptLines
 pub mod Commands
 pub mod Moments
-pub mod CertificateTexts
+pub mod ScriptCertificates
 pub mod MarksTexts
 pub mod FaultTables
 pub mod Machine
-pub mod Replies
+pub mod ScriptReplies
 pub mod Script
 pub mod RunFaults
 pub mod CommandLines
-pub mod Outcomes
+pub mod RunOutcomes
 -- What the code inside promises itself; nobody needs them to know what a script prints.
 pub mod CommandParts
 pub mod Counted

@@ -93,6 +93,6 @@ abbrev pub IsNext : HeldLine → Input → Next → HeldLine → Input → Type 
 IsNext old source next new source' = IfSome (to_come old source) (λ bytes. NextOf bytes next new.line (to_come new source'))
 
 -- the end is told where it was read, and a line uses something up
-pub record GoesOn (old : Ahead) (next : Next) (new : Ahead) : Type 0 where
+pub record UsesUp (old : Ahead) (next : Next) (new : Ahead) : Type 0 where
   pub over : next ≡ End → new.ended ≡ true
   pub less : next ≢ End → weight new < weight old

@@ -12,7 +12,7 @@ use Rattle.ts_core.specs.Latest.{count_of}
 use Rattle.ts_core.specs.Marks.{marks_of}
 use Rattle.ts_core.specs.Pieces.{Piece}
 use Rattle.ts_core.specs.RawFacts.{raw_facts}
-use Rattle.ts_line.specs.Parts.{Parts, series_of, facts_of}
+use Rattle.ts_line.specs.Parts.{Parts, series_of, line_facts}
 use Rattle.ts_core.specs.TimeUnits.{nanoseconds_of}
 use Rattle.ts_line.specs.Lines.{line_of}
 use Rattle.ts_line.specs.FaultText.{line_fault_text}
@@ -35,10 +35,10 @@ use Rattle.ts_store.specs.Registered.{MayGain}
 use Rattle.ts_store.specs.Refusals.{write_fault}
 use Rattle.ts_store.specs.WholeRuns.{whole_run}
 use Rattle.tsdb.specs.ScriptLines.{script_line_limit}
-use Rattle.tsdb.specs.CertificateTexts.{with_line_feeds}
+use Rattle.tsdb.specs.ScriptCertificates.{with_line_feeds}
 use Rattle.tsdb.specs.Commands.{Command, OpenWith, At, SetPrecision, SetEpoch, Write, Live, Retain, SetCertificate, Query, Explain, Count, CountFault, Unknown, is_skipped, command_of}
 use Rattle.tsdb.specs.MarksTexts.{marks_text}
-use Rattle.tsdb.specs.Replies.{line, write_fault_text}
+use Rattle.tsdb.specs.ScriptReplies.{line, write_fault_text}
 
 pub record State : Type 0 where
   -- the moment that the script has set, in nanoseconds, the precision of its timestamps, and how replies tell times
@@ -76,8 +76,8 @@ abbrev pub in_epoch : Epoch → State → State
 in_epoch e s = record s { epoch = e }
 
 -- a line that isn't skipped has come
-abbrev pub begun : State → State
-begun s = record s { fresh = false }
+abbrev pub no_longer_fresh : State → State
+no_longer_fresh s = record s { fresh = false }
 
 abbrev pub with_certificate : Option Text → State → State
 with_certificate certificate s = record s { certificate = certificate }
@@ -100,7 +100,7 @@ with_series series s = record s { series = series }
 
 -- the line's facts are accepted, and these series are registered
 abbrev pub with_line : Parts → List Series → State → State
-with_line parts series s = record s { history = Line (facts_of parts) ∷ s.history; series = series }
+with_line parts series s = record s { history = Line (line_facts parts) ∷ s.history; series = series }
 
 -- what a line says here: its parts, nothing, or a fault; without a time it has the script's moment
 abbrev pub line_in : State → Text → Result (Option Parts) LineFault
@@ -168,15 +168,15 @@ pub data Does (old : State) : Command → Text → State → Type 0 where
 
 -- From `old` a line of a script may print this and leave that.
 pub data Step (old : State) : Text → Text → State → Type 0 where
-  too_long : (bytes : Text) → script_line_limit < length bytes → Step old bytes (line (codes "fault 95")) (begun old)
-  no_text : (bytes : Text) → (IsUtf8 bytes → ⊥) → Step old bytes (line (codes "fault 95")) (begun old)
+  too_long : (bytes : Text) → script_line_limit < length bytes → Step old bytes (line (codes "fault 95")) (no_longer_fresh old)
+  no_text : (bytes : Text) → (IsUtf8 bytes → ⊥) → Step old bytes (line (codes "fault 95")) (no_longer_fresh old)
   -- a blank line or a comment
   skips : (bytes : Text) → length bytes ≤ script_line_limit → IsUtf8 bytes → is_skipped bytes ≡ true → Step old bytes [] old
-  does : (bytes answer : Text) (new : State) → length bytes ≤ script_line_limit → IsUtf8 bytes → is_skipped bytes ≡ false → Does old (command_of bytes) answer new → Step old bytes answer (begun new)
+  does : (bytes answer : Text) (new : State) → length bytes ≤ script_line_limit → IsUtf8 bytes → is_skipped bytes ≡ false → Does old (command_of bytes) answer new → Step old bytes answer (no_longer_fresh new)
 
 -- Lines may print these answers, one after another.
-abbrev pub Run : State → List Text → List Text → State → Type 0
-Run old [] [] new = new ≡ old
-Run old (text ∷ texts) (answer ∷ answers) new = (mid : State) × Step old text answer mid × Run mid texts answers new
-Run old [] (answer ∷ answers) new = ⊥
-Run old (text ∷ texts) [] new = ⊥
+abbrev pub Prints : State → List Text → List Text → State → Type 0
+Prints old [] [] new = new ≡ old
+Prints old (text ∷ texts) (answer ∷ answers) new = (mid : State) × Step old text answer mid × Prints mid texts answers new
+Prints old [] (answer ∷ answers) new = ⊥
+Prints old (text ∷ texts) [] new = ⊥

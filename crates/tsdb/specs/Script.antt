@@ -5,7 +5,7 @@ use Rattle.std.specs.Io.KnownBytes.{Appends}
 use Rattle.ts_core.specs.Facts.{Text}
 use Rattle.ts_core.specs.Devices.{Input, Output, AppendsFront}
 use Rattle.tsdb.specs.ScriptLines.{lines_of, turn_limit}
-use Rattle.tsdb.specs.Machine.{State, start, Run}
+use Rattle.tsdb.specs.Machine.{State, start, Prints}
 use Rattle.tsdb.specs.RunFaults.{one_if_reader, one_if_writer}
 use Rattle.tsdb.specs.declared.run_fault.RunFault.{RunFault}
 use Rattle.tsdb.specs.declared.run_fault.RunFault.TheVariants.{OutOfMemory, Turns}
@@ -14,7 +14,7 @@ use Rattle.tsdb.specs.declared.run_fault.RunFault.TheVariants.{OutOfMemory, Turn
 pub record IsScript (input output : Text) : Type 0 where
   pub answers : List Text
   pub state : State
-  pub run : Run start (lines_of input) answers state
+  pub run : Prints start (lines_of input) answers state
   pub output_is : output ≡ concat answers
 
 -- the output is the answers to the first lines of the input
@@ -24,7 +24,7 @@ pub record IsScriptSoFar (input output : Text) : Type 0 where
   pub lines_are : lines_of input ≡ done ++ rest
   pub answers : List Text
   pub state : State
-  pub run : Run start done answers state
+  pub run : Prints start done answers state
   pub output_is : output ≡ concat answers
 
 -- where the input is known, its answers were written

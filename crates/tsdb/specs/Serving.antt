@@ -15,8 +15,8 @@ use Rattle.ts_reply.specs.declared.epoch.Epoch.{Epoch}
 use Rattle.ts_reply.specs.declared.epoch.Epoch.TheVariants as epochs
 use Rattle.tsdb.specs.ScriptLines.{lines_of}
 use Rattle.tsdb.specs.Commands.{Command}
-use Rattle.tsdb.specs.Machine.{State, begun, Takes, Does, Step}
-use Rattle.tsdb.specs.Replies.{line}
+use Rattle.tsdb.specs.Machine.{State, no_longer_fresh, Takes, Does, Step}
+use Rattle.tsdb.specs.ScriptReplies.{line}
 
 pub record Serving : Type 0 where
   pub moment : ℤ
@@ -42,8 +42,8 @@ abbrev pub Replied : State → Text → Option Text → Text → Type 0
 Replied s text certificate answer = (body : Text) × ((good : Bool) × IsReply s.opening s.history s.moment text certificate s.epoch good body) × (answer ≡ line body)
 
 -- in this state a text of queries has an explanation with this body, here with an LF
-abbrev pub Explained : State → Text → Text → Type 0
-Explained s text answer = (body : Text) × ((good : Bool) × IsExplanation s.opening s.history s.moment text good body) × (answer ≡ line body)
+abbrev pub HasExplanation : State → Text → Text → Type 0
+HasExplanation s text answer = (body : Text) × ((good : Bool) × IsExplanation s.opening s.history s.moment text good body) × (answer ≡ line body)
 
 -- from this state a machine that was given a line of these parts is in a state that it may leave
 abbrev pub Took : Parts → State → Text → Serving → Type 0
@@ -55,7 +55,7 @@ Did command s answer m = (s' : State) × Does s command answer s' × IsIn s' m
 
 -- a line that can't be read was told as no command
 abbrev pub Refused : State → Text → Serving → Type 0
-Refused s answer m = (answer ≡ line (codes "fault 95")) × IsIn (begun s) m
+Refused s answer m = (answer ≡ line (codes "fault 95")) × IsIn (no_longer_fresh s) m
 
 abbrev pub Stepped : Text → State → Text → Serving → Type 0
 Stepped text s answer m = (s' : State) × Step s text answer s' × IsIn s' m

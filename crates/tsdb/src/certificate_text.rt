@@ -1,6 +1,6 @@
 //! Certificates in a script, whose lines have no LF.
 ghost use Rattle.std.specs.Prelude.{◌≡◌, IfOk, string_bytes};
-ghost use Rattle.tsdb.specs.CertificateTexts.{with_line_feeds};
+ghost use Rattle.tsdb.specs.ScriptCertificates.{with_line_feeds};
 
 use std::alloc::{AllocError, Allocator};
 

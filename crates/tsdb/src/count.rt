@@ -6,7 +6,7 @@ ghost use Rattle.ts_core.specs.Pieces.{IsValid};
 ghost use Rattle.ts_core.specs.StoreData.{OfEachHistory};
 ghost use Rattle.tsdb.specs.Counted.{first_count, IsCounted};
 ghost use Rattle.tsdb.specs.Machine.{Counts};
-ghost use Rattle.tsdb.specs.Replies.{text_of};
+ghost use Rattle.tsdb.specs.ScriptReplies.{text_of};
 
 use crate::reply::Reply;
 use std::alloc::{AllocError, Allocator};

@@ -3,7 +3,7 @@ ghost use Rattle.std.specs.Prelude.{◌≢◌, ◌≤◌, Option, length};
 ghost use Rattle.ts_core.specs.Facts.{Text};
 ghost use Rattle.tsdb.specs.ScriptLines.{script_line_limit};
 ghost use Rattle.tsdb.specs.LineReading.{NextOf};
-ghost use Rattle.tsdb.specs.Replies.{text_of};
+ghost use Rattle.tsdb.specs.ScriptReplies.{text_of};
 ghost use Rattle.tsdb.specs.Machine.{State};
 ghost use Rattle.tsdb.specs.Serving.{IsIn, IsAnswered};
 ghost use Rattle.tsdb.specs.Script.{IsReplay};

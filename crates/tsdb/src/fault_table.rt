@@ -1,7 +1,7 @@
 //! The table of all faults, as `tsdb faults` prints it.
 ghost use Rattle.std.specs.Prelude.{◌≡◌, ◌++◌, map, drop, IfOk, OnOk, MatchOption, None, Some, option_map, string_bytes};
 ghost use Rattle.ts_reply.specs.Told.{handed_in};
-ghost use Rattle.tsdb.specs.FaultTables.{faults_asked, is_wanted, is_asked, fault_table};
+ghost use Rattle.tsdb.specs.FaultTables.{faults_asked, is_wanted, is_listed, fault_table};
 ghost use Rattle.tsdb.specs.FaultNumbers.{row_where, asked_row};
 
 use itoa::Buffer;
@@ -37,7 +37,7 @@ fn row_to<A: Allocator>(
     asked: Option<&str>,
     code: FaultCode,
 ) -> Result<(), AllocError>
-    ensures { OnOk result (string_bytes text.new ≡ string_bytes text.old ++ row_where (is_asked (handed_in asked.entry)) code) }
+    ensures { OnOk result (string_bytes text.new ≡ string_bytes text.old ++ row_where (is_listed (handed_in asked.entry)) code) }
 {
     let mut digits = Buffer::new();
     let digits = digits.format(code.number());
@@ -53,7 +53,7 @@ fn numbered_row_to<A: Allocator>(
     asked: Option<&str>,
     number: u8,
 ) -> Result<(), AllocError>
-    ensures { OnOk result (string_bytes text.new ≡ string_bytes text.old ++ asked_row (is_asked (handed_in asked.entry)) number) }
+    ensures { OnOk result (string_bytes text.new ≡ string_bytes text.old ++ asked_row (is_listed (handed_in asked.entry)) number) }
 {
     match FaultCode::of_number(number) {
         Some(code) => row_to(text, asked, code),

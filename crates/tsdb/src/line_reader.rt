@@ -2,7 +2,7 @@
 ghost use Rattle.std.specs.Prelude.{◌≡◌, ◌≤◌, [], length, IfOk, false};
 ghost use Rattle.ts_core.specs.ReadingAhead.{EndIsEnd, nothing_ahead};
 ghost use Rattle.tsdb.specs.ScriptLines.{script_line_limit, turn_limit};
-ghost use Rattle.tsdb.specs.LineReading.{LineIs, IsTaken, IsLonger, IsAsked, IsReadOn, IsNext, GoesOn, next_of, last_of};
+ghost use Rattle.tsdb.specs.LineReading.{LineIs, IsTaken, IsLonger, IsAsked, IsReadOn, IsNext, UsesUp, next_of, last_of};
 
 use crate::chunk::{LINE_LIMIT, extend_line, line_end};
 use std::alloc::{AllocError, Allocator};
@@ -101,7 +101,7 @@ impl<A: Allocator + Copy> LineReader<A> {
     pub fn next<R: Read>(&mut self, source: &mut Source<R>) -> Result<Next, ReadFault>
         requires { EndIsEnd self.old.ahead source.old }
         ensures next { IfOk result (λ next. IsNext self.old source.old next self.new source.new) }
-        ensures goes_on { IfOk result (λ next. GoesOn self.old.ahead next self.new.ahead) }
+        ensures goes_on { IfOk result (λ next. UsesUp self.old.ahead next self.new.ahead) }
         ensures asked { IsAsked self.old.ahead source.old result self.new.ahead source.new }
     {
         if self.ahead.has_ended() {

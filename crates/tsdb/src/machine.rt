@@ -6,8 +6,8 @@ ghost use Rattle.tsdb.specs.ScriptLines.{script_line_limit};
 ghost use Rattle.tsdb.specs.Machine.{State, start};
 ghost use Rattle.tsdb.specs.MarksTexts.{marks_text};
 ghost use Rattle.tsdb.specs.Commands.{OpenWith as OpenWithCommand, Write as WriteCommand, Retain as RetainCommand, SetCertificate as CertificateCommand, Query as QueryCommand, Explain as ExplainCommand, Count as CountCommand};
-ghost use Rattle.tsdb.specs.Replies.{line, text_of, refusal_of};
-ghost use Rattle.tsdb.specs.Serving.{IsIn, Replied, Explained, Took, Did, Refused, Stepped};
+ghost use Rattle.tsdb.specs.ScriptReplies.{line, text_of, refusal_of};
+ghost use Rattle.tsdb.specs.Serving.{IsIn, Replied, HasExplanation, Took, Did, Refused, Stepped};
 
 use crate::certificate_text::with_line_feeds;
 use crate::command::{Command, is_skipped};
@@ -229,7 +229,7 @@ impl<A: Allocator + Copy> Machine<A> {
 
     /// The body of the explanation of a text of queries, with an LF.
     fn explanation(&self, text: &str) -> Result<String, AllocError>
-        ensures { IfOk result (λ body. (s : State) → IsIn s self.now → Explained s text.now (string_bytes body)) }
+        ensures { IfOk result (λ body. (s : State) → IsIn s self.now → HasExplanation s text.now (string_bytes body)) }
     {
         let now = self.moment;
         let reply = explain(self.alloc, self.json, &self.store, now, text)?;

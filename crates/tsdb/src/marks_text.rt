@@ -4,7 +4,7 @@ ghost use Rattle.std.specs.List.{AllByRecursion};
 ghost use Rattle.ts_core.specs.FaultTexts.{fault_text};
 ghost use Rattle.ts_core.specs.Settings.{Rule as RuleValue};
 ghost use Rattle.tsdb.specs.MarksTexts.{low_text, lows_text, raw_text, marks_text};
-ghost use Rattle.tsdb.specs.Replies.{line};
+ghost use Rattle.tsdb.specs.ScriptReplies.{line};
 
 use crate::reply::TEXT_ROOM;
 use itoa::Buffer;

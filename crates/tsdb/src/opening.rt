@@ -2,7 +2,7 @@
 ghost use Rattle.std.specs.Prelude.{◌≡◌, ◌⊎◌, IfOk, string_bytes};
 ghost use Rattle.ts_core.specs.SettingsFaults.{settings_fault_text};
 ghost use Rattle.tsdb.specs.Opening.{IsOpening};
-ghost use Rattle.tsdb.specs.Replies.{line, text_of};
+ghost use Rattle.tsdb.specs.ScriptReplies.{line, text_of};
 
 use crate::reply::Reply;
 use std::alloc::{AllocError, Allocator, Global};

@@ -1,7 +1,7 @@
 //! How the program ends: its exit status, and its line on standard error.
 ghost use Rattle.std.specs.Prelude.{◌≡◌, None, Some, MatchOption};
 ghost use Rattle.std.specs.Process.{exit_status};
-ghost use Rattle.tsdb.specs.Outcomes.{status_of, stopped_line, error_line};
+ghost use Rattle.tsdb.specs.RunOutcomes.{status_of, stopped_line, error_line};
 
 use crate::command_line::Told;
 use crate::run_fault::RunFault;

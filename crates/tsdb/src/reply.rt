@@ -6,7 +6,7 @@ ghost use Rattle.ts_core.specs.Devices.{AppendsFront, one_if_err};
 ghost use Rattle.ts_core.specs.FaultTexts.{fault_text};
 ghost use Rattle.ts_line.specs.FaultText.{line_fault_text};
 ghost use Rattle.ts_plan.specs.PlanTexts.{plan_fault_text};
-ghost use Rattle.tsdb.specs.Replies.{line, text_of};
+ghost use Rattle.tsdb.specs.ScriptReplies.{line, text_of};
 
 use crate::marks_text::mark_fault_line;
 use itoa::write_digits;

@@ -4,7 +4,7 @@ ghost use Rattle.serde_json.specs.Find.{get, as_array};
 ghost use Rattle.serde_json.specs.Read.{read};
 ghost use Rattle.serde_json.specs.View.{view, items_view};
 ghost use Rattle.ts_core.specs.Durations.{span_of, offset_of, keeping_of};
-ghost use Rattle.ts_core.specs.SettingsTexts.{has_keys, text_at, filled, filled_text, each, rule_of, settings_of, settings_read, IsRefusal};
+ghost use Rattle.ts_core.specs.SettingsTexts.{has_keys, text_at, if_not_empty, filled_text, each, rule_parsed, settings_parsed, settings_read, IsRefusal};
 ghost use Rattle.ts_core.specs.declared.settings_fault.SettingsError.TheVariants as errors;
 ghost use Rattle.ts_core.specs.declared.settings_fault.SettingsFault.{SettingsFault};
 
@@ -43,7 +43,7 @@ fn values_at<'v>(value: &'v Value, key: &str) -> Option<&'v [Value]>
 
 /// A text, if it isn't empty.
 fn filled(text: &str) -> Option<&str>
-    ensures { option_map (λ s. s.now) result ≡ filled text.now }
+    ensures { option_map (λ s. s.now) result ≡ if_not_empty text.now }
 {
     if text.is_empty() { None } else { Some(text) }
 }
@@ -66,7 +66,7 @@ fn filled_texts<A: Allocator + Copy>(
 
 /// The text of a key, if it isn't empty.
 fn filled_text_at<'v>(value: &'v Value, key: &str) -> Option<&'v str>
-    ensures { option_map (λ s. s.now) result ≡ option_and_then filled (text_at key.now (view value.now)) }
+    ensures { option_map (λ s. s.now) result ≡ option_and_then if_not_empty (text_at key.now (view value.now)) }
 {
     filled(text_at(value, key)?)
 }
@@ -95,8 +95,8 @@ fn keeping_at(value: &Value, key: &str) -> Option<i64>
 
 /// A rule.
 fn rule<A: Allocator + Copy>(alloc: A, value: &Value) -> Result<Rule<A>, SettingsError>
-    ensures ok { IfOk result (λ r. rule_of (view value.now) ≡ Some r) }
-    ensures err { IfErr result (λ e. IsRefusal e (rule_of (view value.now))) }
+    ensures ok { IfOk result (λ r. rule_parsed (view value.now) ≡ Some r) }
+    ensures err { IfErr result (λ e. IsRefusal e (rule_parsed (view value.now))) }
 {
     if !has_keys(value, 6) {
         return Err(NO_FORM);
@@ -132,8 +132,8 @@ fn rule<A: Allocator + Copy>(alloc: A, value: &Value) -> Result<Rule<A>, Setting
 
 /// Rules, in their order.
 fn rules<A: Allocator + Copy>(alloc: A, values: &[Value]) -> Result<Vec<Rule<A>, A>, SettingsError>
-    ensures ok { IfOk result (λ rules. each rule_of (items_view values.now) ≡ Some rules.items) }
-    ensures err { IfErr result (λ e. IsRefusal e (each rule_of (items_view values.now))) }
+    ensures ok { IfOk result (λ rules. each rule_parsed (items_view values.now) ≡ Some rules.items) }
+    ensures err { IfErr result (λ e. IsRefusal e (each rule_parsed (items_view values.now))) }
 {
     let mut rules = Vec::new(alloc);
     for value in values {
@@ -148,8 +148,8 @@ fn parts<A: Allocator + Copy>(
     value: &Value,
 ) -> Result<(i64, Vec<Rule<A>, A>), SettingsError>
     ensures lasting { IfOk result (λ p. pos 0 ≤ℤ p.0) }
-    ensures ok { IfOk result (λ p. settings_of (view value.now) ≡ Some (record { raw_duration = unsigned_abs p.0; rules = p.1.items })) }
-    ensures err { IfErr result (λ e. IsRefusal e (settings_of (view value.now))) }
+    ensures ok { IfOk result (λ p. settings_parsed (view value.now) ≡ Some (record { raw_duration = unsigned_abs p.0; rules = p.1.items })) }
+    ensures err { IfErr result (λ e. IsRefusal e (settings_parsed (view value.now))) }
 {
     if !has_keys(value, 2) {
         return Err(NO_FORM);

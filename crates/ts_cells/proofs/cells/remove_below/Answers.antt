@@ -1,6 +1,6 @@
 use Rattle.std.proofs.Common.{arith, ◌≢◌, ◌<◌, ◌≤ℤ◌, ℕ, ℤ, List, None, ◌∙◌}
-use Rattle.ts_cells.specs.Grids.{RowOf, held, cells_at}
-use Rattle.ts_cells.specs.Expiry.{AreAbove}
+use Rattle.ts_cells.specs.Grids.{RowOf, held, cells_of_bucket}
+use Rattle.ts_cells.specs.Expiry.{HasNoneBelow}
 use Rattle.ts_cells.proofs.ExpiryLemmas.{cells_drop}
 use Rattle.ts_cells.proofs.Sweeps.{IsSwept, no_sweep, swept_more, swept_same, swept_grid, swept_cells}
 use Rattle.ts_cells.proofs.cells.remove_below.Given.{Over}
@@ -20,16 +20,16 @@ loop-removed-preserved g c =
 swept : (g : Over) (c : goal.After-drop_front g) → IsSwept c.args.low.now c.args.rows.now.items c.loop-removed.removed c.loop-removed-test.emptied c.loop-removed-test.rows.items
 swept g c = elim c.loop-removed-test.branch [
   | then-loop-removed-test+else-remove_one w ↦
-      let above : AreAbove c.args.low.now c.loop-removed.rows.items w.remove_one.new.rows.items = w.if-remove_one.ensures.none in
+      let above : HasNoneBelow c.args.low.now c.loop-removed.rows.items w.remove_one.new.rows.items = w.if-remove_one.ensures.none in
       rw (w.rows-is, w.emptied-is) (swept_same c.args.low.now c.args.rows.now.items c.loop-removed.rows.items w.remove_one.new.rows.items c.loop-removed.removed c.loop-removed.emptied w.remove_one.new.emptied
       c.loop-removed.invariant w.remove_one.ensures.rising w.remove_one.ensures.front w.remove_one.ensures.narrow above.cells)
   | else-loop-removed-test w ↦ rw (w.rows-is, w.emptied-is) c.loop-removed.invariant
 ]
 
-above : (g : Over) (c : goal.After-drop_front g) → c.loop-removed.removed < 256 → (i : ℤ) (j : ℕ) → held (cells_at c.loop-removed-test.rows.items i) j ≢ None → c.args.low.now ≤ℤ i
+above : (g : Over) (c : goal.After-drop_front g) → c.loop-removed.removed < 256 → (i : ℤ) (j : ℕ) → held (cells_of_bucket c.loop-removed-test.rows.items i) j ≢ None → c.args.low.now ≤ℤ i
 above g c few = elim c.loop-removed-test.branch [
   | then-loop-removed-test+else-remove_one w ↦
-      let above : AreAbove c.args.low.now c.loop-removed.rows.items w.remove_one.new.rows.items = w.if-remove_one.ensures.none in
+      let above : HasNoneBelow c.args.low.now c.loop-removed.rows.items w.remove_one.new.rows.items = w.if-remove_one.ensures.none in
       rw w.rows-is above.above
   | else-loop-removed-test w ↦ let f = w.loop-removed-test.false in absurd (omega arith)
 ]

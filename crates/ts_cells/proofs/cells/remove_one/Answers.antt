@@ -1,8 +1,8 @@
 use Rattle.std.proofs.Common.{rules, ◌≡◌, ◌<◌, ◌≤◌, ℕ, List, length, set, sym, ◌∙◌, ap, subst, true, false, int_lt}
 use Rattle.std.specs.List.{AllByRecursion}
-use Rattle.ts_cells.specs.Grids.{RowOf, held, cells_at, HasLost}
+use Rattle.ts_cells.specs.Grids.{RowOf, held, cells_of_bucket, HasLost}
 use Rattle.ts_core.proofs.Tests.{lt_from}
-use Rattle.ts_cells.specs.Expiry.{AreAbove}
+use Rattle.ts_cells.specs.Expiry.{HasNoneBelow}
 use Rattle.ts_cells.proofs.GridMoves.{RowPut, row_kept}
 use Rattle.ts_cells.proofs.ExpiryLemmas.{all_above, none_left, front_grows, loses, unchanged, put_here, was_here, no_wider}
 use Rattle.ts_cells.proofs.cells.remove_one.Goals as goal
@@ -18,7 +18,7 @@ returns-then-not-is_below-clause-none g c =
     let d : RowOf g.row.P.Denot = c.index_mut-row.result.now in
     let some : n < length rows = search rules in
     let not_below : int_lt d.0 c.args.low.now ≡ false = search rules in
-    subst (AreAbove c.args.low.now c.args.rows.now.items) (sym (unchanged rows n d c.index_mut-row.ensures.value)) (record {
+    subst (HasNoneBelow c.args.low.now c.args.rows.now.items) (sym (unchanged rows n d c.index_mut-row.ensures.value)) (record {
       above = all_above c.args.low.now n rows d c.loop-emptied.invariant.front some c.loop-emptied.invariant.rising (ap (λ (r : RowOf g.row.P.Denot). int_lt r.0 c.args.low.now) (sym c.index_mut-row.ensures.value) ∙ not_below);
       cells = c.loop-emptied.invariant.cells;
     })
@@ -44,7 +44,7 @@ returns-then-remove_last-clause-removed g c =
     let some : n < length rows = search rules in
     let below : int_lt d.0 c.args.low.now ≡ true = search rules in
     let put : RowPut rows (set rows n r) d.0 r.1 = put_here rows n d r c.loop-emptied.invariant.rising some c.index_mut-row.ensures.value c.remove_last.ensures.index in
-    let was : d.1 ≡ cells_at rows d.0 = was_here rows n d r c.loop-emptied.invariant.rising some c.index_mut-row.ensures.value in
+    let was : d.1 ≡ cells_of_bucket rows d.0 = was_here rows n d r c.loop-emptied.invariant.rising some c.index_mut-row.ensures.value in
     loses c.args.low.now c.args.rows.now.items rows (set rows n r) d.0 r.1 c.loop-emptied.invariant.cells (lt_from d.0 c.args.low.now below) put (subst (λ cs. HasLost cs r.1) was c.if-remove_last.ensures.removed)
 
 pub loop-emptied-preserved : goal.loop-emptied-preserved
@@ -55,7 +55,7 @@ loop-emptied-preserved g c =
     let r : RowOf g.row.P.Denot = c.remove_last.new.self in
     let some : n < length rows = search rules in
     let put : RowPut rows (set rows n r) d.0 r.1 = put_here rows n d r c.loop-emptied.invariant.rising some c.index_mut-row.ensures.value c.remove_last.ensures.index in
-    let was : d.1 ≡ cells_at rows d.0 = was_here rows n d r c.loop-emptied.invariant.rising some c.index_mut-row.ensures.value in
+    let was : d.1 ≡ cells_of_bucket rows d.0 = was_here rows n d r c.loop-emptied.invariant.rising some c.index_mut-row.ensures.value in
     let none = c.if-remove_last.ensures.none in
     record {
       rising = put.rising;
@@ -68,7 +68,7 @@ pub returns-clause-none : goal.returns-clause-none
 returns-clause-none g c =
     let rows : List (RowOf g.row.P.Denot) = c.loop-emptied.rows.items in
     let all : length rows ≤ c.loop-emptied.emptied = search rules in
-    let is : AreAbove c.args.low.now c.args.rows.now.items rows = record {
+    let is : HasNoneBelow c.args.low.now c.args.rows.now.items rows = record {
       above = none_left c.args.low.now c.loop-emptied.emptied rows c.loop-emptied.invariant.front all c.loop-emptied.invariant.rising;
       cells = c.loop-emptied.invariant.cells;
     } in

@@ -1,5 +1,5 @@
 use Rattle.std.proofs.Common.{length, ◌-◌, ◌≡◌, ◌≤◌, ◌++◌, slice_range, drop, string_bytes, IsCharBoundary}
-use Rattle.ts_line.specs.Pieces.{unescaped}
+use Rattle.ts_line.specs.PartTexts.{unescaped}
 use Rattle.ts_line.proofs.part.unescaped.Given as goal
 
 abbrev pub invariant-loop-at : goal.invariant-loop-at

@@ -1,7 +1,7 @@
 use Rattle.std.proofs.Common.{◌≡◌, ◌++◌, ◌∷◌, ◌+◌, [], Ok, sym, ◌∙◌, arith, vec_len, slice_index}
 use Rattle.std.proofs.lemmas.Result.{err_from_is_err_and}
-use Rattle.ts_line.specs.Steps.{FailsIfRoom}
-use Rattle.ts_line.specs.Tags.{tags_at, next_tag}
+use Rattle.ts_line.specs.ReadSteps.{FailsIfRoom}
+use Rattle.ts_line.specs.TagParts.{tags_at, next_tag}
 use Rattle.ts_line.proofs.TagLemmas.{tag_taken, tag_fails, tags_ended}
 use Rattle.ts_line.proofs.tag.tags.Goals as goal
 

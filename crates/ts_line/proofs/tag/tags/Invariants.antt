@@ -1,5 +1,5 @@
 use Rattle.std.proofs.Common.{◌≡◌, ◌-◌, ◌≤◌, length, [], vec_len, IsCharBoundary}
-use Rattle.ts_line.specs.Tags.{tags_at}
+use Rattle.ts_line.specs.TagParts.{tags_at}
 use Rattle.ts_line.proofs.tag.tags.Given as goal
 
 abbrev pub invariant-loop-alloc : goal.invariant-loop-alloc

@@ -5,12 +5,12 @@ use Rattle.ts_check.specs.CheckTexts.{certificate_fault_text}
 use Rattle.ts_check.specs.declared.certificate_fault.ReadCertificateError.{ReadCertificateError}
 use Rattle.ts_reply.specs.Answering.{spelled}
 use Rattle.ts_reply.specs.Outcomes.{Fault}
-use Rattle.ts_reply.specs.Told.{told}
+use Rattle.ts_reply.specs.Told.{outcome_view}
 use Rattle.ts_reply.proofs.Answered.{certificate_fault}
 use Rattle.ts_reply.proofs.answering.certified.Goals as goal
 
 pub returns-in-Ok : goal.returns-in-Ok
-returns-in-Ok g c = IfOk-weaker c.outcome_by.result _ _ (λ o e opening h stands. spelled c.in-Ok.certificate (told o) c.in-Ok.ensures.value (e opening h stands)) c.outcome_by.ensures
+returns-in-Ok g c = IfOk-weaker c.outcome_by.result _ _ (λ o e opening h stands. spelled c.in-Ok.certificate (outcome_view o) c.in-Ok.ensures.value (e opening h stands)) c.outcome_by.ensures
 
 pub returns-in_ok-certificate_fault_text-in-Err-Fault : goal.returns-in_ok-certificate_fault_text-in-Err-Fault
 returns-in_ok-certificate_fault_text-in-Err-Fault g c =

@@ -3,7 +3,7 @@ use Rattle.std.proofs.lemmas.List.{take_all}
 use Rattle.ts_ql.specs.Selects.{Select}
 use Rattle.ts_reply.specs.Answering.{AreOutcomes}
 use Rattle.ts_reply.specs.Explaining.{IsExplained}
-use Rattle.ts_reply.specs.Told.{told}
+use Rattle.ts_reply.specs.Told.{outcome_view}
 use Rattle.ts_reply.proofs.Each.{outcomes_more}
 use Rattle.ts_reply.proofs.explaining.each_explained.Goals as goal
 
@@ -14,11 +14,11 @@ loop-query-preserved g c =
     let within : n < length c.args.queries.now = search rules in
     let here : get_or c.args.queries.now n s ≡ s = search rules in
     let pushed : c.push.new.self.items ≡ c.loop-query.outcomes.items ++ c.in_ok-explained.field-0 ∷ [] = search rules in
-    λ opening h stands. subst (λ xs. AreOutcomes (IsExplained opening h) (take (n + 1) c.args.queries.now) (map told xs)) (sym pushed)
-    (outcomes_more told (IsExplained opening h) n c.args.queries.now c.loop-query.outcomes.items s c.in_ok-explained.field-0 within here (c.loop-query.invariant opening h stands) (c.in_ok-explained.ensures opening h stands))
+    λ opening h stands. subst (λ xs. AreOutcomes (IsExplained opening h) (take (n + 1) c.args.queries.now) (map outcome_view xs)) (sym pushed)
+    (outcomes_more outcome_view (IsExplained opening h) n c.args.queries.now c.loop-query.outcomes.items s c.in_ok-explained.field-0 within here (c.loop-query.invariant opening h stands) (c.in_ok-explained.ensures opening h stands))
 
 pub returns : goal.returns
 returns g c =
     let n = c.loop-query.query-index in
     let past : length c.args.queries.now ≤ n = search rules in
-    λ opening h stands. subst (λ (ss : List Select). AreOutcomes (IsExplained opening h) ss (map told c.loop-query.outcomes.items)) (take_all n c.args.queries.now past) (c.loop-query.invariant opening h stands)
+    λ opening h stands. subst (λ (ss : List Select). AreOutcomes (IsExplained opening h) ss (map outcome_view c.loop-query.outcomes.items)) (take_all n c.args.queries.now past) (c.loop-query.invariant opening h stands)

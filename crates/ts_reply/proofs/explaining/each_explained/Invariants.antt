@@ -2,8 +2,8 @@ use Rattle.std.proofs.Common.{map, take}
 use Rattle.ts_core.specs.StoreData.{OfEachHistory}
 use Rattle.ts_reply.specs.Answering.{AreOutcomes}
 use Rattle.ts_reply.specs.Explaining.{IsExplained}
-use Rattle.ts_reply.specs.Told.{told}
+use Rattle.ts_reply.specs.Told.{outcome_view}
 use Rattle.ts_reply.proofs.explaining.each_explained.Given as goal
 
 abbrev pub invariant-loop-query : goal.invariant-loop-query
-invariant-loop-query g l = OfEachHistory l.store (λ opening h. AreOutcomes (IsExplained opening h) (take l.query-index l.queries) (map told l.outcomes.items))
+invariant-loop-query g l = OfEachHistory l.store (λ opening h. AreOutcomes (IsExplained opening h) (take l.query-index l.queries) (map outcome_view l.outcomes.items))

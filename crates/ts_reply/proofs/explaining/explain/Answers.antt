@@ -8,16 +8,16 @@ use Rattle.ts_reply.specs.Answering.{AreOutcomes}
 use Rattle.ts_reply.specs.declared.epoch.Epoch.TheVariants.{Text as AsText}
 use Rattle.ts_reply.specs.Explaining.{IsExplained, IsExplanation, good, bad}
 use Rattle.ts_reply.specs.Replies.{TellsOutcomes, refusal_text}
-use Rattle.ts_reply.specs.Told.{told}
+use Rattle.ts_reply.specs.Told.{outcome_view}
 use Rattle.ts_reply.proofs.explaining.explain.Goals as goal
 
 pub returns-in_ok-body-in-Ok : goal.returns-in_ok-body-in-Ok
 returns-in_ok-body-in-Ok g c = λ opening h stands.
     let outcomes = c.in_ok-outcomes-in-Ok.outcomes.items in
-    good (string_bytes c.in_ok-body-in-Ok.body) c.in-Ok.queries.items (map told outcomes)
+    good (string_bytes c.in_ok-body-in-Ok.body) c.in-Ok.queries.items (map outcome_view outcomes)
     c.in-Ok.ensures.reading.tells
-    (subst (λ (ss : List Select). AreOutcomes (IsExplained opening h) ss (map told outcomes)) c.as_slice.ensures.value (c.in_ok-outcomes-in-Ok.ensures opening h stands))
-    (subst (λ xs. TellsOutcomes AsText (map told xs) (string_bytes c.in_ok-body-in-Ok.body)) c.as_slice-in-Ok.ensures.value c.in_ok-body-in-Ok.ensures)
+    (subst (λ (ss : List Select). AreOutcomes (IsExplained opening h) ss (map outcome_view outcomes)) c.as_slice.ensures.value (c.in_ok-outcomes-in-Ok.ensures opening h stands))
+    (subst (λ xs. TellsOutcomes AsText (map outcome_view xs) (string_bytes c.in_ok-body-in-Ok.body)) c.as_slice-in-Ok.ensures.value c.in_ok-body-in-Ok.ensures)
 
 pub returns-in_ok-body-in-Err-Fault : goal.returns-in_ok-body-in-Err-Fault
 returns-in_ok-body-in-Err-Fault g c = λ opening h stands.

@@ -5,10 +5,10 @@ use Rattle.ts_core.specs.Facts.{Series, Column, Fact}
 use Rattle.ts_core.specs.History.{MayBeTaken}
 use Rattle.ts_core.specs.Times.{IsTime, least_time}
 use Rattle.ts_core.specs.Members.{AllDistinct}
-use Rattle.ts_line.specs.Parts.{Piece, Parts, field_text, fact_of, series_of}
+use Rattle.ts_line.specs.Parts.{LinePart, Parts, field_text, fact_of, series_of}
 use Rattle.ts_raw.specs.Columns.{ColumnState}
 use Rattle.ts_raw.specs.Indexed.{column_in}
-use Rattle.ts_store.specs.ColumnsKept.{no_column, points_of, with_points, with_point_aside, AreAside, MayGrow}
+use Rattle.ts_store.specs.ColumnsKept.{no_column, point_maps, with_points, with_point_aside, AreAside, MayGrow}
 use Rattle.ts_store.proofs.ColumnsAside.{grown_aside, made_next, first_made, next_aside, facts_next, column_is}
 use Rattle.ts_store.proofs.Stands.{taken_more}
 use Rattle.ts_store.proofs.columns.prepare_line.Goals as goal
@@ -22,7 +22,7 @@ pub returns-in_err-column-clause-made : goal.returns-in_err-column-clause-made
 returns-in_err-column-clause-made g c =
     let i = c.loop-field.invariant in
     let same = c.in_err-column.ensures.err in
-    first_made c.args.line.now _ _ c.fields-field-items.result.now c.loop-field.field-index c.fields-field-items.ensures.value ((λ j. with_points (same.0 j) (points_of (same.1 j))) ∙ i.made)
+    first_made c.args.line.now _ _ c.fields-field-items.result.now c.loop-field.field-index c.fields-field-items.ensures.value ((λ j. with_points (same.0 j) (point_maps (same.1 j))) ∙ i.made)
 
 pub returns-in_err-column-clause-held : goal.returns-in_err-column-clause-held
 returns-in_err-column-clause-held g c =
@@ -41,7 +41,7 @@ pub returns-in_err-prepare_at-clause-made : goal.returns-in_err-prepare_at-claus
 returns-in_err-prepare_at-clause-made g c =
     let i = c.loop-field.invariant in
     let more = made_next c.args.line.now c.loop-field.index c.args.series c.text-name.result.now _ c.column_for.new.index.columns c.loop-field.columns.items c.column_for.new.columns.items c.fields-field-items.result.now c.loop-field.field-index
-    c.field-item.result c.in_ok-column.ensures.grown (ap (λ (xs : List Series). slice_get xs c.args.series) i.series ∙ c.requires.series) (c.text-name.ensures ∙ ap (λ (q : Piece). q.text) c.name.ensures)
+    c.field-item.result c.in_ok-column.ensures.grown (ap (λ (xs : List Series). slice_get xs c.args.series) i.series ∙ c.requires.series) (c.text-name.ensures ∙ ap (λ (q : LinePart). q.text) c.name.ensures)
     c.fields-field-items.ensures.value c.fields-field-items.ensures.once c.loop-field-test.true c.field-item.is i.held.each i.made in
     first_made c.args.line.now _ _ c.fields-field-items.result.now (c.loop-field.field-index + 1) c.fields-field-items.ensures.value (ap (with_points c.column_for.new.index.columns) c.prepare_at.ensures.unchanged ∙ more)
 
@@ -57,7 +57,7 @@ pub returns-in_err-push-clause-made : goal.returns-in_err-push-clause-made
 returns-in_err-push-clause-made g c =
     let i = c.loop-field.invariant in
     let more = made_next c.args.line.now c.loop-field.index c.args.series c.text-name.result.now _ c.column_for.new.index.columns c.loop-field.columns.items c.column_for.new.columns.items c.fields-field-items.result.now c.loop-field.field-index
-    c.field-item.result c.in_ok-column.ensures.grown (ap (λ (xs : List Series). slice_get xs c.args.series) i.series ∙ c.requires.series) (c.text-name.ensures ∙ ap (λ (q : Piece). q.text) c.name.ensures)
+    c.field-item.result c.in_ok-column.ensures.grown (ap (λ (xs : List Series). slice_get xs c.args.series) i.series ∙ c.requires.series) (c.text-name.ensures ∙ ap (λ (q : LinePart). q.text) c.name.ensures)
     c.fields-field-items.ensures.value c.fields-field-items.ensures.once c.loop-field-test.true c.field-item.is i.held.each i.made in
     first_made c.args.line.now _ _ c.fields-field-items.result.now (c.loop-field.field-index + 1) c.fields-field-items.ensures.value (ap (with_points c.column_for.new.index.columns) c.prepare_at.ensures.unchanged ∙ more)
 
@@ -73,7 +73,7 @@ pub loop-field-preserved : goal.loop-field-preserved
 loop-field-preserved g c =
     let i = c.loop-field.invariant in
     let p : Parts = c.args.line.now in
-    let x : Piece × ℤ = c.field-item.result in
+    let x : LinePart × ℤ = c.field-item.result in
     let k : ℕ = c.loop-field.field-index in
     let n : ℕ = c.in_ok-column.column in
     let cs : List Column = c.loop-field.index.columns in
@@ -83,12 +83,12 @@ loop-field-preserved g c =
     let ss'' : List ColumnState = c.prepare_at.new.columns.items in
     let ns : List ℕ = c.loop-field.touched.items in
     let e = c.fields-field-items.ensures.value in
-    let aside : AreAside cs ss ns (map (fact_of p) (take k p.fields)) = subst (λ (fs : List (Piece × ℤ)). AreAside cs ss ns (map (fact_of p) (take k fs))) e i.aside in
-    let within : k < length p.fields = subst (λ (fs : List (Piece × ℤ)). k < length fs) e c.loop-field-test.true in
-    let is : x ≡ get_or p.fields k x = subst (λ (fs : List (Piece × ℤ)). x ≡ get_or fs k x) e c.field-item.is in
-    let once : AllDistinct (map field_text p.fields) = subst (λ (fs : List (Piece × ℤ)). AllDistinct (map field_text fs)) e c.fields-field-items.ensures.once in
+    let aside : AreAside cs ss ns (map (fact_of p) (take k p.fields)) = subst (λ (fs : List (LinePart × ℤ)). AreAside cs ss ns (map (fact_of p) (take k fs))) e i.aside in
+    let within : k < length p.fields = subst (λ (fs : List (LinePart × ℤ)). k < length fs) e c.loop-field-test.true in
+    let is : x ≡ get_or p.fields k x = subst (λ (fs : List (LinePart × ℤ)). x ≡ get_or fs k x) e c.field-item.is in
+    let once : AllDistinct (map field_text p.fields) = subst (λ (fs : List (LinePart × ℤ)). AllDistinct (map field_text fs)) e c.fields-field-items.ensures.once in
     let there : slice_get c.loop-field.index.series c.args.series ≡ Some (series_of p) = ap (λ (xs : List Series). slice_get xs c.args.series) i.series ∙ c.requires.series in
-    let name : c.text-name.result.now ≡ x.0.text = c.text-name.ensures ∙ ap (λ (q : Piece). q.text) c.name.ensures in
+    let name : c.text-name.result.now ≡ x.0.text = c.text-name.ensures ∙ ap (λ (q : LinePart). q.text) c.name.ensures in
     let named : column_in c.loop-field.index c.args.series c.text-name.result.now ≡ (fact_of p x).column = column_is p c.loop-field.index c.args.series c.text-name.result.now x there name in
     let at : slice_get cs' n ≡ Some (fact_of p x).column = c.in_ok-column.ensures.number ∙ ap Some named in
     let grown : MayGrow (fact_of p x).column cs ss cs' ss' = subst (λ (d : Column). MayGrow d cs ss cs' ss') named c.in_ok-column.ensures.grown in
@@ -100,10 +100,10 @@ loop-field-preserved g c =
     c.in_ok-prepare_at.ensures.ok ∙ (λ j. set ss' (c.number.ensures j) (with_point_aside (get_or ss' (c.number.ensures j) no_column) (c.time.ensures j) (value j))) in
     let next = next_aside p cs cs' ss ss' ss'' ns n k x i.held.each aside grown at within is once set_is in
     record {
-      aside = rw c.in_ok-push.ensures.items (subst (λ (fs : List (Piece × ℤ)). AreAside cs' ss'' (ns ++ n ∷ []) (map (fact_of p) (take (k + 1) fs))) (sym e) next.0);
-      taken = subst (λ (fs : List (Piece × ℤ)). AllByRecursion (MayBeTaken least_time) (map (fact_of p) (take (k + 1) fs))) (sym e)
+      aside = rw c.in_ok-push.ensures.items (subst (λ (fs : List (LinePart × ℤ)). AreAside cs' ss'' (ns ++ n ∷ []) (map (fact_of p) (take (k + 1) fs))) (sym e) next.0);
+      taken = subst (λ (fs : List (LinePart × ℤ)). AllByRecursion (MayBeTaken least_time) (map (fact_of p) (take (k + 1) fs))) (sym e)
           (subst (AllByRecursion (MayBeTaken least_time)) (facts_next p k x within is) (taken_more least_time (map (fact_of p) (take k p.fields)) (fact_of p x)
-          (subst (λ (fs : List (Piece × ℤ)). AllByRecursion (MayBeTaken least_time) (map (fact_of p) (take k fs))) e i.taken) taken));
+          (subst (λ (fs : List (LinePart × ℤ)). AllByRecursion (MayBeTaken least_time) (map (fact_of p) (take k fs))) e i.taken) taken));
       made = ap (with_points cs') c.prepare_at.ensures.unchanged ∙ made_next p c.loop-field.index c.args.series c.text-name.result.now _ cs' ss ss' c.fields-field-items.result.now k x c.in_ok-column.ensures.grown there name e c.fields-field-items.ensures.once c.loop-field-test.true c.field-item.is i.held.each i.made;
       held = record { sound = c.column_for.ensures.sound i.held.sound; each = next.1 };
       rollups = c.column_for.ensures.rollups;

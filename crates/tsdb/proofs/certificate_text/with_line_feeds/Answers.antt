@@ -1,6 +1,6 @@
 use Rattle.std.proofs.Common.{rules, ◌≡◌, ◌∙◌, ◌++◌, ◌∷◌, List, ℕ, sym, ap, lit<, string_bytes}
 use Rattle.std.proofs.lemmas.Str.Pattern.{split_parts}
-use Rattle.tsdb.specs.CertificateTexts.{with_line_feeds}
+use Rattle.tsdb.specs.ScriptCertificates.{with_line_feeds}
 use Rattle.tsdb.proofs.CertificateTextLemmas.{none_there, first_there, one_more}
 use Rattle.tsdb.proofs.certificate_text.with_line_feeds.Goals as goal
 

@@ -1,7 +1,7 @@
 use Rattle.std.proofs.Common.{◌≡◌, ◌++◌, length, string_bytes}
 use denote.Text.{Utf8}
 use denote.Shadow.{shadow}
-use Rattle.tsdb.specs.CertificateTexts.{with_line_feeds}
+use Rattle.tsdb.specs.ScriptCertificates.{with_line_feeds}
 use Rattle.tsdb.proofs.certificate_text.with_line_feeds.Given as goal
 
 abbrev pub invariant-loop-line : goal.invariant-loop-line

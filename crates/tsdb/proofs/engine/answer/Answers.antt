@@ -1,6 +1,6 @@
 use Rattle.std.proofs.Common.{subst}
 use Rattle.tsdb.specs.LineReading.{NextOf}
-use Rattle.tsdb.specs.Replies.{text_of}
+use Rattle.tsdb.specs.ScriptReplies.{text_of}
 use Rattle.tsdb.specs.declared.line_reader.Next.{Next}
 use Rattle.tsdb.proofs.MachineLemmas.{long_answered}
 use Rattle.tsdb.proofs.engine.answer.Goals as goal

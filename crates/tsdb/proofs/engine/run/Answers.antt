@@ -4,7 +4,7 @@ use Rattle.ts_core.specs.Devices.{Input, Output}
 use Rattle.ts_core.specs.ReadingAhead.{Ahead, bit}
 use Rattle.ts_core.proofs.Results.{on_any_err}
 use Rattle.tsdb.specs.LineReading.{to_come}
-use Rattle.tsdb.specs.Replies.{text_of}
+use Rattle.tsdb.specs.ScriptReplies.{text_of}
 use Rattle.tsdb.specs.RunFaults.{fault_of_read}
 use Rattle.tsdb.specs.Script.{IsReplay}
 use Rattle.tsdb.specs.declared.run_fault.RunFault.{RunFault}

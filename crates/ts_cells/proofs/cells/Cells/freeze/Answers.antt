@@ -2,7 +2,7 @@ use Rattle.std.proofs.Common.{◌≡◌, ◌<◌, ◌≤◌, ℕ, ℤ, List, Opt
 use Rattle.std.specs.FinMap.{from_entries, get, FinMap}
 use Rattle.ts_core.specs.Cells.{Cell, cell_cmp, same_cell}
 use Rattle.ts_core.specs.Changes.{changed, with_change, joined_within}
-use Rattle.ts_cells.specs.Grids.{Grid, Lane, RowOf, held, cells_at, cell_in, entries_of}
+use Rattle.ts_cells.specs.Grids.{Grid, Lane, RowOf, held, cells_of_bucket, cell_in, entries_of}
 use Rattle.ts_cells.proofs.GridLemmas.{get_at}
 use Rattle.ts_cells.proofs.GridMoves.{RowPut, get-changed, row_set, cells_here, cells_missing, grid_put, all_set, all_at}
 use Rattle.ts_cells.proofs.cells.Cells.freeze.Given.{Over}
@@ -42,9 +42,9 @@ returns-in-Ok-clause-cells g c =
     let place = rw c.as_slice.ensures.value at c.in-Ok.ensures.place in
     let d : RowOf g.row.P.Denot = c.index_mut.result.now in
     let within : j < length ls = subst (λ (s : Grid g.row.P.Denot). j < length s.lanes) (sym c.self.view_is) c.requires in
-    let old : c.index_mut.result.now.1 ≡ cells_at rows i = ap (λ (r : RowOf g.row.P.Denot). r.1) c.index_mut.ensures.value ∙ cells_here rows i c.in-Ok.at d c.self.invariant.rising bound (place d) in
-    let v : Option g.row.P.Denot = option_map f (held (cells_at rows i) j) in
-    let here : (q : ℕ) → held c.freeze.new.self.1 q ≡ cond (q == j) v (held (cells_at rows i) q) = λ q. c.freeze.ensures.cells q ∙ ap (λ n. cond (q == n) (option_map f (held c.index_mut.result.now.1 n)) (held c.index_mut.result.now.1 q)) c.number.ensures ∙ ap (λ cs. cond (q == j) (option_map f (held cs j)) (held cs q)) old in
+    let old : c.index_mut.result.now.1 ≡ cells_of_bucket rows i = ap (λ (r : RowOf g.row.P.Denot). r.1) c.index_mut.ensures.value ∙ cells_here rows i c.in-Ok.at d c.self.invariant.rising bound (place d) in
+    let v : Option g.row.P.Denot = option_map f (held (cells_of_bucket rows i) j) in
+    let here : (q : ℕ) → held c.freeze.new.self.1 q ≡ cond (q == j) v (held (cells_of_bucket rows i) q) = λ q. c.freeze.ensures.cells q ∙ ap (λ n. cond (q == n) (option_map f (held c.index_mut.result.now.1 n)) (held c.index_mut.result.now.1 q)) c.number.ensures ∙ ap (λ cs. cond (q == j) (option_map f (held cs j)) (held cs q)) old in
     let m : FinMap cell_cmp g.row.P.Denot = from_entries (entries_of ls rows) in
     let law : (k : Cell) → get (changed m (cell_in ls i j) f) k ≡ cond (same_cell k (cell_in ls i j)) v (get m k) = λ k.
     get-changed m (cell_in ls i j) f k ∙ ap (λ o. cond (same_cell k (cell_in ls i j)) (option_map f o) (get m k)) (get_at ls rows i j c.self.invariant.once c.self.invariant.rising within) in

@@ -6,8 +6,8 @@ use Rattle.std.proofs.lemmas.Result.{on_ok_weaker, on_err_weaker}
 use Rattle.ts_core.proofs.Results.{on_any_err}
 use Rattle.ts_core.specs.Cells.{Cell, cell_cmp, same_cell}
 use Rattle.ts_core.specs.Changes.{or_else}
-use Rattle.ts_cells.specs.Changes.{roomy}
-use Rattle.ts_cells.specs.Grids.{Grid, Lane, RowOf, held, cells_at, cell_in, entries_of}
+use Rattle.ts_cells.specs.CellChanges.{roomy}
+use Rattle.ts_cells.specs.Grids.{Grid, Lane, RowOf, held, cells_of_bucket, cell_in, entries_of}
 use Rattle.ts_cells.proofs.GridLemmas.{get_at}
 use Rattle.ts_cells.proofs.GridMoves.{RowPut, get-roomy, row_set, row_kept, cells_here, grid_put, grid_kept, grid_same, all_set, all_at, least_of}
 use Rattle.ts_cells.proofs.cells.Cells.make_room.Given.{Over}
@@ -31,7 +31,7 @@ within : (g : Over) (c : goal.After-self-1 g) → c.args.lane < length c.self.in
 within g c = subst (λ (s : Grid g.row.P.Denot). c.args.lane < length s.lanes) (sym c.self.view_is) c.requires
 
 -- what the row had
-old : (g : Over) (c : goal.After-self-1 g) → c.index_mut.result.now.1 ≡ cells_at c.self.inside.rows.items c.args.index.now
+old : (g : Over) (c : goal.After-self-1 g) → c.index_mut.result.now.1 ≡ cells_of_bucket c.self.inside.rows.items c.args.index.now
 old g c =
     let d : RowOf g.row.P.Denot = c.index_mut.result.now in
     ap (λ (r : RowOf g.row.P.Denot). r.1) c.index_mut.ensures.value
@@ -69,9 +69,9 @@ returns-clause-ok g c =
     let i : ℤ = c.args.index.now in
     let j : ℕ = c.args.lane in
     let none : g.row.P.Denot = g.P.Partial.nil in
-    let v : Option g.row.P.Denot = Some (or_else none (held (cells_at rows i) j)) in
+    let v : Option g.row.P.Denot = Some (or_else none (held (cells_of_bucket rows i) j)) in
     let m : FinMap cell_cmp g.row.P.Denot = from_entries (entries_of ls rows) in
-    let here : (q : ℕ) → held c.make_room.new.self.1 q ≡ cond (q == j) v (held (cells_at rows i) q) = λ q.
+    let here : (q : ℕ) → held c.make_room.new.self.1 q ≡ cond (q == j) v (held (cells_of_bucket rows i) q) = λ q.
     cells q ∙ ap₂ (λ n (cs : List (Option g.row.P.Denot)). cond (q == n) (Some (or_else none (held cs n))) (held cs q)) c.number.ensures (old g c) in
     let law : (k : Cell) → get (roomy m (cell_in ls i j) none) k ≡ cond (same_cell k (cell_in ls i j)) v (get m k) = λ k.
     get-roomy m (cell_in ls i j) none k ∙ ap (λ o. cond (same_cell k (cell_in ls i j)) (Some (or_else none o)) (get m k)) (get_at ls rows i j c.self.invariant.once c.self.invariant.rising (within g c)) in

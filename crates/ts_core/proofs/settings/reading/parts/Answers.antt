@@ -1,7 +1,7 @@
 use Rattle.std.proofs.Common.{rules, ◌≡◌, ◌∙◌, ℤ, true, false, Some, None, codes, refl, sym, ap, option_and_then, unsigned_abs, SFits, to_z, of_z, to_z-of_z}
 use Rattle.std.specs.Int.{w64}
 use Rattle.serde_json.specs.View.{view, items_view}
-use Rattle.ts_core.specs.SettingsTexts.{has_keys, each, rule_of, settings_of, IsRefusal}
+use Rattle.ts_core.specs.SettingsTexts.{has_keys, each, rule_parsed, settings_parsed, IsRefusal}
 use Rattle.ts_core.proofs.SettingsForms.{values_in, raw_in, other_settings_keys, no_raw, no_rules, no_rule_values, parts_read, settings_of_parts, refused_by}
 use Rattle.ts_core.proofs.settings.reading.parts.Goals as goal
 
@@ -19,8 +19,8 @@ returns-in_err-rules-clause-err g c =
     let d = view c.args.value.now in
     let values = items_view c.in-Some-values_at.values.now in
     let found : values_in (codes "rules") d ≡ Some values = sym c.in-Some-values_at.ensures in
-    let refusal : IsRefusal c.in_err-rules.field-0.0 (settings_of d) =
-    refused_by c.in_err-rules.field-0.0 (each rule_of values) (settings_of d) (λ none. no_rules d (ap (option_and_then (each rule_of)) found ∙ none)) c.in_err-rules.ensures.err in
+    let refusal : IsRefusal c.in_err-rules.field-0.0 (settings_parsed d) =
+    refused_by c.in_err-rules.field-0.0 (each rule_parsed values) (settings_parsed d) (λ none. no_rules d (ap (option_and_then (each rule_parsed)) found ∙ none)) c.in_err-rules.ensures.err in
     search rules
 
 pub returns-clause-ok : goal.returns-clause-ok

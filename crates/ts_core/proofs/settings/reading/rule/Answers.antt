@@ -1,7 +1,7 @@
 use Rattle.std.proofs.Common.{rules, ◌≡◌, ◌∙◌, option_and_then, SFits, to_z, of_z, to_z-of_z, true, false, Some, None, codes, refl, sym, ap, string_bytes, map, unsigned_abs}
 use Rattle.std.specs.Int.{w64}
 use Rattle.serde_json.specs.View.{view, items_view}
-use Rattle.ts_core.specs.SettingsTexts.{has_keys, each, filled_text, rule_of, IsRefusal}
+use Rattle.ts_core.specs.SettingsTexts.{has_keys, each, filled_text, rule_parsed, IsRefusal}
 use Rattle.ts_core.proofs.SettingsForms.{name_in, measurement_in, interval_in, offset_in, values_in, duration_in, other_keys, no_name, no_measurement, no_interval, no_offset, no_tags, no_tag_values, no_duration, rule_read, same_rule, refused_by}
 use Rattle.ts_core.proofs.settings.reading.rule.Goals as goal
 
@@ -31,8 +31,8 @@ returns-in_err-kept_tags-clause-err g c =
     let d = view c.args.value.now in
     let values = items_view c.in-Some-values_at.tags.now in
     let found : values_in (codes "keep") d ≡ Some values = sym c.in-Some-values_at.ensures in
-    let refusal : IsRefusal c.in_err-kept_tags.field-0.0 (rule_of d) =
-    refused_by c.in_err-kept_tags.field-0.0 (each filled_text values) (rule_of d) (λ none. no_tags d (ap (option_and_then (each filled_text)) found ∙ none)) c.in_err-kept_tags.ensures.err in
+    let refusal : IsRefusal c.in_err-kept_tags.field-0.0 (rule_parsed d) =
+    refused_by c.in_err-kept_tags.field-0.0 (each filled_text values) (rule_parsed d) (λ none. no_tags d (ap (option_and_then (each filled_text)) found ∙ none)) c.in_err-kept_tags.ensures.err in
     search rules
 
 pub returns-clause-ok : goal.returns-clause-ok

@@ -1,8 +1,8 @@
 use Rattle.std.proofs.Common.{◌≡◌, drop}
 use Rattle.serde_json.specs.View.{items_view}
-use Rattle.ts_core.specs.SettingsTexts.{each, rule_of}
+use Rattle.ts_core.specs.SettingsTexts.{each, rule_parsed}
 use Rattle.ts_core.proofs.EachItem.{behind}
 use Rattle.ts_core.proofs.settings.reading.rules.Given as goal
 
 abbrev pub invariant-loop-value : goal.invariant-loop-value
-invariant-loop-value g l = behind l.rules.items (each rule_of (items_view (drop l.value-index l.values))) ≡ each rule_of (items_view l.values)
+invariant-loop-value g l = behind l.rules.items (each rule_parsed (items_view (drop l.value-index l.values))) ≡ each rule_parsed (items_view l.values)

@@ -5,7 +5,7 @@ use Rattle.ts_core.specs.Members.{Among}
 use Rattle.ts_raw.specs.FieldKeys.{FieldKey}
 use Rattle.ts_raw.specs.ColumnTables.{ColumnNumbers}
 use Rattle.ts_raw.specs.IndexParts.{column_named, index_by_numbers}
-use Rattle.ts_raw.specs.Indexed.{Indexed, IsSound, no_series, column_in}
+use Rattle.ts_raw.specs.Indexed.{Indexed, IsSoundIndex, no_series, column_in}
 use Rattle.ts_raw.specs.Numbered.{IsAt}
 use Rattle.ts_raw.proofs.IndexLemmas.{measurement_of, index_sound, name_is, no_column_of, no_column_at}
 use Rattle.ts_core.proofs.MembersLemmas.{at_map_of}
@@ -58,8 +58,8 @@ returns-clause-absent g c =
 
 pub returns-clause-sound : goal.returns-clause-sound
 returns-clause-sound g c =
-    subst (λ (i : Indexed). IsSound i) c.self.view_is (index_sound c.self.inside.series c.self.inside.fields c.self.inside.columns c.self.invariant)
+    subst (λ (i : Indexed). IsSoundIndex i) c.self.view_is (index_sound c.self.inside.series c.self.inside.fields c.self.inside.columns c.self.invariant)
 
 pub returns-in_err-field-clause-sound : goal.returns-in_err-field-clause-sound
 returns-in_err-field-clause-sound g c =
-    subst (λ (i : Indexed). IsSound i) c.self.view_is (index_sound c.self.inside.series c.self.inside.fields c.self.inside.columns c.self.invariant)
+    subst (λ (i : Indexed). IsSoundIndex i) c.self.view_is (index_sound c.self.inside.series c.self.inside.fields c.self.inside.columns c.self.invariant)

@@ -3,7 +3,7 @@ use Rattle.std.specs.List.{AllByRecursion}
 use Rattle.std.proofs.lemmas.List.{length-map}
 use Rattle.ts_core.specs.Facts.{is_of}
 use Rattle.ts_raw.specs.Columns.{ColumnState}
-use Rattle.ts_store.specs.ColumnsKept.{Held, points_of}
+use Rattle.ts_store.specs.ColumnsKept.{Held, point_maps}
 use Rattle.ts_store.specs.Seats.{seats_where, seat_in}
 use Rattle.ts_store.proofs.SeatLemmas.{numbers-seats, numbers-below}
 use Rattle.ts_store.proofs.column_facts.ColumnFacts.columns_of.Goals as goal
@@ -19,5 +19,5 @@ returns g c =
     let cs = c.self.inside.index.columns in
     let asked = is_of c.args.measurement.now c.args.field.now in
     c.of.ensures ∙ ap (map (seat_in cs)) c.columns_of.ensures
-    ∙ numbers-seats asked cs (points_of ss) (length-map ss (λ (s : ColumnState). s.points) ∙ c.self.invariant.each)
+    ∙ numbers-seats asked cs (point_maps ss) (length-map ss (λ (s : ColumnState). s.points) ∙ c.self.invariant.each)
     ∙ ap (λ (h : Held). seats_where asked h.columns) c.self.view_is

@@ -8,7 +8,7 @@ use Rattle.ts_core.specs.StoreStates.{column_of, facts_of}
 use Rattle.ts_core.specs.StoreMoves.{points_below}
 use Rattle.ts_raw.specs.Columns.{ColumnState}
 use Rattle.ts_raw.specs.Numbered.{IsAt}
-use Rattle.ts_store.specs.ColumnsKept.{Held, points_of, held_of}
+use Rattle.ts_store.specs.ColumnsKept.{Held, point_maps, held_of}
 use Rattle.ts_store.specs.PointsRead.{number_of_points}
 use Rattle.ts_store.specs.Rollups.{RollupState, AreRollups, cells_of}
 use Rattle.ts_store.specs.RollupSteps.{FreezeFit, held_moved, with_frozen_all}
@@ -21,7 +21,7 @@ pub index_mut-points-requires : goal.index_mut-points-requires
 index_mut-points-requires g c =
     let ss : List ColumnState = c.self.inside.columns.items in
     let shown = ap (λ (h : Held). length h.columns) c.self.view_is in
-    let many = with_points-length c.self.inside.index.columns (points_of ss) (length-map ss (λ (s : ColumnState). s.points) ∙ c.self.invariant.each) in
+    let many = with_points-length c.self.inside.index.columns (point_maps ss) (length-map ss (λ (s : ColumnState). s.points) ∙ c.self.invariant.each) in
     omega (arith, c.requires.column, shown, many, c.self.invariant.each)
 
 pub freeze_all-requires-clause-column : goal.freeze_all-requires-clause-column
@@ -35,7 +35,7 @@ pub freeze_all-requires-clause-few : goal.freeze_all-requires-clause-few
 freeze_all-requires-clause-few g c =
     let ss : List ColumnState = c.self.inside.columns.items in
     let shown = ap (λ (h : Held). length h.columns) c.self.view_is in
-    let many = with_points-length c.self.inside.index.columns (points_of ss) (length-map ss (λ (s : ColumnState). s.points) ∙ c.self.invariant.each) in
+    let many = with_points-length c.self.inside.index.columns (point_maps ss) (length-map ss (λ (s : ColumnState). s.points) ∙ c.self.invariant.each) in
     let all : length (facts_of c.args.self.now.columns) ≡ number_of_points ss = ap (λ (h : Held). length (facts_of h.columns)) (sym c.self.view_is) ∙ facts-length c.self.inside.index.columns ss c.self.invariant.each in
     let x : ColumnState = c.index_mut-points.result.now in
     let one : finmap.len (get_or ss c.args.column x).points ≤ number_of_points ss = one_of-points ss c.args.column x (omega (arith, c.requires.column, shown, many, c.self.invariant.each)) in
@@ -53,7 +53,7 @@ returns g c =
     let rs = c.args.rules.now in
     let mark = c.args.mark in
     let shown = ap (λ (h : Held). length h.columns) c.self.view_is in
-    let many = with_points-length c.self.inside.index.columns (points_of ss) (length-map ss (λ (s : ColumnState). s.points) ∙ c.self.invariant.each) in
+    let many = with_points-length c.self.inside.index.columns (point_maps ss) (length-map ss (λ (s : ColumnState). s.points) ∙ c.self.invariant.each) in
     let rollups : AreRollups rs (map column_of (held_of c.self.inside.index ss us).columns) us =
     subst (λ (h : Held). AreRollups rs (map column_of h.columns) h.rollups) (sym c.self.view_is) c.requires.rollups in
     let counted = c.self.inside.rollups.ok.0 in

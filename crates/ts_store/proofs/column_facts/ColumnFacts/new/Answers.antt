@@ -1,7 +1,7 @@
 use Rattle.std.proofs.Common.{◌∙◌, List, length, ap, sym, subst}
 use Rattle.ts_core.specs.Members.{Among, AllDistinct}
 use Rattle.ts_core.specs.Facts.{Series, Column}
-use Rattle.ts_store.specs.ColumnsKept.{points_of, with_points}
+use Rattle.ts_store.specs.ColumnsKept.{point_maps, with_points}
 use Rattle.ts_store.proofs.column_facts.ColumnFacts.new.Goals as goal
 
 pub invariant_of-result : goal.invariant_of-result
@@ -17,6 +17,6 @@ invariant_of-result g c = record {
 pub returns : goal.returns
 returns g c = λ i. record {
   series = c.new.ensures.series i;
-  columns = with_points (c.new.ensures.columns i) (points_of (c.new-2.ensures.items i));
+  columns = with_points (c.new.ensures.columns i) (point_maps (c.new-2.ensures.items i));
   rollups = c.in_ok-rollups.ensures i;
 }

@@ -5,14 +5,14 @@ use Rattle.ts_core.specs.Members.{AllDistinct}
 use Rattle.ts_core.specs.Facts.{Series, Column}
 use Rattle.ts_core.specs.StoreStates.{ColumnPoints, column_of}
 use Rattle.ts_core.specs.StoreMoves.{PutsFacts, HaveRoom}
-use Rattle.ts_line.specs.Parts.{Piece, Parts, series_of, facts_of}
+use Rattle.ts_line.specs.Parts.{LinePart, Parts, series_of, line_facts}
 use Rattle.ts_core.specs.Texts.{lent_pairs}
 use Rattle.ts_raw.specs.Columns.{ColumnState}
 use Rattle.ts_raw.specs.Numbered.{Gains}
 use Rattle.ts_core.proofs.Results.{on_any_err}
 use Rattle.ts_store.proofs.Stands.{series_from}
 use Rattle.ts_store.specs.Registered.{MakesFirst, with_columns, new_columns}
-use Rattle.ts_store.specs.ColumnsKept.{Held, columns_in, with_points, points_of, all_committed}
+use Rattle.ts_store.specs.ColumnsKept.{Held, columns_in, with_points, point_maps, all_committed}
 use Rattle.ts_store.proofs.ColumnsAside.{ready_of, numbers_distinct, line_columns, all_put, all_committed-length}
 use Rattle.std.specs.List.{AllByRecursion}
 use Rattle.ts_core.specs.StoreData.{FrozenCells}
@@ -31,8 +31,8 @@ commit_all-requires g c =
     let ss : List ColumnState = c.prepare_line.new.columns.items in
     let ns : List ℕ = c.prepare_line.new.touched.items in
     let aside = c.in_ok-prepare_line.ensures.aside in
-    let once : AllDistinct ns = numbers_distinct cs ss ns (facts_of p) aside (line_columns p p.fields (rw c.fields.ensures.value at c.fields.ensures.once)) in
-    rw c.as_slice-2.ensures.value (ready_of cs ss ns (facts_of p) c.prepare_line.ensures.held.each aside once)
+    let once : AllDistinct ns = numbers_distinct cs ss ns (line_facts p) aside (line_columns p p.fields (rw c.fields.ensures.value at c.fields.ensures.once)) in
+    rw c.as_slice-2.ensures.value (ready_of cs ss ns (line_facts p) c.prepare_line.ensures.held.each aside once)
 
 pub invariant_of-self-2 : goal.invariant_of-self-2
 invariant_of-self-2 g c = record {
@@ -46,7 +46,7 @@ returns-clause-ok g c =
     let cs : List Column = c.prepare_line.new.index.columns in
     let ss : List ColumnState = c.prepare_line.new.columns.items in
     let ns : List ℕ = c.prepare_line.new.touched.items in
-    let same = series_from p c.text.result.now (lent_pairs c.args.tags.now) (c.text.ensures ∙ ap (λ (q : Piece). q.text) c.measurement.ensures) c.requires.tags in
+    let same = series_from p c.text.result.now (lent_pairs c.args.tags.now) (c.text.ensures ∙ ap (λ (q : LinePart). q.text) c.measurement.ensures) c.requires.tags in
     let gains : Gains c.self.inside.index.series c.register.new.self.series (series_of p) = subst (λ (s : Series). Gains c.self.inside.index.series c.register.new.self.series s) same c.in-Ok.ensures.ok in
     let us : List RollupState = c.prepare_line.new.rollups in
     let long : length c.prepare_line.new.rollups ≡ c.self.inside.rollups.len = omega (arith, c.prepare_line.auto.rollups, ap length c.as_mut_slice.ensures.value, c.self.inside.rollups.ok.0) in
@@ -56,24 +56,24 @@ returns-clause-ok g c =
     let after_rooms : (with_items (with_items c.self.inside.rollups c.prepare_line.new.rollups) c.make_rooms.new.rollups).items ≡ c.make_rooms.new.rollups =
     with_items_is (with_items c.self.inside.rollups c.prepare_line.new.rollups) c.make_rooms.new.rollups still in
     let aside = c.in_ok-prepare_line.ensures.aside in
-    let once : AllDistinct ns = numbers_distinct cs ss ns (facts_of p) aside (line_columns p p.fields (rw c.fields.ensures.value at c.fields.ensures.once)) in
-    let all : PutsFacts (with_points cs (points_of ss)) (with_points cs (points_of (all_committed ss ns))) (facts_of p) =
-    all_put cs ss ns (facts_of p) c.prepare_line.ensures.held.sound.columns_once c.prepare_line.ensures.held.each once aside in
+    let once : AllDistinct ns = numbers_distinct cs ss ns (line_facts p) aside (line_columns p p.fields (rw c.fields.ensures.value at c.fields.ensures.once)) in
+    let all : PutsFacts (with_points cs (point_maps ss)) (with_points cs (point_maps (all_committed ss ns))) (line_facts p) =
+    all_put cs ss ns (line_facts p) c.prepare_line.ensures.held.sound.columns_once c.prepare_line.ensures.held.each once aside in
     let before : columns_in c.register.new.self c.self.inside.columns.items ≡ c.args.self.now.columns =
-    ap (λ (xs : List Column). with_points xs (points_of c.self.inside.columns.items)) c.register.ensures.columns ∙ ap (λ (h : Held). h.columns) c.self.view_is in
-    let made : with_points cs (points_of ss) ≡ with_columns c.args.self.now.columns (new_columns (map column_of c.args.self.now.columns) (facts_of p)) =
-    c.in_ok-prepare_line.ensures.all ∙ ap (λ (b : List ColumnPoints). with_columns b (new_columns (map column_of b) (facts_of p))) before in
+    ap (λ (xs : List Column). with_points xs (point_maps c.self.inside.columns.items)) c.register.ensures.columns ∙ ap (λ (h : Held). h.columns) c.self.view_is in
+    let made : with_points cs (point_maps ss) ≡ with_columns c.args.self.now.columns (new_columns (map column_of c.args.self.now.columns) (line_facts p)) =
+    c.in_ok-prepare_line.ensures.all ∙ ap (λ (b : List ColumnPoints). with_columns b (new_columns (map column_of b) (line_facts p))) before in
     let after : c.commit_all.new.columns.items ≡ all_committed ss ns = c.commit_all.ensures ∙ ap (all_committed ss) c.as_slice-2.ensures.value in
     record {
       series = subst (λ (xs : List Series). Gains c.args.self.now.series xs (series_of p)) (sym c.prepare_line.ensures.series)
           (subst (λ (xs : List Series). Gains xs c.register.new.self.series (series_of p)) (ap (λ (h : Held). h.series) c.self.view_is) gains);
-      facts = subst (λ (xs : List ColumnState). PutsFacts (with_columns c.args.self.now.columns (new_columns (map column_of c.args.self.now.columns) (facts_of p))) (with_points cs (points_of xs)) (facts_of p)) (sym after)
-          (subst (λ (b : List ColumnPoints). PutsFacts b (with_points cs (points_of (all_committed ss ns))) (facts_of p)) made all);
+      facts = subst (λ (xs : List ColumnState). PutsFacts (with_columns c.args.self.now.columns (new_columns (map column_of c.args.self.now.columns) (line_facts p))) (with_points cs (point_maps xs)) (line_facts p)) (sym after)
+          (subst (λ (b : List ColumnPoints). PutsFacts b (with_points cs (point_maps (all_committed ss ns))) (line_facts p)) made all);
       rollups = subst (λ (xs : List RollupState). AreRollups c.args.rules.now (map column_of (columns_in c.prepare_line.new.index c.commit_all.new.columns.items)) xs) (sym after_rooms) (rollups_held c.args.rules.now c.prepare_line.new.index c.commit_all.new.columns.items c.make_rooms.new.rollups
           (ap length c.commit_all.ensures ∙ all_committed-length ss c.as_slice-2.result.now ∙ c.prepare_line.ensures.held.each)
           (rollups_stay c.args.rules.now cs us c.make_rooms.new.rollups c.prepare_line.ensures.rollups
           (subst (λ (xs : List RollupState). KeepLanes xs c.make_rooms.new.rollups) lent c.make_rooms.ensures.lanes)));
-      rooms = subst (λ (xs : List RollupState). HaveRoom c.args.rules.now (facts_of p) (cells_of c.args.self.now.rollups) (cells_of xs)) (sym after_rooms) (line_rooms c.args.rules.now cs ss p c.time.result ns (cells_of c.args.self.now.rollups) us c.make_rooms.new.rollups c.prepare_line.ensures.rollups aside c.time.ensures
+      rooms = subst (λ (xs : List RollupState). HaveRoom c.args.rules.now (line_facts p) (cells_of c.args.self.now.rollups) (cells_of xs)) (sym after_rooms) (line_rooms c.args.rules.now cs ss p c.time.result ns (cells_of c.args.self.now.rollups) us c.make_rooms.new.rollups c.prepare_line.ensures.rollups aside c.time.ensures
           (c.prepare_line.ensures.cells ∙ ap cells_of (c.as_mut_slice.ensures.value ∙ ap (λ (h : Held). h.rollups) c.self.view_is))
           (c.in_ok-make_rooms.ensures.ok ∙ (λ i. roomed_under c.args.rules.now c.time.result (c.as_slice.ensures.value i) (lent i))));
     }
@@ -92,16 +92,16 @@ returns-in_err-prepare_line-clause-known g c = known_of c.prepare_line.new.index
 pub returns-in_err-prepare_line-clause-err : goal.returns-in_err-prepare_line-clause-err
 returns-in_err-prepare_line-clause-err g c =
     let p : Parts = c.args.line.now in
-    let same = series_from p c.text.result.now (lent_pairs c.args.tags.now) (c.text.ensures ∙ ap (λ (q : Piece). q.text) c.measurement.ensures) c.requires.tags in
+    let same = series_from p c.text.result.now (lent_pairs c.args.tags.now) (c.text.ensures ∙ ap (λ (q : LinePart). q.text) c.measurement.ensures) c.requires.tags in
     let gains : Gains c.self.inside.index.series c.register.new.self.series (series_of p) = subst (λ (s : Series). Gains c.self.inside.index.series c.register.new.self.series s) same c.in-Ok.ensures.ok in
     let before : columns_in c.register.new.self c.self.inside.columns.items ≡ c.args.self.now.columns =
-    ap (λ (xs : List Column). with_points xs (points_of c.self.inside.columns.items)) c.register.ensures.columns ∙ ap (λ (h : Held). h.columns) c.self.view_is in
+    ap (λ (xs : List Column). with_points xs (point_maps c.self.inside.columns.items)) c.register.ensures.columns ∙ ap (λ (h : Held). h.columns) c.self.view_is in
     let long : length c.prepare_line.new.rollups ≡ c.self.inside.rollups.len = omega (arith, c.prepare_line.auto.rollups, ap length c.as_mut_slice.ensures.value, c.self.inside.rollups.ok.0) in
     let written : (with_items c.self.inside.rollups c.prepare_line.new.rollups).items ≡ c.prepare_line.new.rollups = with_items_is c.self.inside.rollups c.prepare_line.new.rollups long in
     on_any_err c.from_residual-in_err-prepare_line.result (record {
       series = inr (subst (λ (xs : List Series). Gains c.args.self.now.series xs (series_of p)) (sym c.prepare_line.ensures.series)
           (subst (λ (xs : List Series). Gains xs c.register.new.self.series (series_of p)) (ap (λ (h : Held). h.series) c.self.view_is) gains));
-      columns = subst (λ (b : List ColumnPoints). MakesFirst b (columns_in c.prepare_line.new.index c.prepare_line.new.columns.items) (facts_of p)) before c.prepare_line.ensures.made;
+      columns = subst (λ (b : List ColumnPoints). MakesFirst b (columns_in c.prepare_line.new.index c.prepare_line.new.columns.items) (line_facts p)) before c.prepare_line.ensures.made;
       rollups = subst (λ (xs : List RollupState). AreRollups c.args.rules.now (map column_of (columns_in c.prepare_line.new.index c.prepare_line.new.columns.items)) xs) (sym written)
           (rollups_held c.args.rules.now c.prepare_line.new.index c.prepare_line.new.columns.items c.prepare_line.new.rollups c.prepare_line.ensures.held.each c.prepare_line.ensures.rollups);
       rooms = subst (λ (xs : List RollupState). HaveRoom c.args.rules.now [] (cells_of c.args.self.now.rollups) (cells_of xs)) (sym written) (subst (λ (ms : List FrozenCells). HaveRoom c.args.rules.now [] ms (cells_of c.prepare_line.new.rollups))
@@ -112,10 +112,10 @@ returns-in_err-prepare_line-clause-err g c =
 pub returns-in_err-make_rooms-clause-err : goal.returns-in_err-make_rooms-clause-err
 returns-in_err-make_rooms-clause-err g c =
     let p : Parts = c.args.line.now in
-    let same = series_from p c.text.result.now (lent_pairs c.args.tags.now) (c.text.ensures ∙ ap (λ (q : Piece). q.text) c.measurement.ensures) c.requires.tags in
+    let same = series_from p c.text.result.now (lent_pairs c.args.tags.now) (c.text.ensures ∙ ap (λ (q : LinePart). q.text) c.measurement.ensures) c.requires.tags in
     let gains : Gains c.self.inside.index.series c.register.new.self.series (series_of p) = subst (λ (s : Series). Gains c.self.inside.index.series c.register.new.self.series s) same c.in-Ok.ensures.ok in
     let before : columns_in c.register.new.self c.self.inside.columns.items ≡ c.args.self.now.columns =
-    ap (λ (xs : List Column). with_points xs (points_of c.self.inside.columns.items)) c.register.ensures.columns ∙ ap (λ (h : Held). h.columns) c.self.view_is in
+    ap (λ (xs : List Column). with_points xs (point_maps c.self.inside.columns.items)) c.register.ensures.columns ∙ ap (λ (h : Held). h.columns) c.self.view_is in
     let long : length c.prepare_line.new.rollups ≡ c.self.inside.rollups.len = omega (arith, c.prepare_line.auto.rollups, ap length c.as_mut_slice.ensures.value, c.self.inside.rollups.ok.0) in
     let written : (with_items c.self.inside.rollups c.prepare_line.new.rollups).items ≡ c.prepare_line.new.rollups = with_items_is c.self.inside.rollups c.prepare_line.new.rollups long in
     let lent : c.as_mut_slice-2.result.now ≡ c.prepare_line.new.rollups = c.as_mut_slice-2.ensures.value ∙ written in
@@ -125,7 +125,7 @@ returns-in_err-make_rooms-clause-err g c =
     on_any_err c.from_residual-in_err-make_rooms.result (record {
       series = inr (subst (λ (xs : List Series). Gains c.args.self.now.series xs (series_of p)) (sym c.prepare_line.ensures.series)
           (subst (λ (xs : List Series). Gains xs c.register.new.self.series (series_of p)) (ap (λ (h : Held). h.series) c.self.view_is) gains));
-      columns = subst (λ (b : List ColumnPoints). MakesFirst b (columns_in c.prepare_line.new.index c.prepare_line.new.columns.items) (facts_of p)) before c.prepare_line.ensures.made;
+      columns = subst (λ (b : List ColumnPoints). MakesFirst b (columns_in c.prepare_line.new.index c.prepare_line.new.columns.items) (line_facts p)) before c.prepare_line.ensures.made;
       rollups = subst (λ (xs : List RollupState). AreRollups c.args.rules.now (map column_of (columns_in c.prepare_line.new.index c.prepare_line.new.columns.items)) xs) (sym after_rooms) (rollups_held c.args.rules.now c.prepare_line.new.index c.prepare_line.new.columns.items c.make_rooms.new.rollups c.prepare_line.ensures.held.each
           (rollups_stay c.args.rules.now c.prepare_line.new.index.columns c.prepare_line.new.rollups c.make_rooms.new.rollups c.prepare_line.ensures.rollups
           (subst (λ (xs : List RollupState). KeepLanes xs c.make_rooms.new.rollups) lent c.make_rooms.ensures.lanes)));
@@ -152,7 +152,7 @@ make_rooms-requires-clause-inside g c =
     let written : (with_items c.self.inside.rollups c.prepare_line.new.rollups).items ≡ c.prepare_line.new.rollups = with_items_is c.self.inside.rollups c.prepare_line.new.rollups long in
     let lent : c.as_mut_slice-2.result.now ≡ c.prepare_line.new.rollups = c.as_mut_slice-2.ensures.value ∙ written in
     let inside = numbers_inside c.args.rules.now cs c.prepare_line.new.rollups ns c.prepare_line.ensures.rollups
-    (aside_inside cs c.prepare_line.new.columns.items ns (facts_of c.args.line.now) c.in_ok-prepare_line.ensures.aside) in
+    (aside_inside cs c.prepare_line.new.columns.items ns (line_facts c.args.line.now) c.in_ok-prepare_line.ensures.aside) in
     subst (λ (us : List RollupState). AllByRecursion (λ (s : RollupState). AllByRecursion (λ n. n < length s.lanes) c.as_slice.result.now) us) (sym lent)
     (subst (λ (ks : List ℕ). AllByRecursion (λ (s : RollupState). AllByRecursion (λ n. n < length s.lanes) ks) c.prepare_line.new.rollups) (sym c.as_slice.ensures.value) inside)
 
@@ -170,14 +170,14 @@ returns-in_err-reserve-clause-known g c =
 pub returns-in_err-reserve-clause-err : goal.returns-in_err-reserve-clause-err
 returns-in_err-reserve-clause-err g c =
     let p : Parts = c.args.line.now in
-    let same = series_from p c.text.result.now (lent_pairs c.args.tags.now) (c.text.ensures ∙ ap (λ (q : Piece). q.text) c.measurement.ensures) c.requires.tags in
+    let same = series_from p c.text.result.now (lent_pairs c.args.tags.now) (c.text.ensures ∙ ap (λ (q : LinePart). q.text) c.measurement.ensures) c.requires.tags in
     let gains : Gains c.self.inside.index.series c.register.new.self.series (series_of p) = subst (λ (s : Series). Gains c.self.inside.index.series c.register.new.self.series s) same c.in-Ok.ensures.ok in
     let before : columns_in c.register.new.self c.self.inside.columns.items ≡ c.args.self.now.columns =
-    ap (λ (xs : List Column). with_points xs (points_of c.self.inside.columns.items)) c.register.ensures.columns ∙ ap (λ (h : Held). h.columns) c.self.view_is in
+    ap (λ (xs : List Column). with_points xs (point_maps c.self.inside.columns.items)) c.register.ensures.columns ∙ ap (λ (h : Held). h.columns) c.self.view_is in
     let rolls : c.self.inside.rollups.items ≡ c.args.self.now.rollups = ap (λ (h : Held). h.rollups) c.self.view_is in
     on_any_err c.from_residual.result (record {
       series = inr (subst (λ (xs : List Series). Gains xs c.register.new.self.series (series_of p)) (ap (λ (h : Held). h.series) c.self.view_is) gains);
-      columns = record { made = []; others = new_columns (map column_of c.args.self.now.columns) (facts_of p); order = refl; columns = before ∙ sym (append-nil c.args.self.now.columns) };
+      columns = record { made = []; others = new_columns (map column_of c.args.self.now.columns) (line_facts p); order = refl; columns = before ∙ sym (append-nil c.args.self.now.columns) };
       rollups = subst (λ (ds : List ColumnPoints). AreRollups c.args.rules.now (map column_of ds) c.self.inside.rollups.items) (sym before)
           (subst (λ (us : List RollupState). AreRollups c.args.rules.now (map column_of c.args.self.now.columns) us) (sym rolls) c.requires.rollups);
       rooms = subst (λ (us : List RollupState). HaveRoom c.args.rules.now [] (cells_of c.args.self.now.rollups) (cells_of us)) (sym rolls) (rooms_same c.args.rules.now (cells_of c.args.self.now.rollups));
@@ -187,11 +187,11 @@ pub returns-in-Err-clause-err : goal.returns-in-Err-clause-err
 returns-in-Err-clause-err g c =
     let p : Parts = c.args.line.now in
     let before : columns_in c.register.new.self c.self.inside.columns.items ≡ c.args.self.now.columns =
-    ap (λ (xs : List Column). with_points xs (points_of c.self.inside.columns.items)) c.register.ensures.columns ∙ ap (λ (h : Held). h.columns) c.self.view_is in
+    ap (λ (xs : List Column). with_points xs (point_maps c.self.inside.columns.items)) c.register.ensures.columns ∙ ap (λ (h : Held). h.columns) c.self.view_is in
     let rolls : c.self.inside.rollups.items ≡ c.args.self.now.rollups = ap (λ (h : Held). h.rollups) c.self.view_is in
     record {
       series = inl (ap (λ i. i.series) c.in-Err.ensures.err ∙ ap (λ (h : Held). h.series) c.self.view_is);
-      columns = record { made = []; others = new_columns (map column_of c.args.self.now.columns) (facts_of p); order = refl; columns = before ∙ sym (append-nil c.args.self.now.columns) };
+      columns = record { made = []; others = new_columns (map column_of c.args.self.now.columns) (line_facts p); order = refl; columns = before ∙ sym (append-nil c.args.self.now.columns) };
       rollups = subst (λ (ds : List ColumnPoints). AreRollups c.args.rules.now (map column_of ds) c.self.inside.rollups.items) (sym before)
           (subst (λ (us : List RollupState). AreRollups c.args.rules.now (map column_of c.args.self.now.columns) us) (sym rolls) c.requires.rollups);
       rooms = subst (λ (us : List RollupState). HaveRoom c.args.rules.now [] (cells_of c.args.self.now.rollups) (cells_of us)) (sym rolls) (rooms_same c.args.rules.now (cells_of c.args.self.now.rollups));

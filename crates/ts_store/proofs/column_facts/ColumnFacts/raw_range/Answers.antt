@@ -2,7 +2,7 @@ use Rattle.std.proofs.Common.{◌<◌, ◌∙◌, ap, sym, rules, SFits, w64, to
 use Rattle.std.specs.FinMap as finmap
 use Rattle.std.proofs.lemmas.List.{length-map}
 use Rattle.ts_raw.specs.Columns.{ColumnState, points_within}
-use Rattle.ts_store.specs.ColumnsKept.{Held, points_of}
+use Rattle.ts_store.specs.ColumnsKept.{Held, point_maps}
 use Rattle.ts_store.specs.Seats.{points_at}
 use Rattle.ts_store.proofs.ColumnsReads.{with_points-length}
 use Rattle.ts_store.proofs.SeatLemmas.{points-at}
@@ -13,17 +13,17 @@ returns-clause-points g c =
     let ss = c.self.inside.columns.items in
     let cs = c.self.inside.index.columns in
     let each = length-map ss (λ (s : ColumnState). s.points) ∙ c.self.invariant.each in
-    let there : c.args.column < length cs = omega (arith, c.requires, ap (λ (h : Held). length h.columns) c.self.view_is, with_points-length cs (points_of ss) each) in
+    let there : c.args.column < length cs = omega (arith, c.requires, ap (λ (h : Held). length h.columns) c.self.view_is, with_points-length cs (point_maps ss) each) in
     let from : SFits w64 c.args.from = search rules in
     let to : SFits w64 c.args.to = search rules in
     c.raw_range.ensures.points
-    ∙ (λ i. points_within (get_or (points_of (c.as_slice.ensures.value i)) (c.number.ensures i) finmap.empty) (to_z-of_z from i) (to_z-of_z to i))
-    ∙ sym (points-at cs (points_of ss) c.args.column c.args.from c.args.to each there)
+    ∙ (λ i. points_within (get_or (point_maps (c.as_slice.ensures.value i)) (c.number.ensures i) finmap.empty) (to_z-of_z from i) (to_z-of_z to i))
+    ∙ sym (points-at cs (point_maps ss) c.args.column c.args.from c.args.to each there)
     ∙ ap (λ (h : Held). points_at h.columns c.args.column c.args.from c.args.to) c.self.view_is
 
 pub raw_range-requires : goal.raw_range-requires
 raw_range-requires g c =
     let ss = c.self.inside.columns.items in
     let shown = ap (λ (h : Held). length h.columns) c.self.view_is in
-    let many = with_points-length c.self.inside.index.columns (points_of ss) (length-map ss (λ (s : ColumnState). s.points) ∙ c.self.invariant.each) in
+    let many = with_points-length c.self.inside.index.columns (point_maps ss) (length-map ss (λ (s : ColumnState). s.points) ∙ c.self.invariant.each) in
     omega (arith, c.requires, c.number.ensures, ap length c.as_slice.ensures.value, shown, many, c.self.invariant.each)

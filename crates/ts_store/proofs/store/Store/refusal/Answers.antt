@@ -2,7 +2,7 @@ use Rattle.std.proofs.Common.{◌≡◌, ◌<◌, ◌≤◌, ◌+◌, ◌^◌, �
 use Rattle.std.proofs.lemmas.List.{length-map}
 use Rattle.ts_core.specs.StoreData.{StoreData}
 use Rattle.ts_core.specs.Texts.{lent_pairs}
-use Rattle.ts_line.specs.Parts.{series_of, fact_of, facts_of}
+use Rattle.ts_line.specs.Parts.{series_of, fact_of, line_facts}
 use Rattle.ts_store.specs.OpenRuns.{kept_data}
 use Rattle.ts_store.specs.Refusals.{write_fault, is_too_many}
 use Rattle.ts_store.proofs.CountsKept.{accepted-few}
@@ -25,7 +25,7 @@ returns-then-fields-self g c =
     sym (ap (is_too_many inside.facts.series) (series_from line c.text.result.now (lent_pairs c.args.tags.now) text c.requires)) ∙ sym c.refuses.ensures ∙ c.if-refuses.false in
     let fields = ap length c.fields.ensures.value in
     let facts = length-map line.fields (fact_of line) in
-    let many : 2 ^ 62 < inside.accepted + length (facts_of line) = let more = c.if-fields-self.true in omega (arith, fields, facts, more) in
+    let many : 2 ^ 62 < inside.accepted + length (line_facts line) = let more = c.if-fields-self.true in omega (arith, fields, facts, more) in
     sym (facts_refused inside.marks.raw inside.facts.series inside.accepted line late registers many) ∙ ap (λ (k : StoreData). write_fault k.marks.raw k.series k.accepted line) c.self.view_is
 
 pub returns : goal.returns
@@ -40,5 +40,5 @@ returns g c =
     let fields = ap length c.fields.ensures.value in
     let facts = length-map line.fields (fact_of line) in
     let all = accepted-few reached.opening reached.history (kept_data inside.settings inside.marks inside.accepted inside.facts inside.run) reached.stands in
-    let few : inside.accepted + length (facts_of line) ≤ 2 ^ 62 = let more = c.if-fields-self.false in omega (arith, fields, facts, more, all) in
+    let few : inside.accepted + length (line_facts line) ≤ 2 ^ 62 = let more = c.if-fields-self.false in omega (arith, fields, facts, more, all) in
     sym (welcome inside.marks.raw inside.facts.series inside.accepted line late registers few) ∙ ap (λ (k : StoreData). write_fault k.marks.raw k.series k.accepted line) c.self.view_is

@@ -4,8 +4,8 @@ use Rattle.std.proofs.lemmas.Result.{err_from_is_err_and}
 use Rattle.ts_core.specs.Settings.{Rule}
 use Rattle.ts_core.specs.StoreStates.{column_of}
 use Rattle.ts_core.specs.StoreData.{StoreData}
-use Rattle.ts_line.specs.Parts.{Piece, Parts, fact_of, facts_of}
-use Rattle.ts_store.specs.LinesPut.{Puts, Grows, Accepts, Leaves}
+use Rattle.ts_line.specs.Parts.{LinePart, Parts, fact_of, line_facts}
+use Rattle.ts_store.specs.LinesPut.{PutsLine, GrowsForLine, Accepts, Leaves}
 use Rattle.ts_store.specs.OpenRuns.{IsKept, kept_data}
 use Rattle.ts_store.specs.Refusals.{write_fault}
 use Rattle.ts_store.specs.Rollups.{AreRollups}
@@ -29,14 +29,14 @@ pub invariant_of-self : goal.invariant_of-self
 invariant_of-self g c =
     let before = c.self.inside in
     let line : Parts = c.args.line.now in
-    let grows : Grows before.settings.rules before.facts c.put_line.new.self line = subst (λ (rs : List Rule). Grows rs before.facts c.put_line.new.self line) c.rules.ensures.value c.in_err-put_line.ensures.err in
+    let grows : GrowsForLine before.settings.rules before.facts c.put_line.new.self line = subst (λ (rs : List Rule). GrowsForLine rs before.facts c.put_line.new.self line) c.rules.ensures.value c.in_err-put_line.ensures.err in
     kept_left before.settings before.marks before.accepted before.facts c.put_line.new.self before.run line c.self.invariant grows c.put_line.ensures.known
 
 pub returns-in_err-put_line-clause-taken : goal.returns-in_err-put_line-clause-taken
 returns-in_err-put_line-clause-taken g c = λ none.
     let before = c.self.inside in
     let line : Parts = c.args.line.now in
-    let grows : Grows before.settings.rules before.facts c.put_line.new.self line = subst (λ (rs : List Rule). Grows rs before.facts c.put_line.new.self line) c.rules.ensures.value c.in_err-put_line.ensures.err in
+    let grows : GrowsForLine before.settings.rules before.facts c.put_line.new.self line = subst (λ (rs : List Rule). GrowsForLine rs before.facts c.put_line.new.self line) c.rules.ensures.value c.in_err-put_line.ensures.err in
     let p = err_from_is_err_and c.from_residual.result c.from_residual.ensures.1 in
     inr (
       p.1 ∙ ap Err p.2,
@@ -50,7 +50,7 @@ overflow_add-self g c =
     let line : Parts = c.args.line.now in
     let none : write_fault before.marks.raw before.facts.series before.accepted line ≡ None = ap (λ (k : StoreData). write_fault k.marks.raw k.series k.accepted line) c.self.view_is ∙ sym c.refusal.ensures ∙ c.in_default.is in
     let welcome = not_refused before.marks.raw before.facts.series before.accepted line none in
-    let many : length c.fields.result.now ≡ length (facts_of line) = ap (λ (l : List (Piece × ℤ)). length l) c.fields.ensures.value ∙ sym (length-map line.fields (fact_of line)) in
+    let many : length c.fields.result.now ≡ length (line_facts line) = ap (λ (l : List (LinePart × ℤ)). length l) c.fields.ensures.value ∙ sym (length-map line.fields (fact_of line)) in
     let all = welcome.few in
     let few : before.accepted + length c.fields.result.now ≤ 4611686018427387904 = omega (arith, many, all) in
     search rules
@@ -61,8 +61,8 @@ invariant_of-self-2 g c =
     let line : Parts = c.args.line.now in
     let none : write_fault before.marks.raw before.facts.series before.accepted line ≡ None = ap (λ (k : StoreData). write_fault k.marks.raw k.series k.accepted line) c.self.view_is ∙ sym c.refusal.ensures ∙ c.in_default.is in
     let welcome = not_refused before.marks.raw before.facts.series before.accepted line none in
-    let many : length c.fields.result.now ≡ length (facts_of line) = ap (λ (l : List (Piece × ℤ)). length l) c.fields.ensures.value ∙ sym (length-map line.fields (fact_of line)) in
-    let put : Puts before.settings.rules before.facts c.put_line.new.self line = subst (λ (rs : List Rule). Puts rs before.facts c.put_line.new.self line) c.rules.ensures.value c.in_ok-put_line.ensures.ok in
+    let many : length c.fields.result.now ≡ length (line_facts line) = ap (λ (l : List (LinePart × ℤ)). length l) c.fields.ensures.value ∙ sym (length-map line.fields (fact_of line)) in
+    let put : PutsLine before.settings.rules before.facts c.put_line.new.self line = subst (λ (rs : List Rule). PutsLine rs before.facts c.put_line.new.self line) c.rules.ensures.value c.in_ok-put_line.ensures.ok in
     let taken = taken_from before.marks.raw line welcome.late c.in_ok-put_line.ensures.taken in
     subst (λ (n : ℕ). IsKept (kept_data before.settings before.marks (before.accepted + n) c.put_line.new.self before.run) c.put_line.new.self before.run) (sym many)
     (kept_accepted before.settings before.marks before.accepted before.facts c.put_line.new.self before.run line c.self.invariant put c.put_line.ensures.known taken welcome.few)
@@ -73,9 +73,9 @@ returns-clause-ok g c =
     let line : Parts = c.args.line.now in
     let none : write_fault before.marks.raw before.facts.series before.accepted line ≡ None = ap (λ (k : StoreData). write_fault k.marks.raw k.series k.accepted line) c.self.view_is ∙ sym c.refusal.ensures ∙ c.in_default.is in
     let welcome = not_refused before.marks.raw before.facts.series before.accepted line none in
-    let many : length c.fields.result.now ≡ length (facts_of line) = ap (λ (l : List (Piece × ℤ)). length l) c.fields.ensures.value ∙ sym (length-map line.fields (fact_of line)) in
-    let put : Puts before.settings.rules before.facts c.put_line.new.self line = subst (λ (rs : List Rule). Puts rs before.facts c.put_line.new.self line) c.rules.ensures.value c.in_ok-put_line.ensures.ok in
+    let many : length c.fields.result.now ≡ length (line_facts line) = ap (λ (l : List (LinePart × ℤ)). length l) c.fields.ensures.value ∙ sym (length-map line.fields (fact_of line)) in
+    let put : PutsLine before.settings.rules before.facts c.put_line.new.self line = subst (λ (rs : List Rule). PutsLine rs before.facts c.put_line.new.self line) c.rules.ensures.value c.in_ok-put_line.ensures.ok in
     let taken = taken_from before.marks.raw line welcome.late c.in_ok-put_line.ensures.taken in
     subst (λ (n : ℕ). Accepts c.args.self.now (kept_data before.settings before.marks (before.accepted + n) c.put_line.new.self before.run) line) (sym many)
-    (subst (λ (k : StoreData). Accepts k (kept_data before.settings before.marks (before.accepted + length (facts_of line)) c.put_line.new.self before.run) line) c.self.view_is
+    (subst (λ (k : StoreData). Accepts k (kept_data before.settings before.marks (before.accepted + length (line_facts line)) c.put_line.new.self before.run) line) c.self.view_is
     (accepted_by before.settings before.marks before.accepted before.facts c.put_line.new.self before.run line c.self.invariant put c.put_line.ensures.known taken welcome.few))

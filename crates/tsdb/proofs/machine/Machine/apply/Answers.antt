@@ -1,7 +1,7 @@
 use Rattle.std.proofs.Common.{sym, subst, option_map, string_bytes}
 use Rattle.std.specs.Fmt.{decimal}
 use Rattle.tsdb.specs.Commands.{Live}
-use Rattle.tsdb.specs.Replies.{line}
+use Rattle.tsdb.specs.ScriptReplies.{line}
 use Rattle.tsdb.specs.Serving.{Serving, IsIn, Did}
 use Rattle.tsdb.proofs.MachineLemmas.{serving, moved, was_set, was_shown, told_live, count_refused, not_known}
 use Rattle.tsdb.proofs.machine.Machine.apply.Goals as goal

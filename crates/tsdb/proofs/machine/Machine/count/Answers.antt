@@ -1,7 +1,7 @@
 use Rattle.std.proofs.Common.{rules, ◌<ℤ◌, ◌≤ℤ◌, sym, subst, option_map, string_bytes}
 use Rattle.std.specs.Fmt.{digits}
 use Rattle.tsdb.specs.Commands.{Count}
-use Rattle.tsdb.specs.Replies.{text_of}
+use Rattle.tsdb.specs.ScriptReplies.{text_of}
 use Rattle.tsdb.specs.Serving.{Serving, IsIn, Did}
 use Rattle.tsdb.proofs.MachineLemmas.{serving, was_counted, none_counted}
 use Rattle.tsdb.proofs.machine.Machine.count.Goals as goal

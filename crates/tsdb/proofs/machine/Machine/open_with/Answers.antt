@@ -1,6 +1,6 @@
 use Rattle.std.proofs.Common.{sym, subst, codes, option_map, string_bytes}
 use Rattle.tsdb.specs.Commands.{OpenWith}
-use Rattle.tsdb.specs.Replies.{line, text_of}
+use Rattle.tsdb.specs.ScriptReplies.{line, text_of}
 use Rattle.tsdb.specs.Serving.{Serving, IsIn, Did}
 use Rattle.tsdb.proofs.MachineLemmas.{serving, was_opened, settings_refused, opened_no_memory, opened_late}
 use Rattle.tsdb.proofs.machine.Machine.open_with.Goals as goal

@@ -1,6 +1,6 @@
 use Rattle.std.proofs.Common.{◌≡◌, ◌∙◌, true, sym, subst, is_err, option_map, string_bytes}
 use Rattle.ts_store.specs.WholeRuns.{Retains}
-use Rattle.tsdb.specs.Replies.{text_of}
+use Rattle.tsdb.specs.ScriptReplies.{text_of}
 use Rattle.tsdb.specs.Serving.{Serving, IsIn}
 use Rattle.tsdb.proofs.MachineLemmas.{serving, when_ok, retained, never_open}
 use Rattle.tsdb.proofs.machine.Machine.retain_and_tell.Goals as goal

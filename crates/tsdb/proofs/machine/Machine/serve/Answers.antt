@@ -1,7 +1,7 @@
 use Rattle.std.proofs.Common.{◌≡◌, ◌∙◌, ap, sym, subst, option_map, string_bytes}
 use Rattle.tsdb.specs.Commands.{Command, command_of}
 use Rattle.tsdb.specs.CommandParts.{command_view}
-use Rattle.tsdb.specs.Replies.{text_of}
+use Rattle.tsdb.specs.ScriptReplies.{text_of}
 use Rattle.tsdb.specs.Serving.{Serving, Did}
 use Rattle.tsdb.proofs.MachineLemmas.{serving, did_it, was_skipped, was_no_text}
 use Rattle.tsdb.proofs.machine.Machine.serve.Goals as goal

@@ -1,7 +1,7 @@
 use Rattle.std.proofs.Common.{sym, subst, codes, ap, ◌∙◌, Ok, option_map, string_bytes}
 use Rattle.ts_line.specs.FaultText.{line_fault_text}
 use Rattle.tsdb.specs.Commands.{Write}
-use Rattle.tsdb.specs.Replies.{line}
+use Rattle.tsdb.specs.ScriptReplies.{line}
 use Rattle.tsdb.specs.Serving.{Serving, IsIn, Did}
 use Rattle.tsdb.proofs.MachineLemmas.{serving, was_said, was_no_line, was_refused, wrote, read_no_memory}
 use Rattle.tsdb.proofs.machine.Machine.write.Goals as goal

@@ -6,13 +6,13 @@ use Rattle.ts_line.specs.declared.fault.LineFault.{LineFault}
 use Rattle.ts_line.specs.declared.fault.LineFaultKind.TheVariants.{BadTag, RepeatedTagKey, OverLimit, ReservedKey}
 use Rattle.ts_line.specs.FaultText.{fault_at}
 use Rattle.ts_line.specs.declared.scan.Stops.TheVariants.{Equals}
-use Rattle.ts_line.specs.Parts.{Piece}
+use Rattle.ts_line.specs.Parts.{LinePart}
 use Rattle.ts_line.specs.Scan.{end_of}
-use Rattle.ts_line.specs.Pieces.{piece_at}
-use Rattle.ts_line.specs.Steps.{◌>>=◌}
+use Rattle.ts_line.specs.PartTexts.{piece_at}
+use Rattle.ts_line.specs.ReadSteps.{◌>>=◌}
 
 -- a key and a value, neither empty, with one equals sign between them, and the end of the tag
-unfoldable pub pair_at : Text → ℕ → Result ((Piece × Piece) × ℕ) LineFault
+unfoldable pub pair_at : Text → ℕ → Result ((LinePart × LinePart) × ℕ) LineFault
 pair_at line start =
     let key_end = end_of Equals line start in
     let value_end = end_of Equals line (key_end + 1) in
@@ -20,11 +20,11 @@ pair_at line start =
     then Err (fault_at BadTag start)
     else Ok ((piece_at Equals line start key_end, piece_at Equals line (key_end + 1) value_end), value_end)
 
-abbrev pub has_key : List (Piece × Piece) → Text → Bool
+abbrev pub has_key : List (LinePart × LinePart) → Text → Bool
 has_key tags key = list_any (λ t. bytes_eq t.0.text key) tags
 
 -- the tag that begins at `start`, behind others
-unfoldable pub next_tag : List (Piece × Piece) → Text → ℕ → Result ((Piece × Piece) × ℕ) LineFault
+unfoldable pub next_tag : List (LinePart × LinePart) → Text → ℕ → Result ((LinePart × LinePart) × ℕ) LineFault
 next_tag before line start = pair_at line start >>= λ t.
     if nat_le 64 (length before) then Err (fault_at OverLimit start) else
     (if bytes_eq t.0.0.text (codes "time") then Err (fault_at ReservedKey start) else
@@ -32,7 +32,7 @@ next_tag before line start = pair_at line start >>= λ t.
 
 -- The tags from `at` on, each behind a comma, put behind others, and the end of the last. So many are looked at:
 -- no more than 64 are taken, and the one behind them is a fault.
-unfoldable pub tags_at : ℕ → List (Piece × Piece) → Text → ℕ → Result (List (Piece × Piece) × ℕ) LineFault
+unfoldable pub tags_at : ℕ → List (LinePart × LinePart) → Text → ℕ → Result (List (LinePart × LinePart) × ℕ) LineFault
 tags_at zero before line at = Ok (before, at)
 tags_at (suc n) before line at =
     if slice_index line at == 44

@@ -3,7 +3,7 @@
 use Rattle.std.specs.Prelude.{ℕ, [], ◌∷◌, slice_range, Bool, false, ◌&&◌, if◌then◌else◌}
 use Rattle.ts_core.specs.Facts.{Text}
 use Rattle.ts_line.specs.declared.scan.Stops.{Stops}
-use Rattle.ts_line.specs.Parts.{Piece}
+use Rattle.ts_line.specs.Parts.{LinePart}
 use Rattle.ts_line.specs.Scan.{is_backslash, is_stop}
 
 -- the first byte is one that may be escaped in such a part: those are the bytes that end it
@@ -17,5 +17,5 @@ unescaped stops [] = []
 unescaped stops (b ∷ bs) = if is_backslash b && begins_escapable stops bs then unescaped stops bs else b ∷ unescaped stops bs
 
 -- the part of a line from `start` to `end`
-abbrev pub piece_at : Stops → Text → ℕ → ℕ → Piece
+abbrev pub piece_at : Stops → Text → ℕ → ℕ → LinePart
 piece_at stops line start end = record { start = start; raw = slice_range line start end; text = unescaped stops (slice_range line start end) }
