@@ -1,8 +1,14 @@
-//! The checker of plans: whether the pieces of a certificate may stand for all points that a query asks
-//! for, given what a store still knows. It stands on ts_core's definitions and on ts_ql's queries. `check`
-//! is proved to say yes exactly where the pieces are valid, and else to tell the first fault with its piece;
-//! a `Checked` is made by it alone. A certificate is written and read as text: what is read is spelled so, what
-//! is spelled so is read, and any other text gives the place where it stops being one.
+//! The checker of plans: whether the pieces of a certificate may stand for all points that a query asks for, given what a store
+//! still has. It stands on ts_core's definitions and on ts_ql's queries. `check` is proved to say yes exactly where the pieces are valid,
+//! and else to give the first fault with its piece; nothing else makes a `Checked`. A certificate is read and written as text, both ways.
+//!
+//! ```text
+//! let certificate = read_certificate(alloc, "plan 1\nraw 0 60000000000\nend\n")?;  // or fault 81 with its place
+//! let checked = check(alloc, &settings, &marks, &query, &certificate)?;            // or fault 83 piece 0, and so on
+//! ```
+//!
+//! To add a condition on pieces: valid.rt (in the order in which faults are looked for), with ts_core's specs/Pieces.antt and
+//! Faults.antt, and a `FaultCode`. To change the text of a certificate: read.rt, write.rt and specs/CertificateTexts.antt.
 #![tactic(auto)]
 
 mod asked;

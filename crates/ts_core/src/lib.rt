@@ -1,8 +1,16 @@
-//! The words of the store: times, names, facts, settings and aggregates, with the definitions (specs/)
-//! that all other crates are proved against; and the devices that bytes come from and go to. It stands
-//! on the kit's JSON alone, by which texts of settings are read. It promises exact values: a `Time` is
-//! a valid time, a name is its bytes, an aggregate is that of its points, settings are what their text
-//! says, and a device's failures, turns and ends are counted exactly.
+//! The words of the store: times, names, facts, settings, aggregates and faults, with the definitions (specs/) that all other
+//! crates are proved against; and the devices that bytes come from and go to. It stands on the kit's JSON alone.
+//! It promises exact values: a `Time` is a valid time, an aggregate is that of its points, settings are what their text says, and
+//! a device's failures, turns and ends are counted exactly.
+//!
+//! ```text
+//! aggregate_points(&[(time, 5), (later, 7)])  // an Agg: count 2, sum 12, and so on; `Function::Mean.value_of(&agg)` is 6/1
+//! Settings::read(alloc, json, text)?          // raw duration and rules, or the first fault; JSON is read in the memory `json`
+//! ```
+//!
+//! To add an aggregate that the stored parts give (a spread): `Function` and its `value_of` in value.rt with specs/Fills.antt. One that
+//! needs a new part (a sum of squares): `Agg` in aggregate.rt with specs/Aggregates.antt too. To add a fault: `FaultCode` in
+//! fault_code.rt with specs/FaultCodes.antt. To add a unit of time: `TimeUnit` in time_unit.rt.
 #![tactic(auto)]
 
 mod aggregate;

@@ -1,7 +1,16 @@
-//! Raw points and where they are found: columns of points, and series and their columns by name, each under
-//! a small number. It stands on the definitions of ts_core. It promises that a column is a finite map from
-//! times to values, whichever way it is kept, and that an index is the list of its series and the list of
-//! its columns, in the order of making, whatever way they are found.
+//! Raw points and where they are found: columns of points, and series and columns by name, each under a small number. It stands
+//! on the definitions of ts_core. It promises that a column is a finite map from times to values, and that an index is the list of
+//! its series and the list of its columns, in the order of making.
+//!
+//! ```text
+//! let series = index.register("cpu", &[("host", "a")])?;   // tags in byte order of their keys
+//! let column = index.add_column(None, series, "v")?;
+//! points.prepare(time, 5)?;                                // sets the point aside: all memory is taken here
+//! points.commit();                                         // puts it in, in place of an older one of that time
+//! points.range(from, to)                                   // a `Points`: an iterator of (Time, i64), in the order of time
+//! ```
+//!
+//! To keep columns another way: a second type beside `PlainColumn` that implements `Column`; callers know the trait alone.
 #![tactic(auto)]
 
 mod bucket_edges;

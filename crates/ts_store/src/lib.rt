@@ -1,8 +1,16 @@
-//! The store: it takes lines, counts what it has taken, and lends a `View` of it: settings, marks, which columns a
-//! field of a measurement has, which points a column, and which cells a rule. It stands on the definitions of
-//! ts_core, on the lines of ts_line, and on ts_raw, whose columns and index hold the points. It promises that it
-//! stands for its history: whatever happened to it, what it answers is what the definitions say of all facts ever
-//! accepted, and what its view shows, shows that history.
+//! The store: it takes lines, runs retention, and lends a `View` for queries: settings, marks, the columns of a measurement and a
+//! field, the points of a column, the cells of a rule. It stands on the definitions of ts_core, on the lines of ts_line, on ts_raw for
+//! points and on ts_cells for cells. It promises that it stands for its history: what its view shows, shows all that ever happened to it.
+//!
+//! ```text
+//! let mut store = Store::new(alloc, settings)?;
+//! store.write(&line)?;                          // or 51 below the raw mark, 41, 52: then nothing has changed
+//! store.retain(now)?;                           // a whole run: points below the mark become frozen cells
+//! store.columns_of("cpu", "v")                  // the view: ts_exec's `execute` knows a store by this trait alone
+//! ```
+//!
+//! To refuse a line for another reason: `refusal` in store.rt with specs/Refusals.antt. To change a run: store/retention.rt, freezing.rt and
+//! column_moves.rt, under the moves of ts_core's specs/StoreMoves.antt. To lend more: view.rt, with ts_core's specs/Views.antt.
 #![tactic(auto)]
 
 mod cell_walk;

@@ -1,6 +1,14 @@
-//! The program `tsdb`. It runs scripts from standard input (`tsdb replay`) and tells what faults mean (`tsdb faults`), and stands on ts_reply, ts_store and what these stand on.
-//! It promises, on `engine::run`: what it prints is what the definitions of specs/ say of the script, from
-//! the bytes read to the bytes written; and where a device fails, a beginning of it.
+//! The program `tsdb`: it runs scripts from standard input (`tsdb replay`) and prints what faults mean (`tsdb faults`). It stands on
+//! ts_reply, ts_store and what these stand on. It promises, on `engine::run`: what it prints is what the definitions of specs/ say of
+//! the script, from the bytes read to the bytes written; and where a device fails, a beginning of it.
+//!
+//! ```text
+//! printf 'write cpu v=5i 1\ncount cpu v 0 10\n' | tsdb replay     prints ok and 1
+//! ```
+//!
+//! A script's bytes are cut into lines (line_reader.rt), a line is read as a command (command.rt), the machine takes one step
+//! (machine.rt), and its reply is sent (reply.rt). To add a command: `Command` with specs/Commands.antt, its step in machine.rt with
+//! specs/Machine.antt, and the help in command_line.rt.
 #![tactic(auto)]
 
 mod certificate_text;
