@@ -31,6 +31,10 @@ numbered_text code detail = codes "fault " ++ (decimal (code_number code) ++ det
 abbrev pub fault_text : FaultCode → FaultDetail → Text
 fault_text code detail = numbered_text code (detail_text detail)
 
+-- of a call that found no memory, which has no number
+abbrev pub memory_text : Text
+memory_text = codes "fault memory"
+
 -- words one behind another
 abbrev pub words_joined : List (Bor Text) → Text
 words_joined [] = []

@@ -1,12 +1,13 @@
 //! Why a plan wasn't executed.
 ghost use Rattle.std.specs.Prelude.{◌≡◌, ◌+◌, ◌≤◌, ◌++◌, length, IsOk, OnOk, OnErr, string_bytes, string_len, string_capacity};
+ghost use Rattle.ts_core.specs.FaultTexts.{EndsEarly};
 ghost use Rattle.ts_exec.specs.ExecTexts.{exec_fault_text};
 ghost use Rattle.ts_exec.specs.declared.fault.ExecFault.TheVariants as errors;
 
 use std::alloc::{AllocError, Allocator};
 use std::fmt;
 use thiserror::Error;
-use ts_core::{Marks, Settings};
+use ts_core::{FaultCode, FaultDetail, Marks, Settings};
 
 /// Why a plan wasn't executed.
 #[derive(Drop, Error)]
@@ -29,16 +30,16 @@ impl<'a, A: Allocator> fmt::Debug for ExecFault<'a, A> {
 }
 
 impl<'a, A: Allocator> ExecFault<'a, A> {
-    /// Appends its text, or nothing where memory is wanted. Where the room is there, none is.
+    /// Appends its text, or a beginning of it where memory is wanted. Where the room is there, none is.
     #[tactic(auto, unfolding(crate::specs::ExecTexts::exec_fault_text))]
     pub fn text_to<B: Allocator>(&self, text: &mut String<B>) -> Result<(), AllocError>
         ensures ok { OnOk result (string_bytes text.new ≡ string_bytes text.old ++ exec_fault_text self.now) }
-        ensures err { OnErr result (string_bytes text.new ≡ string_bytes text.old) }
+        ensures err { OnErr result (EndsEarly (exec_fault_text self.now) (string_bytes text.old) (string_bytes text.new)) }
         ensures room { string_len text.old + length (exec_fault_text self.now) ≤ string_capacity text.old → IsOk result }
         ensures capacity { string_capacity text.old ≤ string_capacity text.new }
     {
         match self {
-            ExecFault::Stale(_, _) => text.push_str("fault 93"),
+            ExecFault::Stale(_, _) => FaultCode::StalePlan.text_to(FaultDetail::Alone, text),
             ExecFault::OutOfMemory => text.push_str("fault memory"),
         }
     }

@@ -1,9 +1,9 @@
 -- The faults of texts of queries in the table of all faults, and their texts. (Own rules.)
-use Rattle.std.specs.Prelude.{ℕ, codes}
+use Rattle.std.specs.Prelude.{ℕ}
 use Rattle.ts_core.specs.Facts.{Text}
 use Rattle.ts_core.specs.declared.fault_code.FaultCode.{FaultCode}
 use Rattle.ts_core.specs.declared.fault_code.FaultCode.TheVariants as coded
-use Rattle.ts_core.specs.FaultTexts.{at_place, at_token, numbered_text}
+use Rattle.ts_core.specs.FaultTexts.{at_place, at_token, numbered_text, memory_text}
 use Rattle.ts_ql.specs.declared.fault.ParseError.{ParseError}
 use Rattle.ts_ql.specs.declared.fault.ParseError.TheVariants as errors
 use Rattle.ts_ql.specs.QueryFaults.{Fault, Syntax, OutOfProfile, NoLowerBound, OutOfRange, RepeatedColumn, TooManyStatements, TooManyBuckets, BucketBeforeLeastTime, as_fault}
@@ -33,5 +33,5 @@ abbrev pub query_fault_text : Fault → Text
 query_fault_text fault = numbered_text (query_fault_code fault) (query_fault_detail fault)
 
 abbrev pub error_text : ParseError → Text
-error_text errors.OutOfMemory = codes "fault memory"
+error_text errors.OutOfMemory = memory_text
 error_text (errors.Fault fault) = query_fault_text (as_fault fault)

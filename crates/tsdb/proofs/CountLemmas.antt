@@ -1,5 +1,5 @@
 -- What is counted, and what the machine prints of it.
-use Rattle.std.proofs.Common.{◌≡◌, ◌∙◌, ℕ, ℤ, ◌-ℤ◌, ◌<ℤ◌, List, sym, ap, subst, Result, Ok, Err, codes}
+use Rattle.std.proofs.Common.{◌≡◌, ◌∙◌, ℕ, ℤ, ◌-ℤ◌, ◌<ℤ◌, List, sym, ap, subst, Result, Ok, Err}
 use Rattle.std.specs.Fmt.{decimal}
 use Rattle.ts_core.specs.Facts.{Text}
 use Rattle.ts_core.specs.Answers.{answer_of}
@@ -11,6 +11,7 @@ use Rattle.ts_core.specs.Queries.{Query}
 use Rattle.ts_core.specs.Settings.{Settings}
 use Rattle.ts_core.specs.StoreData.{StoreData, state_of, OfEachHistory, ShowsEach}
 use Rattle.ts_core.specs.Views.{seen_of}
+use Rattle.ts_core.specs.FaultTexts.{memory_text}
 use Rattle.ts_check.specs.Checks.{Plan}
 use Rattle.ts_exec.specs.Answered.{Answered}
 use Rattle.ts_exec.specs.Executions.{IsAnswer}
@@ -26,7 +27,7 @@ use Rattle.ts_ql.specs.declared.fault.ParseError.TheVariants as parse
 use Rattle.ts_ql.specs.Selects.{Select}
 use Rattle.tsdb.specs.Counted.{first_count, IsCounted}
 use Rattle.tsdb.specs.Machine.{Counts, counted, has_no_plan, is_too_long, counts_no_memory}
-use Rattle.tsdb.specs.ScriptReplies.{line}
+use Rattle.tsdb.specs.ScriptReplies.{line, bad_range_text}
 use Rattle.tsdb.proofs.CountAnswers.{first_count_is}
 
 -- ---- what is printed
@@ -37,12 +38,12 @@ count_printed opening h m f a b n some fits c =
 
 -- a range that is too long for an interval
 pub told_too_long : (opening : Settings) (h : History) (m f : Text) (a b : ℤ) (r : Result Select ParseError) (fault : QlFault)
-    → IsCountQuery m f a b r → r ≡ Err (parse.Fault fault) → Counts opening h m f a b (line (codes "fault 74 at 0"))
+    → IsCountQuery m f a b r → r ≡ Err (parse.Fault fault) → Counts opening h m f a b (line bad_range_text)
 told_too_long opening h m f a b r fault p e = is_too_long ((subst (IsCountQuery m f a b) e p).1)
 
 -- there was no memory for the query
 pub told_no_memory : (opening : Settings) (h : History) (m f : Text) (a b : ℤ) (r : Result Select ParseError)
-    → IsCountQuery m f a b r → r ≡ Err parse.OutOfMemory → Counts opening h m f a b (line (codes "fault memory"))
+    → IsCountQuery m f a b r → r ≡ Err parse.OutOfMemory → Counts opening h m f a b (line memory_text)
 told_no_memory opening h m f a b r p e = counts_no_memory (subst (IsCountQuery m f a b) e p)
 
 pub selected : (m f : Text) (a b : ℤ) (r : Result Select ParseError) (s t : Select)
@@ -62,7 +63,7 @@ told_no_plan opening h m f a b s r fault is c e =
     has_no_plan fault (is.1, subst (λ (x : Select). IsPlanFor (settings_of opening h) (marks_of opening h) x.query (Err (errors.Fault fault))) is.0 (subst (IsCounted opening h s.query) e c))
 
 pub told_late_no_memory : (opening : Settings) (h : History) (m f : Text) (a b : ℤ) (s : Select)
-    → (s ≡ count_select m f a b) × IsInterval (b -ℤ a) → Counts opening h m f a b (line (codes "fault memory"))
+    → (s ≡ count_select m f a b) × IsInterval (b -ℤ a) → Counts opening h m f a b (line memory_text)
 told_late_no_memory opening h m f a b s is = counts_no_memory is.1
 
 -- ---- plans of a store

@@ -22,6 +22,7 @@ use Rattle.ts_line.specs.Lines.{line_of}
 use Rattle.ts_line.specs.FaultText.{line_fault_text}
 use Rattle.ts_line.specs.declared.fault.LineFault.{LineFault}
 use Rattle.ts_core.specs.declared.time_unit.TimeUnit.{TimeUnit}
+use Rattle.ts_core.specs.FaultTexts.{memory_text}
 use Rattle.ts_reply.specs.Answering.{IsReply}
 use Rattle.ts_reply.specs.Explaining.{IsExplanation}
 use Rattle.ts_reply.specs.declared.epoch.Epoch.{Epoch}
@@ -32,7 +33,7 @@ use Rattle.tsdb.specs.MarksTexts.{marks_text}
 use Rattle.tsdb.specs.Opening.{IsEmptyWith}
 use Rattle.ts_store.specs.declared.fault.WriteFault.{WriteFault}
 use Rattle.ts_store.specs.declared.fault.WriteFault.TheVariants as write
-use Rattle.tsdb.specs.ScriptReplies.{line, text_of, refusal_of, write_fault_text}
+use Rattle.tsdb.specs.ScriptReplies.{line, text_of, refusal_of, write_fault_text, unknown_text, bad_range_text}
 use Rattle.tsdb.specs.declared.reply.Reply.{Reply}
 use Rattle.tsdb.specs.declared.reply.Reply.TheVariants.{Done, OutOfMemory}
 use Rattle.tsdb.specs.Machine.{State, no_longer_fresh, with_certificate, opened_with, with_run, marks_told, with_line, with_series, at_moment, in_precision, line_in, refusal_in, in_epoch, refused, accepted_whole, found_no_memory, Counts, Does, Step, opens, refuses_settings, opens_no_memory, opens_late, moves, sets, shows, writes, passes_over, refuses, reads_no_memory, retains, retains_no_memory, hands_in, hands_in_no_memory, replies, replies_no_memory, explains, explains_no_memory, tells_live, counts, counts_nothing, refuses_count, refuses_unknown, too_long, no_text, skips, does}
@@ -82,7 +83,7 @@ took_whole parts s m k i none a = (
   record { moment = i.moment; precision = i.precision; epoch = i.epoch; fresh = i.fresh; certificate = i.certificate; stands = a.history s.opening s.history i.stands; series = refl; idle = i.idle },
 )
 
-took_nothing : (parts : Parts) (s : State) (m : Serving) (k : StoreData) → IsIn s m → refusal_in s parts ≡ None → Leaves m.kept k parts → Took parts s (line (codes "fault memory")) (keeping k m)
+took_nothing : (parts : Parts) (s : State) (m : Serving) (k : StoreData) → IsIn s m → refusal_in s parts ≡ None → Leaves m.kept k parts → Took parts s (line memory_text) (keeping k m)
 took_nothing parts s m k i none l = (
   with_series k.series s,
   found_no_memory k.series none (subst (λ (xs : List Series). MayGain xs k.series (series_of parts)) i.series l.series),
@@ -106,7 +107,7 @@ took parts s m k r i ok faults goes =
 pub wrote : (text answer : Text) (parts : Parts) (s : State) (m : Serving) → line_in s text ≡ Ok (Some parts) → Took parts s answer m → Did (Write text) s answer m
 wrote text answer parts s m said t = (t.0, writes text answer parts t.0 said t.1, t.2)
 
-pub read_no_memory : (text : Text) (s : State) (m : Serving) → IsIn s m → Did (Write text) s (line (codes "fault memory")) m
+pub read_no_memory : (text : Text) (s : State) (m : Serving) → IsIn s m → Did (Write text) s (line memory_text) m
 read_no_memory text s m i = (s, reads_no_memory text, i)
 
 -- ---- what was read, by the moment and the precision of the machine
@@ -158,7 +159,7 @@ was_opened text settings s m k i fresh read empty = (
   record { moment = i.moment; precision = i.precision; epoch = i.epoch; fresh = i.fresh; certificate = i.certificate; stands = empty.stands; series = empty.series; idle = λ running. running },
 )
 
-pub opened_no_memory : (text : Text) (s : State) (m : Serving) → IsIn s m → m.fresh ≡ true → Did (OpenWith text) s (line (codes "fault memory")) m
+pub opened_no_memory : (text : Text) (s : State) (m : Serving) → IsIn s m → m.fresh ≡ true → Did (OpenWith text) s (line memory_text) m
 opened_no_memory text s m i fresh = (s, opens_no_memory text (sym i.fresh ∙ fresh), i)
 
 pub settings_refused : (text : Text) (answer : Reply) (fault : SettingsFault) (s : State) (m : Serving) → IsIn s m → m.fresh ≡ true → settings_read text ≡ Err fault
@@ -169,7 +170,7 @@ settings_refused text answer fault s m i fresh read told =
       | inr want ↦ subst (λ (a : Reply). Did (OpenWith text) s (text_of a) m) (sym want) (opened_no_memory text s m i fresh)
     ]
 
-pub opened_late : (text : Text) (s : State) (m : Serving) → IsIn s m → m.fresh ≡ false → Did (OpenWith text) s (line (codes "fault 95")) m
+pub opened_late : (text : Text) (s : State) (m : Serving) → IsIn s m → m.fresh ≡ false → Did (OpenWith text) s (line unknown_text) m
 opened_late text s m i late = (s, opens_late text (sym i.fresh ∙ late), i)
 
 -- ---- retention
@@ -183,7 +184,7 @@ retained answer s m k i r told =
       record { moment = i.moment; precision = i.precision; epoch = i.epoch; fresh = i.fresh; certificate = i.certificate; stands = stands; series = r.series ∙ i.series; idle = λ running. running },
     )
 
-pub retained_no_memory : (s : State) (m : Serving) → IsIn s m → Did Retain s (line (codes "fault memory")) m
+pub retained_no_memory : (s : State) (m : Serving) → IsIn s m → Did Retain s (line memory_text) m
 retained_no_memory s m i = (s, retains_no_memory, i)
 
 pub when_ok : {T E : Type 0} (r : Result T E) (P : Type 0) → OnOk r P → is_err r ≡ false → P
@@ -210,7 +211,7 @@ was_handed_in text certificate s m i e = (
   held (Some certificate) s m i,
 )
 
-pub handed_in_no_memory : (text : Text) (s : State) (m : Serving) → IsIn s m → Did (SetCertificate text) s (line (codes "fault memory")) m
+pub handed_in_no_memory : (text : Text) (s : State) (m : Serving) → IsIn s m → Did (SetCertificate text) s (line memory_text) m
 handed_in_no_memory text s m i = (s, hands_in_no_memory text, i)
 
 -- the body of a reply, or of an explanation, with an LF
@@ -240,13 +241,13 @@ was_replied text answer certificate after s m i own none each =
     let reply : IsReply s.opening s.history s.moment text s.certificate s.epoch r.1.0 r.0 = subst (λ (c : Option Text). IsReply s.opening s.history s.moment text c s.epoch r.1.0 r.0) (own ∙ i.certificate) r.1.1 in
     (with_certificate None s, subst (λ (a : Text). Does s (Query text) a (with_certificate None s)) (sym r.2) (replies text r.0 r.1.0 reply), here)
 
-pub replied_no_memory : (text : Text) (after : Option Text) (s : State) (m : Serving) → IsIn s m → after ≡ None → Did (Query text) s (line (codes "fault memory")) (holding after m)
+pub replied_no_memory : (text : Text) (after : Option Text) (s : State) (m : Serving) → IsIn s m → after ≡ None → Did (Query text) s (line memory_text) (holding after m)
 replied_no_memory text after s m i none = (with_certificate None s, replies_no_memory text, forgotten after s m i none)
 
 pub was_explained : (text answer : Text) (s : State) (m : Serving) → IsIn s m → HasExplanation s text answer → Did (Explain text) s answer m
 was_explained text answer s m i r = (s, subst (λ (a : Text). Does s (Explain text) a s) (sym r.2) (explains text r.0 r.1.0 r.1.1), i)
 
-pub explained_no_memory : (text : Text) (s : State) (m : Serving) → IsIn s m → Did (Explain text) s (line (codes "fault memory")) m
+pub explained_no_memory : (text : Text) (s : State) (m : Serving) → IsIn s m → Did (Explain text) s (line memory_text) m
 explained_no_memory text s m i = (s, explains_no_memory text, i)
 
 pub told_live : (n : ℕ) (s : State) (m : Serving) → IsIn s m → OnFalse m.kept.running (OfEachHistory m.kept (λ opening h. n ≡ length (raw_facts opening h))) → Did Live s (line (decimal n)) m
@@ -256,10 +257,10 @@ told_live n s m i facts =
       | false ↦ λ idle each. (s, subst (λ (k : ℕ). Does s Live (line (decimal k)) s) (sym (each s.opening s.history i.stands)) tells_live, i)
     ] (never_open s m i) facts
 
-pub count_refused : (s : State) (m : Serving) → IsIn s m → Did CountFault s (line (codes "fault 74 at 0")) m
+pub count_refused : (s : State) (m : Serving) → IsIn s m → Did CountFault s (line bad_range_text) m
 count_refused s m i = (s, refuses_count, i)
 
-pub not_known : (s : State) (m : Serving) → IsIn s m → Did Unknown s (line (codes "fault 95")) m
+pub not_known : (s : State) (m : Serving) → IsIn s m → Did Unknown s (line unknown_text) m
 not_known s m i = (s, refuses_unknown, i)
 
 -- ---- lines
@@ -274,7 +275,7 @@ did_it bytes answer s m short text some d = (no_longer_fresh d.0, does bytes ans
 pub was_skipped : (bytes : Text) (s : State) (m : Serving) → length bytes ≤ script_line_limit → IsUtf8 bytes → is_skipped bytes ≡ true → IsIn s m → Stepped bytes s [] m
 was_skipped bytes s m short text none i = (s, skips bytes short text none, i)
 
-pub was_not_read : (s : State) (m : Serving) → IsIn s m → Refused s (line (codes "fault 95")) (record m { fresh = false })
+pub was_not_read : (s : State) (m : Serving) → IsIn s m → Refused s (line unknown_text) (record m { fresh = false })
 was_not_read s m i = (refl, begun_in s m i)
 
 pub was_no_text : (bytes answer : Text) (s : State) (m : Serving) → (IsUtf8 bytes → ⊥) → Refused s answer m → Stepped bytes s answer m

@@ -19,6 +19,7 @@ use Rattle.ts_line.specs.FaultText.{line_fault_text}
 use Rattle.ts_line.specs.declared.fault.LineFault.{LineFault}
 use Rattle.ts_core.specs.declared.time_unit.TimeUnit.{TimeUnit}
 use Rattle.ts_core.specs.declared.time_unit.TimeUnit.TheVariants.{Nanoseconds}
+use Rattle.ts_core.specs.FaultTexts.{memory_text}
 use Rattle.ts_plan.specs.Planning.{IsPlanFor}
 use Rattle.ts_plan.specs.PlanTexts.{plan_fault_text}
 use Rattle.ts_plan.specs.declared.fault.PlanError.{PlanError}
@@ -38,7 +39,7 @@ use Rattle.tsdb.specs.ScriptLines.{script_line_limit}
 use Rattle.tsdb.specs.ScriptCertificates.{with_line_feeds}
 use Rattle.tsdb.specs.Commands.{Command, OpenWith, At, SetPrecision, SetEpoch, Write, Live, Retain, SetCertificate, Query, Explain, Count, CountFault, Unknown, is_skipped, command_of}
 use Rattle.tsdb.specs.MarksTexts.{marks_text}
-use Rattle.tsdb.specs.ScriptReplies.{line, write_fault_text}
+use Rattle.tsdb.specs.ScriptReplies.{line, write_fault_text, unknown_text, bad_range_text}
 
 pub record State : Type 0 where
   -- the moment that the script has set, in nanoseconds, the precision of its timestamps, and how replies tell times
@@ -116,7 +117,7 @@ pub data Takes (old : State) (parts : Parts) : Text → State → Type 0 where
   -- its series is registered where it wasn't, and its facts are accepted
   accepted_whole : (series : List Series) → refusal_in old parts ≡ None → Gains old.series series (series_of parts) → Takes old parts (line (codes "ok")) (with_line parts series old)
   -- there is no memory; its series may be registered
-  found_no_memory : (series : List Series) → refusal_in old parts ≡ None → MayGain old.series series (series_of parts) → Takes old parts (line (codes "fault memory")) (with_series series old)
+  found_no_memory : (series : List Series) → refusal_in old parts ≡ None → MayGain old.series series (series_of parts) → Takes old parts (line memory_text) (with_series series old)
 
 -- what a planner answers for the query that counts
 abbrev pub CountIsPlanned : Settings → History → Text → Text → ℤ → ℤ → Result (List Piece) PlanError → Type 0
@@ -128,17 +129,17 @@ pub data Counts (opening : Settings) (h : History) (measurement field : Text) (a
   -- of all facts ever accepted, of each id the latest
   counted : (plan : List Piece) → CountIsPlanned opening h measurement field a b (Ok plan) → Counts opening h measurement field a b (line (decimal (count_of h measurement field a b)))
   has_no_plan : (fault : PlanFault) → CountIsPlanned opening h measurement field a b (Err (errors.Fault fault)) → Counts opening h measurement field a b (line (plan_fault_text fault))
-  is_too_long : (IsInterval (b -ℤ a) → ⊥) → Counts opening h measurement field a b (line (codes "fault 74 at 0"))
+  is_too_long : (IsInterval (b -ℤ a) → ⊥) → Counts opening h measurement field a b (line bad_range_text)
   -- to plan and to execute may want memory that isn't there
-  counts_no_memory : IsInterval (b -ℤ a) → Counts opening h measurement field a b (line (codes "fault memory"))
+  counts_no_memory : IsInterval (b -ℤ a) → Counts opening h measurement field a b (line memory_text)
 
 -- From `old` a command may print this and leave that.
 pub data Does (old : State) : Command → Text → State → Type 0 where
   -- settings come before all else; at fault, they leave the opening ones
   opens : (text : Text) (settings : Settings) → old.fresh ≡ true → settings_read text ≡ Ok settings → Does old (OpenWith text) [] (opened_with settings old)
   refuses_settings : (text : Text) (fault : SettingsFault) → old.fresh ≡ true → settings_read text ≡ Err fault → Does old (OpenWith text) (line (settings_fault_text fault)) old
-  opens_no_memory : (text : Text) → old.fresh ≡ true → Does old (OpenWith text) (line (codes "fault memory")) old
-  opens_late : (text : Text) → old.fresh ≡ false → Does old (OpenWith text) (line (codes "fault 95")) old
+  opens_no_memory : (text : Text) → old.fresh ≡ true → Does old (OpenWith text) (line memory_text) old
+  opens_late : (text : Text) → old.fresh ≡ false → Does old (OpenWith text) (line unknown_text) old
   moves : (t : ℤ) → Does old (At t) [] (at_moment t old)
   sets : (p : TimeUnit) → Does old (SetPrecision p) [] (in_precision p old)
   writes : (text answer : Text) (parts : Parts) (new : State) → line_in old text ≡ Ok (Some parts) → Takes old parts answer new → Does old (Write text) answer new
@@ -146,30 +147,30 @@ pub data Does (old : State) : Command → Text → State → Type 0 where
   passes_over : (text : Text) → line_in old text ≡ Ok None → Does old (Write text) (line (codes "none")) old
   refuses : (text : Text) (fault : LineFault) → line_in old text ≡ Err fault → Does old (Write text) (line (line_fault_text fault)) old
   -- to read a line may want memory that isn't there
-  reads_no_memory : (text : Text) → Does old (Write text) (line (codes "fault memory")) old
+  reads_no_memory : (text : Text) → Does old (Write text) (line memory_text) old
   shows : (e : Epoch) → Does old (SetEpoch e) [] (in_epoch e old)
   -- retention runs at the moment, and the marks that it leaves are told
   retains : (steps : ℕ) → Does old Retain (line (marks_told (with_run steps old))) (with_run steps old)
-  retains_no_memory : Does old Retain (line (codes "fault memory")) old
+  retains_no_memory : Does old Retain (line memory_text) old
   -- a certificate waits for the next query, in place of an earlier one
   hands_in : (text : Text) → Does old (SetCertificate text) [] (with_certificate (Some (with_line_feeds text)) old)
-  hands_in_no_memory : (text : Text) → Does old (SetCertificate text) (line (codes "fault memory")) old
+  hands_in_no_memory : (text : Text) → Does old (SetCertificate text) (line memory_text) old
   -- the reply's body, be the reply good or not; the certificate is forgotten
   replies : (text body : Text) (good : Bool) → IsReply old.opening old.history old.moment text old.certificate old.epoch good body → Does old (Query text) (line body) (with_certificate None old)
-  replies_no_memory : (text : Text) → Does old (Query text) (line (codes "fault memory")) (with_certificate None old)
+  replies_no_memory : (text : Text) → Does old (Query text) (line memory_text) (with_certificate None old)
   explains : (text body : Text) (good : Bool) → IsExplanation old.opening old.history old.moment text good body → Does old (Explain text) (line body) old
-  explains_no_memory : (text : Text) → Does old (Explain text) (line (codes "fault memory")) old
+  explains_no_memory : (text : Text) → Does old (Explain text) (line memory_text) old
   -- how many of the latest facts have their raw points
   tells_live : Does old Live (line (decimal (length (raw_facts old.opening old.history)))) old
   counts : (measurement field answer : Text) (a b : ℤ) → a <ℤ b → Counts old.opening old.history measurement field a b answer → Does old (Count measurement field a b) answer old
   counts_nothing : (measurement field : Text) (a b : ℤ) → b ≤ℤ a → Does old (Count measurement field a b) (line (codes "0")) old
-  refuses_count : Does old CountFault (line (codes "fault 74 at 0")) old
-  refuses_unknown : Does old Unknown (line (codes "fault 95")) old
+  refuses_count : Does old CountFault (line bad_range_text) old
+  refuses_unknown : Does old Unknown (line unknown_text) old
 
 -- From `old` a line of a script may print this and leave that.
 pub data Step (old : State) : Text → Text → State → Type 0 where
-  too_long : (bytes : Text) → script_line_limit < length bytes → Step old bytes (line (codes "fault 95")) (no_longer_fresh old)
-  no_text : (bytes : Text) → (IsUtf8 bytes → ⊥) → Step old bytes (line (codes "fault 95")) (no_longer_fresh old)
+  too_long : (bytes : Text) → script_line_limit < length bytes → Step old bytes (line unknown_text) (no_longer_fresh old)
+  no_text : (bytes : Text) → (IsUtf8 bytes → ⊥) → Step old bytes (line unknown_text) (no_longer_fresh old)
   -- a blank line or a comment
   skips : (bytes : Text) → length bytes ≤ script_line_limit → IsUtf8 bytes → is_skipped bytes ≡ true → Step old bytes [] old
   does : (bytes answer : Text) (new : State) → length bytes ≤ script_line_limit → IsUtf8 bytes → is_skipped bytes ≡ false → Does old (command_of bytes) answer new → Step old bytes answer (no_longer_fresh new)

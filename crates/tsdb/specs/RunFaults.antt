@@ -1,16 +1,19 @@
 -- The faults of a run: their texts, and the device that each tells of. (Own rule.)
-use Rattle.std.specs.Prelude.{ℕ, codes, Result, Ok, Err}
+use Rattle.std.specs.Prelude.{ℕ, Result, Ok, Err}
 use Rattle.ts_core.specs.Facts.{Text}
+use Rattle.ts_core.specs.FaultTexts.{fault_text, memory_text}
+use Rattle.ts_core.specs.declared.fault_code.FaultCode.TheVariants as code
+use Rattle.ts_core.specs.declared.fault_text.FaultDetail.TheVariants.{Alone}
 use Rattle.ts_core.specs.declared.read_ahead.ReadFault.{ReadFault}
 use Rattle.ts_core.specs.declared.read_ahead.ReadFault.TheVariants as read
 use Rattle.tsdb.specs.declared.run_fault.RunFault.{RunFault}
 use Rattle.tsdb.specs.declared.run_fault.RunFault.TheVariants.{OutOfMemory, Reader, Writer, Turns}
 
 abbrev pub run_fault_text : RunFault → Text
-run_fault_text Reader = codes "fault 96"
-run_fault_text Writer = codes "fault 97"
-run_fault_text Turns = codes "fault 98"
-run_fault_text OutOfMemory = codes "fault memory"
+run_fault_text Reader = fault_text code.ReaderFailed Alone
+run_fault_text Writer = fault_text code.WriterFailed Alone
+run_fault_text Turns = fault_text code.EndlessScript Alone
+run_fault_text OutOfMemory = memory_text
 
 abbrev pub fault_of_read : ReadFault → RunFault
 fault_of_read read.Device = Reader

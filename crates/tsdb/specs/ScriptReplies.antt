@@ -2,7 +2,7 @@
 use Rattle.std.specs.Prelude.{[], ◌∷◌, ◌++◌, codes, string_bytes}
 use Rattle.std.specs.Fmt.{decimal}
 use Rattle.ts_core.specs.Facts.{Text}
-use Rattle.ts_core.specs.FaultTexts.{fault_text}
+use Rattle.ts_core.specs.FaultTexts.{fault_text, memory_text}
 use Rattle.ts_core.specs.declared.fault_code.FaultCode.TheVariants as code
 use Rattle.ts_core.specs.declared.fault_text.FaultDetail.TheVariants as detail
 use Rattle.ts_line.specs.FaultText.{line_fault_text}
@@ -16,6 +16,14 @@ use Rattle.tsdb.specs.declared.reply.Reply.TheVariants.{Nothing, Done, NoLine, B
 abbrev pub line : Text → Text
 line text = text ++ 10 ∷ []
 
+-- no command
+abbrev pub unknown_text : Text
+unknown_text = fault_text code.UnknownCommand detail.Alone
+
+-- a range that no query has
+abbrev pub bad_range_text : Text
+bad_range_text = fault_text code.OutOfRange (detail.At 0)
+
 abbrev pub text_of : Reply → Text
 text_of Nothing = []
 text_of Done = line (codes "ok")
@@ -24,20 +32,20 @@ text_of (BadLine fault) = line (line_fault_text fault)
 text_of (Count n) = line (decimal n)
 text_of (Body body) = string_bytes body
 text_of (NoPlan fault) = line (plan_fault_text fault)
-text_of Unknown = line (codes "fault 95")
-text_of BadRange = line (codes "fault 74 at 0")
+text_of Unknown = line unknown_text
+text_of BadRange = line bad_range_text
 text_of (BelowRawMark mark) = line (fault_text code.BelowRawMark (detail.Mark mark))
-text_of TooManySeries = line (codes "fault 41")
-text_of TooManyFacts = line (codes "fault 52")
-text_of RunInProgress = line (codes "fault 53")
-text_of OutOfMemory = line (codes "fault memory")
+text_of TooManySeries = line (fault_text code.TooManySeries detail.Alone)
+text_of TooManyFacts = line (fault_text code.TooManyFacts detail.Alone)
+text_of RunInProgress = line (fault_text code.RunInProgress detail.Alone)
+text_of OutOfMemory = line memory_text
 
 -- the text of a write that was not done
 abbrev pub write_fault_text : WriteFault → Text
 write_fault_text (write.BelowRawMark mark) = fault_text code.BelowRawMark (detail.Mark mark)
-write_fault_text write.TooManySeries = codes "fault 41"
-write_fault_text write.TooManyFacts = codes "fault 52"
-write_fault_text write.OutOfMemory = codes "fault memory"
+write_fault_text write.TooManySeries = fault_text code.TooManySeries detail.Alone
+write_fault_text write.TooManyFacts = fault_text code.TooManyFacts detail.Alone
+write_fault_text write.OutOfMemory = memory_text
 
 -- how a refused write is told
 abbrev pub refusal_of : WriteFault → Reply

@@ -16,7 +16,7 @@ use Rattle.ts_reply.specs.declared.epoch.Epoch.TheVariants as epochs
 use Rattle.tsdb.specs.ScriptLines.{lines_of}
 use Rattle.tsdb.specs.Commands.{Command}
 use Rattle.tsdb.specs.Machine.{State, no_longer_fresh, Takes, Does, Step}
-use Rattle.tsdb.specs.ScriptReplies.{line}
+use Rattle.tsdb.specs.ScriptReplies.{line, unknown_text}
 
 pub record Serving : Type 0 where
   pub moment : ℤ
@@ -55,7 +55,7 @@ Did command s answer m = (s' : State) × Does s command answer s' × IsIn s' m
 
 -- a line that can't be read was told as no command
 abbrev pub Refused : State → Text → Serving → Type 0
-Refused s answer m = (answer ≡ line (codes "fault 95")) × IsIn (no_longer_fresh s) m
+Refused s answer m = (answer ≡ line unknown_text) × IsIn (no_longer_fresh s) m
 
 abbrev pub Stepped : Text → State → Text → Serving → Type 0
 Stepped text s answer m = (s' : State) × Step s text answer s' × IsIn s' m

@@ -1,6 +1,7 @@
-use Rattle.std.proofs.Common.{sym, subst, codes, option_map, string_bytes}
+use Rattle.std.proofs.Common.{sym, subst, option_map, string_bytes}
+use Rattle.ts_core.specs.FaultTexts.{memory_text}
 use Rattle.tsdb.specs.Commands.{OpenWith}
-use Rattle.tsdb.specs.ScriptReplies.{line, text_of}
+use Rattle.tsdb.specs.ScriptReplies.{line, text_of, unknown_text}
 use Rattle.tsdb.specs.Serving.{Serving, IsIn, Did}
 use Rattle.tsdb.proofs.MachineLemmas.{serving, was_opened, settings_refused, opened_no_memory, opened_late}
 use Rattle.tsdb.proofs.machine.Machine.open_with.Goals as goal
@@ -9,7 +10,7 @@ pub returns-then-not-self : goal.returns-then-not-self
 returns-then-not-self g c = λ s i.
     let m : Serving = serving c.self.inside.moment c.self.inside.precision c.self.inside.epoch c.self.inside.fresh (option_map string_bytes c.self.inside.certificate) c.self.inside.store in
     let before = subst (λ (k : Serving). IsIn s k) (sym c.self.view_is) i in
-    subst (λ (k : Serving). Did (OpenWith c.args.text.now) s (line (codes "fault 95")) k) c.self.view_is (opened_late c.args.text.now s m before c.if-not-self.true)
+    subst (λ (k : Serving). Did (OpenWith c.args.text.now) s (line unknown_text) k) c.self.view_is (opened_late c.args.text.now s m before c.if-not-self.true)
 
 pub returns-in-Ok : goal.returns-in-Ok
 returns-in-Ok g c = λ s i.
@@ -29,4 +30,4 @@ pub returns-in-Err-OutOfMemory : goal.returns-in-Err-OutOfMemory
 returns-in-Err-OutOfMemory g c = λ s i.
     let m : Serving = serving c.self.inside.moment c.self.inside.precision c.self.inside.epoch c.self.inside.fresh (option_map string_bytes c.self.inside.certificate) c.self.inside.store in
     let before = subst (λ (k : Serving). IsIn s k) (sym c.self.view_is) i in
-    subst (λ (k : Serving). Did (OpenWith c.args.text.now) s (line (codes "fault memory")) k) c.self.view_is (opened_no_memory c.args.text.now s m before c.if-not-self.false)
+    subst (λ (k : Serving). Did (OpenWith c.args.text.now) s (line memory_text) k) c.self.view_is (opened_no_memory c.args.text.now s m before c.if-not-self.false)
