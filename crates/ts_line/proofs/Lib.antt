@@ -19,3 +19,5 @@ pub mod LineTold
 pub mod SpellingTold
 pub mod Laws
 pub mod SpansLemmas
+pub mod ShortLemmas
+pub mod MarkLemmas

@@ -1,5 +1,14 @@
 -- One step back over the spaces at a line's end, and how its parts are read in turn.
-use Rattle.std.proofs.Common.{◌≡◌, ℕ, ℤ, zero, suc, ◌+◌, ◌-◌, ◌<◌, ◌≤◌, false, eqb, ltb, cond, List, [], length, slice_index, Ok, Err, Some, refl, arith}
+use Rattle.std.proofs.Common.{FitsSigned, w64}
+use Rattle.std.proofs.lemmas.Int.{ints}
+use Rattle.ts_core.specs.TimeUnits.{nanoseconds_of}
+use Rattle.ts_core.specs.declared.time_unit.TimeUnit.{TimeUnit}
+use Rattle.ts_core.specs.declared.time_unit.TimeUnit.TheVariants.{Nanoseconds, Microseconds, Milliseconds, Seconds, Minutes, Hours, Days, Weeks}
+use Rattle.std.specs.Option.{ok_or}
+use Rattle.std.proofs.lemmas.List.{take_all}
+use Rattle.ts_line.specs.declared.fault.LineFaultKind.TheVariants.{TimestampRange}
+use Rattle.ts_line.specs.FaultText.{fault_at}
+use Rattle.std.proofs.Common.{◌≡◌, true, slice_range, drop, Option, None, length-drop, ℕ, ℤ, zero, suc, ◌+◌, ◌-◌, ◌<◌, ◌≤◌, false, eqb, ltb, cond, List, [], length, slice_index, Ok, Err, Some, refl, arith}
 use Rattle.std.proofs.lemmas.Bool.{le-ltb}
 use Rattle.ts_core.specs.Facts.{Text}
 use Rattle.ts_line.specs.declared.fault.LineFault.{LineFault}
@@ -8,7 +17,9 @@ use Rattle.ts_line.specs.declared.scan.Stops.TheVariants.{Space}
 use Rattle.ts_line.specs.Scan.{end_of, spaces_end}
 use Rattle.ts_line.specs.TagParts.{tags_at}
 use Rattle.ts_line.specs.Fields.{fields_at}
-use Rattle.ts_line.specs.Lines.{is_bare_space, trimmed, content, measurement_at, time_at, parts_at, line_of}
+use Rattle.ts_line.specs.Lines.{is_bare_space, trimmed, content, measurement_at, time_at, time_by, time_of, parts_at, line_of}
+use Rattle.ts_line.specs.Numbers.{is_number}
+use Rattle.std.proofs.lemmas.Bool.Decides.{nat_tests}
 use Rattle.ts_line.proofs.PartsTold.{end_within}
 
 pub trimmed_step : (line : Text) (n : ℕ) → 0 < n → trimmed line n ≡ cond (is_bare_space line (n - 1)) (trimmed line (n - 1)) n
@@ -42,3 +53,28 @@ pub line_read : (unit now : ℤ) (source : Text) (p : Parts) → ltb 65536 (leng
     → line_of unit now source ≡ Ok (Some p)
 unfolding line_of
 line_read unit now source p a b c d = rw (a, b, c, d) refl
+
+-- a number behind the fields is told as a time
+pub timed : (unit now : ℤ) (line : Text) (at start : ℕ) → spaces_end line at ≡ start → (start ≡ length line → ⊥) → is_number (slice_range line start (length line)) ≡ true
+    → time_at unit now line at ≡ time_by start (time_of unit (slice_range line start (length line)))
+unfolding time_at
+timed unit now line at start e ne number =
+    let other : eqb start (length line) ≡ false = grind (arith, nat_tests) in
+    rw (e, other, number) refl
+
+pub to_end : (line : Text) (start : ℕ) → slice_range line start (length line) ≡ drop start line
+to_end line start = take_all (length line - start) (drop start line) (omega (arith, length-drop start line))
+
+pub or_fault : (start : ℕ) (o : Option ℤ) → ok_or o (fault_at TimestampRange start) ≡ time_by start o
+or_fault start None = refl
+or_fault start (Some t) = refl
+
+pub unit_fits : (p : TimeUnit) → FitsSigned w64 (nanoseconds_of p)
+unit_fits Nanoseconds = grind (arith, ints)
+unit_fits Microseconds = grind (arith, ints)
+unit_fits Milliseconds = grind (arith, ints)
+unit_fits Seconds = grind (arith, ints)
+unit_fits Minutes = grind (arith, ints)
+unit_fits Hours = grind (arith, ints)
+unit_fits Days = grind (arith, ints)
+unit_fits Weeks = grind (arith, ints)

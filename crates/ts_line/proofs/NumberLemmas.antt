@@ -16,10 +16,10 @@ use Rattle.ts_line.specs.Lines.{time_of}
 digit_below : (c : ℕ) → is_ascii_digit c ≡ true → digit_value c < 10
 digit_below c e = grind (arith, nat_tests)
 
-digit_not_plus : (c : ℕ) → is_ascii_digit c ≡ true → eqb c 43 ≡ false
+pub digit_not_plus : (c : ℕ) → is_ascii_digit c ≡ true → eqb c 43 ≡ false
 digit_not_plus c e = grind (arith, nat_tests)
 
-all_digits : (ds : Text) → list_all is_ascii_digit ds ≡ true → AllDigits 10 ds
+pub all_digits : (ds : Text) → list_all is_ascii_digit ds ≡ true → AllDigits 10 ds
 all_digits [] e = tt
 all_digits (c ∷ cs) e =
     let p = and_parts (is_ascii_digit c) (list_all is_ascii_digit cs) e in

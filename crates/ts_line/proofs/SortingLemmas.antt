@@ -1,5 +1,5 @@
 -- A pair put in its place by its key.
-use Rattle.std.proofs.Common.{◌≡◌, ℕ, suc, ◌+◌, ◌-◌, ◌<◌, ◌≤◌, List, [], ◌∷◌, ◌++◌, length, map, take, drop, set, get_or, refl, sym, ap, ◌∙◌, subst, arith, Ok, Err, Bor, T}
+use Rattle.std.proofs.Common.{◌≡◌, true, ◌&&◌, ℕ, suc, ◌+◌, ◌-◌, ◌<◌, ◌≤◌, List, [], ◌∷◌, ◌++◌, length, map, take, drop, set, get_or, refl, sym, ap, ◌∙◌, subst, arith, Ok, Err, Bor, T}
 use Rattle.std.specs.FinMap as finmap
 use Rattle.std.specs.FinMap.{put, is_sorted, slice_cmp-IsAntisymmetric, nat_cmp-IsAntisymmetric, entries-insert, entries_sorted, len-entries, len-empty}
 use Rattle.std.specs.Cmp.Lexicographic.{nat_list_cmp_total}
@@ -8,7 +8,9 @@ use Rattle.std.specs.declared.cmp.Ordering.TheVariants.{Less, Equal, Greater}
 use Rattle.ts_core.specs.Facts.{Text, text_cmp}
 use Rattle.ts_core.specs.Texts.{lent_pairs, IsTagSet}
 use Rattle.ts_line.specs.Parts.{LinePart, tag_texts}
-use Rattle.ts_line.specs.Sorting.{key_place_from}
+use Rattle.ts_line.specs.Sorting.{key_place_from, rise}
+use Rattle.std.specs.Ordering.{is_lt}
+use Rattle.std.proofs.lemmas.Bool.{and_parts}
 use Rattle.std.proofs.lemmas.List.{take_more, take_all, map_push}
 
 abbrev pub Lent : Type 0
@@ -105,3 +107,37 @@ put_last tags t es all some is so_far =
     let split : tags ≡ take (length tags - 1) tags ++ t ∷ [] = sym (take_all (length tags) tags (omega arith)) ∙ ap (λ n. take n tags) (sym whole) ∙ take_more tags (length tags - 1) t within ∙ ap (λ x. take (length tags - 1) tags ++ x ∷ []) (sym is) in
     sym (put_all_push (map tag_texts (take (length tags - 1) tags)) (tag_texts t) es)
     ∙ ap (λ ts. put_all ts es) (sym (map_push tag_texts (take (length tags - 1) tags) t) ∙ ap (map tag_texts) (sym split)) ∙ so_far
+
+-- ---- tags in order
+
+rise_by : (t u : Text × Text) (ts : List (Text × Text)) (r : Ordering) → text_cmp t.0 u.0 ≡ r → is_lt r && rise (u ∷ ts) ≡ true → put_all (u ∷ ts) [] ≡ u ∷ ts → put_all (t ∷ u ∷ ts) [] ≡ t ∷ u ∷ ts
+rise_by t u ts Less e up ih = ap (put text_cmp t.0 t.1) ih ∙ rw e refl
+rise_by t u ts Equal e up ih = absurd cc
+rise_by t u ts Greater e up ih = absurd cc
+
+-- tags in order stand as they are
+pub rising_stand : (ts : List (Text × Text)) → rise ts ≡ true → put_all ts [] ≡ ts
+rising_stand [] up = refl
+rising_stand (t ∷ []) up = refl
+rising_stand (t ∷ u ∷ ts) up = rise_by t u ts (text_cmp t.0 u.0) refl up (rising_stand (u ∷ ts) (and_parts (is_lt (text_cmp t.0 u.0)) (rise (u ∷ ts)) up).1)
+
+pub in_order : (ts pairs : List (Text × Text)) → rise ts ≡ true → pairs ≡ ts → pairs ≡ finmap.entries (finmap.from_entries {R = text_cmp} ts)
+in_order ts pairs up e = e ∙ sym (rising_stand ts up) ∙ sym (entries_put_all ts)
+
+pub in_order_set : (ts : List (Text × Text)) (lent : Lent) → rise ts ≡ true → lent_pairs lent ≡ ts → IsTagSet (lent_pairs lent)
+in_order_set ts lent up e = put_all_set ts lent (e ∙ sym (rising_stand ts up))
+
+lent_push : (xs : Lent) (x : Bor Text × Bor Text) → lent_pairs (xs ++ x ∷ []) ≡ lent_pairs xs ++ (x.0.now, x.1.now) ∷ []
+lent_push [] x = refl
+lent_push (y ∷ xs) x = ap (λ (ys : List (Text × Text)). (y.0.now, y.1.now) ∷ ys) (lent_push xs x)
+
+pub pushed_pairs : (tags : List (LinePart × LinePart)) (t : LinePart × LinePart) (xs : Lent) (i : ℕ) (k v : Bor Text) → i < length tags → t ≡ get_or tags i t → k.now ≡ t.0.text → v.now ≡ t.1.text
+    → lent_pairs xs ≡ map tag_texts (take i tags) → lent_pairs (xs ++ (k, v) ∷ []) ≡ map tag_texts (take (i + 1) tags)
+pushed_pairs tags t xs i k v lt is key value so_far =
+    let one : take (i + 1) tags ≡ take i tags ++ t ∷ [] = take_more tags i t lt ∙ ap (λ x. take i tags ++ x ∷ []) (sym is) in
+    lent_push xs (k, v) ∙ ap (λ ys. ys ++ (k.now, v.now) ∷ []) so_far ∙ rw (key, value) (sym (map_push tag_texts (take i tags) t)) ∙ ap (map tag_texts) (sym one)
+
+pub few_rise : (tags : List (LinePart × LinePart)) → length tags < 2 → rise (map tag_texts tags) ≡ true
+few_rise [] few = refl
+few_rise (t ∷ []) few = refl
+few_rise (t ∷ u ∷ ts) few = absurd (omega arith)

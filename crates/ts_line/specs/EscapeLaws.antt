@@ -39,14 +39,14 @@ stop_is_other Comma b e = grind (arith, nat_tests)
 stop_is_other Equals b e = grind (arith, nat_tests)
 stop_is_other Plain b e = grind (arith, nat_tests)
 
-unescaped_behind : (stops : Stops) (before : ℕ) → is_backslash before ≡ false → is_escaped stops before ≡ false
+pub unescaped_behind : (stops : Stops) (before : ℕ) → is_backslash before ≡ false → is_escaped stops before ≡ false
 unescaped_behind Space before e = e
 unescaped_behind Comma before e = e
 unescaped_behind Equals before e = e
 unescaped_behind Plain before e = refl
 
 -- only a backslash before the first byte matters
-len_from : (stops : Stops) (before : ℕ) (bs : Text) → is_backslash before ≡ false → part_len stops before bs ≡ part_len stops 0 bs
+pub len_from : (stops : Stops) (before : ℕ) (bs : Text) → is_backslash before ≡ false → part_len stops before bs ≡ part_len stops 0 bs
 len_from stops before [] e = refl
 len_from stops before (b ∷ bs) e = rw (unescaped_behind stops before e, unescaped_behind stops 0 refl) refl
 

@@ -8,6 +8,7 @@ pub mod ReadSteps
 pub mod TagParts
 pub mod Values
 pub mod Fields
+pub mod Marks
 pub mod Lines
 pub mod EscapeLaws
 pub mod Spelling

@@ -1,5 +1,6 @@
 -- Where a key goes among pairs in the order of their keys. (InfluxData 1.8, key concepts: tag set.)
-use Rattle.std.specs.Prelude.{ℕ, ◌+◌, List, [], ◌∷◌, Result, Ok, Err}
+use Rattle.std.specs.Prelude.{ℕ, ◌+◌, List, [], ◌∷◌, Result, Ok, Err, Bool, true, ◌&&◌}
+use Rattle.std.specs.Ordering.{is_lt}
 use Rattle.std.specs.FinMap.Entries.{by_order}
 use Rattle.ts_core.specs.Facts.{Text, text_cmp}
 
@@ -7,3 +8,9 @@ use Rattle.ts_core.specs.Facts.{Text, text_cmp}
 abbrev pub key_place_from : ℕ → Text → List (Text × Text) → Result ℕ ℕ
 key_place_from at key [] = Err at
 key_place_from at key (e ∷ es) = by_order (text_cmp key e.0) (Err at) (Ok at) (key_place_from (at + 1) key es)
+
+-- each key comes before the next
+abbrev pub rise : List (Text × Text) → Bool
+rise [] = true
+rise (t ∷ []) = true
+rise (t ∷ u ∷ ts) = is_lt (text_cmp t.0 u.0) && rise (u ∷ ts)

@@ -2,6 +2,7 @@
 ghost use Rattle.std.specs.Prelude.{◌≡◌, ◌<◌, length, [], IfOk, IfSome, OnOk};
 ghost use Rattle.std.specs.Str.{IsCharBoundary};
 ghost use Rattle.ts_line.specs.ReadSteps.{GivesIfRoom};
+ghost use Rattle.ts_line.specs.Marks.{slot_of, AreMarked};
 ghost use Rattle.ts_line.specs.Fields.{next_field, place_from, with_field, fields_at};
 
 use crate::fault::{LineFaultKind, ReadLineError};
@@ -13,6 +14,9 @@ use std::alloc::{AllocError, Allocator};
 
 /// A line has no more fields than this.
 const FIELD_LIMIT: usize = 256;
+
+/// Room for so many fields is taken at first.
+const FIELDS_AT_FIRST: usize = 16;
 
 /// The field that begins at `start`, and its end.
 #[tactic(auto, unfolding(crate::specs::Fields::next_field))]
@@ -51,7 +55,8 @@ fn place_of<A: Allocator>(fields: &[Field<'_, A>], name: &str) -> Option<usize>
 }
 
 /// Puts a field behind others, or its value in place of the one of its name.
-fn put<'a, A: Allocator>(
+#[cold]
+fn put_among<'a, A: Allocator>(
     fields: &mut Vec<Field<'a, A>, A>,
     field: Field<'a, A>,
 ) -> Result<(), AllocError>
@@ -67,6 +72,39 @@ fn put<'a, A: Allocator>(
     Ok(())
 }
 
+/// Where the mark of a name is: most names of a line differ in their length or in their last two bytes.
+fn slot_of(name: &str) -> usize
+    ensures value { result ≡ slot_of name.now }
+    ensures bound { result < 64 }
+{
+    let bytes = name.as_bytes();
+    let len = bytes.len();
+    if len < 2 {
+        return usize::from(byte_at(name, 0)) % 64;
+    }
+    (len % 64 * 11 + usize::from(bytes[len - 2]) * 3 + usize::from(bytes[len - 1])) % 64
+}
+
+/// Puts a field behind others, or its value in place of the one of its name. Each name has its mark; a name whose place
+/// bears no mark is new.
+fn put<'a, A: Allocator>(
+    fields: &mut Vec<Field<'a, A>, A>,
+    marks: &mut [bool; 64],
+    field: Field<'a, A>,
+) -> Result<(), AllocError>
+    requires marked { AreMarked marks.old fields.old.items }
+    ensures ok { OnOk result (fields.new.items ≡ with_field fields.old.items field.entry) }
+    ensures marked { OnOk result (AreMarked marks.new fields.new.items) }
+{
+    let slot = slot_of(field.name().text());
+    if marks[slot] {
+        return put_among(fields, field);
+    }
+    marks[slot] = true;
+    fields.push(field)?;
+    Ok(())
+}
+
 /// The fields from `start` on, with commas between them, and the end of the last.
 pub fn fields<'a, A: Allocator + Copy>(
     alloc: A,
@@ -77,11 +115,12 @@ pub fn fields<'a, A: Allocator + Copy>(
     ensures value { GivesIfRoom (λ x. (x.0.items, x.1)) result (fields_at 256 [] line.now start) }
     ensures boundary { IfOk result (λ x. IsCharBoundary line.now x.1) }
 {
-    let mut fields = Vec::new(alloc);
+    let mut fields = Vec::with_capacity(alloc, FIELDS_AT_FIRST)?;
+    let mut marks = [false; 64];
     let mut at = start;
     for _ in 0..FIELD_LIMIT {
         let (field, end) = next(alloc, line, at)?;
-        put(&mut fields, field)?;
+        put(&mut fields, &mut marks, field)?;
         if byte_at(line, end) != b',' {
             return Ok((fields, end));
         }

@@ -19,6 +19,7 @@ mod number;
 mod part;
 mod read;
 mod scan;
+mod short;
 mod tag;
 mod value;
 

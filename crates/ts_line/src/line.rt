@@ -1,13 +1,13 @@
 //! What a line says, part by part.
-ghost use Rattle.std.specs.Prelude.{◌≡◌, ◌<◌, ◌≤◌, ◌+◌, length, map, MatchResult};
+ghost use Rattle.std.specs.Prelude.{◌≡◌, ◌<◌, ◌≤◌, ◌+◌, [], length, map, MatchResult};
 ghost use Rattle.arrayvec.specs.ArrayVec.{array_vec_len};
 ghost use Rattle.std.specs.Cow.{cow_str_bytes};
 ghost use Rattle.std.specs.FinMap.{put};
 ghost use Rattle.ts_core.specs.Facts.{text_cmp};
 ghost use Rattle.ts_core.specs.Members.{AllDistinct};
 ghost use Rattle.ts_core.specs.Texts.{lent_pairs, IsTagSet};
-ghost use Rattle.ts_line.specs.Parts.{field_text, series_of};
-ghost use Rattle.ts_line.specs.Sorting.{key_place_from};
+ghost use Rattle.ts_line.specs.Parts.{field_text, series_of, tag_texts};
+ghost use Rattle.ts_line.specs.Sorting.{key_place_from, rise};
 
 use arrayvec::ArrayVec;
 use std::alloc::Allocator;
@@ -227,12 +227,51 @@ impl<'a, A: Allocator> Line<'a, A> {
         ensures set { IsTagSet (lent_pairs result.items) }
     {
         let mut pairs = ArrayVec::new();
-        let mut left = self.tags();
-        while let [rest @ .., tag] = left {
-            put(&mut pairs, tag.key.text(), tag.value.text());
-            left = rest;
+        if rise(&self.tags) {
+            push_all(&mut pairs, &self.tags);
+        } else {
+            self.put_all(&mut pairs);
         }
         pairs
+    }
+
+    /// Puts the texts of the tags with their values in byte order of the keys.
+    #[cold]
+    fn put_all<'b>(&'b self, pairs: &mut ArrayVec<(&'b str, &'b str), 64>)
+        requires { pairs.old.items ≡ [] }
+        ensures value { lent_pairs pairs.new.items ≡ (series_of self.now).tags }
+        ensures set { IsTagSet (lent_pairs pairs.new.items) }
+    {
+        let mut left = self.tags();
+        while let [rest @ .., tag] = left {
+            put(pairs, tag.key.text(), tag.value.text());
+            left = rest;
+        }
+    }
+}
+
+/// Whether each tag's key comes before the next one's in byte order.
+fn rise<A: Allocator>(tags: &[Tag<'_, A>]) -> bool
+    ensures { result ≡ rise (map tag_texts tags.now) }
+{
+    let mut left = tags;
+    while let [tag, next, ..] = left {
+        if tag.key.text().cmp(next.key.text()) != Ordering::Less {
+            return false;
+        }
+        left = &left[1..];
+    }
+    true
+}
+
+/// Appends the texts of tags with their values.
+fn push_all<'a, A: Allocator>(pairs: &mut ArrayVec<(&'a str, &'a str), 64>, tags: &'a [Tag<'_, A>])
+    requires none { pairs.old.items ≡ [] }
+    requires few { length tags.now ≤ 64 }
+    ensures { lent_pairs pairs.new.items ≡ map tag_texts tags.now }
+{
+    for tag in tags {
+        pairs.push((tag.key.text(), tag.value.text()));
     }
 }
 

@@ -1,5 +1,5 @@
 //! Numbers as text.
-ghost use Rattle.std.specs.Prelude.{◌≡◌, ◌≤ℤ◌, pos, true};
+ghost use Rattle.std.specs.Prelude.{◌≡◌, ◌≤ℤ◌, pos, true, Some};
 ghost use Rattle.std.specs.Char.{is_ascii_digit};
 ghost use Rattle.std.specs.List.{list_all};
 ghost use Rattle.ts_line.specs.Numbers.{are_digits, is_number, without_minus, whole_of};
@@ -57,5 +57,15 @@ pub fn moment(text: &str, unit: i64) -> Option<Time>
     ensures { result ≡ time_of unit text.now }
 {
     let number = whole(text)?;
+    time_of(text, number, unit)
+}
+
+/// The time that the number of a text tells, of so many nanoseconds each unit; none where it isn't a valid time.
+#[tactic(auto, unfolding(crate::specs::Lines::time_of))]
+pub(crate) fn time_of(text: &str, number: i64, unit: i64) -> Option<Time>
+    requires number { Some number ≡ whole_of text.now }
+    requires unit { pos 1 ≤ℤ unit }
+    ensures { result ≡ time_of unit text.now }
+{
     Time::new(number.checked_mul(unit)?)
 }

@@ -12,9 +12,10 @@ ghost use Rattle.ts_line.specs.Lines.{is_bare_space, trimmed, without_return, co
 use crate::fault::{LineFault, LineFaultKind, ReadLineError};
 use crate::field::fields;
 use crate::line::{Line, Part};
-use crate::number::{is_number, moment};
+use crate::number::{is_number, moment, time_of};
 use crate::part::part_at;
 use crate::scan::{Stops, after_spaces, byte_at, end_at};
+use crate::short::short_number;
 use crate::tag::tags;
 use std::alloc::Allocator;
 use ts_core::{Time, TimeUnit};
@@ -147,6 +148,11 @@ fn time(line: &str, at: usize, precision: TimeUnit, now: Time) -> Result<Time, L
         return Ok(now);
     }
     let number = &line[start..];
+    if let Some(value) = short_number(line, start) {
+        return time_of(number, value, precision.nanoseconds()).ok_or(
+            LineFaultKind::TimestampRange.at(start),
+        );
+    }
     if !is_number(number.as_bytes()) {
         return Err(LineFaultKind::BadTimestamp.at(start));
     }

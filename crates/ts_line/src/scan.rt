@@ -44,9 +44,10 @@ fn is_end(stops: Stops, before: u8, byte: u8) -> bool
     is_stop(stops, byte) && (before != b'\\' || matches!(stops, Stops::Plain))
 }
 
-/// The end of the part that begins at `from`.
+/// The end of the part that begins at `from`, in which a backslash stands.
 #[tactic(auto, using(crate::proofs::ScanLemmas::part_len_step, crate::proofs::ScanLemmas::part_len_end, crate::proofs::ScanLemmas::ends_ascii), unfolding(crate::specs::Scan::end_of))]
-pub fn end_at(line: &str, from: usize, stops: Stops) -> End
+#[cold]
+fn escaped_end_at(line: &str, from: usize, stops: Stops) -> End
     requires { from ≤ length line.now }
     ensures value { result.at ≡ end_of stops line.now from }
     ensures from { from ≤ result.at }
@@ -68,6 +69,34 @@ pub fn end_at(line: &str, from: usize, stops: Stops) -> End
         at += 1;
     }
     End { at, has_escape }
+}
+
+/// The end of the part that begins at `from`.
+#[tactic(auto, using(crate::proofs::ScanLemmas::stop_ascii, crate::proofs::ScanLemmas::bare_end, crate::proofs::ScanLemmas::part_len_end), unfolding(crate::specs::Scan::end_of))]
+pub fn end_at(line: &str, from: usize, stops: Stops) -> End
+    requires { from ≤ length line.now }
+    ensures value { result.at ≡ end_of stops line.now from }
+    ensures from { from ≤ result.at }
+    ensures within { result.at ≤ length line.now }
+    ensures boundary { IsCharBoundary line.now result.at }
+    ensures escape { result.has_escape ≡ list_any (is_stop stops) (slice_range line.now from result.at) }
+{
+    let bytes = line.as_bytes();
+    let mut at = from;
+    while at < bytes.len() {
+        let byte = bytes[at];
+        if byte == b'\\' || is_stop(stops, byte) {
+            break;
+        }
+        at += 1;
+    }
+    if at < bytes.len() && bytes[at] == b'\\' {
+        return escaped_end_at(line, from, stops);
+    }
+    End {
+        at,
+        has_escape: false,
+    }
 }
 
 /// The first place from `from` on that has no space.

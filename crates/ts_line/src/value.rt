@@ -8,6 +8,7 @@ ghost use Rattle.ts_line.specs.Values.{is_unsigned, is_boolean, is_float, behind
 use crate::fault::{LineFault, LineFaultKind};
 use crate::number::{after_minus, are_digits, is_number, whole};
 use crate::scan::{Stops, byte_at, end_at};
+use crate::short::short_integer;
 
 fn is_unsigned(text: &[u8]) -> bool
     ensures { result ≡ is_unsigned text.now }
@@ -105,7 +106,7 @@ fn behind_quotes(text: &[u8]) -> Option<&[u8]>
     None
 }
 
-fn is_value_end(text: &[u8]) -> bool
+pub(crate) fn is_value_end(text: &[u8]) -> bool
     ensures { result ≡ is_value_end text.now }
 {
     matches!(text, [] | [b',' | b' ', ..])
@@ -142,7 +143,8 @@ fn quoted(start: usize, text: &[u8]) -> LineFault
 
 /// The value that begins at `at`, of a field that starts there, and its end.
 #[tactic(auto, unfolding(crate::specs::Values::value_begun_at))]
-pub fn value_begun_at(start: usize, line: &str, at: usize) -> Result<(i64, usize), LineFault>
+#[cold]
+fn any_value_at(start: usize, line: &str, at: usize) -> Result<(i64, usize), LineFault>
     requires { IsCharBoundary line.now at }
     ensures value { result ≡ value_begun_at start line.now at }
     ensures further { IfOk result (λ x. at ≤ x.1) }
@@ -153,4 +155,18 @@ pub fn value_begun_at(start: usize, line: &str, at: usize) -> Result<(i64, usize
     }
     let end = end_at(line, at, Stops::Plain).at;
     Ok((value_said(start, &line[at..end])?, end))
+}
+
+/// The value that begins at `at`, of a field that starts there, and its end. An integer of few digits is read in one
+/// pass.
+pub fn value_begun_at(start: usize, line: &str, at: usize) -> Result<(i64, usize), LineFault>
+    requires { IsCharBoundary line.now at }
+    ensures value { result ≡ value_begun_at start line.now at }
+    ensures further { IfOk result (λ x. at ≤ x.1) }
+    ensures boundary { IfOk result (λ x. IsCharBoundary line.now x.1) }
+{
+    match short_integer(line, at) {
+        Some(found) => Ok(found),
+        None => any_value_at(start, line, at),
+    }
 }

@@ -6,12 +6,12 @@ use Rattle.ts_line.proofs.field.fields.Goals as goal
 
 pub returns-in_err-field-clause-value : goal.returns-in_err-field-clause-value
 returns-in_err-field-clause-value g c =
-    let p = err_from_is_err_and c.from_residual.result c.from_residual.ensures.1 in
+    let p = err_from_is_err_and c.from_residual-in_err-field.result c.from_residual-in_err-field.ensures.1 in
     rw (p.1, p.2) (field_fails c.loop.counter c.loop.fields.items c.args.line.now c.loop.at c.in_err-field.field-0.0 (fields_at 256 [] c.args.line.now c.args.start) c.loop-test.true c.in_err-field.ensures.value c.loop.invariant.value)
 
 pub returns-then-byte_at-ne44-clause-value : goal.returns-then-byte_at-ne44-clause-value
 returns-then-byte_at-ne44-clause-value g c =
-    rw c.in_ok-put.ensures (fields_ended c.loop.counter c.loop.fields.items c.args.line.now c.loop.at c.in_ok-field.field c.in_ok-field.end (fields_at 256 [] c.args.line.now c.args.start) c.loop-test.true (λ e. c.if-byte_at-ne44.true (c.byte_at.ensures ∙ e)) c.in_ok-field.ensures.value c.loop.invariant.value)
+    rw c.in_ok-put.ensures.ok (fields_ended c.loop.counter c.loop.fields.items c.args.line.now c.loop.at c.in_ok-field.field c.in_ok-field.end (fields_at 256 [] c.args.line.now c.args.start) c.loop-test.true (λ e. c.if-byte_at-ne44.true (c.byte_at.ensures ∙ e)) c.in_ok-field.ensures.value c.loop.invariant.value)
 
 pub loop-preserved : goal.loop-preserved
 loop-preserved g c =
@@ -19,7 +19,8 @@ loop-preserved g c =
     let next : c.after-at.result ≡ c.in_ok-field.end + 1 = c.after-at.ensures.value in
     record {
       boundary = c.after-at.ensures.boundary;
-      value = rw (c.in_ok-put.ensures, next) (field_taken c.loop.counter c.loop.fields.items c.args.line.now c.loop.at c.in_ok-field.field c.in_ok-field.end (fields_at 256 [] c.args.line.now c.args.start) c.loop-test.true comma c.in_ok-field.ensures.value c.loop.invariant.value);
+      marked = c.in_ok-put.ensures.marked;
+      value = rw (c.in_ok-put.ensures.ok, next) (field_taken c.loop.counter c.loop.fields.items c.args.line.now c.loop.at c.in_ok-field.field c.in_ok-field.end (fields_at 256 [] c.args.line.now c.args.start) c.loop-test.true comma c.in_ok-field.ensures.value c.loop.invariant.value);
     }
 
 pub returns-clause-value : goal.returns-clause-value

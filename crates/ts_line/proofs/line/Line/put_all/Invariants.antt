@@ -2,7 +2,7 @@ use Rattle.std.proofs.Common.{◌≡◌, ◌≤◌, ◌+◌, map, length, []}
 use Rattle.ts_core.specs.Texts.{lent_pairs}
 use Rattle.ts_line.specs.Parts.{tag_texts}
 use Rattle.ts_line.proofs.SortingLemmas.{put_all}
-use Rattle.ts_line.proofs.line.Line.tags_by_key.Given as goal
+use Rattle.ts_line.proofs.line.Line.put_all.Given as goal
 
 abbrev pub invariant-loop-left : goal.invariant-loop-left
 invariant-loop-left g l = record {

@@ -1,0 +1,61 @@
+-- Marks of names.
+use Rattle.std.proofs.Common.{◌≡◌, OnOk, Result, Ok, Err, subst, ℕ, ℤ, zero, suc, ◌+◌, ◌<◌, Bool, true, false, List, [], ◌∷◌, ◌++◌, length, get_or, set, bytes_eq, None, refl, sym, ap, ◌∙◌, slice_index_or}
+use Rattle.std.proofs.lemmas.List.{get_or-set_same}
+use Rattle.std.proofs.lemmas.Slice.Eq.{bytes_eq-Decides}
+use Rattle.ts_core.specs.Facts.{Text}
+use Rattle.ts_line.specs.Parts.{LinePart}
+use Rattle.ts_line.specs.Fields.{place_from, with_field}
+use Rattle.ts_line.specs.Marks.{slot_of, AreMarked}
+use Rattle.ts_line.proofs.FieldLemmas.{field_pushed}
+
+abbrev pub Mark : List Bool → Text → Type 0
+Mark marks name = slice_index_or marks (slot_of name) false ≡ true
+
+-- a name without a mark is new
+new_by : (marks : List Bool) (name : Text) (g : LinePart × ℤ) (gs : List (LinePart × ℤ)) (at : ℕ) (b : Bool) → bytes_eq g.0.text name ≡ b → slice_index_or marks (slot_of name) false ≡ false
+    → Mark marks g.0.text → place_from (at + 1) name gs ≡ None → place_from at name (g ∷ gs) ≡ None
+new_by marks name g gs at true e bare mark rest =
+    let same : g.0.text ≡ name = (bytes_eq-Decides g.0.text name).0 e in
+    let here : slice_index_or marks (slot_of name) false ≡ true = ap (λ (t : Text). slice_index_or marks (slot_of t) false) (sym same) ∙ mark in
+    absurd cc
+new_by marks name g gs at false e bare mark rest = rw e rest
+
+new_in : (marks : List Bool) (name : Text) (fields : List (LinePart × ℤ)) (at : ℕ) → slice_index_or marks (slot_of name) false ≡ false → AreMarked marks fields → place_from at name fields ≡ None
+new_in marks name [] at bare all = refl
+new_in marks name (g ∷ gs) at bare all = new_by marks name g gs at (bytes_eq g.0.text name) refl bare all.0 (new_in marks name gs (at + 1) bare all.1)
+
+pub unmarked_pushed : (marks : List Bool) (f : LinePart × ℤ) (fields : List (LinePart × ℤ)) → slice_index_or marks (slot_of f.0.text) false ≡ false → AreMarked marks fields → fields ++ f ∷ [] ≡ with_field fields f
+unmarked_pushed marks f fields bare all = field_pushed f fields (sym (new_in marks f.0.text fields 0 bare all))
+
+-- a field put among others keeps the marks
+with_by : (marks : List Bool) (g f : LinePart × ℤ) (gs : List (LinePart × ℤ)) (b : Bool) → bytes_eq g.0.text f.0.text ≡ b → Mark marks g.0.text → AreMarked marks gs → AreMarked marks (with_field gs f) → AreMarked marks (with_field (g ∷ gs) f)
+with_by marks g f gs true e mark all rest = rw e (mark, all)
+with_by marks g f gs false e mark all rest = rw e (mark, rest)
+
+pub with_marked : (marks : List Bool) (fields : List (LinePart × ℤ)) (f : LinePart × ℤ) → AreMarked marks fields → Mark marks f.0.text → AreMarked marks (with_field fields f)
+with_marked marks [] f all mark = (mark, tt)
+with_marked marks (g ∷ gs) f all mark = with_by marks g f gs (bytes_eq g.0.text f.0.text) refl all.0 all.1 (with_marked marks gs f all.1 mark)
+
+-- one mark more
+kept : (marks : List Bool) (slot i : ℕ) → get_or marks i false ≡ true → get_or (set marks slot true) i false ≡ true
+kept [] slot i mark = mark
+kept (x ∷ xs) zero zero mark = refl
+kept (x ∷ xs) zero (suc i) mark = mark
+kept (x ∷ xs) (suc s) zero mark = mark
+kept (x ∷ xs) (suc s) (suc i) mark = kept xs s i mark
+
+all_kept : (marks : List Bool) (slot : ℕ) (fields : List (LinePart × ℤ)) → AreMarked marks fields → AreMarked (set marks slot true) fields
+all_kept marks slot [] all = tt
+all_kept marks slot (g ∷ gs) all = (kept marks slot (slot_of g.0.text) all.0, all_kept marks slot gs all.1)
+
+marked_at : (marks : List Bool) (slot : ℕ) → slot < length marks → get_or (set marks slot true) slot false ≡ true
+marked_at marks slot lt = get_or-set_same marks slot true false lt
+
+pub push_marked : (marks : List Bool) (f : LinePart × ℤ) (fields : List (LinePart × ℤ)) → slot_of f.0.text < length marks → AreMarked marks fields → AreMarked (set marks (slot_of f.0.text) true) (with_field fields f)
+push_marked marks f fields lt all =
+    with_marked (set marks (slot_of f.0.text) true) fields f (all_kept marks (slot_of f.0.text) fields all) (marked_at marks (slot_of f.0.text) lt)
+
+-- whatever is answered
+pub put_marked : (marks : List Bool) (fields new : List (LinePart × ℤ)) (f : LinePart × ℤ) {U E : Type 0} (r : Result U E) → AreMarked marks fields → Mark marks f.0.text → OnOk r (new ≡ with_field fields f) → OnOk r (AreMarked marks new)
+put_marked marks fields new f (Ok u) all mark is = subst (AreMarked marks) (sym is) (with_marked marks fields f all mark)
+put_marked marks fields new f (Err e) all mark is = tt

@@ -1,0 +1,90 @@
+//! Numbers of few digits, read in one pass.
+ghost use Rattle.std.specs.Prelude.{◌≡◌, ◌≤◌, ◌<◌, ◌+◌, length, slice_range, slice_index, drop, true, pos, Ok, Some, IfSome, ℕ};
+ghost use Rattle.std.specs.Char.{is_ascii_digit};
+ghost use Rattle.std.specs.List.{list_all};
+ghost use Rattle.std.specs.Str.{IsCharBoundary};
+ghost use Rattle.std.specs.Str.Parse.{digits_value};
+ghost use Rattle.ts_line.specs.Numbers.{is_number, whole_of};
+ghost use Rattle.ts_line.specs.Values.{value_begun_at, is_value_end};
+
+use crate::scan::{after, byte_at};
+use crate::value::is_value_end;
+
+/// So many digits fit 64 bits, whichever they are.
+const DIGIT_LIMIT: usize = 19;
+
+/// The digits from `from` on, 19 at most: their number, and their end.
+fn digits_at(line: &str, from: usize) -> (u64, usize)
+    requires { from ≤ length line.now }
+    ensures from { from ≤ result.1 }
+    ensures within { result.1 ≤ length line.now }
+    ensures digits { list_all is_ascii_digit (slice_range line.now from result.1) ≡ true }
+    ensures value { result.0 ≡ digits_value 10 (slice_range line.now from result.1) }
+    ensures short { result.0 < 10_000_000_000_000_000_000 }
+{
+    let bytes = line.as_bytes();
+    let last = bytes.len().min(from + DIGIT_LIMIT);
+    let mut at = from;
+    let mut number = 0;
+    while at < last {
+        let byte = bytes[at];
+        if !byte.is_ascii_digit() {
+            break;
+        }
+        number = number * 10 + u64::from(byte - b'0');
+        at += 1;
+    }
+    (number, at)
+}
+
+/// The digits and the `i` that a value without a sign is, where they begin at `first`: their number, and the place of
+/// the `i`. None where there are more than 19, or the number has more than 63 bits, or something else stands there.
+fn unsigned_integer(line: &str, first: usize) -> Option<(i64, usize)>
+    requires { first ≤ length line.now }
+    ensures some { IfSome result (λ x. first < x.1) }
+    ensures within { IfSome result (λ x. x.1 < length line.now) }
+    ensures digits { IfSome result (λ x. list_all is_ascii_digit (slice_range line.now first x.1) ≡ true) }
+    ensures value { IfSome result (λ x. x.0 ≡ pos (digits_value 10 (slice_range line.now first x.1))) }
+    ensures short { IfSome result (λ x. digits_value 10 (slice_range line.now first x.1) < 9_223_372_036_854_775_808) }
+    ensures last { IfSome result (λ x. slice_index line.now x.1 ≡ 105) }
+    ensures rest { IfSome result (λ x. is_value_end (drop (x.1 + 1) line.now) ≡ true) }
+{
+    let (number, end) = digits_at(line, first);
+    if end == first || byte_at(line, end) != b'i' {
+        return None;
+    }
+    if !is_value_end(&line.as_bytes()[end + 1..]) {
+        return None;
+    }
+    let number = i64::try_from(number).ok()?;
+    Some((number, end))
+}
+
+/// The integer of at most 19 digits that begins at `at`, and the place behind its `i`; none where something else
+/// stands there, or an integer of more digits.
+pub(crate) fn short_integer(line: &str, at: usize) -> Option<(i64, usize)>
+    requires { at ≤ length line.now }
+    ensures value { IfSome result (λ x. (start : ℕ) → value_begun_at start line.now at ≡ Ok x) }
+    ensures further { IfSome result (λ x. at ≤ x.1) }
+    ensures boundary { IfSome result (λ x. IsCharBoundary line.now x.1) }
+{
+    if byte_at(line, at) == b'-' {
+        let (number, end) = unsigned_integer(line, at + 1)?;
+        return Some((-number, after(line, end)));
+    }
+    let (number, end) = unsigned_integer(line, at)?;
+    Some((number, after(line, end)))
+}
+
+/// The number that the line ends in from `start` on, where it has no sign, at most 19 digits and 63 bits.
+pub(crate) fn short_number(line: &str, start: usize) -> Option<i64>
+    requires { start ≤ length line.now }
+    ensures number { IfSome result (λ n. is_number (slice_range line.now start (length line.now)) ≡ true) }
+    ensures value { IfSome result (λ n. Some n ≡ whole_of (slice_range line.now start (length line.now))) }
+{
+    let (number, end) = digits_at(line, start);
+    if end == start || end != line.len() {
+        return None;
+    }
+    i64::try_from(number).ok()
+}
