@@ -146,7 +146,8 @@ impl<A: Allocator + Copy> Index<A> {
         self.columns.lookup(series.number, field)
     }
 
-    /// The same as `column`, found at once where it was made right after the one before.
+    /// The same as `column`, found at once where it was made right after the one before, or, with none before, where it
+    /// was the first of its series.
     pub fn column_after(
         &self,
         before: Option<ColumnId>,
@@ -158,10 +159,9 @@ impl<A: Allocator + Copy> Index<A> {
         ensures absent { IfNone result (Among (column_in self.now series field.now) self.now.columns → ⊥) }
         ensures sound { IsSoundIndex self.now }
     {
-        if let Some(before) = before {
-            let next = before.next();
-            if next.number() < self.column_count() && self.is_column(next, series, field) {
-                return Some(next);
+        if let Some(guess) = self.columns.guess(before, series.number) {
+            if self.is_column(guess, series, field) {
+                return Some(guess);
             }
         }
         self.column(series, field)

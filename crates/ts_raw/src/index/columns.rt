@@ -11,12 +11,14 @@ use std::collections::HashMap;
 use std::hash::{BuildHasherDefault, FoldHasher};
 use std::marker::Model;
 
-/// Columns, each by the numbers of its series and its field, and the columns of each field.
+/// Columns, each by the numbers of its series and its field, and the columns of each field. Of each series it is guessed
+/// which column was made first.
 #[derive(Drop)]
 pub(crate) struct ColumnTable<A: Allocator> {
     columns: Vec<(u32, u32), A>,
     places: HashMap<(u32, u32), u32, BuildHasherDefault<FoldHasher>, A>,
     members: Vec<Vec<ColumnId, A>, A>,
+    firsts: Vec<ColumnId, A>,
 }
 
 impl<A: Allocator> Model for ColumnTable<A> {
@@ -32,6 +34,20 @@ impl<A: Allocator> Model for ColumnTable<A> {
     ghost invariant = { λ t. IsColumnTable (get same_numbers t.places) t.columns.items (lists_of t.members.items) };
 }
 
+/// Notes a column as the first of its series, and of those before that have none, where none is noted yet.
+fn note_first<A: Allocator>(
+    firsts: &mut Vec<ColumnId, A>,
+    series: u32,
+    column: ColumnId,
+) -> Result<(), AllocError>
+    ensures { OnOk result (series < length firsts.new.items) }
+{
+    if firsts.len() <= series as usize {
+        firsts.resize(series as usize + 1, column)?;
+    }
+    Ok(())
+}
+
 impl<A: Allocator + Copy> ColumnTable<A> {
     /// No columns, of no field.
     pub(crate) fn new(alloc: A) -> ColumnTable<A>
@@ -42,6 +58,7 @@ impl<A: Allocator + Copy> ColumnTable<A> {
             columns: Vec::new(alloc),
             places: HashMap::new(alloc),
             members: Vec::new(alloc),
+            firsts: Vec::new(alloc),
         }
     }
 
@@ -68,6 +85,21 @@ impl<A: Allocator + Copy> ColumnTable<A> {
     {
         let number = *self.places.get(&(series, field))?;
         Some(ColumnId { number })
+    }
+
+    /// The column made after another, or else the first of a series, where it is likely that there is one.
+    pub(crate) fn guess(&self, before: Option<ColumnId>, series: u32) -> Option<ColumnId>
+        ensures { IfSome result (λ id. id < length self.now.columns) }
+    {
+        let guess = match before {
+            Some(before) => before.next(),
+            None => *self.firsts.get(series as usize)?,
+        };
+        if guess.number() < self.columns.len() {
+            Some(guess)
+        } else {
+            None
+        }
     }
 
     /// The columns of a field.
@@ -113,6 +145,7 @@ impl<A: Allocator + Copy> ColumnTable<A> {
         ensures err { OnErr result (self.new.columns ≡ self.old.columns) }
     {
         let number = next_number(self.columns.len())?;
+        note_first(&mut self.firsts, series, ColumnId { number })?;
         self.columns.reserve(1)?;
         self.places.reserve(1)?;
         let members = &mut self.members[field as usize];

@@ -7,7 +7,7 @@ use Rattle.ts_raw.specs.Numbered.{IsAt}
 use Rattle.ts_raw.proofs.Searches.{IsSearched, search_within, places_left, places_fall}
 use Rattle.ts_raw.proofs.SeriesLemmas.{same_series, other_series}
 use Rattle.ts_raw.proofs.TableLemmas.{sought_within, sought_on, sought_in_vain, found_at}
-use Rattle.ts_raw.proofs.index.series.SeriesTable.lookup.Goals as goal
+use Rattle.ts_raw.proofs.index.series.SeriesTable.lookup_by_hash.Goals as goal
 
 abbrev Sought : List Series → List ℕ → Series → Option ℕ → Type 0
 Sought series hashes key next = IsSearched hashes (hash_of_series key) (λ (n : ℕ). IsAt series n key) next
