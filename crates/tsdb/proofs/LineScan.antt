@@ -1,21 +1,50 @@
 -- Lines and their parts.
-use Rattle.std.proofs.Common.{◌≡◌, ◌≢◌, ℕ, ◌≤◌, List, [], ◌∷◌, ◌++◌, length, take, drop, Bool, true, false, Option, Some, None, refl, sym, ap, ◌∙◌, append_assoc, append-nil, arith, IfSome, subst, not}
+use Rattle.std.proofs.Common.{◌≡◌, ◌≢◌, cond, ℕ, zero, suc, ◌+◌, ◌<◌, ◌≤◌, slice_index, List, [], ◌∷◌, ◌++◌, length, take, drop, Bool, true, false, Option, Some, None, refl, sym, ap, ◌∙◌, append_assoc, append-nil, arith, IfSome, subst, not}
 use Rattle.std.proofs.lemmas.Bool.Decides.{nat_tests}
 use Rattle.std.specs.Io.KnownBytes.{Consumes, prepend_known, Keeps, IsAtEnd}
 use Rattle.ts_core.specs.Devices.{Input}
 use Rattle.tsdb.specs.ScriptLines.{onto_first, lines_of, script_line_limit}
 use Rattle.tsdb.specs.HeldLine.{HeldLine}
-use Rattle.tsdb.specs.LineReading.{first_line, after_line, has_lf, LineIs, to_come, NextOf, next_of, last_of}
+use Rattle.memchr.specs.Find.{Nowhere, Passes, is_byte}
+use Rattle.tsdb.specs.LineReading.{first_line, after_line, has_lf, IsLineEnd, LineIs, to_come, NextOf, next_of, last_of}
 use Rattle.tsdb.specs.declared.line_reader.Next.{Next}
 use Rattle.tsdb.specs.declared.line_reader.Next.TheVariants.{Line, End}
 
--- ---- one byte further
+-- ---- the first LF
 
--- how far a scan has come
-pub record Scanned (bytes : List ℕ) (i : ℕ) : Type 0 where
-  pub first : first_line bytes ≡ take i bytes ++ first_line (drop i bytes)
-  pub after : after_line bytes ≡ after_line (drop i bytes)
-  pub lf : has_lf bytes ≡ has_lf (drop i bytes)
+is_false : (x : Bool) → (x ≡ true → ⊥) → x ≡ false
+is_false true n = absurd (n refl)
+is_false false n = refl
+
+pub ends_there : (bytes : List ℕ) (at : ℕ) → at < length bytes → is_byte 10 (slice_index bytes at) ≡ true → Nowhere (Passes (is_byte 10) bytes) 0 at → IsLineEnd bytes at
+ends_there [] at l e none = absurd (omega (arith, l))
+ends_there (b ∷ bs) zero l e none = record {
+  within = omega arith;
+  line = ap (λ x. cond x [] (b ∷ first_line bs)) (sym e);
+  rest = ap (λ x. cond x bs (after_line bs)) (sym e);
+  found = (λ h. l, λ h. ap (λ x. cond x true (has_lf bs)) e);
+}
+ends_there (b ∷ bs) (suc at) l e none =
+    let other : is_byte 10 b ≡ false = is_false (is_byte 10 b) (none 0 (omega arith) (omega arith)) in
+    let behind = ends_there bs at (omega (arith, l)) e (λ k z h f. none (suc k) (omega arith) (omega (arith, h)) f) in
+    record {
+      within = omega (arith, behind.within);
+      line = ap (λ xs. b ∷ xs) behind.line ∙ ap (λ x. cond x [] (b ∷ first_line bs)) (sym other);
+      rest = ap (λ (n : ℕ). drop n (b ∷ bs)) (let more : suc at + 1 ≡ suc (at + 1) = omega arith in more) ∙ behind.rest ∙ ap (λ x. cond x bs (after_line bs)) (sym other);
+      found = (λ h. l, λ h. ap (λ x. cond x true (has_lf bs)) other ∙ behind.found.1 (omega (arith, l)));
+    }
+
+pub ends_nowhere : (bytes : List ℕ) → Nowhere (Passes (is_byte 10) bytes) 0 (length bytes) → IsLineEnd bytes (length bytes)
+ends_nowhere [] none = record { within = omega arith; line = refl; rest = refl; found = (λ h. absurd (cc), λ h. absurd (omega (arith, h))) }
+ends_nowhere (b ∷ bs) none =
+    let other : is_byte 10 b ≡ false = is_false (is_byte 10 b) (none 0 (omega arith) (omega arith)) in
+    let behind = ends_nowhere bs (λ k z h f. none (suc k) (omega arith) (omega (arith, h)) f) in
+    record {
+      within = omega arith;
+      line = ap (λ xs. b ∷ xs) behind.line ∙ ap (λ x. cond x [] (b ∷ first_line bs)) (sym other);
+      rest = ap (λ (n : ℕ). drop n (b ∷ bs)) (let more : suc (length bs) + 1 ≡ suc (length bs + 1) = omega arith in more) ∙ behind.rest ∙ ap (λ x. cond x bs (after_line bs)) (sym other);
+      found = (λ h. absurd (let i = behind.found.0 (ap (λ x. cond x true (has_lf bs)) (sym other) ∙ h) in omega (arith, i)), λ h. absurd (omega (arith, h)));
+    }
 
 -- ---- lines of two parts
 

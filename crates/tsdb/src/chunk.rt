@@ -3,6 +3,7 @@ ghost use Rattle.std.specs.Prelude.{ℕ, ◌≤◌, ◌++◌, List, vec_len, vec
 ghost use Rattle.tsdb.specs.ScriptLines.{script_line_limit};
 ghost use Rattle.tsdb.specs.LineReading.{IsLineEnd, LineIs};
 
+use memchr::memchr;
 use std::alloc::Allocator;
 
 /// How many bytes a line has at most.
@@ -12,12 +13,10 @@ pub const LINE_LIMIT: usize = 131_072;
 pub(crate) fn line_end(bytes: &[u8]) -> usize
     ensures { IsLineEnd bytes.now result }
 {
-    for (i, b) in bytes.iter().enumerate() {
-        if *b == b'\n' {
-            return i;
-        }
+    match memchr(b'\n', bytes) {
+        Some(at) => at,
+        None => bytes.len(),
     }
-    bytes.len()
 }
 
 /// Adds bytes to a line that is kept while it is short. Answers whether it is too long now.
