@@ -2,6 +2,23 @@
 //! It stands on ts_store's `View`, and on ts_check, by which a plan was checked. `execute` is proved to give the
 //! answer to the plan's query over all points ever accepted, whatever history the view shows, or to tell that
 //! the plan is stale; nothing else refuses it but want of memory.
+//!
+//! An example, over a store and a plan that was checked for its settings and marks:
+//!
+//! ```text
+//! let table = execute(alloc, &store, &checked)?;
+//! let rows = fill(table, checked.query().fill());
+//! for group in rows.groups() {
+//!     // group.values are those of the tags that the query groups by, in their order
+//!     for row in group.rows {
+//!         // row.start() is when its bucket begins, row.values() has a value for each column
+//!     }
+//! }
+//! ```
+//!
+//! A further aggregate touches nothing here: rows are added up by `Partial` alone, and what a column shows of a row is
+//! said by `Function` in ts_core. A further way to fill, once ts_core's `Fill` has it, touches `filled`, and `shown_by` and
+//! `shown_rows` in specs/Fillings.
 #![tactic(auto)]
 
 mod buckets;

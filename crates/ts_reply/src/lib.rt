@@ -2,6 +2,16 @@
 //! It stands on ts_ql, ts_plan, ts_check and ts_exec, which read, plan and answer queries, and on the kit's serde_json and jiff.
 //! It promises that a reply is the JSON that the definitions say (specs/Replies), and over a store that of all facts ever accepted
 //! (specs/Answering), by the queries' plans or by a certificate that is handed in; and that plans are told as they are (specs/Explaining).
+//!
+//! An example, over a store at a moment; where a certificate is handed in, it takes the plan's place:
+//!
+//! ```text
+//! let reply = answer(alloc, json, &store, now, "SELECT MAX(f) FROM m WHERE time >= 0 AND time < 1m", None, Epoch::Text)?;
+//! // reply.body is the JSON; reply.good is false where the text has a fault, or came with a certificate and several queries
+//! ```
+//!
+//! A further aggregate touches nothing here: a column shows a `Value` of ts_core, and only a further kind of value touches `value`
+//! and `value_data` in specs/Replies. A further unit of time touches `epoch` and specs/Epochs.
 #![tactic(auto)]
 
 mod answering;
