@@ -5,7 +5,8 @@ use Rattle.std.proofs.lemmas.Slice.Eq.{bytes_eq-Decides}
 use Rattle.ts_core.specs.Facts.{Text}
 use Rattle.ts_line.specs.Parts.{LinePart}
 use Rattle.ts_line.specs.Fields.{place_from, with_field}
-use Rattle.ts_line.specs.Marks.{slot_of, AreMarked}
+use Rattle.ts_line.specs.Marks.{slot_of, AreMarked, AreKeysMarked}
+use Rattle.ts_line.specs.TagParts.{has_key}
 use Rattle.ts_line.proofs.FieldLemmas.{field_pushed}
 
 abbrev pub Mark : List Bool → Text → Type 0
@@ -48,7 +49,7 @@ all_kept : (marks : List Bool) (slot : ℕ) (fields : List (LinePart × ℤ)) �
 all_kept marks slot [] all = tt
 all_kept marks slot (g ∷ gs) all = (kept marks slot (slot_of g.0.text) all.0, all_kept marks slot gs all.1)
 
-marked_at : (marks : List Bool) (slot : ℕ) → slot < length marks → get_or (set marks slot true) slot false ≡ true
+pub marked_at : (marks : List Bool) (slot : ℕ) → slot < length marks → get_or (set marks slot true) slot false ≡ true
 marked_at marks slot lt = get_or-set_same marks slot true false lt
 
 pub push_marked : (marks : List Bool) (f : LinePart × ℤ) (fields : List (LinePart × ℤ)) → slot_of f.0.text < length marks → AreMarked marks fields → AreMarked (set marks (slot_of f.0.text) true) (with_field fields f)
@@ -59,3 +60,27 @@ push_marked marks f fields lt all =
 pub put_marked : (marks : List Bool) (fields new : List (LinePart × ℤ)) (f : LinePart × ℤ) {U E : Type 0} (r : Result U E) → AreMarked marks fields → Mark marks f.0.text → OnOk r (new ≡ with_field fields f) → OnOk r (AreMarked marks new)
 put_marked marks fields new f (Ok u) all mark is = subst (AreMarked marks) (sym is) (with_marked marks fields f all mark)
 put_marked marks fields new f (Err e) all mark is = tt
+
+-- ---- keys of tags
+
+-- a key without a mark is new
+key_by : (marks : List Bool) (key : Text) (g : LinePart × LinePart) (gs : List (LinePart × LinePart)) (b : Bool) → bytes_eq g.0.text key ≡ b → slice_index_or marks (slot_of key) false ≡ false
+    → Mark marks g.0.text → has_key gs key ≡ false → has_key (g ∷ gs) key ≡ false
+key_by marks key g gs true e bare mark rest =
+    let same : g.0.text ≡ key = (bytes_eq-Decides g.0.text key).0 e in
+    let here : slice_index_or marks (slot_of key) false ≡ true = ap (λ (t : Text). slice_index_or marks (slot_of t) false) (sym same) ∙ mark in
+    absurd cc
+key_by marks key g gs false e bare mark rest = rw e rest
+
+pub unmarked_key : (marks : List Bool) (key : Text) (tags : List (LinePart × LinePart)) → slice_index_or marks (slot_of key) false ≡ false → AreKeysMarked marks tags → has_key tags key ≡ false
+unmarked_key marks key [] bare all = refl
+unmarked_key marks key (g ∷ gs) bare all = key_by marks key g gs (bytes_eq g.0.text key) refl bare all.0 (unmarked_key marks key gs bare all.1)
+
+-- one mark more, and one tag more
+pub keys_kept : (marks : List Bool) (slot : ℕ) (tags : List (LinePart × LinePart)) → AreKeysMarked marks tags → AreKeysMarked (set marks slot true) tags
+keys_kept marks slot [] all = tt
+keys_kept marks slot (g ∷ gs) all = (kept marks slot (slot_of g.0.text) all.0, keys_kept marks slot gs all.1)
+
+pub key_more : (marks : List Bool) (tags : List (LinePart × LinePart)) (t : LinePart × LinePart) → AreKeysMarked marks tags → Mark marks t.0.text → AreKeysMarked marks (tags ++ t ∷ [])
+key_more marks [] t all mark = (mark, tt)
+key_more marks (g ∷ gs) t all mark = (all.0, key_more marks gs t all.1 mark)

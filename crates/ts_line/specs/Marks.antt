@@ -10,3 +10,7 @@ slot_of name = if nat_lt (length name) 2 then (slice_index name 0 % 64) else ((l
 -- the place of each name bears a mark
 abbrev pub AreMarked : List Bool → List (LinePart × ℤ) → Type 0
 AreMarked marks fields = AllByRecursion (λ (f : LinePart × ℤ). slice_index_or marks (slot_of f.0.text) false ≡ true) fields
+
+-- the place of each tag's key bears a mark
+abbrev pub AreKeysMarked : List Bool → List (LinePart × LinePart) → Type 0
+AreKeysMarked marks tags = AllByRecursion (λ (t : LinePart × LinePart). slice_index_or marks (slot_of t.0.text) false ≡ true) tags

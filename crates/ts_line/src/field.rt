@@ -2,11 +2,12 @@
 ghost use Rattle.std.specs.Prelude.{◌≡◌, ◌<◌, length, [], IfOk, IfSome, OnOk};
 ghost use Rattle.std.specs.Str.{IsCharBoundary};
 ghost use Rattle.ts_line.specs.ReadSteps.{GivesIfRoom};
-ghost use Rattle.ts_line.specs.Marks.{slot_of, AreMarked};
+ghost use Rattle.ts_line.specs.Marks.{AreMarked};
 ghost use Rattle.ts_line.specs.Fields.{next_field, place_from, with_field, fields_at};
 
 use crate::fault::{LineFaultKind, ReadLineError};
 use crate::line::Field;
+use crate::mark::slot_of;
 use crate::part::part_at;
 use crate::scan::{Stops, after, byte_at, end_at};
 use crate::value::value_begun_at;
@@ -70,19 +71,6 @@ fn put_among<'a, A: Allocator>(
         None => fields.push(field)?,
     }
     Ok(())
-}
-
-/// Where the mark of a name is: most names of a line differ in their length or in their last two bytes.
-fn slot_of(name: &str) -> usize
-    ensures value { result ≡ slot_of name.now }
-    ensures bound { result < 64 }
-{
-    let bytes = name.as_bytes();
-    let len = bytes.len();
-    if len < 2 {
-        return usize::from(byte_at(name, 0)) % 64;
-    }
-    (len % 64 * 11 + usize::from(bytes[len - 2]) * 3 + usize::from(bytes[len - 1])) % 64
 }
 
 /// Puts a field behind others, or its value in place of the one of its name. Each name has its mark; a name whose place

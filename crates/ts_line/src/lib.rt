@@ -15,6 +15,7 @@
 mod fault;
 mod field;
 mod line;
+mod mark;
 mod number;
 mod part;
 mod read;

@@ -1,14 +1,19 @@
 //! The tags of a line.
-ghost use Rattle.std.specs.Prelude.{◌≡◌, ◌<◌, ◌≤◌, length, [], IfOk};
+ghost use Rattle.std.specs.Prelude.{◌≡◌, ◌<◌, ◌≤◌, ◌++◌, ◌∷◌, length, [], IfOk, slice_index_or, true, false};
 ghost use Rattle.std.specs.Str.{IsCharBoundary};
 ghost use Rattle.ts_line.specs.ReadSteps.{GivesIfRoom};
+ghost use Rattle.ts_line.specs.Marks.{slot_of, AreKeysMarked};
 ghost use Rattle.ts_line.specs.TagParts.{has_key, next_tag, tags_at};
 
 use crate::fault::{LineFaultKind, ReadLineError};
 use crate::line::{TAG_LIMIT, Tag};
+use crate::mark::slot_of;
 use crate::part::part_at;
 use crate::scan::{Stops, after, byte_at, end_at};
 use std::alloc::Allocator;
+
+/// Room for so many tags is taken at first.
+const TAGS_AT_FIRST: usize = 8;
 
 /// Whether a tag has a key.
 fn has_key<A: Allocator>(tags: &[Tag<'_, A>], key: &str) -> bool
@@ -17,19 +22,37 @@ fn has_key<A: Allocator>(tags: &[Tag<'_, A>], key: &str) -> bool
     tags.iter().any(|tag| tag.key().text() == key)
 }
 
+/// Whether a tag has a key. Each key has its mark; a key whose place bears no mark is new.
+fn is_repeated<A: Allocator>(tags: &[Tag<'_, A>], marks: &mut [bool; 64], key: &str) -> bool
+    requires { AreKeysMarked marks.old tags.now }
+    ensures value { result ≡ has_key tags.now key.now }
+    ensures marked { AreKeysMarked marks.new tags.now }
+    ensures own { slice_index_or marks.new (slot_of key.now) false ≡ true }
+{
+    let slot = slot_of(key);
+    if marks[slot] {
+        return has_key(tags, key);
+    }
+    marks[slot] = true;
+    false
+}
+
 /// The tag that begins at `start`, behind others, and its end.
 #[tactic(auto, unfolding(crate::specs::TagParts::pair_at, crate::specs::TagParts::next_tag))]
 fn next<'a, A: Allocator + Copy>(
     alloc: A,
     before: &[Tag<'a, A>],
+    marks: &mut [bool; 64],
     line: &'a str,
     start: usize,
 ) -> Result<(Tag<'a, A>, usize), ReadLineError>
-    requires { IsCharBoundary line.now start }
+    requires boundary { IsCharBoundary line.now start }
+    requires marked { AreKeysMarked marks.old before.now }
     ensures value { GivesIfRoom (λ x. x) result (next_tag before.now line.now start) }
     ensures further { IfOk result (λ x. start < x.1) }
     ensures boundary { IfOk result (λ x. IsCharBoundary line.now x.1) }
     ensures room { IfOk result (λ _. length before.now < 64) }
+    ensures marked { IfOk result (λ x. AreKeysMarked marks.new (before.now ++ x.0 ∷ [])) }
 {
     let key_end = end_at(line, start, Stops::Equals);
     if key_end.at == start || byte_at(line, key_end.at) != b'=' {
@@ -47,7 +70,7 @@ fn next<'a, A: Allocator + Copy>(
     if key.text() == "time" {
         return Err(ReadLineError::Fault(LineFaultKind::ReservedKey.at(start)));
     }
-    if has_key(before, key.text()) {
+    if is_repeated(before, marks, key.text()) {
         return Err(ReadLineError::Fault(LineFaultKind::RepeatedTagKey.at(start)));
     }
     let value = part_at(alloc, line, value_start, value_end, Stops::Equals)?;
@@ -65,10 +88,11 @@ pub fn tags<'a, A: Allocator + Copy>(
     ensures few { IfOk result (λ x. length x.0.items ≤ 64) }
     ensures boundary { IfOk result (λ x. IsCharBoundary line.now x.1) }
 {
-    let mut tags = Vec::new(alloc);
+    let mut tags = Vec::with_capacity(alloc, TAGS_AT_FIRST)?;
+    let mut marks = [false; 64];
     let mut at = start;
     while byte_at(line, at) == b',' {
-        let (tag, end) = next(alloc, &tags, line, after(line, at))?;
+        let (tag, end) = next(alloc, &tags, &mut marks, line, after(line, at))?;
         tags.push(tag)?;
         at = end;
     }

@@ -14,6 +14,7 @@ loop-alloc-preserved g c =
     let room = rw c.deref.ensures.len at c.in_ok-tag.ensures.room in
     record {
       boundary = c.in_ok-tag.ensures.boundary;
+      marked = rw (items, ← c.deref.ensures.value) c.in_ok-tag.ensures.marked;
       few = omega arith;
       value = rw (len, items) (tag_taken (vec_len c.loop-alloc.tags) c.loop-alloc.tags.items c.args.line.now c.loop-alloc.at c.in_ok-tag.tag c.in_ok-tag.end (tags_at 65 [] c.args.line.now c.args.start) c.loop-alloc.invariant.few comma read c.loop-alloc.invariant.value);
     }
@@ -26,5 +27,5 @@ pub returns-in_err-tag-clause-value : goal.returns-in_err-tag-clause-value
 returns-in_err-tag-clause-value g c =
     let comma : slice_index c.args.line.now c.loop-alloc.at ≡ 44 = sym c.byte_at.ensures ∙ c.loop-alloc-test.true in
     let read : FailsIfRoom c.in_err-tag.field-0.0 (next_tag c.loop-alloc.tags.items c.args.line.now (c.loop-alloc.at + 1)) = rw (← c.after.ensures.value, ← c.deref.ensures.value) c.in_err-tag.ensures.value in
-    let p = err_from_is_err_and c.from_residual.result c.from_residual.ensures.1 in
+    let p = err_from_is_err_and c.from_residual-in_err-tag.result c.from_residual-in_err-tag.ensures.1 in
     rw (p.1, p.2) (tag_fails (vec_len c.loop-alloc.tags) c.loop-alloc.tags.items c.args.line.now c.loop-alloc.at c.in_err-tag.field-0.0 (tags_at 65 [] c.args.line.now c.args.start) c.loop-alloc.invariant.few comma read c.loop-alloc.invariant.value)

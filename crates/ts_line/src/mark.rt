@@ -1,0 +1,18 @@
+//! Marks of names, by which most names of a line are known to be new without a look at the others.
+ghost use Rattle.std.specs.Prelude.{◌≡◌, ◌<◌};
+ghost use Rattle.ts_line.specs.Marks.{slot_of};
+
+use crate::scan::byte_at;
+
+/// Where the mark of a name is: most names of a line differ in their length or in their last two bytes.
+pub(crate) fn slot_of(name: &str) -> usize
+    ensures value { result ≡ slot_of name.now }
+    ensures bound { result < 64 }
+{
+    let bytes = name.as_bytes();
+    let len = bytes.len();
+    if len < 2 {
+        return usize::from(byte_at(name, 0)) % 64;
+    }
+    (len % 64 * 11 + usize::from(bytes[len - 2]) * 3 + usize::from(bytes[len - 1])) % 64
+}
