@@ -522,6 +522,22 @@ fn a_store_has_32_rules(rt: HostRuntime) -> Result<(), Fail> {
     Ok(())
 }
 
+const MANY_BUCKETS: &str =
+    "{\"name\":\"y\",\"measurement\":\"cpu\",\"interval\":\"1m\",\"offset\":\"0s\",\"keep\":[],\"duration\":\"INF\"}]}\nat 25d\nretain\nexplain SELECT COUNT(v) FROM cpu WHERE time >= 0 AND time < 31250m GROUP BY time(1h)\nexplain SELECT COUNT(v) FROM cpu WHERE time >= 0 AND time < 31251m GROUP BY time(1h)";
+
+const THEIR_PLANS: &str =
+    "{\"results\":[{\"cert\":\"plan 1\\nrollup x0 0 1875000000000000\\nend\\n\",\"statement_id\":0}]}\n{\"results\":[{\"error\":\"fault 92\",\"statement_id\":0}]}\n";
+
+/// 31,250 minutes are a million buckets of 32 rules, which are searched for a plan. One minute more is too many.
+#[test]
+fn a_million_buckets_are_searched(rt: HostRuntime) -> Result<(), Fail> {
+    let alloc = rt.alloc();
+    let first = "settings {\"raw\":\"1m\",\"rules\":[";
+    let script = numbered(alloc, first, RULE, 31, RULE_END, MANY_BUCKETS)?;
+    assert!(rt; ends_with(alloc, script.as_str(), THEIR_PLANS)?);
+    Ok(())
+}
+
 /// 300 cells are below the low index; a run removes 256 of them in a step.
 #[test]
 fn a_run_goes_on_until_no_cell_is_expired(rt: HostRuntime) -> Result<(), Fail> {
