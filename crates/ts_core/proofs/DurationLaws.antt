@@ -18,7 +18,7 @@ use Rattle.ts_core.proofs.DurationSteps.{starts}
 pub digit_is : (b : ℕ) → digit_value b < 10 → is_ascii_digit b ≡ true
 digit_is b h = grind (arith, nat_tests)
 
-value_is : (b : ℕ) → is_ascii_digit b ≡ true → digit_value b ≡ b - 48
+pub value_is : (b : ℕ) → is_ascii_digit b ≡ true → digit_value b ≡ b - 48
 value_is b h = grind (arith, nat_tests)
 
 counts_below : (b : ℕ) → is_ascii_digit b ≡ true → digit_value b < 10

@@ -4,6 +4,7 @@ use Rattle.std.proofs.Math.Nat.{le-mul_of_pos_right}
 use Rattle.std.proofs.Math.Seq.{take-suc}
 use Rattle.std.proofs.lemmas.List.{get_or-drop, at_drop_more}
 use Rattle.std.specs.Char.{is_ascii_digit}
+use Rattle.ts_core.proofs.ListSteps.{slice_step}
 use Rattle.ts_core.specs.Facts.{Text}
 use Rattle.ts_core.specs.declared.time_unit.TimeUnit.{TimeUnit}
 use Rattle.ts_core.specs.declared.time_unit.TimeUnit.TheVariants.{Nanoseconds, Microseconds, Milliseconds, Seconds, Minutes, Hours, Days, Weeks}
@@ -77,21 +78,12 @@ number_past sum n name text high = past (added_up sum n name text) (λ m is. let
 
 -- ---- one byte more, at a place of the text; the name begins at another
 
-grows : (text : Text) (from at : ℕ) → from ≤ at → at < length text → slice_range text from (at + 1) ≡ slice_range text from at ++ get_or text at 0 ∷ []
-grows text from at le lt =
-    let more : suc (at - from) ≡ (at + 1) - from = omega arith in
-    let place : from + (at - from) ≡ at = omega arith in
-    let inside : at - from < length (drop from text) = simp length-drop (omega arith) in
-    let longer : take (suc (at - from)) (drop from text) ≡ take (at - from) (drop from text) ++ get_or (drop from text) (at - from) 0 ∷ [] = take-suc (drop from text) (at - from) 0 inside in
-    let read : get_or (drop from text) (at - from) 0 ≡ get_or text at 0 = get_or-drop from text (at - from) 0 ∙ ap (λ (i : ℕ). get_or text i 0) place in
-    ap (λ (i : ℕ). take i (drop from text)) (sym more) ∙ longer ∙ ap (λ (b : ℕ). take (at - from) (drop from text) ++ b ∷ []) read
-
 pub letter_step : (sum n from at : ℕ) (text : Text) → from ≤ at → at < length text → is_ascii_digit (get_or text at 0) ≡ false
     → added_up sum n (slice_range text from at) (drop at text) ≡ added_up sum n (slice_range text from (at + 1)) (drop (at + 1) text)
 letter_step sum n from at text le lt letter =
     let here = at_drop_more (added_up sum n (slice_range text from at)) text at 0 lt in
     let passed : added_up sum n (slice_range text from at) (get_or text at 0 ∷ drop (at + 1) text) ≡ added_up sum n (slice_range text from at ++ get_or text at 0 ∷ []) (drop (at + 1) text) = rw letter refl in
-    here ∙ passed ∙ ap (λ (name : Text). added_up sum n name (drop (at + 1) text)) (sym (grows text from at le lt))
+    here ∙ passed ∙ ap (λ (name : Text). added_up sum n name (drop (at + 1) text)) (sym (slice_step text from at le lt))
 
 pub digit_step : (sum n from at : ℕ) (text : Text) → at < length text → is_ascii_digit (get_or text at 0) ≡ true
     → added_up sum n (slice_range text from at) (drop at text)

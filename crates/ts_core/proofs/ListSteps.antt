@@ -1,5 +1,6 @@
--- One more of what is made of a list one by one, a test of what is made, and how many pass one.
-use Rattle.std.proofs.Common.{◌≡◌, ◌≤◌, Bool, true, false, cond, ◌||◌, List, [], ◌∷◌, ◌++◌, length, filter, map, arith, refl, ap}
+-- One more of what is made of a list one by one, a test of what is made, how many pass one, and one more byte of a slice.
+use Rattle.std.proofs.Common.{◌≡◌, ◌≤◌, ◌<◌, ◌+◌, ◌-◌, ◌∙◌, ℕ, take, drop, get_or, slice_range, length-drop, Bool, true, false, cond, ◌||◌, List, [], ◌∷◌, ◌++◌, length, filter, map, arith, refl, ap}
+use Rattle.std.proofs.lemmas.List.{take_more, get_or-drop}
 use Rattle.std.specs.List.{list_any}
 
 pub map-push : {X Y : Type 0} (f : X → Y) (xs : List X) (x : X) → map f (xs ++ x ∷ []) ≡ map f xs ++ f x ∷ []
@@ -15,3 +16,12 @@ length-filter p [] = omega arith
 length-filter p (x ∷ xs) =
     let ih = length-filter p xs in
     elim (p x) as (λ b. length (cond b (x ∷ filter p xs) (filter p xs)) ≤ length (x ∷ xs)) [ true ↦ omega arith | false ↦ omega arith ]
+
+-- one more byte of a slice
+pub slice_step : (text : List ℕ) (from i : ℕ) → from ≤ i → i < length text → slice_range text from (i + 1) ≡ slice_range text from i ++ get_or text i 0 ∷ []
+slice_step text from i le lt =
+    let n : (i + 1) - from ≡ (i - from) + 1 = omega arith in
+    let within : i - from < length (drop from text) = omega (arith, length-drop from text) in
+    let back : from + (i - from) ≡ i = omega arith in
+    let byte : get_or (drop from text) (i - from) 0 ≡ get_or text i 0 = get_or-drop from text (i - from) 0 ∙ ap (λ k. get_or text k 0) back in
+    ap (λ k. take k (drop from text)) n ∙ take_more (drop from text) (i - from) 0 within ∙ ap (λ b. take (i - from) (drop from text) ++ b ∷ []) byte

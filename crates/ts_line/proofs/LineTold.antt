@@ -15,7 +15,7 @@ use Rattle.ts_line.specs.Scan.{spaces, spaces_end}
 use Rattle.ts_line.specs.Lines.{is_bare_space, trimmed, without_return, content, time_of, time_by, time_at}
 use Rattle.ts_line.specs.Spelling.{are_spaces, IsStamp, SaysTime}
 use Rattle.ts_line.proofs.NumberLemmas.{within_time}
-use Rattle.ts_line.proofs.ScanLemmas.{slice_step}
+use Rattle.ts_core.proofs.ListSteps.{slice_step}
 use Rattle.ts_line.proofs.PartsTold.{cut, first_of, nothing_left, slice_len, spaces_within, spaces_are}
 
 -- ---- a gap: one space or more

@@ -5,7 +5,7 @@ use Rattle.std.proofs.lemmas.Slice.Eq.{bytes_eq-Decides}
 use Rattle.ts_core.specs.Facts.{Text}
 use Rattle.ts_line.specs.Parts.{LinePart}
 use Rattle.ts_line.specs.Fields.{place_from, with_field}
-use Rattle.ts_line.specs.Marks.{slot_of, AreMarked, AreKeysMarked}
+use Rattle.ts_line.specs.NameMarks.{slot_of, AreMarked, AreKeysMarked}
 use Rattle.ts_line.specs.TagParts.{has_key}
 use Rattle.ts_line.proofs.FieldLemmas.{field_pushed}
 

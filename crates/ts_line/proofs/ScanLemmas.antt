@@ -5,6 +5,7 @@ use Rattle.std.proofs.lemmas.List.{at_drop_more, at_drop_all, take_more, get_or-
 use Rattle.std.proofs.lemmas.List.Folds.{list_any-append}
 use Rattle.std.proofs.Math.Bool.{or-false}
 use Rattle.std.proofs.lemmas.Bool.Decides.{nat_tests}
+use Rattle.ts_core.proofs.ListSteps.{slice_step}
 use Rattle.ts_core.specs.Facts.{Text}
 use Rattle.ts_line.specs.declared.scan.Stops.{Stops}
 use Rattle.ts_line.specs.declared.scan.Stops.TheVariants.{Space, Comma, Equals, Plain}
@@ -42,15 +43,6 @@ ends_ascii Space before byte e = stop_space before byte e
 ends_ascii Comma before byte e = stop_comma before byte e
 ends_ascii Equals before byte e = stop_equals before byte e
 ends_ascii Plain before byte e = stop_plain byte e
-
--- one more byte of a part
-pub slice_step : (line : Text) (from i : ℕ) → from ≤ i → i < length line → slice_range line from (i + 1) ≡ slice_range line from i ++ get_or line i 0 ∷ []
-slice_step line from i le lt =
-    let n : (i + 1) - from ≡ (i - from) + 1 = omega arith in
-    let within : i - from < length (drop from line) = omega (arith, length-drop from line) in
-    let back : from + (i - from) ≡ i = omega arith in
-    let byte : get_or (drop from line) (i - from) 0 ≡ get_or line i 0 = get_or-drop from line (i - from) 0 ∙ ap (λ k. get_or line k 0) back in
-    ap (λ k. take k (drop from line)) n ∙ take_more (drop from line) (i - from) 0 within ∙ ap (λ b. take (i - from) (drop from line) ++ b ∷ []) byte
 
 pub any_step : (p : ℕ → Bool) (line : Text) (from i : ℕ) → from ≤ i → i < length line → list_any p (slice_range line from (i + 1)) ≡ (list_any p (slice_range line from i) || p (get_or line i 0))
 any_step p line from i le lt =

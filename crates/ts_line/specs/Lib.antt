@@ -8,7 +8,7 @@ pub mod ReadSteps
 pub mod TagParts
 pub mod Values
 pub mod Fields
-pub mod Marks
+pub mod NameMarks
 pub mod Lines
 pub mod EscapeLaws
 pub mod Spelling

@@ -2,7 +2,7 @@
 ghost use Rattle.std.specs.Prelude.{◌≡◌, ◌<◌, length, [], IfOk, IfSome, OnOk};
 ghost use Rattle.std.specs.Str.{IsCharBoundary};
 ghost use Rattle.ts_line.specs.ReadSteps.{GivesIfRoom};
-ghost use Rattle.ts_line.specs.Marks.{AreMarked};
+ghost use Rattle.ts_line.specs.NameMarks.{AreMarked};
 ghost use Rattle.ts_line.specs.Fields.{next_field, place_from, with_field, fields_at};
 
 use crate::fault::{LineFaultKind, ReadLineError};

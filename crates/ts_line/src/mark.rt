@@ -1,6 +1,6 @@
 //! Marks of names, by which most names of a line are known to be new without a look at the others.
 ghost use Rattle.std.specs.Prelude.{◌≡◌, ◌<◌};
-ghost use Rattle.ts_line.specs.Marks.{slot_of};
+ghost use Rattle.ts_line.specs.NameMarks.{slot_of};
 
 use crate::scan::byte_at;
 

@@ -2,7 +2,7 @@
 ghost use Rattle.std.specs.Prelude.{◌≡◌, ◌<◌, ◌≤◌, ◌++◌, ◌∷◌, length, [], IfOk, slice_index_or, true, false};
 ghost use Rattle.std.specs.Str.{IsCharBoundary};
 ghost use Rattle.ts_line.specs.ReadSteps.{GivesIfRoom};
-ghost use Rattle.ts_line.specs.Marks.{slot_of, AreKeysMarked};
+ghost use Rattle.ts_line.specs.NameMarks.{slot_of, AreKeysMarked};
 ghost use Rattle.ts_line.specs.TagParts.{has_key, next_tag, tags_at};
 
 use crate::fault::{LineFaultKind, ReadLineError};

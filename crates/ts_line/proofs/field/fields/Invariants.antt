@@ -1,5 +1,5 @@
 use Rattle.std.proofs.Common.{◌≡◌, ◌-◌, [], IsCharBoundary}
-use Rattle.ts_line.specs.Marks.{AreMarked}
+use Rattle.ts_line.specs.NameMarks.{AreMarked}
 use Rattle.ts_line.specs.Fields.{fields_at}
 use Rattle.ts_line.proofs.field.fields.Given as goal
 

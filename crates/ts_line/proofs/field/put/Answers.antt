@@ -1,6 +1,6 @@
 use Rattle.std.proofs.Common.{◌≡◌, ◌<◌, ℤ, false, List, length, slice_index_or, sym, ap, ◌∙◌, subst, arith}
 use Rattle.ts_line.specs.Parts.{LinePart}
-use Rattle.ts_line.specs.Marks.{slot_of}
+use Rattle.ts_line.specs.NameMarks.{slot_of}
 use Rattle.ts_line.specs.Fields.{with_field}
 use Rattle.ts_line.proofs.MarkLemmas.{unmarked_pushed, push_marked, put_marked}
 use Rattle.ts_line.proofs.field.put.Goals as goal

@@ -1,5 +1,5 @@
 use Rattle.std.proofs.Common.{◌≡◌, ◌<◌, false, length, slice_index_or, sym, ap, ◌∙◌, subst, arith}
-use Rattle.ts_line.specs.Marks.{slot_of}
+use Rattle.ts_line.specs.NameMarks.{slot_of}
 use Rattle.ts_line.proofs.MarkLemmas.{unmarked_key, keys_kept, marked_at}
 use Rattle.ts_line.proofs.tag.is_repeated.Goals as goal
 

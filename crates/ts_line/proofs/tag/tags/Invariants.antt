@@ -1,5 +1,5 @@
 use Rattle.std.proofs.Common.{◌≡◌, ◌-◌, ◌≤◌, length, [], vec_len, IsCharBoundary}
-use Rattle.ts_line.specs.Marks.{AreKeysMarked}
+use Rattle.ts_line.specs.NameMarks.{AreKeysMarked}
 use Rattle.ts_line.specs.TagParts.{tags_at}
 use Rattle.ts_line.proofs.tag.tags.Given as goal
 
