@@ -1,13 +1,14 @@
 -- One more lane leaves the cells as they are.
-use Rattle.std.proofs.Common.{◌≡◌, ℕ, ℤ, zero, suc, ◌<◌, ◌≤◌, ◌+◌, List, [], ◌∷◌, ◌++◌, length, length-append, get_or, take, map, String, string_bytes, Bor, refl, sym, ◌∙◌, ap, ap₂, subst, Option, Some, None, inl, inr, ⊎_elim, arith}
+use Rattle.std.proofs.Common.{◌≡◌, ℕ, ℤ, ◌<◌, ◌≤◌, ◌+◌, List, [], ◌∷◌, ◌++◌, length, length-append, get_or, take, map, String, string_bytes, Bor, refl, sym, ◌∙◌, ap, ap₂, subst, Option, Some, None, inl, inr, arith}
 use Rattle.std.specs.List.{AllByRecursion}
 use Rattle.std.proofs.Common.{Result, Ok, Err, OnOk}
 use Rattle.ts_core.specs.Members.{Among}
-use Rattle.ts_core.proofs.MembersLemmas.{AllDistinct-append}
+use Rattle.ts_core.proofs.NumberedLemmas.{once_more}
 use Rattle.std.proofs.lemmas.List.{take_more}
 use Rattle.ts_core.specs.Facts.{Text}
+use Rattle.ts_core.specs.Numbered.{Gains}
 use Rattle.ts_core.proofs.ListSteps.{map-push}
-use Rattle.ts_cells.specs.Grids.{lent_texts, Lane, RowOf, row_entries, entries_of, IsGrid, IsAt, Gains}
+use Rattle.ts_cells.specs.Grids.{lent_texts, Lane, RowOf, row_entries, entries_of, IsGrid}
 
 module _ {P : Type 0} where
   row_wider : (i : ℤ) (ls : List Lane) (l : Lane) (cs : List (Option P)) → length cs ≤ length ls → row_entries i (ls ++ l ∷ []) cs ≡ row_entries i ls cs
@@ -27,19 +28,10 @@ module _ {P : Type 0} where
 
   pub grid_wider : (ls : List Lane) (l : Lane) (rows : List (RowOf P)) → IsGrid ls rows → (Among l ls → ⊥) → IsGrid (ls ++ l ∷ []) rows
   grid_wider ls l rows g n = record {
-    once = AllDistinct-append ls (l ∷ []) g.once ((λ a. a), tt) (λ z a b. ⊎_elim {C = ⊥} (λ e. n (subst (λ x. Among x ls) e a)) (λ k. k) b);
+    once = once_more ls l g.once n;
     rising = g.rising;
     narrow = narrower (length ls) (length (ls ++ l ∷ [])) rows (let e = length-append ls (l ∷ []) in omega arith) g.narrow;
   }
-
-pub at_among : {X : Type 0} (xs : List X) (n : ℕ) (x : X) → IsAt xs n x → Among x xs
-at_among [] n x e = absurd (let f : None ≡ Some x = e in cc)
-at_among (y ∷ xs) zero x e = inl (let f : Some y ≡ Some x = e in cc)
-at_among (y ∷ xs) (suc n) x e = inr (at_among xs n x e)
-
-pub at_end : {X : Type 0} (xs : List X) (x : X) → IsAt (xs ++ x ∷ []) (length xs) x
-at_end [] x = refl
-at_end (y ∷ xs) x = at_end xs x
 
 pub on_any_ok : {T E Q : Type 0} (r : Result T E) → Q → OnOk r Q
 on_any_ok (Ok x) q = q

@@ -17,7 +17,8 @@ use Rattle.ts_core.specs.Members.{Among}
 use Rattle.ts_core.specs.Facts.{Text, text_cmp}
 use Rattle.ts_core.proofs.Ids.{equal_of}
 use Rattle.ts_core.proofs.Places.{rises, put_between}
-use Rattle.ts_cells.specs.Grids.{Lane, no_lane, IsAt}
+use Rattle.ts_core.specs.Numbered.{IsAt}
+use Rattle.ts_cells.specs.Grids.{Lane, no_lane}
 use Rattle.ts_cells.specs.Lanes.{lane_cmp, found_cmp, lanes_numbered, AreInside, IsOrdered}
 use Rattle.ts_cells.proofs.Searches.{missing}
 use Rattle.ts_cells.proofs.GridLemmas.{get_among, has_lane}

@@ -18,7 +18,8 @@ use Rattle.ts_core.specs.Changes.{or_else}
 use Rattle.ts_core.proofs.Ids.{equal_of}
 use Rattle.ts_core.proofs.PieceCells.{cells_total, exact_cells, same_cell-eq}
 use Rattle.ts_core.proofs.Places.{both_of, less_of}
-use Rattle.ts_cells.specs.Grids.{Lane, no_lane, lane_of, cell_at, cell_in, RowOf, held, entries_of, RowsRise, cells_of_bucket, IsAt}
+use Rattle.ts_core.specs.Numbered.{IsAt}
+use Rattle.ts_cells.specs.Grids.{Lane, no_lane, lane_of, cell_at, cell_in, RowOf, held, entries_of, RowsRise, cells_of_bucket}
 use Rattle.ts_cells.specs.Lanes.{lane_cmp, lanes_numbered, AreInside, IsOrdered}
 use Rattle.ts_cells.specs.Walks.{KeptCell, entry_of, with_kept, row_left, walk_left, entries_within}
 use Rattle.ts_cells.proofs.Searches.{find_below}

@@ -1,11 +1,11 @@
 -- Cells kept by buckets and lanes: a lane is a field with a group, named by its number. (Own rules.)
-use Rattle.std.specs.Prelude.{◌≡◌, ℕ, ℤ, ◌≤◌, T, List, [], ◌∷◌, ◌++◌, length, get_or, Option, Some, None, refl, ◌≢◌, ◌==◌, if◌then◌else◌, ◌⊎◌, slice_get, map}
+use Rattle.std.specs.Prelude.{◌≡◌, ℕ, ℤ, ◌≤◌, T, List, [], ◌∷◌, ◌++◌, length, get_or, Option, Some, None, refl, ◌≢◌, ◌==◌, if◌then◌else◌, map}
 use Rattle.std.specs.Ordering.{int_cmp}
 use Rattle.std.specs.List.{AllByRecursion}
 use Rattle.std.specs.FinMap as finmap
 use Rattle.std.specs.FinMap.{FinMap, is_sorted, find, from_entries}
 use Rattle.std.specs.Coded.{Coded, code_by, coded×, coded_list}
-use Rattle.ts_core.specs.Members.{Among, AllDistinct}
+use Rattle.ts_core.specs.Members.{AllDistinct}
 use Rattle.std.specs.Borrow.{Bor}
 use Rattle.ts_core.specs.Facts.{Text}
 use Rattle.ts_core.specs.Cells.{Cell, cell_cmp}
@@ -26,14 +26,6 @@ lent_texts xs = map (λ (x : Bor Text). x.now) xs
 
 abbrev pub lane_named : Text → List (Bor Text) → Lane
 lane_named field group = record { field = field; group = lent_texts group }
-
--- x has the number n
-abbrev pub IsAt : {X : Type 0} → List X → ℕ → X → Type 0
-IsAt xs n x = slice_get xs n ≡ Some x
-
--- x is there as it was, or is added behind all others
-abbrev pub Gains : {X : Type 0} → List X → List X → X → Type 0
-Gains before after x = (Among x before × (after ≡ before)) ⊎ ((Among x before → ⊥) × (after ≡ before ++ x ∷ []))
 
 abbrev pub lane_of : Cell → Lane
 lane_of k = record { field = k.field; group = k.group }

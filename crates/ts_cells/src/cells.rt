@@ -9,12 +9,14 @@ ghost use Rattle.std.specs.List.{HoldsAt, AllByRecursion};
 ghost use Rattle.std.specs.List.Sorted.{IsPartitionPoint, IsSearchInRange};
 ghost use Rattle.std.specs.FinMap as finmap;
 ghost use Rattle.ts_core.specs.Changes.{changed, joined_within};
+ghost use Rattle.ts_core.specs.Numbered.{IsAt, Gains};
 ghost use Rattle.ts_cells.specs.CellChanges.{roomy};
-ghost use Rattle.ts_cells.specs.Grids.{Lane, RowsRise, IsGrid, grid_of, held, cells_of_bucket, cell_in, lane_named, lane_of, IsAt, Gains};
+ghost use Rattle.ts_cells.specs.Grids.{Lane, RowsRise, IsGrid, grid_of, held, cells_of_bucket, cell_in, lane_named, lane_of};
 ghost use Rattle.ts_cells.specs.Walks.{entry_of, entries_within};
 
 use crate::lane::LaneId;
 use crate::lanes::Lanes;
+use crate::room::reserve_quarter;
 use crate::row::Row;
 use crate::walk::{Walk, rows_between};
 use std::alloc::{AllocError, Allocator};
@@ -85,6 +87,7 @@ fn row_for<P: Partial + Drop, A: Allocator + Copy>(
     match place_of(rows.as_slice(), index) {
         Ok(at) => Ok(at),
         Err(at) => {
+            reserve_quarter(rows, 1)?;
             let row = Row::new(*rows.allocator(), index);
             rows.insert(at, row)?;
             Ok(at)
@@ -101,7 +104,7 @@ fn drop_front<P: Partial + Drop, A: Allocator + Copy>(rows: &mut Vec<Row<P, A>, 
 }
 
 /// Removes a cell of a bucket below an index, where the rows at the front that are known to be empty are counted: so
-/// are those that are met before the cell. It tells whether there was one.
+/// are those that are met before the cell. It answers whether there was one.
 fn remove_one<P: Partial + Drop, A: Allocator + Copy>(
     rows: &mut Vec<Row<P, A>, A>,
     emptied: &mut usize,
@@ -129,7 +132,7 @@ fn remove_one<P: Partial + Drop, A: Allocator + Copy>(
 }
 
 /// Removes cells of buckets below an index: 256, or all where there are fewer. The rows that it empties go together
-/// at the end. It tells how many cells it removed.
+/// at the end. It answers how many cells it removed.
 fn remove_below<P: Partial + Drop, A: Allocator + Copy>(
     rows: &mut Vec<Row<P, A>, A>,
     low: &i128,
@@ -222,7 +225,7 @@ impl<P: Partial + Drop, A: Allocator + Copy> Cells<P, A> {
         Walk::new(self.lanes.as_slice(), self.lanes.order(), rows)
     }
 
-    /// Removes cells below an index: 256, or all where there are fewer. It tells how many.
+    /// Removes cells below an index: 256, or all where there are fewer. It answers how many.
     pub fn expire(&mut self, low: &i128) -> usize
         ensures lanes { self.new.lanes ≡ self.old.lanes }
         ensures few { result ≤ 256 }

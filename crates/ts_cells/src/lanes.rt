@@ -3,13 +3,15 @@ ghost use Rattle.std.specs.Prelude.{◌≡◌, [], length, MatchResult, IfOk, On
 ghost use Rattle.std.specs.declared.cmp.Ordering.{Ordering};
 ghost use Rattle.std.specs.List.{HoldsAt};
 ghost use Rattle.std.specs.List.Sorted.{IsPartitionPoint, IsSearchInRange};
-ghost use Rattle.ts_cells.specs.Grids.{lane_named, IsAt, Gains};
+ghost use Rattle.ts_core.specs.Numbered.{IsAt, Gains};
+ghost use Rattle.ts_cells.specs.Grids.{lane_named};
 ghost use Rattle.ts_cells.specs.Lanes.{found_cmp, IsOrdered};
 
 use crate::lane::Lane;
 use std::alloc::{AllocError, Allocator};
 use std::cmp::Ordering;
 use std::marker::Model;
+use ts_core::next_number;
 
 /// Lanes, numbered in the order of making.
 #[derive(Drop)]
@@ -61,13 +63,6 @@ fn place_in_order<A: Allocator + Copy>(
     ensures place { MatchResult result (HoldsAt (λ n. found_cmp (slice_get lanes.now n) (lane_named field.now group.now) ≡ Ordering.Equal) order.now) (IsPartitionPoint (λ n. found_cmp (slice_get lanes.now n) (lane_named field.now group.now) ≡ Ordering.Less) (λ n. found_cmp (slice_get lanes.now n) (lane_named field.now group.now) ≡ Ordering.Greater) order.now) }
 {
     order.binary_search_by(|number| compare_at(lanes, *number, field, group))
-}
-
-/// The number of one lane more. One that needs more than 32 bits is told as want of memory.
-fn next_number(count: usize) -> Result<u32, AllocError>
-    ensures { IfOk result (λ number. number ≡ count) }
-{
-    u32::try_from(count).map_err(|_| AllocError)
 }
 
 impl<A: Allocator + Copy> Lanes<A> {

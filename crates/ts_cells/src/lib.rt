@@ -16,6 +16,7 @@ mod cells;
 mod lane;
 mod lanes;
 mod places;
+mod room;
 mod row;
 mod walk;
 

@@ -2,6 +2,7 @@
 ghost use Rattle.std.specs.Prelude.{◌≡◌, ◌≤◌, ◌<◌, ◌+◌, ℕ, ◌==◌, [], length, max, OnOk, OnErr, if◌then◌else◌};
 ghost use Rattle.ts_cells.specs.Rows.{no_place, place_of, from_first};
 
+use crate::room::reserve_quarter;
 use std::alloc::{AllocError, Allocator};
 use std::marker::Model;
 
@@ -76,6 +77,7 @@ fn widen_back<A: Allocator>(places: &mut Vec<u32, A>, offset: u32) -> Result<(),
     if offset < places.len() {
         return Ok(());
     }
+    reserve_quarter(places, offset + 1 - places.len())?;
     places.resize(offset + 1, NO_CELL)
 }
 

@@ -7,6 +7,7 @@ ghost use Rattle.ts_cells.specs.Rows.{no_place};
 ghost use Rattle.std.specs.Bool.{OnTrue, OnFalse};
 
 use crate::places::{NO_CELL, Places};
+use crate::room::reserve_quarter;
 use std::alloc::{AllocError, Allocator};
 use std::cmp::Ordering;
 use std::marker::Model;
@@ -54,7 +55,7 @@ fn joined<P: Partial>(cell: P, part: P) -> P
     }
 }
 
-/// The place of one cell more. One that needs more than 32 bits is told as want of memory.
+/// The place of one cell more. One that needs more than 32 bits is answered as out of memory.
 fn next_place(count: usize) -> Result<u32, AllocError>
     ensures count { IfOk result (λ place. place ≡ count) }
     ensures few { IfOk result (λ place. place < no_place) }
@@ -111,7 +112,7 @@ impl<P: Partial + Drop, A: Allocator + Copy> Row<P, A> {
         }
     }
 
-    /// Removes the cell that was made last. It tells whether there was one.
+    /// Removes the cell that was made last. It answers whether there was one.
     pub(crate) fn remove_last(&mut self) -> bool
         ensures index { self.new.0 ≡ self.old.0 }
         ensures removed { OnTrue result (HasLost self.old.1 self.new.1) }
@@ -137,8 +138,8 @@ impl<P: Partial + Drop, A: Allocator + Copy> Row<P, A> {
             return Ok(());
         }
         let place = next_place(self.parts.len())?;
-        self.parts.reserve(1)?;
-        self.lanes.reserve(1)?;
+        reserve_quarter(&mut self.parts, 1)?;
+        reserve_quarter(&mut self.lanes, 1)?;
         self.places.put(lane, place)?;
         self.parts.push(P::empty()).unwrap();
         self.lanes.push(lane).unwrap();

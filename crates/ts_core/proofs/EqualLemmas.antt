@@ -51,16 +51,16 @@ option_itself None = refl
 option_itself (Some x) = equal_itself x
 
 abbrev pub equal_aggregates : Aggregate → Aggregate → Bool
-equal_aggregates a b = nat_eq a.count b.count && (int_eq a.sum b.sum && option_eq eq-value.it a.extremes b.extremes)
+equal_aggregates a b = int_eq a.sum b.sum && (nat_eq a.count b.count && option_eq eq-value.it a.extremes b.extremes)
 
 pub same_aggregates : (a b : Aggregate) → equal_aggregates a b ≡ true → a ≡ b
 same_aggregates a b h =
-    let s = and_parts (nat_eq a.count b.count) _ h in
-    let t = and_parts (int_eq a.sum b.sum) _ s.1 in
-    let count = eqb-true a.count b.count s.0 in
-    let sum = same_value a.sum b.sum t.0 in
+    let s = and_parts (int_eq a.sum b.sum) _ h in
+    let t = and_parts (nat_eq a.count b.count) _ s.1 in
+    let sum = same_value a.sum b.sum s.0 in
+    let count = eqb-true a.count b.count t.0 in
     let extremes = same_options a.extremes b.extremes t.1 in
     λ i. record { count = count i; sum = sum i; extremes = extremes i }
 
 pub equal_aggregates_from : (a b : Aggregate) → a ≡ b → equal_aggregates a b ≡ true
-equal_aggregates_from a b e = subst (λ x. equal_aggregates a x ≡ true) e (both_true (eq-eqb a.count a.count refl) (both_true (int_eq_equiv.refl a.sum) (option_itself a.extremes)))
+equal_aggregates_from a b e = subst (λ x. equal_aggregates a x ≡ true) e (both_true (int_eq_equiv.refl a.sum) (both_true (eq-eqb a.count a.count refl) (option_itself a.extremes)))

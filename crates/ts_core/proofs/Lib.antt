@@ -64,3 +64,8 @@ pub mod EachItem
 pub mod SettingsForms
 pub mod DurationLaws
 pub mod SettingsBack
+pub mod LastBelows
+pub mod Chained
+pub mod NumberedLemmas
+pub mod ChainSearches
+pub mod TableLemmas

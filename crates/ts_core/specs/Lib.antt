@@ -51,6 +51,11 @@ pub mod Assembly
 pub mod Devices
 pub mod ReadingAhead
 pub mod Texts
+-- names under small numbers
+pub mod Numbered
+pub mod LastBelow
+pub mod Links
+pub mod Tables
 -- what only proofs and models of the code need
 pub mod OrderLaws
 pub mod MergeLaws

@@ -29,8 +29,8 @@ pub struct Extremes {
 /// Count, sum, min, max, first and last of at most 2^62 points.
 #[derive(Clone, Copy, Debug, PartialEq, Eq)]
 pub struct Agg {
-    count: u64,
     sum: i128,
+    count: u64,
     extremes: Option<Extremes>,
 }
 

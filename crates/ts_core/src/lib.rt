@@ -6,6 +6,7 @@
 //! ```text
 //! aggregate_points(&[(time, 5), (later, 7)])  // an Agg: count 2, sum 12, and so on; `Function::Mean.value_of(&agg)` is 6/1
 //! Settings::read(alloc, json, text)?          // raw duration and rules, or the first fault; JSON is read in the memory `json`
+//! chains.push(hash)?; chains.newest(hash)     // `Chains`: the places of names by their hashes, for tables that number names
 //! ```
 //!
 //! To add an aggregate that the stored parts give (a spread): `Function` and its `value_of` in value.rt with specs/Fills.antt. One that
@@ -15,6 +16,7 @@
 
 mod aggregate;
 mod bucket;
+mod chains;
 mod duration;
 mod fact;
 mod fault;
@@ -26,6 +28,7 @@ mod fold;
 mod key;
 mod marks;
 mod means;
+mod numbers;
 mod partial;
 mod read_ahead;
 mod remainder;
@@ -42,6 +45,7 @@ mod value;
 
 pub use aggregate::{Agg, Extremes};
 pub use bucket::{bucket_index, index_of};
+pub use chains::Chains;
 pub use fact::Fact;
 pub use fault::Fault;
 pub use fault_code::FaultCode;
@@ -52,6 +56,7 @@ pub use fold::{aggregate_points, fold_points};
 pub use key::Key;
 pub use marks::Marks;
 pub use means::{Frac, mean};
+pub use numbers::next_number;
 pub use partial::Partial;
 pub use read_ahead::{ReadAhead, ReadFault};
 pub use remainder::Remainder;

@@ -8,10 +8,10 @@ use Rattle.std.specs.Cmp.Derive.{both_true}
 use Rattle.ts_core.specs.Members.{Among}
 use Rattle.ts_core.proofs.MembersLemmas.{Among-append}
 use Rattle.ts_raw.specs.ColumnTables.{same_numbers, has_field, IsColumnTable}
-use Rattle.ts_raw.specs.LastBelow.{last_below, last_with}
-use Rattle.ts_raw.specs.Numbered.{IsAt, numbers_where}
-use Rattle.ts_raw.proofs.LastBelows.{last_below-some, last_below-none, last_with-push}
-use Rattle.ts_raw.proofs.NumberedLemmas.{among_at, at_within, at_among, once_more, numbers_where-push, numbers_from-none}
+use Rattle.ts_core.specs.LastBelow.{last_below, last_with}
+use Rattle.ts_core.specs.Numbered.{IsAt, numbers_where}
+use Rattle.ts_core.proofs.LastBelows.{last_below-some, last_below-none, last_with-push}
+use Rattle.ts_core.proofs.NumberedLemmas.{among_at, at_within, at_among, once_more, numbers_where-push, numbers_from-none}
 
 same_numbers-eq : (x y : ℕ × ℕ) → same_numbers x y ≡ true → x ≡ y
 same_numbers-eq x y h =

@@ -11,9 +11,9 @@ use Rattle.ts_raw.specs.FieldKeys.{FieldKey, field_key}
 use Rattle.ts_raw.specs.ColumnTables.{ColumnNumbers, has_field}
 use Rattle.ts_raw.specs.Indexed.{IsSoundIndex, no_series, column_in}
 use Rattle.ts_raw.specs.IndexParts.{no_field, column_named, IsNamed, index_by_numbers, IsIndex}
-use Rattle.ts_raw.specs.Numbered.{IsAt, numbers_where, numbers_where_from}
+use Rattle.ts_core.specs.Numbered.{IsAt, numbers_where, numbers_where_from}
 use Rattle.ts_core.proofs.MembersLemmas.{Among-map, map_back}
-use Rattle.ts_raw.proofs.NumberedLemmas.{at_among, among_at, at_within, same_place, AllDistinct-map, numbers_from-map, numbers_from-none}
+use Rattle.ts_core.proofs.NumberedLemmas.{at_among, among_at, at_within, same_place, AllDistinct-map, numbers_from-map, numbers_from-none}
 
 none_pass : {X : Type 0} (n : ℕ) (xs : List X) → numbers_where_from (λ x. false) n xs ≡ []
 none_pass n xs = numbers_from-none (λ x. false) n xs (λ x a. refl)

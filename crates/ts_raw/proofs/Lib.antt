@@ -2,13 +2,8 @@ pub mod PointMaps
 pub mod PointRanges
 pub mod EdgesLemmas
 pub mod ColumnLaws
-pub mod LastBelows
-pub mod Chained
-pub mod NumberedLemmas
-pub mod Searches
 pub mod Hashing
 pub mod SeriesLemmas
-pub mod TableLemmas
 pub mod ColumnLemmas
 pub mod ListsLemmas
 pub mod IndexLemmas

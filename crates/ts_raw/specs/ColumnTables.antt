@@ -1,8 +1,8 @@
 -- Columns by the numbers of their series and their fields. (Own rule.)
 use Rattle.std.specs.Prelude.{◌≡◌, ℕ, ◌<◌, Bool, ◌==◌, ◌&&◌, List, [], length, Option, slice_index_or}
 use Rattle.ts_core.specs.Members.{AllDistinct}
-use Rattle.ts_raw.specs.LastBelow.{last_with}
-use Rattle.ts_raw.specs.Numbered.{IsAt, numbers_where}
+use Rattle.ts_core.specs.LastBelow.{last_with}
+use Rattle.ts_core.specs.Numbered.{IsAt, numbers_where}
 
 -- the columns in the order of making, each as the numbers of its series and its field, and how many fields there is room for
 pub record ColumnNumbers : Type 0 where

@@ -2,7 +2,7 @@
 use Rattle.std.specs.Prelude.{◌≡◌, ℕ, ◌<◌, ◌≤◌, List, [], length, map, slice_index_or}
 use Rattle.ts_core.specs.Members.{AllDistinct}
 use Rattle.ts_core.specs.Facts.{Series, Column}
-use Rattle.ts_raw.specs.Numbered.{IsAt}
+use Rattle.ts_core.specs.Numbered.{IsAt}
 use Rattle.ts_raw.specs.FieldKeys.{FieldKey, field_key}
 use Rattle.ts_raw.specs.ColumnTables.{ColumnNumbers}
 use Rattle.ts_raw.specs.Indexed.{Indexed, no_series}

@@ -2,11 +2,7 @@ pub mod Columns
 pub mod PlainColumns
 pub mod PointsLeft
 pub mod Edges
-pub mod LastBelow
-pub mod Links
-pub mod Numbered
 pub mod Hashes
-pub mod Tables
 pub mod FieldKeys
 pub mod ColumnTables
 pub mod Lists

@@ -5,15 +5,13 @@ ghost use Rattle.ts_core.specs.Facts.{Column, is_of};
 ghost use Rattle.ts_core.specs.Members.{Among};
 ghost use Rattle.ts_core.specs.Texts.{lent_pairs, lent_series, IsTagSet};
 ghost use Rattle.ts_raw.specs.Indexed.{IsSoundIndex, column_in};
-ghost use Rattle.ts_raw.specs.Numbered.{IsAt, Gains, numbers_where};
+ghost use Rattle.ts_core.specs.Numbered.{IsAt, Gains, numbers_where};
 
-mod chains;
 mod column_id;
 mod columns;
 mod fault;
 mod fields;
 mod hash;
-mod next_number;
 mod series;
 mod series_id;
 
@@ -188,7 +186,7 @@ impl<A: Allocator + Copy> Index<A> {
 
     /// The column of a series and a field, made where there is none yet. The column of the field before is a guess: a
     /// column that was made right after it is found at once. Fields and columns have numbers of 32 bits, and one too
-    /// many is told as want of memory.
+    /// many is answered as out of memory.
     pub fn add_column(
         &mut self,
         before: Option<ColumnId>,

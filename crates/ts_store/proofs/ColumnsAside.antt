@@ -19,7 +19,7 @@ use Rattle.ts_store.proofs.ColumnsLemmas.{columns_puts, names_of, grown_behind}
 use Rattle.ts_core.specs.RawFacts.{is_waiting}
 use Rattle.ts_core.proofs.MembersLemmas.{Among-left, Among-append, Among-map, Among-filter_was}
 use Rattle.ts_core.proofs.StateLemmas.{is_waiting-there, is_waiting-not}
-use Rattle.ts_raw.proofs.NumberedLemmas.{at_among}
+use Rattle.ts_core.proofs.NumberedLemmas.{at_among}
 
 pub points_at : (ss : List ColumnState) (n : ℕ) → get_or (point_maps ss) n finmap.empty ≡ (get_or ss n no_column).points
 points_at [] n = refl

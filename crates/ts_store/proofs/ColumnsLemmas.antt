@@ -17,7 +17,7 @@ use Rattle.ts_core.proofs.Sorted.{sorted-distinct, found_among, among_found}
 use Rattle.ts_core.specs.StoreMoves.{Puts}
 use Rattle.ts_raw.specs.Columns.{PointMap, ColumnState}
 use Rattle.ts_raw.specs.Indexed.{Indexed}
-use Rattle.ts_raw.proofs.NumberedLemmas.{at_among}
+use Rattle.ts_core.proofs.NumberedLemmas.{at_among}
 use Rattle.ts_core.specs.StoreStates.{ColumnPoints, column_of, fact_at}
 use Rattle.ts_store.specs.ColumnsKept.{facts_in, point_maps, with_points, columns_in, facts_of_columns, held_of, AreKnown, IsHeld}
 use Rattle.ts_store.specs.Rollups.{RollupState}

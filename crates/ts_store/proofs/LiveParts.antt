@@ -20,10 +20,10 @@ use Rattle.ts_core.proofs.PieceCells.{same_cell-eq, same_cell-refl}
 use Rattle.ts_core.proofs.RunSteps.{filter-append}
 use Rattle.ts_core.proofs.AggregatesLemmas.{count_of_fold}
 use Rattle.ts_cells.proofs.GridMoves.{all_at}
-use Rattle.ts_cells.specs.Grids.{Lane, IsAt, lane_of, cell_at}
+use Rattle.ts_cells.specs.Grids.{Lane, lane_of, cell_at}
 use Rattle.ts_raw.specs.Columns.{ColumnState, points_in_bucket}
-use Rattle.ts_raw.specs.Numbered.{numbers_where_from}
-use Rattle.ts_raw.proofs.NumberedLemmas.{at_among, same_at}
+use Rattle.ts_core.specs.Numbered.{IsAt, numbers_where_from}
+use Rattle.ts_core.proofs.NumberedLemmas.{at_among, same_at}
 use Rattle.ts_store.specs.ColumnsKept.{with_points, point_maps, no_column}
 use Rattle.ts_store.specs.Rollups.{RollupState, IsLaneOf, HaveLanes, lane_under, is_of_lane, columns_of_lane}
 use Rattle.ts_store.specs.LiveCells.{points_in}

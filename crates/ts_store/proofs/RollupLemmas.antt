@@ -4,11 +4,11 @@ use Rattle.std.specs.List.{slice_get}
 use Rattle.std.proofs.lemmas.Bool.{eqb-true, eqb-false, ltb-true, lt-ltb}
 use Rattle.std.proofs.lemmas.List.{append-nil, map-append, map-set, length-set, length_push, length-map, get_or-map, get_or-set_same, get_or-set_other}
 use Rattle.ts_core.specs.Members.{Among, AllDistinct}
-use Rattle.ts_cells.specs.Grids.{Lane, Gains}
+use Rattle.ts_cells.specs.Grids.{Lane}
 use Rattle.ts_raw.specs.Lists.{lists_of}
-use Rattle.ts_raw.specs.Numbered.{numbers_where}
+use Rattle.ts_core.specs.Numbered.{Gains, numbers_where}
 use Rattle.ts_raw.proofs.NumbersLaws.{numbers_there}
-use Rattle.ts_raw.proofs.NumberedLemmas.{numbers_where-push, once_more}
+use Rattle.ts_core.proofs.NumberedLemmas.{numbers_where-push, once_more}
 use Rattle.ts_store.specs.Rollups.{is_of_lane, has_spare, HasSpareAt, HasSpares, IsRollup}
 
 same_number : (n : ℕ) → (n == n) ≡ true

@@ -20,7 +20,7 @@ use Rattle.ts_core.proofs.StateLemmas.{same_column-refl, same_column-eq}
 use Rattle.ts_core.proofs.MembersLemmas.{at_map_of}
 use Rattle.ts_raw.specs.Columns.{PointMap, ColumnState, points_from}
 use Rattle.ts_raw.specs.Indexed.{Indexed}
-use Rattle.ts_raw.proofs.NumberedLemmas.{at_among}
+use Rattle.ts_core.proofs.NumberedLemmas.{at_among}
 use Rattle.ts_store.specs.ColumnsKept.{point_maps, with_points, columns_in, no_column, held_of, IsHeld}
 use Rattle.ts_store.specs.PointsRead.{number_of_points}
 use Rattle.ts_store.specs.Rollups.{RollupState, IsLaneOf, AreRollups, lane_at, with_frozen, cells_of}

@@ -7,7 +7,7 @@ use Rattle.ts_core.specs.Settings.{Rule}
 use Rattle.ts_cells.specs.Grids.{Lane}
 use Rattle.ts_store.specs.Rollups.{RollupState, cells_of, lane_under, IsLaneOf, HaveLanes, AreRollups, Extends, KeepCells, HaveNext, joined_lane, with_next}
 use Rattle.ts_core.specs.Members.{Among}
-use Rattle.ts_raw.specs.Numbered.{IsAt, Gains}
+use Rattle.ts_core.specs.Numbered.{IsAt, Gains}
 use Rattle.std.proofs.lemmas.Option.{none-some, same_Some}
 use Rattle.ts_store.proofs.ColumnsAside.{slice_get_left}
 

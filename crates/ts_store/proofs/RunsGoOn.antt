@@ -17,8 +17,8 @@ use Rattle.ts_core.specs.Runs.{turns_left, steps_left}
 use Rattle.ts_core.proofs.StepStands.{step_stands}
 use Rattle.ts_core.proofs.MovesStand.{run_begins, cells_go, run_ends}
 use Rattle.ts_core.proofs.RunSteps.{idle_step_stands}
-use Rattle.ts_raw.specs.Numbered.{IsAt}
-use Rattle.ts_raw.proofs.NumberedLemmas.{at_among}
+use Rattle.ts_core.specs.Numbered.{IsAt}
+use Rattle.ts_core.proofs.NumberedLemmas.{at_among}
 use Rattle.ts_store.specs.CellCounts.{HoldFew}
 use Rattle.ts_store.specs.ColumnsKept.{Held}
 use Rattle.ts_store.specs.OpenRuns.{Run, waiting_in, kept_data, IsKept}

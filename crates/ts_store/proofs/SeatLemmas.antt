@@ -8,7 +8,7 @@ use Rattle.ts_core.specs.StoreStates.{ColumnPoints}
 use Rattle.ts_core.specs.StoreData.{rules_of}
 use Rattle.ts_core.specs.Views.{totals_in}
 use Rattle.ts_raw.specs.Columns.{PointMap, points_within}
-use Rattle.ts_raw.specs.Numbered.{numbers_where_from, numbers_where}
+use Rattle.ts_core.specs.Numbered.{numbers_where_from, numbers_where}
 use Rattle.ts_store.specs.ColumnsKept.{with_points}
 use Rattle.ts_store.specs.Seats.{Seat, seats_from, seats_where, seat_in, points_at}
 

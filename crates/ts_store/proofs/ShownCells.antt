@@ -19,11 +19,12 @@ use Rattle.ts_core.specs.Views.{RuleTotals, totals_in, seen_of}
 use Rattle.ts_core.proofs.MembersLemmas.{Among-filter_was}
 use Rattle.ts_core.proofs.PieceCells.{cells_total}
 use Rattle.ts_core.proofs.Sorted.{found_among}
-use Rattle.ts_cells.specs.Grids.{IsAt, lane_of}
+use Rattle.ts_core.specs.Numbered.{IsAt}
+use Rattle.ts_cells.specs.Grids.{lane_of}
 use Rattle.ts_cells.proofs.GridMoves.{all_at}
 use Rattle.ts_cells.specs.Walks.{KeptCell, entry_of, entries_within}
 use Rattle.ts_raw.specs.Columns.{ColumnState}
-use Rattle.ts_raw.proofs.NumberedLemmas.{at_within}
+use Rattle.ts_core.proofs.NumberedLemmas.{at_within}
 use Rattle.ts_store.specs.CellCounts.{HoldsFew, HoldFew, frozen_count}
 use Rattle.ts_store.specs.ColumnsKept.{Held, with_points, point_maps}
 use Rattle.ts_store.specs.OpenRuns.{Run, IsKept, kept_data}

@@ -34,8 +34,8 @@ use Rattle.ts_core.proofs.MovesStand.{grows}
 use Rattle.ts_core.proofs.LineStands.{length_before, line_put}
 use Rattle.ts_core.specs.SettingsFaults.{unless, settings_fault}
 use Rattle.ts_line.specs.Parts.{LinePart, Parts, series_of, fact_of, line_facts as line_facts}
-use Rattle.ts_raw.specs.Numbered.{IsAt}
-use Rattle.ts_raw.proofs.NumberedLemmas.{at_among}
+use Rattle.ts_core.specs.Numbered.{IsAt}
+use Rattle.ts_core.proofs.NumberedLemmas.{at_among}
 use Rattle.ts_store.specs.ColumnsKept.{Held, AreKnown}
 use Rattle.ts_store.specs.PointsRead.{points_between, AreLatestOf}
 use Rattle.ts_store.specs.Registered.{new_columns, without_points, with_columns}
@@ -159,7 +159,7 @@ grown_stands opening h settings marks n before after run made facts e known room
     (grows opening h (kept_data settings marks n before run) after.series after.columns (cells_of after.rollups) facts st known.once
     (λ c a. subst (λ (cs : List ColumnPoints). Among c (map column_of cs)) (sym e) (names_stay before.columns made c a)) known.registered (ap facts_of e ∙ same_facts before.columns made) room)
 
--- after want of memory
+-- after out of memory
 pub left_by : (settings : Settings) (marks : Marks) (n : ℕ) (before after : Held) (run : Option Run) (p : Parts) → IsKept (kept_data settings marks n before run) before run → GrowsForLine settings.rules before after p → AreKnown after
     → Leaves (kept_data settings marks n before run) (kept_data settings marks n after run) p
 left_by settings marks n before after run p kept g known = record {

@@ -6,7 +6,7 @@ use Rattle.ts_core.specs.StoreStates.{column_of}
 use Rattle.ts_core.specs.StoreData.{StoreData, GoesOn, StaysFor}
 use Rattle.ts_core.specs.StoreMoves.{PutsFacts, HaveRoom}
 use Rattle.ts_line.specs.Parts.{Parts, series_of, line_facts}
-use Rattle.ts_raw.specs.Numbered.{Gains}
+use Rattle.ts_core.specs.Numbered.{Gains}
 use Rattle.ts_store.specs.ColumnsKept.{Held}
 use Rattle.ts_store.specs.Rollups.{AreRollups, cells_of}
 use Rattle.ts_store.specs.Registered.{MayGain, MakesFirst, new_columns, with_columns}

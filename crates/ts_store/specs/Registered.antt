@@ -4,7 +4,7 @@ use Rattle.std.specs.Prelude.{◌≡◌, ◌⊎◌, not, List, [], ◌++◌, map
 use Rattle.ts_core.specs.Facts.{Series, Column, Fact}
 use Rattle.ts_core.specs.StoreStates.{ColumnPoints, column_of}
 use Rattle.ts_core.specs.RawFacts.{is_waiting}
-use Rattle.ts_raw.specs.Numbered.{Gains}
+use Rattle.ts_core.specs.Numbered.{Gains}
 
 -- the series may have been registered, and no other
 abbrev pub MayGain : List Series → List Series → Series → Type 0

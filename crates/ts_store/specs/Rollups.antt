@@ -13,8 +13,8 @@ use Rattle.ts_core.specs.StoreMoves.{frozen_with}
 use Rattle.ts_core.specs.StoreCodes.{coded_aggregate}
 use Rattle.ts_core.specs.StoreData.{FrozenCells}
 use Rattle.ts_cells.specs.CellChanges.{roomy}
-use Rattle.ts_cells.specs.Grids.{Lane, Grid, IsAt, cell_in, coded_grid}
-use Rattle.ts_raw.specs.Numbered.{numbers_where}
+use Rattle.ts_cells.specs.Grids.{Lane, Grid, cell_in, coded_grid}
+use Rattle.ts_core.specs.Numbered.{IsAt, numbers_where}
 
 -- the cells of a rule; of each column the lane, none where the column is of another measurement; and that of a column which
 -- may be made next, for which there is room

@@ -4,7 +4,7 @@ ghost use Rattle.std.specs.Bool.{OnTrue, OnFalse};
 ghost use Rattle.std.specs.List.{AllByRecursion};
 ghost use Rattle.ts_core.specs.StoreStates.{ColumnPoints, column_of, facts_of};
 ghost use Rattle.ts_core.specs.StoreMoves.{points_below};
-ghost use Rattle.ts_raw.specs.Numbered.{IsAt};
+ghost use Rattle.ts_core.specs.Numbered.{IsAt};
 ghost use Rattle.ts_store.specs.Rollups.{AreRollups, cells_of};
 ghost use Rattle.ts_store.specs.RollupSteps.{with_frozen_all, held_with, FreezeFit, held_moved, FirstLoses, AreAbove};
 
@@ -15,7 +15,7 @@ use std::alloc::Allocator;
 use ts_core::{Rule, Time};
 use ts_raw::Column as _;
 
-/// Removes cells of the first rule that has some below its low index: 256, or all where there are fewer. It tells whether there were
+/// Removes cells of the first rule that has some below its low index: 256, or all where there are fewer. It answers whether there were
 /// any.
 fn expire_first<A: Allocator + Copy>(rollups: &mut [Rollup<A>], lows: &[i128]) -> bool
     ensures lanes { rollups.new ≡ with_frozen_all (cells_of rollups.new) rollups.old }
@@ -55,7 +55,7 @@ impl<A: Allocator + Copy> ColumnFacts<A> {
         points.drop_below(mark);
     }
 
-    /// Removes cells below a low index, of the first rule that has such: 256, or all where there are fewer. It tells whether
+    /// Removes cells below a low index, of the first rule that has such: 256, or all where there are fewer. It answers whether
     /// there were any. It takes no memory.
     pub(crate) fn expire(&mut self, lows: &[i128]) -> bool
         ensures lanes { self.new ≡ held_with (cells_of self.new.rollups) self.old }

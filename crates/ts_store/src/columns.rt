@@ -5,7 +5,7 @@ ghost use Rattle.ts_core.specs.Times.{least_time};
 ghost use Rattle.ts_core.specs.History.{MayBeTaken};
 ghost use Rattle.ts_line.specs.Parts.{series_of, line_facts};
 ghost use Rattle.ts_raw.specs.Indexed.{IsSoundIndex, column_in};
-ghost use Rattle.ts_raw.specs.Numbered.{IsAt};
+ghost use Rattle.ts_core.specs.Numbered.{IsAt};
 ghost use Rattle.ts_store.specs.ColumnsKept.{no_column, point_maps, columns_in, with_point_aside, all_committed, AreReady, AreAside, MayGrow, IsHeld};
 ghost use Rattle.ts_store.specs.Registered.{MakesFirst, MakesAll};
 ghost use Rattle.ts_store.specs.Rollups.{AreRollups, KeepCells, HaveNext, with_next, cells_of};
@@ -139,7 +139,7 @@ pub(crate) fn commit_all<A: Allocator + Copy>(
     }
 }
 
-/// Sets the points of a line aside, each in its column, and tells the columns.
+/// Sets the points of a line aside, each in its column, and answers the columns.
 pub(crate) fn prepare_line<A: Allocator + Copy>(
     index: &mut Index<A>,
     columns: &mut Vec<PlainColumn<A>, A>,

@@ -4,7 +4,7 @@ ghost use Rattle.std.specs.FinMap as finmap;
 ghost use Rattle.std.specs.List.{AllByRecursion};
 ghost use Rattle.ts_core.specs.Facts.{Column};
 ghost use Rattle.ts_core.specs.StoreMoves.{frozen_points, frozen_column, frozen_all, points_below};
-ghost use Rattle.ts_cells.specs.Grids.{IsAt};
+ghost use Rattle.ts_core.specs.Numbered.{IsAt};
 ghost use Rattle.ts_store.specs.Rollups.{IsLaneOf, AreRollups, lane_at, with_frozen, cells_of};
 ghost use Rattle.ts_store.specs.RollupSteps.{FreezesFit, FreezeFit, with_frozen_all};
 

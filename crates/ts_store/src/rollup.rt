@@ -6,7 +6,8 @@ ghost use Rattle.ts_core.specs.Cells.{Cell};
 ghost use Rattle.ts_core.specs.Members.{AllDistinct};
 ghost use Rattle.ts_core.specs.Tags.{tag_values};
 ghost use Rattle.ts_cells.specs.Expiry.{Removes};
-ghost use Rattle.ts_cells.specs.Grids.{IsAt, lane_of, lane_named, lent_texts};
+ghost use Rattle.ts_core.specs.Numbered.{IsAt};
+ghost use Rattle.ts_cells.specs.Grids.{lane_of, lane_named, lent_texts};
 ghost use Rattle.ts_cells.specs.Walks.{entry_of, entries_within};
 ghost use Rattle.ts_raw.specs.Lists.{lists_of};
 ghost use Rattle.ts_store.specs.Rollups.{new_rollup, HasSpareAt, Extends, KeepsCells, HasNext, with_next, with_frozen, roomed_in, frozen_in, lane_at, columns_of_lane};
@@ -179,7 +180,7 @@ impl<A: Allocator + Copy> Rollup<A> {
         self.lanes[column].is_some()
     }
 
-    /// Removes cells below an index: 256, or all where there are fewer. It tells how many.
+    /// Removes cells below an index: 256, or all where there are fewer. It answers how many.
     pub(crate) fn expire(&mut self, low: &i128) -> usize
         ensures cells { self.new ≡ with_frozen self.new.grid.cells self.old }
         ensures few { result ≤ 256 }

@@ -11,7 +11,7 @@ ghost use Rattle.ts_core.specs.StoreData.{state_of, new_data, OfEachHistory, Sho
 ghost use Rattle.ts_core.specs.Texts.{lent_pairs};
 ghost use Rattle.ts_line.specs.Parts.{series_of};
 ghost use Rattle.ts_core.specs.Views.{seen_of, seen_rule};
-ghost use Rattle.ts_raw.specs.Numbered.{IsAt};
+ghost use Rattle.ts_core.specs.Numbered.{IsAt};
 ghost use Rattle.ts_raw.specs.PlainColumns.{IsRising};
 ghost use Rattle.ts_store.specs.PointsRead.{AreLatestOf};
 ghost use Rattle.ts_store.specs.Seats.{points_at};

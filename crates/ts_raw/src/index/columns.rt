@@ -2,14 +2,14 @@
 ghost use Rattle.std.specs.Prelude.{◌≡◌, ◌+◌, ◌<◌, ◌≤◌, ◌++◌, [], ◌∷◌, length, IfSome, IfNone, IfOk, OnOk, OnErr};
 ghost use Rattle.ts_core.specs.Members.{Among, AllDistinct};
 ghost use Rattle.ts_raw.specs.ColumnTables.{has_field};
-ghost use Rattle.ts_raw.specs.Numbered.{IsAt, numbers_where};
+ghost use Rattle.ts_core.specs.Numbered.{IsAt, numbers_where};
 
 use crate::index::column_id::ColumnId;
-use crate::index::next_number::next_number;
 use std::alloc::{AllocError, Allocator};
 use std::collections::HashMap;
 use std::hash::{BuildHasherDefault, FoldHasher};
 use std::marker::Model;
+use ts_core::next_number;
 
 /// Columns, each by the numbers of its series and its field, and the columns of each field. Of each series it is guessed
 /// which column was made first.

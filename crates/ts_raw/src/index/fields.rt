@@ -2,14 +2,12 @@
 ghost use Rattle.std.specs.Prelude.{◌≡◌, ◌<◌, ◌↔◌, [], length, IfSome, IfNone, IfOk, OnOk, OnErr, IsTrue};
 ghost use Rattle.ts_core.specs.Members.{Among, AllDistinct};
 ghost use Rattle.ts_raw.specs.FieldKeys.{field_key};
-ghost use Rattle.ts_raw.specs.Numbered.{IsAt, Gains};
+ghost use Rattle.ts_core.specs.Numbered.{IsAt, Gains};
 
-use crate::index::chains::Chains;
 use crate::index::hash::hash_field;
-use crate::index::next_number::next_number;
 use std::alloc::{AllocError, Allocator};
 use std::marker::Model;
-use ts_core::FieldName;
+use ts_core::{Chains, FieldName, next_number};
 
 /// A field of a measurement.
 #[derive(Drop)]
@@ -61,7 +59,7 @@ pub(crate) struct FieldTable<A: Allocator> {
 impl<A: Allocator> Model for FieldTable<A> {
     ghost use Rattle.std.specs.Prelude.{List};
     ghost use Rattle.ts_raw.specs.FieldKeys.{FieldKey as FieldKeyValue, hash_of_field};
-    ghost use Rattle.ts_raw.specs.Tables.{IsTable};
+    ghost use Rattle.ts_core.specs.Tables.{IsTable};
 
     ghost Value = { List FieldKeyValue };
 

@@ -3,17 +3,15 @@ ghost use Rattle.std.specs.Prelude.{◌≡◌, ◌≤◌, ◌<◌, ◌↔◌, []
 ghost use Rattle.ts_core.specs.Members.{Among, AllDistinct};
 ghost use Rattle.ts_core.specs.Texts.{lent_pairs, lent_series, IsTagSet};
 ghost use Rattle.ts_raw.specs.Hashes.{hash_of_series};
-ghost use Rattle.ts_raw.specs.Numbered.{IsAt, Gains};
+ghost use Rattle.ts_core.specs.Numbered.{IsAt, Gains};
 
-use crate::index::chains::Chains;
 use crate::index::fault::IndexFault;
 use crate::index::hash::hash_series;
-use crate::index::next_number::next_number;
 use crate::index::series_id::SeriesId;
 use std::alloc::Allocator;
 use std::cmp::Ordering;
 use std::marker::Model;
-use ts_core::Key;
+use ts_core::{Chains, Key, next_number};
 
 /// The registered series, seen as their list in the order of making. Of each series the one is known that came after it
 /// last time, so that series which come in one order again and again are found at once.
@@ -29,7 +27,7 @@ impl<A: Allocator> Model for SeriesTable<A> {
     ghost use Rattle.std.specs.Prelude.{List};
     ghost use Rattle.ts_core.specs.Facts.{Series};
     ghost use Rattle.ts_raw.specs.Hashes.{hash_of_series};
-    ghost use Rattle.ts_raw.specs.Tables.{IsTable};
+    ghost use Rattle.ts_core.specs.Tables.{IsTable};
 
     ghost Value = { List Series };
 

@@ -23,7 +23,7 @@ pub(crate) enum StepAnswer {
 }
 
 impl<A: Allocator + Copy> Store<A> {
-    /// Begins a run at a moment: the marks rise, and each column waits. It tells the raw mark, and takes no memory.
+    /// Begins a run at a moment: the marks rise, and each column waits. It answers the raw mark, and takes no memory.
     pub(crate) fn begin(&mut self, now: Time) -> Result<Time, RunInProgress>
         ensures ok { OnOk result (self.new ≡ run_begun now self.old) }
         ensures raw { IfOk result (λ raw. raw ≡ self.new.marks.raw) }
@@ -72,7 +72,7 @@ impl<A: Allocator + Copy> Store<A> {
     }
 
     /// A whole run of retention at a moment: the marks rise, points below the raw mark are frozen into the cells of their
-    /// rules and dropped, and cells below low indices are removed. It tells the raw mark, and takes no memory.
+    /// rules and dropped, and cells below low indices are removed. It answers the raw mark, and takes no memory.
     pub fn retain(&mut self, now: Time) -> Result<Time, RunInProgress>
         ensures ok { OnOk result (Retains now self.old self.new) }
         ensures raw { IfOk result (λ raw. raw ≡ self.new.marks.raw) }

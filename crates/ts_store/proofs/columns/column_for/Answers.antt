@@ -1,5 +1,5 @@
 use Rattle.std.proofs.Common.{inl, refl}
-use Rattle.ts_raw.proofs.NumberedLemmas.{at_among}
+use Rattle.ts_core.proofs.NumberedLemmas.{at_among}
 use Rattle.ts_store.proofs.ColumnsAside.{grown_by_one}
 use Rattle.ts_store.proofs.columns.column_for.Goals as goal
 

@@ -1,7 +1,8 @@
 use Rattle.std.proofs.Common.{◌≡◌, ℕ, ℤ, List, map, filter, sym, ◌∙◌, ap, ap₂, subst}
 use Rattle.std.specs.List.{AllByRecursion}
 use Rattle.ts_core.specs.Facts.{is_within}
-use Rattle.ts_cells.specs.Grids.{Grid, Lane, RowOf, lane_of, IsAt}
+use Rattle.ts_core.specs.Numbered.{IsAt}
+use Rattle.ts_cells.specs.Grids.{Grid, Lane, RowOf, lane_of}
 use Rattle.ts_cells.specs.Walks.{KeptCell, entry_of, entries_within, walk_left}
 use Rattle.ts_cells.proofs.WalkLemmas.{walk_entries, walk_lanes}
 use Rattle.ts_cells.proofs.cells.Cells.walk.Goals as goal

@@ -2,9 +2,10 @@ use Rattle.std.proofs.Common.{rules, ◌≡◌, ◌<◌, ◌≤◌, ℕ, List, [
 use Rattle.std.specs.List.{slice_get}
 use Rattle.std.specs.List.Sorted.{IsPartitionPoint}
 use Rattle.ts_core.specs.Members.{Among}
-use Rattle.ts_cells.specs.Grids.{Lane, lane_named, IsAt}
+use Rattle.ts_core.specs.Numbered.{IsAt}
+use Rattle.ts_core.proofs.NumberedLemmas.{at_among, at_end}
+use Rattle.ts_cells.specs.Grids.{Lane, lane_named}
 use Rattle.ts_cells.specs.Lanes.{found_cmp, IsOrdered}
-use Rattle.ts_cells.proofs.LaneLemmas.{at_among, at_end}
 use Rattle.ts_cells.proofs.LaneOrder.{order_found, order_absent, order_more}
 use Rattle.ts_cells.proofs.lanes.Lanes.register.Given.{Over}
 use Rattle.ts_cells.proofs.lanes.Lanes.register.Goals as goal

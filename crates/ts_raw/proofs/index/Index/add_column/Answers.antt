@@ -1,6 +1,6 @@
 use Rattle.std.proofs.Common.{inl, refl}
 use Rattle.ts_raw.specs.Indexed.{column_in}
-use Rattle.ts_raw.proofs.NumberedLemmas.{at_among}
+use Rattle.ts_core.proofs.NumberedLemmas.{at_among}
 use Rattle.ts_raw.proofs.index.Index.add_column.Goals as goal
 
 pub returns-in-Some-clause-ok : goal.returns-in-Some-clause-ok

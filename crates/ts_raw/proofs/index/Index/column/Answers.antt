@@ -6,10 +6,10 @@ use Rattle.ts_raw.specs.FieldKeys.{FieldKey}
 use Rattle.ts_raw.specs.ColumnTables.{ColumnNumbers}
 use Rattle.ts_raw.specs.IndexParts.{column_named, index_by_numbers}
 use Rattle.ts_raw.specs.Indexed.{Indexed, IsSoundIndex, no_series, column_in}
-use Rattle.ts_raw.specs.Numbered.{IsAt}
+use Rattle.ts_core.specs.Numbered.{IsAt}
 use Rattle.ts_raw.proofs.IndexLemmas.{measurement_of, index_sound, name_is, no_column_of, no_column_at}
 use Rattle.ts_core.proofs.MembersLemmas.{at_map_of}
-use Rattle.ts_raw.proofs.NumberedLemmas.{at_within, none_so}
+use Rattle.ts_core.proofs.NumberedLemmas.{at_within, none_so}
 use Rattle.ts_raw.proofs.index.Index.column.Goals as goal
 
 pub returns-in_err-field-clause-absent : goal.returns-in_err-field-clause-absent

@@ -7,7 +7,7 @@ use Rattle.ts_raw.specs.FieldKeys.{FieldKey}
 use Rattle.ts_raw.specs.ColumnTables.{ColumnNumbers}
 use Rattle.ts_raw.specs.IndexParts.{no_field, column_named, index_by_numbers}
 use Rattle.ts_raw.specs.Indexed.{Indexed, no_series, column_in}
-use Rattle.ts_raw.specs.Numbered.{IsAt}
+use Rattle.ts_core.specs.Numbered.{IsAt}
 use Rattle.ts_core.proofs.MembersLemmas.{at_map_of}
 use Rattle.ts_raw.proofs.index.Index.is_column.Goals as goal
 

@@ -5,10 +5,10 @@ use Rattle.ts_core.specs.Members.{Among}
 use Rattle.ts_raw.specs.FieldKeys.{FieldKey}
 use Rattle.ts_raw.specs.IndexParts.{column_named, IsIndex}
 use Rattle.ts_raw.specs.Indexed.{Indexed, column_in}
-use Rattle.ts_raw.specs.Numbered.{IsAt}
+use Rattle.ts_core.specs.Numbered.{IsAt}
 use Rattle.ts_raw.proofs.IndexLemmas.{measurement_of, index_sound}
 use Rattle.ts_raw.proofs.IndexSteps.{IsMaking, index_roomy, made_room, made_absent, made_more, made_same, made_at, made_pushes}
-use Rattle.ts_raw.proofs.NumberedLemmas.{outcome, ok_with}
+use Rattle.ts_core.proofs.NumberedLemmas.{outcome, ok_with}
 use Rattle.ts_raw.proofs.index.Index.make_column.Given.{Over}
 use Rattle.ts_raw.proofs.index.Index.make_column.Goals as goal
 

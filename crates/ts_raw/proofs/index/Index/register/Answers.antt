@@ -7,7 +7,7 @@ use Rattle.ts_raw.specs.IndexParts.{column_named, IsIndex}
 use Rattle.ts_raw.specs.Indexed.{Indexed}
 use Rattle.ts_raw.proofs.IndexLemmas.{index_sound}
 use Rattle.ts_raw.proofs.IndexSteps.{index_registers, columns_registered}
-use Rattle.ts_raw.proofs.NumberedLemmas.{outcome}
+use Rattle.ts_core.proofs.NumberedLemmas.{outcome}
 use Rattle.ts_raw.proofs.index.Index.register.Goals as goal
 
 pub invariant_of-self : goal.invariant_of-self

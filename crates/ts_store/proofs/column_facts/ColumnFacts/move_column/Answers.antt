@@ -7,7 +7,7 @@ use Rattle.ts_core.specs.Facts.{Column}
 use Rattle.ts_core.specs.StoreStates.{column_of, facts_of}
 use Rattle.ts_core.specs.StoreMoves.{points_below}
 use Rattle.ts_raw.specs.Columns.{ColumnState}
-use Rattle.ts_raw.specs.Numbered.{IsAt}
+use Rattle.ts_core.specs.Numbered.{IsAt}
 use Rattle.ts_store.specs.ColumnsKept.{Held, point_maps, held_of}
 use Rattle.ts_store.specs.PointsRead.{number_of_points}
 use Rattle.ts_store.specs.Rollups.{RollupState, AreRollups, cells_of}

@@ -8,7 +8,7 @@ use Rattle.ts_core.specs.StoreMoves.{PutsFacts, HaveRoom}
 use Rattle.ts_line.specs.Parts.{LinePart, Parts, series_of, line_facts}
 use Rattle.ts_core.specs.Texts.{lent_pairs}
 use Rattle.ts_raw.specs.Columns.{ColumnState}
-use Rattle.ts_raw.specs.Numbered.{Gains}
+use Rattle.ts_core.specs.Numbered.{Gains}
 use Rattle.ts_core.proofs.Results.{on_any_err}
 use Rattle.ts_store.proofs.Stands.{series_from}
 use Rattle.ts_store.specs.Registered.{MakesFirst, with_columns, new_columns}

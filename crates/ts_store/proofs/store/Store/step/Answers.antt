@@ -7,7 +7,7 @@ use Rattle.ts_core.specs.Settings.{Rule, Settings}
 use Rattle.ts_core.specs.StoreStates.{ColumnPoints}
 use Rattle.ts_core.specs.StoreData.{StoreData, state_of, GoesOn}
 use Rattle.ts_core.specs.StoreMoves.{points_below}
-use Rattle.ts_raw.specs.Numbered.{IsAt}
+use Rattle.ts_core.specs.Numbered.{IsAt}
 use Rattle.ts_store.specs.ColumnsKept.{Held}
 use Rattle.ts_store.specs.OpenRuns.{Run, kept_data, IsKept}
 use Rattle.ts_store.specs.Rollups.{cells_of}

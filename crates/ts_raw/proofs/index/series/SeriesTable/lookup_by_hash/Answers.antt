@@ -3,10 +3,10 @@ use Rattle.ts_core.specs.Members.{Among}
 use Rattle.ts_core.specs.Facts.{Series}
 use Rattle.ts_core.specs.Texts.{lent_series}
 use Rattle.ts_raw.specs.Hashes.{hash_of_series}
-use Rattle.ts_raw.specs.Numbered.{IsAt}
-use Rattle.ts_raw.proofs.Searches.{IsSearched, search_within, places_left, places_fall}
+use Rattle.ts_core.specs.Numbered.{IsAt}
+use Rattle.ts_core.proofs.ChainSearches.{IsSearched, search_within, places_left, places_fall}
 use Rattle.ts_raw.proofs.SeriesLemmas.{same_series, other_series}
-use Rattle.ts_raw.proofs.TableLemmas.{sought_within, sought_on, sought_in_vain, found_at}
+use Rattle.ts_core.proofs.TableLemmas.{sought_within, sought_on, sought_in_vain, found_at}
 use Rattle.ts_raw.proofs.index.series.SeriesTable.lookup_by_hash.Goals as goal
 
 abbrev Sought : List Series → List ℕ → Series → Option ℕ → Type 0

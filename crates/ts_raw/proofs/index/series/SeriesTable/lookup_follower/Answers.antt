@@ -1,9 +1,9 @@
 use Rattle.std.proofs.Common.{◌≡◌, ◌<◌, List, length, get_or, sym, ◌∙◌, subst, rules}
 use Rattle.ts_core.specs.Facts.{Series}
 use Rattle.ts_core.specs.Texts.{lent_series}
-use Rattle.ts_raw.specs.Numbered.{IsAt}
+use Rattle.ts_core.specs.Numbered.{IsAt}
 use Rattle.ts_raw.proofs.SeriesLemmas.{same_series}
-use Rattle.ts_raw.proofs.TableLemmas.{found_at}
+use Rattle.ts_core.proofs.TableLemmas.{found_at}
 use Rattle.ts_raw.proofs.index.series.SeriesTable.lookup_follower.Goals as goal
 
 pub returns-then-eq : goal.returns-then-eq

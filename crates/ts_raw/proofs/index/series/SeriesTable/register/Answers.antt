@@ -1,7 +1,7 @@
-use Rattle.std.proofs.Common.{◌≡◌, inl, refl}
+use Rattle.std.proofs.Common.{inl}
 use Rattle.ts_core.specs.Facts.{Series}
 use Rattle.ts_core.specs.Texts.{lent_series}
-use Rattle.ts_raw.proofs.NumberedLemmas.{at_among}
+use Rattle.ts_core.proofs.NumberedLemmas.{at_among}
 use Rattle.ts_raw.proofs.index.series.SeriesTable.register.Goals as goal
 
 pub returns-in-Some-clause-ok : goal.returns-in-Some-clause-ok

@@ -3,10 +3,10 @@ use Rattle.ts_core.specs.Members.{Among}
 use Rattle.ts_core.specs.Facts.{Series}
 use Rattle.ts_core.specs.Texts.{lent_series}
 use Rattle.ts_raw.specs.Hashes.{hash_of_series}
-use Rattle.ts_raw.specs.Numbered.{IsAt}
-use Rattle.ts_raw.specs.Tables.{IsTable}
-use Rattle.ts_raw.proofs.NumberedLemmas.{at_among, at_end}
-use Rattle.ts_raw.proofs.TableLemmas.{table_more}
+use Rattle.ts_core.specs.Numbered.{IsAt}
+use Rattle.ts_core.specs.Tables.{IsTable}
+use Rattle.ts_core.proofs.NumberedLemmas.{at_among, at_end}
+use Rattle.ts_core.proofs.TableLemmas.{table_more}
 use Rattle.ts_raw.proofs.index.series.SeriesTable.register_by_hash.Given.{Over}
 use Rattle.ts_raw.proofs.index.series.SeriesTable.register_by_hash.Goals as goal
 

@@ -1,8 +1,8 @@
 //! Places by hash. Each place knows the one before it of its hash, and a table knows the newest of each.
 ghost use Rattle.std.specs.Prelude.{◌≡◌, ◌<◌, ◌++◌, [], ◌∷◌, length, slice_index, OnOk, OnErr};
-ghost use Rattle.ts_raw.specs.LastBelow.{newest_of};
+ghost use Rattle.ts_core.specs.LastBelow.{newest_of};
 
-use crate::index::next_number::next_number;
+use crate::numbers::next_number;
 use std::alloc::{AllocError, Allocator};
 use std::collections::HashMap;
 use std::hash::{BuildHasherDefault, FoldHasher};
@@ -15,9 +15,18 @@ pub(crate) struct Link {
     older: Option<u32>,
 }
 
-/// The hashes of places, seen as their list.
+/// The hashes of places, seen as their list: one half of a table that finds names by their hashes. The other half is the list
+/// of the names, whose places these are. `newest` and then `older` lead to each place of a hash, the newest first.
+///
+/// ```text
+/// let mut next = chains.newest(hash);      // a name is at one of the places of its hash, or nowhere
+/// while let Some(at) = next {
+///     if names[at as usize] == name { return Some(at); }
+///     next = chains.older(at);
+/// }
+/// ```
 #[derive(Drop)]
-pub(crate) struct Chains<A: Allocator> {
+pub struct Chains<A: Allocator> {
     newest: HashMap<u64, u32, BuildHasherDefault<FoldHasher>, A>,
     links: Vec<Link, A>,
 }
@@ -25,7 +34,7 @@ pub(crate) struct Chains<A: Allocator> {
 impl<A: Allocator> Model for Chains<A> {
     ghost use Rattle.std.specs.Prelude.{List, ℕ, nat_eq};
     ghost use Rattle.std.specs.HashMap.{get};
-    ghost use Rattle.ts_raw.specs.Links.{hashes_of, AreChained};
+    ghost use Rattle.ts_core.specs.Links.{hashes_of, AreChained};
 
     ghost Value = { List ℕ };
 
@@ -36,7 +45,7 @@ impl<A: Allocator> Model for Chains<A> {
 
 impl<A: Allocator + Copy> Chains<A> {
     /// No places.
-    pub(crate) fn new(alloc: A) -> Chains<A>
+    pub fn new(alloc: A) -> Chains<A>
         ensures { result ≡ [] }
     {
         Chains {
@@ -46,14 +55,14 @@ impl<A: Allocator + Copy> Chains<A> {
     }
 
     /// The newest place of a hash.
-    pub(crate) fn newest(&self, hash: u64) -> Option<u32>
+    pub fn newest(&self, hash: u64) -> Option<u32>
         ensures { result ≡ newest_of self.now hash (length self.now) }
     {
         self.newest.get(&hash).copied()
     }
 
     /// The place before a place, of the same hash.
-    pub(crate) fn older(&self, at: u32) -> Option<u32>
+    pub fn older(&self, at: u32) -> Option<u32>
         requires { at < length self.now }
         ensures { result ≡ newest_of self.now (slice_index self.now at) at }
     {
@@ -61,7 +70,7 @@ impl<A: Allocator + Copy> Chains<A> {
     }
 
     /// Makes a place for a hash, behind all others.
-    pub(crate) fn push(&mut self, hash: u64) -> Result<(), AllocError>
+    pub fn push(&mut self, hash: u64) -> Result<(), AllocError>
         ensures ok { OnOk result (self.new ≡ self.old ++ hash ∷ []) }
         ensures err { OnErr result (self.new ≡ self.old) }
     {

@@ -1,10 +1,10 @@
 use Rattle.std.proofs.Common.{ap, subst, sym, List, nat_eq}
 use Rattle.std.specs.Map.{lookup}
 use Rattle.std.specs.HashMap.{get}
-use Rattle.ts_raw.specs.declared.index.chains.Link.{Link}
-use Rattle.ts_raw.specs.Links.{AreChained}
-use Rattle.ts_raw.proofs.Chained.{chained_none}
-use Rattle.ts_raw.proofs.index.chains.Chains.new.Goals as goal
+use Rattle.ts_core.specs.declared.chains.Link.{Link}
+use Rattle.ts_core.specs.Links.{AreChained}
+use Rattle.ts_core.proofs.Chained.{chained_none}
+use Rattle.ts_core.proofs.chains.Chains.new.Goals as goal
 
 pub invariant_of-result : goal.invariant_of-result
 invariant_of-result g c =

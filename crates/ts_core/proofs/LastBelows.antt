@@ -2,7 +2,7 @@
 use Rattle.std.proofs.Common.{◌≡◌, ℕ, zero, suc, ◌+◌, ◌<◌, ◌≤◌, Bool, true, false, cond, Option, Some, None, List, [], ◌∷◌, ◌++◌, length, get_or, refl, sym, ◌∙◌, ap, inl, inr, ◌⊎◌, ⊎_elim, arith, add-one}
 use Rattle.std.proofs.lemmas.List.{get_or_push, get_or_append_left}
 use Rattle.std.proofs.Math.Nat.{eq-or-lt_of_le}
-use Rattle.ts_raw.specs.LastBelow.{last_below, last_with}
+use Rattle.ts_core.specs.LastBelow.{last_below, last_with}
 
 some_number : (i j : ℕ) → Some i ≡ Some j → i ≡ j
 some_number i j e = cc

@@ -3,7 +3,7 @@ use Rattle.std.proofs.Common.{◌≡◌, ℕ, zero, suc, ◌+◌, ◌<◌, List,
 use Rattle.std.proofs.lemmas.Option.{slice_get_within, slice_get-get_or, same_Some}
 use Rattle.ts_core.specs.Members.{Among, AllDistinct}
 use Rattle.ts_core.proofs.MembersLemmas.{AllDistinct-append, map_back}
-use Rattle.ts_raw.specs.Numbered.{IsAt, numbers_where_from, numbers_where}
+use Rattle.ts_core.specs.Numbered.{IsAt, numbers_where_from, numbers_where}
 
 module _ {X : Type 0} where
   pub at_within : (xs : List X) (n : ℕ) (x : X) → IsAt xs n x → n < length xs

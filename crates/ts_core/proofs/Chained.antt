@@ -2,10 +2,10 @@
 use Rattle.std.proofs.Common.{◌≡◌, ℕ, ◌+◌, ◌<◌, ◌≤◌, cond, nat_eq, List, [], ◌∷◌, ◌++◌, length, get_or, Option, Some, None, sym, ◌∙◌, ap, ⊎_elim, arith}
 use Rattle.std.proofs.lemmas.List.{length-map, map-append, length_push, get_or_push, get_or_append_left}
 use Rattle.std.proofs.Math.Nat.{eq-or-lt_of_le}
-use Rattle.ts_raw.specs.declared.index.chains.Link.{Link}
-use Rattle.ts_raw.specs.LastBelow.{last_below, newest_of}
-use Rattle.ts_raw.specs.Links.{hashes_of, AreChained}
-use Rattle.ts_raw.proofs.LastBelows.{last_with-before, last_with-push}
+use Rattle.ts_core.specs.declared.chains.Link.{Link}
+use Rattle.ts_core.specs.LastBelow.{last_below, newest_of}
+use Rattle.ts_core.specs.Links.{hashes_of, AreChained}
+use Rattle.ts_core.proofs.LastBelows.{last_with-before, last_with-push}
 
 -- a hash behind the others changes nothing before it
 pub newest_of-before : (hashes : List ℕ) (more hash n : ℕ) → n ≤ length hashes → newest_of (hashes ++ more ∷ []) hash n ≡ newest_of hashes hash n

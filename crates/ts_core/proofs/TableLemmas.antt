@@ -3,11 +3,11 @@ use Rattle.std.proofs.Common.{◌≡◌, ℕ, ◌<◌, List, [], ◌∷◌, ◌+
 use Rattle.std.proofs.lemmas.List.{length-map, map-append}
 use Rattle.std.proofs.lemmas.Option.{slice_get_read, get_or_from_slice_get}
 use Rattle.ts_core.specs.Members.{Among}
-use Rattle.ts_raw.specs.LastBelow.{newest_of}
-use Rattle.ts_raw.specs.Numbered.{IsAt}
-use Rattle.ts_raw.specs.Tables.{IsTable}
-use Rattle.ts_raw.proofs.NumberedLemmas.{at_within, at_map, among_at, once_more}
-use Rattle.ts_raw.proofs.Searches.{IsSearched, search_within, search_goes_on, search_ends}
+use Rattle.ts_core.specs.LastBelow.{newest_of}
+use Rattle.ts_core.specs.Numbered.{IsAt}
+use Rattle.ts_core.specs.Tables.{IsTable}
+use Rattle.ts_core.proofs.NumberedLemmas.{at_within, at_map, among_at, once_more}
+use Rattle.ts_core.proofs.ChainSearches.{IsSearched, search_within, search_goes_on, search_ends}
 
 module _ {X : Type 0} (hash_of : X → ℕ) (names : List X) (hashes : List ℕ) (table : IsTable hash_of names hashes) (name : X) where
   -- the name is sought, and the next place is this

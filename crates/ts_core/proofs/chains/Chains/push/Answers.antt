@@ -1,9 +1,9 @@
 use Rattle.std.proofs.Common.{◌≡◌, ℕ, ap, subst, sym, ◌∙◌, List, [], ◌∷◌, ◌++◌, length, nat_eq, Option, Some, cond, is_ok, rules}
 use Rattle.std.specs.HashMap.{get}
-use Rattle.ts_raw.specs.declared.index.chains.Link.{Link}
-use Rattle.ts_raw.specs.Links.{AreChained}
-use Rattle.ts_raw.proofs.Chained.{chained_push}
-use Rattle.ts_raw.proofs.index.chains.Chains.push.Goals as goal
+use Rattle.ts_core.specs.declared.chains.Link.{Link}
+use Rattle.ts_core.specs.Links.{AreChained}
+use Rattle.ts_core.proofs.Chained.{chained_push}
+use Rattle.ts_core.proofs.chains.Chains.push.Goals as goal
 
 pub invariant_of-self-2 : goal.invariant_of-self-2
 invariant_of-self-2 g c =

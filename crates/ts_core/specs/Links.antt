@@ -1,7 +1,7 @@
 -- What is kept of each place, and how the places of a hash are chained. (Own rule.)
 use Rattle.std.specs.Prelude.{◌≡◌, ℕ, ◌<◌, List, length, map, Option, slice_index_or}
-use Rattle.ts_raw.specs.declared.index.chains.Link.{Link}
-use Rattle.ts_raw.specs.LastBelow.{newest_of}
+use Rattle.ts_core.specs.declared.chains.Link.{Link}
+use Rattle.ts_core.specs.LastBelow.{newest_of}
 
 abbrev pub hashes_of : List Link → List ℕ
 hashes_of links = map (λ (l : Link). l.hash) links

@@ -1,8 +1,8 @@
 -- A search along the chain of a hash, from the newest place to the oldest.
 use Rattle.std.proofs.Common.{◌≡◌, ℕ, ◌+◌, ◌<◌, ◌≤◌, false, nat_eq, List, length, get_or, Option, Some, None, refl, sym, ◌∙◌, ap, subst, ⊎_elim, arith, true≢false, eq-eqb, eqb-true}
 use Rattle.std.proofs.lemmas.Bool.{cases_lt, cases_order}
-use Rattle.ts_raw.specs.LastBelow.{newest_of}
-use Rattle.ts_raw.proofs.LastBelows.{last_below-some, last_below-none, last_below-gap}
+use Rattle.ts_core.specs.LastBelow.{newest_of}
+use Rattle.ts_core.proofs.LastBelows.{last_below-some, last_below-none, last_below-gap}
 
 -- what is sought is at no place from some on, and the next place is the newest before that
 pub record IsSearched (hashes : List ℕ) (hash : ℕ) (Is : ℕ → Type 0) (next : Option ℕ) : Type 0 where

@@ -1,0 +1,19 @@
+//! Room in lists that are many and small.
+ghost use Rattle.std.specs.Prelude.{◌≡◌, ◌≤◌, ◌+◌, vec_len, vec_capacity, OnOk};
+
+use std::alloc::{AllocError, Allocator};
+
+/// Makes room for some members more. A list without it grows by a quarter, or by those where they are more: so at most a
+/// fifth of its memory waits for members.
+pub(crate) fn reserve_quarter<T, A: Allocator>(
+    list: &mut Vec<T, A>,
+    more: usize,
+) -> Result<(), AllocError>
+    ensures items { list.new.items ≡ list.old.items }
+    ensures room { OnOk result (vec_len list.new + more ≤ vec_capacity list.new) }
+{
+    if more <= list.capacity() - list.len() {
+        return Ok(());
+    }
+    list.reserve_exact(more.max(list.len() / 4))
+}
