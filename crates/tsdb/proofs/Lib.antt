@@ -1,6 +1,7 @@
 pub mod LineScan
 pub mod NumberLemmas
 pub mod CommandLemmas
+pub mod GatheringLemmas
 pub mod Progress
 pub mod MachineLemmas
 pub mod CountAnswers

@@ -12,7 +12,7 @@ use Rattle.ts_core.specs.declared.settings_fault.SettingsFault.{SettingsFault}
 use Rattle.ts_core.specs.StoreData.{StoreData, OfEachHistory, state_of}
 use Rattle.ts_core.specs.StoreStates.{StandsFor}
 use Rattle.ts_line.specs.Parts.{Parts, series_of}
-use Rattle.ts_raw.specs.Numbered.{Gains}
+use Rattle.ts_core.specs.Numbered.{Gains}
 use Rattle.ts_store.specs.Registered.{MayGain}
 use Rattle.ts_store.specs.Refusals.{write_fault}
 use Rattle.ts_store.specs.LinesPut.{Accepts, Leaves}

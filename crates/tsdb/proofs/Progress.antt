@@ -1,11 +1,13 @@
 -- How far a run has come.
-use Rattle.std.proofs.Common.{◌≡◌, ◌≢◌, List, [], ◌∷◌, ◌++◌, Option, Some, None, refl, sym, ap, ◌∙◌, subst, append_assoc, append-nil, IfSome, Result, Err}
+use Rattle.std.proofs.Common.{◌≡◌, ◌≢◌, List, [], ◌∷◌, ◌++◌, Option, Some, None, refl, sym, ap, ◌∙◌, subst, append_assoc, append-nil, IfSome, Result, Ok, Err}
 use Rattle.std.specs.List.{concat}
 use Rattle.std.specs.Io.KnownBytes.{Appends, prepend_known}
 use Rattle.std.proofs.KnownBytes.{Appends-trans, Appends-nil}
 use Rattle.std.proofs.lemmas.List.Folds.{concat-append}
 use Rattle.ts_core.specs.Facts.{Text}
 use Rattle.ts_core.specs.Devices.{AppendsFront}
+use Rattle.tsdb.specs.Gathering.{AreSentBut}
+use Rattle.tsdb.proofs.GatheringLemmas.{passes, front, all_sent}
 use Rattle.tsdb.specs.ScriptLines.{lines_of}
 use Rattle.tsdb.specs.LineReading.{NextOf}
 use Rattle.tsdb.specs.Machine.{State, start, Step, Prints}
@@ -16,12 +18,12 @@ use Rattle.ts_core.specs.declared.read_ahead.ReadFault.{ReadFault}
 use Rattle.ts_core.specs.declared.read_ahead.ReadFault.TheVariants as read
 use Rattle.tsdb.specs.RunFaults.{fault_of_read, one_if_reader, one_if_writer}
 use Rattle.tsdb.specs.declared.run_fault.RunFault.{RunFault}
-use Rattle.tsdb.specs.declared.run_fault.RunFault.TheVariants.{OutOfMemory}
+use Rattle.tsdb.specs.declared.run_fault.RunFault.TheVariants.{OutOfMemory, Writer}
 use Rattle.tsdb.specs.declared.line_reader.Next.{Next}
 use Rattle.tsdb.specs.declared.line_reader.Next.TheVariants.{End}
 
--- the first lines of the input are answered, and left is what stands behind them
-pub record Done (input : Text) (left old new : Option Text) (m : Serving) : Type 0 where
+-- the first lines of the input are answered, and left is what stands behind them; of their answers the last bytes are kept
+pub record Done (input : Text) (left old new : Option Text) (kept : Text) (m : Serving) : Type 0 where
   pub rest : Text
   pub left_is : left ≡ Some rest
   pub done : List Text
@@ -30,14 +32,14 @@ pub record Done (input : Text) (left old new : Option Text) (m : Serving) : Type
   pub state : State
   pub run : Prints start done answers state
   pub is_in : IsIn state m
-  pub written : Appends old new (concat answers)
+  pub written : AreSentBut old new (concat answers) kept
 
-abbrev pub Progress : Option Text → Option Text → Option Text → Option Text → Serving → Type 0
-Progress input left old new m = IfSome input (λ bytes. Done bytes left old new m)
+abbrev pub Progress : Option Text → Option Text → Option Text → Option Text → Text → Serving → Type 0
+Progress input left old new kept m = IfSome input (λ bytes. Done bytes left old new kept m)
 
-pub begins : (input : Option Text) (contents : Option Text) (buffered : Text) (m : Serving) → buffered ≡ [] → IsIn start m → Progress input (prepend_known buffered input) contents contents m
-begins None contents buffered m e i = tt
-begins (Some bytes) contents buffered m e i = record {
+pub begins : (input : Option Text) (contents : Option Text) (buffered : Text) (m : Serving) → buffered ≡ [] → IsIn start m → (kept : Text) → kept ≡ [] → Progress input (prepend_known buffered input) contents contents kept m
+begins None contents buffered m e i kept none = tt
+begins (Some bytes) contents buffered m e i kept none = record {
   rest = bytes;
   left_is = ap (λ (l : Text). Some (l ++ bytes)) e;
   done = [];
@@ -46,7 +48,7 @@ begins (Some bytes) contents buffered m e i = record {
   state = start;
   run = refl;
   is_in = i;
-  written = Appends-nil contents;
+  written = record { sent = []; bytes_are = sym none; written = Appends-nil contents };
 }
 
 -- a run goes on by one step
@@ -69,9 +71,9 @@ lines_more input rest rest' text done e f = e ∙ ap (λ l. done ++ l) f ∙ sym
 at_rest : (left left' : Option Text) (rest : Text) (m m' : Serving) (answer : Text) → left ≡ Some rest → Answers left left' m m' answer → (s : State) → IsIn s m → IsAnswered rest left' s m' answer
 at_rest left left' rest m m' answer e a = let P : Option Text → Type 0 = λ o. IfSome o (λ bytes. (s : State) → IsIn s m → IsAnswered bytes left' s m' answer) in subst P e a
 
-pub goes_on : (input left left' old mid new : Option Text) (m m' : Serving) (answer : Text) → Progress input left old mid m → Answers left left' m m' answer → Appends mid new answer → Progress input left' old new m'
-goes_on None left left' old mid new m m' answer p a w = tt
-goes_on (Some input) left left' old mid new m m' answer p a w =
+pub goes_on : (input left left' old mid new : Option Text) (kept kept' : Text) (m m' : Serving) (answer : Text) → Progress input left old mid kept m → Answers left left' m m' answer → AreSentBut mid new (kept ++ answer) kept' → Progress input left' old new kept' m'
+goes_on None left left' old mid new kept kept' m m' answer p a w = tt
+goes_on (Some input) left left' old mid new kept kept' m m' answer p a w =
     let t = at_rest left left' p.rest m m' answer p.left_is a p.state p.is_in in
     record {
       rest = t.rest;
@@ -82,24 +84,48 @@ goes_on (Some input) left left' old mid new m m' answer p a w =
       state = t.stepped.0;
       run = run_more start p.state t.stepped.0 p.done p.answers t.text answer p.run t.stepped.1;
       is_in = t.stepped.2;
-      written = rw (concat_more p.answers answer) (Appends-trans old mid new (concat p.answers) answer p.written w);
+      written = rw (concat_more p.answers answer) (passes old mid new (concat p.answers) kept answer kept' p.written w);
     }
 
+-- answers that were kept go out
+pub sends : (input left old mid new : Option Text) (kept kept' : Text) (m : Serving) → Progress input left old mid kept m → AreSentBut mid new (kept ++ []) kept' → Progress input left old new kept' m
+sends None left old mid new kept kept' m p w = tt
+sends (Some input) left old mid new kept kept' m p w = record {
+  rest = p.rest;
+  left_is = p.left_is;
+  done = p.done;
+  lines_are = p.lines_are;
+  answers = p.answers;
+  state = p.state;
+  run = p.run;
+  is_in = p.is_in;
+  written = subst (λ (l : Text). AreSentBut old new l kept') (append-nil (concat p.answers)) (passes old mid new (concat p.answers) kept [] kept' p.written w);
+}
+
 -- the whole input is answered
-pub all_answered : (input left old new : Option Text) (m : Serving) → Progress input left old new m → IfSome left (λ bytes. bytes ≡ []) → AnswersAll input old new
-all_answered None left old new m p e = tt
-all_answered (Some input) left old new m p e =
+pub all_answered : (input left old new : Option Text) (kept : Text) (m : Serving) → Progress input left old new kept m → kept ≡ [] → IfSome left (λ bytes. bytes ≡ []) → AnswersAll input old new
+all_answered None left old new kept m p sent e = tt
+all_answered (Some input) left old new kept m p sent e =
     let none : p.rest ≡ [] = let P : Option Text → Type 0 = λ o. IfSome o (λ bytes. bytes ≡ []) in subst P p.left_is e in
     let lines : lines_of input ≡ p.done = p.lines_are ∙ ap (λ (l : Text). p.done ++ lines_of l) none ∙ append-nil p.done in
-    (concat p.answers, record { answers = p.answers; state = p.state; run = subst (λ (ls : List Text). Prints start ls p.answers p.state) (sym lines) p.run; output_is = refl }, p.written)
+    (concat p.answers, record { answers = p.answers; state = p.state; run = subst (λ (ls : List Text). Prints start ls p.answers p.state) (sym lines) p.run; output_is = refl }, all_sent old new (concat p.answers) kept sent p.written)
 
 -- a device refused
-pub some_answered : (input left old new : Option Text) (m : Serving) → Progress input left old new m → AnswersSome input old new
-some_answered None left old new m p = tt
-some_answered (Some input) left old new m p = (
+pub some_answered : (input left old new : Option Text) (kept : Text) (m : Serving) → Progress input left old new kept m → AnswersSome input old new
+some_answered None left old new kept m p = tt
+some_answered (Some input) left old new kept m p = (
   concat p.answers,
   record { done = p.done; rest = lines_of p.rest; lines_are = p.lines_are; answers = p.answers; state = p.state; run = p.run; output_is = refl },
-  (concat p.answers, [], sym (append-nil (concat p.answers)), p.written),
+  (p.written.sent, kept, p.written.bytes_are, p.written.written),
+)
+
+-- the writer refused what was kept
+pub cut_off : (input left old mid new : Option Text) (kept : Text) (m : Serving) → Progress input left old mid kept m → AppendsFront mid new (kept ++ []) → AnswersSome input old new
+cut_off None left old mid new kept m p w = tt
+cut_off (Some input) left old mid new kept m p w = (
+  concat p.answers,
+  record { done = p.done; rest = lines_of p.rest; lines_are = p.lines_are; answers = p.answers; state = p.state; run = p.run; output_is = refl },
+  subst (λ (l : Text). AppendsFront old new l) (append-nil (concat p.answers)) (front old mid new (concat p.answers) kept [] p.written w),
 )
 
 -- there was no memory to begin
@@ -111,10 +137,10 @@ none_answered (Some input) contents = (
   ([], [], refl, Appends-nil contents),
 )
 
--- the writer refused in an answer
-pub cut_short : (input left left' old mid new : Option Text) (m m' : Serving) (answer : Text) → Progress input left old mid m → Answers left left' m m' answer → AppendsFront mid new answer → AnswersSome input old new
-cut_short None left left' old mid new m m' answer p a w = tt
-cut_short (Some input) left left' old mid new m m' answer p a w =
+-- the writer refused in an answer, or in what was kept before it
+pub cut_short : (input left left' old mid new : Option Text) (kept : Text) (m m' : Serving) (answer : Text) → Progress input left old mid kept m → Answers left left' m m' answer → AppendsFront mid new (kept ++ answer) → AnswersSome input old new
+cut_short None left left' old mid new kept m m' answer p a w = tt
+cut_short (Some input) left left' old mid new kept m m' answer p a w =
     let t = at_rest left left' p.rest m m' answer p.left_is a p.state p.is_in in (
       concat (p.answers ++ answer ∷ []),
       record {
@@ -126,7 +152,7 @@ cut_short (Some input) left left' old mid new m m' answer p a w =
         run = run_more start p.state t.stepped.0 p.done p.answers t.text answer p.run t.stepped.1;
         output_is = refl;
       },
-      (concat p.answers ++ w.0, w.1, concat_more p.answers answer ∙ ap (λ l. concat p.answers ++ l) w.2 ∙ sym (append_assoc (concat p.answers) w.0 w.1), Appends-trans old mid new (concat p.answers) w.0 p.written w.3),
+      rw (concat_more p.answers answer) (front old mid new (concat p.answers) kept answer p.written w),
     )
 
 -- what the reader of lines and the answer to its line say together
@@ -159,7 +185,18 @@ pub writer_silent : {T : Type 0} (r : Result T RunFault) (f : ReadFault) → r �
 writer_silent r read.Device e = rw e refl
 writer_silent r read.Turns e = rw e refl
 
--- a reader's fault is no want of memory
+-- a writer's fault is no other
+pub writer_is_not_memory : {T : Type 0} (r : Result T RunFault) → r ≡ Err Writer → r ≡ Err OutOfMemory → ⊥
+writer_is_not_memory r w m = cc
+
+pub writer_is_not_turns : {T : Type 0} (r : Result T RunFault) → r ≡ Err Writer → r ≡ Err (fault_of_read read.Turns) → ⊥
+writer_is_not_turns r w t = cc
+
+-- a run that is done has no fault
+pub done_has_no_fault : {T : Type 0} (r : Result T RunFault) (x : T) (f : RunFault) → r ≡ Ok x → r ≡ Err f → ⊥
+done_has_no_fault r x f d e = cc
+
+-- a reader's fault isn't out of memory
 pub memory_silent : {T : Type 0} (r : Result T RunFault) (f : ReadFault) → r ≡ Err (fault_of_read f) → r ≡ Err OutOfMemory → ⊥
 memory_silent r read.Device e h = cc
 memory_silent r read.Turns e h = cc

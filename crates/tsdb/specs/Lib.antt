@@ -18,4 +18,5 @@ pub mod Opening
 pub mod FaultNumbers
 pub mod Serving
 pub mod HeldLine
+pub mod Gathering
 pub mod LineReading

@@ -26,7 +26,7 @@ use Rattle.ts_plan.specs.declared.fault.PlanError.{PlanError}
 use Rattle.ts_plan.specs.declared.fault.PlanError.TheVariants as errors
 use Rattle.ts_plan.specs.declared.fault.PlanFault.{PlanFault}
 use Rattle.ts_ql.specs.Counting.{count_select, IsInterval}
-use Rattle.ts_raw.specs.Numbered.{Gains}
+use Rattle.ts_core.specs.Numbered.{Gains}
 use Rattle.ts_reply.specs.Answering.{IsReply}
 use Rattle.ts_reply.specs.Explaining.{IsExplanation}
 use Rattle.ts_reply.specs.declared.epoch.Epoch.{Epoch}

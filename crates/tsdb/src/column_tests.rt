@@ -85,7 +85,7 @@ fn write<C: Column>(column: &mut C, time: Time, value: i64) -> Result<(), AllocE
     Ok(())
 }
 
-/// Makes a call, and tells whether it gives what it should.
+/// Makes a call, and answers whether it gives what it should.
 fn make<C: Column>(column: &mut C, call: Call) -> Result<bool, Fail> {
     match call {
         Call::Prepare(time, value) => {

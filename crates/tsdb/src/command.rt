@@ -21,11 +21,11 @@ pub enum Command<'a> {
     At(Time),
     /// To take timestamps in this unit from now on.
     SetPrecision(TimeUnit),
-    /// To tell times so in replies from now on.
+    /// To write times so in replies from now on.
     SetEpoch(Epoch),
     /// To write this line.
     Write(&'a str),
-    /// To tell how many raw facts are kept.
+    /// To answer how many raw facts are kept.
     Live,
     /// To run retention at the moment.
     Retain,
@@ -33,7 +33,7 @@ pub enum Command<'a> {
     SetCertificate(&'a str),
     /// To answer this text of queries.
     Query(&'a str),
-    /// To tell the plans of this text of queries.
+    /// To answer the plans of this text of queries.
     Explain(&'a str),
     /// To count the values of a measurement and a field from one time on and before another.
     Count {

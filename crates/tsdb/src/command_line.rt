@@ -1,4 +1,4 @@
-//! The command line: which one asks for a replay, and what every other one is told.
+//! The command line: which one asks for a replay, and how every other one is answered.
 ghost use Rattle.std.specs.Prelude.{◌≡◌, IfOk, map, drop};
 ghost use Rattle.clap.specs.Words.{FailsBy, app_of, kind_of};
 ghost use Rattle.tsdb.specs.CommandLines.{program_app, told, told_of_kind};
@@ -13,7 +13,7 @@ const VERSION: &str = "0.1.0";
 const ABOUT: &str = "A time series database of integers, run by scripts";
 
 const SCRIPTS: &str = "\
-Scripts have one command a line; blank lines and lines that begin with # are passed over.
+Scripts have one command a line; blank lines and lines that begin with # are skipped.
 
   settings JSON  opens the script, as its first command: {\"raw\":\"2m\",\"rules\":[{\"name\":\"m1\",\"measurement\":\"M\",
                  \"interval\":\"1m\",\"offset\":\"0s\",\"keep\":[\"TAG\"],\"duration\":\"INF\"}]}. Raw points are kept for
@@ -21,7 +21,7 @@ Scripts have one command a line; blank lines and lines that begin with # are pas
   at N[UNIT]     sets the moment, at first 0. UNIT is ns, u, µ, ms, s, m, h, d or w; without
                  one N is in nanoseconds of the Unix epoch.
   precision P    sets the unit of timestamps, at first ns: ns, n, u, ms, s, m or h.
-  epoch U        sets how replies tell times: text (at first) is RFC 3339 in UTC; ns, n, u, µ, ms, s, m
+  epoch U        sets how replies write times: text (at first) is RFC 3339 in UTC; ns, n, u, µ, ms, s, m
                  or h counts whole units of the Unix epoch.
   write LINE     accepts a line of line protocol, `M[,TAG=VALUE..] F=Vi[,F=Vi..] [T]`: measurement M,
                  fields F with integers V, time T. Without T it has the moment. Prints ok; none
@@ -39,7 +39,7 @@ Scripts have one command a line; blank lines and lines that begin with # are pas
   count M F A B  prints how many points field F of measurement M has from time A on and before
                  time B, in nanoseconds. A point that was written again counts once.
 
-What is wrong is printed as `fault` with its number, want of memory as `fault memory`, and the
+What is wrong is printed as `fault` with its number, running out of memory as `fault memory`, and the
 script goes on with its next line.
 
 Example:
@@ -50,14 +50,14 @@ prints ok, ok and 1.
 
 `tsdb faults` prints what the number of each fault means, `tsdb faults N` that of N.";
 
-/// What became of a command line that asks for no replay; its exit status tells it.
+/// What became of a command line that asks for no replay; its exit status shows it.
 #[derive(Clone, Copy, Debug, Drop)]
 pub enum Told {
     /// Help or the version was printed.
     Done,
     /// The standard output or error failed.
     Device,
-    /// The command line is wrong or empty, which was told on standard error.
+    /// The command line is wrong or empty, which was printed on standard error.
     Wrong,
     /// No memory was found.
     OutOfMemory,

@@ -1,4 +1,4 @@
-//! Command lines, and what each one is told.
+//! Command lines, and how each one is answered.
 use crate::command_line::parse;
 use clap::error::ErrorKind;
 use std::test::Fail;

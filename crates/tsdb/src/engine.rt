@@ -1,20 +1,22 @@
 //! The engine of `tsdb replay`: a script is read line by line, and each line is answered.
-ghost use Rattle.std.specs.Prelude.{◌≢◌, ◌≤◌, Option, length};
+ghost use Rattle.std.specs.Prelude.{◌≡◌, ◌≢◌, ◌≤◌, [], false, Option, length};
 ghost use Rattle.ts_core.specs.Facts.{Text};
 ghost use Rattle.tsdb.specs.ScriptLines.{script_line_limit};
-ghost use Rattle.tsdb.specs.LineReading.{NextOf};
+ghost use Rattle.tsdb.specs.LineReading.{NextOf, has_lf};
+ghost use Rattle.tsdb.specs.Gathering.{IsPassedOn};
 ghost use Rattle.tsdb.specs.ScriptReplies.{text_of};
 ghost use Rattle.tsdb.specs.Machine.{State};
 ghost use Rattle.tsdb.specs.Serving.{IsIn, IsAnswered};
 ghost use Rattle.tsdb.specs.Script.{IsReplay};
 
+use crate::gathered::Gathered;
 use crate::line_reader::{LineReader, Next};
 use crate::machine::Machine;
 use crate::reply::{Reply, TEXT_ROOM};
 use crate::run_fault::RunFault;
 use std::alloc::{Allocator, Global};
 use std::io::{Read, Write};
-use ts_core::{Sink, Source};
+use ts_core::{Refused, Sink, Source};
 
 /// Answers the line that came.
 fn answer<A: Allocator + Copy>(machine: &mut Machine<A>, next: Next, line: &[u8]) -> Reply
@@ -28,9 +30,24 @@ fn answer<A: Allocator + Copy>(machine: &mut Machine<A>, next: Next, line: &[u8]
     }
 }
 
+/// Sends the answers that are kept, unless the next line is here already: nobody waits for an answer that is kept.
+fn send_before_wait<W: Write, A: Allocator + Copy>(
+    lines: &LineReader<A>,
+    answers: &mut Gathered<A>,
+    sink: &mut Sink<W>,
+) -> Result<(), Refused>
+    ensures sent { IsPassedOn sink.old answers.old result [] sink.new answers.new }
+    ensures nothing_kept { has_lf lines.now.ahead.buffered ≡ false → answers.new ≡ [] }
+{
+    if lines.holds_line() {
+        return Ok(());
+    }
+    answers.send(sink)
+}
+
 /// Answers each line of a script on the sink, from an empty store and the moment 0 on. All memory of
-/// reading, and of the texts of faults, is taken before the first line. Replies are made in the memory of
-/// `json`, all else in that of `alloc`.
+/// reading, of the texts of faults and of gathering answers is taken before the first line. Replies are made in the memory of
+/// `json`, all else in that of `alloc`. Answers go out together, but none is kept while the next line is waited for.
 pub fn run<R: Read, W: Write, A: Allocator + Copy>(
     alloc: A,
     json: Global,
@@ -42,12 +59,15 @@ pub fn run<R: Read, W: Write, A: Allocator + Copy>(
     let mut machine = Machine::new(alloc, json)?;
     let mut lines = LineReader::new(alloc)?;
     let mut text = String::with_capacity(alloc, TEXT_ROOM)?;
+    let mut answers = Gathered::new(alloc)?;
     loop {
+        send_before_wait(&lines, &mut answers, sink)?;
         let next = lines.next(source)?;
         if let Next::End = next {
+            answers.send(sink)?;
             return Ok(());
         }
         let reply = answer(&mut machine, next, lines.line());
-        reply.send(&mut text, sink)?;
+        reply.send(&mut text, &mut answers, sink)?;
     }
 }

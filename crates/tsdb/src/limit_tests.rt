@@ -1,4 +1,4 @@
-//! Limits that are reached with ample memory, so that none of them is told as want of memory, or comes too soon.
+//! Limits that are reached with ample memory, so that none of them is answered as out of memory, or comes too soon.
 use crate::script_tests::{answers, prints};
 use std::alloc::{AllocError, Global};
 use std::test::Fail;

@@ -2,7 +2,7 @@
 ghost use Rattle.std.specs.Prelude.{◌≡◌, ◌≤◌, [], length, IfOk, false};
 ghost use Rattle.ts_core.specs.ReadingAhead.{EndIsEnd, nothing_ahead};
 ghost use Rattle.tsdb.specs.ScriptLines.{script_line_limit, turn_limit};
-ghost use Rattle.tsdb.specs.LineReading.{LineIs, IsTaken, IsLonger, IsAsked, IsReadOn, IsNext, UsesUp, next_of, last_of};
+ghost use Rattle.tsdb.specs.LineReading.{LineIs, IsTaken, IsLonger, IsAsked, IsReadOn, IsNext, UsesUp, has_lf, next_of, last_of};
 
 use crate::chunk::{LINE_LIMIT, extend_line, line_end};
 use std::alloc::{AllocError, Allocator};
@@ -56,12 +56,20 @@ impl<A: Allocator + Copy> LineReader<A> {
         })
     }
 
-    /// The line that `next` told of.
+    /// The line that `next` found.
     pub fn line(&self) -> &[u8]
         ensures line { result.now ≡ self.now.line }
         ensures short { length result.now ≤ script_line_limit }
     {
         self.line.as_slice()
+    }
+
+    /// Whether the next line, with its LF, was read ahead, so that it comes without a read.
+    pub fn holds_line(&self) -> bool
+        ensures { result ≡ has_lf self.now.ahead.buffered }
+    {
+        let rest = self.ahead.buffered();
+        line_end(rest) < rest.len()
     }
 
     /// Forgets the line.

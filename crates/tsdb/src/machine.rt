@@ -146,7 +146,7 @@ impl<A: Allocator + Copy> Machine<A> {
         }
     }
 
-    /// Runs retention at the moment, and tells the marks. Room for these is taken before the run.
+    /// Runs retention at the moment, and answers the marks. Room for these is taken before the run.
     fn retain(&mut self) -> Reply
         ensures { (s : State) → IsIn s self.old → Did RetainCommand s (text_of result) self.new }
     {
@@ -156,7 +156,7 @@ impl<A: Allocator + Copy> Machine<A> {
         }
     }
 
-    /// Runs retention at the moment, and tells the marks in a text that has room for them.
+    /// Runs retention at the moment, and answers the marks in a text that has room for them.
     fn retain_and_tell(&mut self, text: String) -> Reply
         requires empty { string_len text ≡ 0 }
         requires room { MARKS_ROOM ≤ string_capacity text }
@@ -168,7 +168,7 @@ impl<A: Allocator + Copy> Machine<A> {
         self.marks(text)
     }
 
-    /// Tells the marks in a text that has room for them.
+    /// Answers the marks in a text that has room for them.
     fn marks(&self, text: String) -> Reply
         requires empty { string_len text ≡ 0 }
         requires room { MARKS_ROOM ≤ string_capacity text }
@@ -217,7 +217,7 @@ impl<A: Allocator + Copy> Machine<A> {
         ended(reply.body)
     }
 
-    /// Tells the plans of a text of queries.
+    /// Answers the plans of a text of queries.
     fn explain(&self, text: &str) -> Reply
         ensures { (s : State) → IsIn s self.now → Did (ExplainCommand text.now) s (text_of result) self.now }
     {
@@ -288,7 +288,7 @@ fn ended(mut text: String) -> Result<String, AllocError>
     Ok(text)
 }
 
-/// How a refused write is told.
+/// How a refused write is answered.
 fn refusal_of(fault: WriteFault) -> Reply
     ensures { result ≡ refusal_of fault }
 {

@@ -24,6 +24,7 @@ mod count;
 mod device_tests;
 mod engine;
 mod fault_table;
+mod gathered;
 #[cfg(test)]
 mod limit_tests;
 mod line_reader;
@@ -38,6 +39,8 @@ mod opening;
 mod outcome;
 #[cfg(test)]
 mod outcome_tests;
+#[cfg(test)]
+mod plan_tests;
 #[cfg(test)]
 mod query_tests;
 mod reply;

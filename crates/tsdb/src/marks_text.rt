@@ -1,4 +1,4 @@
-//! Marks as a script tells them, also in the fault of a line below the raw mark.
+//! Marks as a script prints them, also in the fault of a line below the raw mark.
 ghost use Rattle.std.specs.Prelude.{◌≡◌, ◌+◌, ◌*◌, ◌≤◌, ◌++◌, length, IsOk, OnOk, IfOk, string_bytes, string_len, string_capacity};
 ghost use Rattle.std.specs.List.{AllByRecursion};
 ghost use Rattle.ts_core.specs.FaultTexts.{fault_text};

@@ -1,11 +1,12 @@
-//! Want of memory: each allocation of a script is refused in turn. What is refused is told and changes nothing, and the
+//! Out of memory: each allocation of a script is refused in turn. What is refused is answered and changes nothing, and the
 //! same line is written once there is room.
+use crate::chunk::line_end;
 use crate::engine::run;
 use crate::run_fault::RunFault;
 use linked_list_allocator::LocalHeap;
 use std::alloc::{AllocError, Global};
 use std::io;
-use std::io::Write;
+use std::io::{Read, Write};
 use std::test::Fail;
 use ts_core::{Sink, Source};
 
@@ -46,7 +47,23 @@ const ANSWERS: [&str; 21] = [
     "6", "6", REPLY, REPLY, "12",
 ];
 
-/// Takes answers. The block gives its memory back once want of memory was told.
+/// Gives one line a read, so that each answer goes out by itself before the next line is read.
+#[derive(Drop)]
+struct Giver<'a> {
+    rest: &'a [u8],
+}
+
+impl Read for Giver<'_> {
+    fn read(&mut self, buf: &mut [u8]) -> io::Result<usize> {
+        let line = line_end(self.rest).saturating_add(1);
+        let count = line.min(self.rest.len()).min(buf.len());
+        buf[..count].copy_from_slice(&self.rest[..count]);
+        self.rest = &self.rest[count..];
+        Ok(count)
+    }
+}
+
+/// Takes answers. The block gives its memory back once an answer was out of memory.
 #[derive(Drop)]
 struct Taker<'a> {
     taken: Vec<u8>,
@@ -67,11 +84,13 @@ impl Write for Taker<'_> {
     }
 }
 
-/// What the script ends with and prints while all but so many bytes of a heap are taken, until want of memory is told.
+/// What the script ends with and prints while all but so many bytes of a heap are taken, until an answer is out of memory.
 fn run_within(alloc: Global, room: usize) -> Result<(Result<(), RunFault>, Vec<u8>), AllocError> {
     let heap = LocalHeap::new(alloc, HEAP)?;
     let block = Vec::with_capacity(&heap, HEAP.saturating_sub(room))?;
-    let mut source = Source::new(SCRIPT.as_bytes());
+    let mut source = Source::new(Giver {
+        rest: SCRIPT.as_bytes(),
+    });
     let mut sink = Sink::new(Taker {
         taken: Vec::new(alloc),
         block: Some(block),
@@ -95,7 +114,7 @@ fn is_refused(printed: &str) -> Option<bool> {
     Some(refused)
 }
 
-/// What want of memory did to a run.
+/// What running out of memory did to a run.
 #[derive(Clone, Copy, Drop)]
 enum Outcome {
     /// The script was not begun.

@@ -8,7 +8,7 @@ ghost use Rattle.tsdb.specs.Moments.{moment_in, moment_of, number_len};
 use ts_core::{Time, TimeUnit};
 use ts_line::{is_number, moment};
 
-/// The moment that a number of units tells, where it is a valid time.
+/// The moment that a number of units stands for, where it is a valid time.
 #[tactic(auto, unfolding(crate::specs::Moments::moment_in))]
 pub(crate) fn moment_in(unit: TimeUnit, number: &str) -> Option<Time>
     ensures { result ≡ moment_in (nanoseconds_of unit) number.now }
@@ -38,7 +38,7 @@ fn number_len(text: &str) -> usize
     text.len()
 }
 
-/// The moment that a number with its unit tells.
+/// The moment that a number with its unit stands for.
 #[tactic(auto, unfolding(crate::specs::Moments::moment_of))]
 pub(crate) fn moment_of(text: &str) -> Option<Time>
     ensures { result ≡ moment_of text.now }

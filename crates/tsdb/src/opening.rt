@@ -34,7 +34,7 @@ fn settings_fault_line(json: Global, fault: SettingsFault) -> Result<String, All
     Ok(text)
 }
 
-/// Tells the fault of settings.
+/// Answers the fault of settings.
 pub(crate) fn bad_settings(json: Global, fault: SettingsFault) -> Reply
     ensures { (text_of result ≡ line (settings_fault_text fault)) ⊎ (result ≡ Reply.OutOfMemory) }
 {

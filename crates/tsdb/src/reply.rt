@@ -1,13 +1,13 @@
 //! What a line of a script prints.
-ghost use Rattle.std.specs.Prelude.{◌≡◌, ◌+◌, ◌≤◌, IsOk, OnOk, OnErr, string_bytes, string_capacity};
+ghost use Rattle.std.specs.Prelude.{◌≡◌, ◌≤◌, IsOk, OnOk, string_bytes, string_capacity};
 ghost use Rattle.std.specs.Fmt.{decimal};
-ghost use Rattle.std.specs.Io.KnownBytes.{Appends};
-ghost use Rattle.ts_core.specs.Devices.{AppendsFront, one_if_err};
 ghost use Rattle.ts_core.specs.FaultTexts.{fault_text};
 ghost use Rattle.ts_line.specs.FaultText.{line_fault_text};
 ghost use Rattle.ts_plan.specs.PlanTexts.{plan_fault_text};
+ghost use Rattle.tsdb.specs.Gathering.{IsPassedOn};
 ghost use Rattle.tsdb.specs.ScriptReplies.{line, text_of};
 
+use crate::gathered::Gathered;
 use crate::marks_text::mark_fault_line;
 use itoa::write_digits;
 use std::alloc::{AllocError, Allocator};
@@ -53,52 +53,50 @@ pub enum Reply {
 pub const TEXT_ROOM: usize = 35;
 
 impl Reply {
-    /// Writes it, with its LF. After a refusal a beginning of it went out. The text is where a fault's is
-    /// made: its room is there before, so that no memory is wanted.
+    /// Puts it behind the answers before it, with its LF. The text is where a fault's is made: its room is there before, so that no
+    /// memory is wanted.
     pub fn send<W: Write, A: Allocator>(
         self,
         text: &mut String<A>,
+        answers: &mut Gathered<A>,
         sink: &mut Sink<W>,
     ) -> Result<(), Refused>
         requires { TEXT_ROOM ≤ string_capacity text.old }
         ensures room { TEXT_ROOM ≤ string_capacity text.new }
-        ensures ok { OnOk result (Appends sink.old.contents sink.new.contents (text_of self)) }
-        ensures err { OnErr result (AppendsFront sink.old.contents sink.new.contents (text_of self)) }
-        ensures failures { sink.new.failures ≡ sink.old.failures + one_if_err result }
+        ensures sent { IsPassedOn sink.old answers.old result (text_of self) sink.new answers.new }
     {
         match self {
-            Reply::Nothing => sink.put(b""),
-            Reply::Done => sink.put(b"ok\n"),
-            Reply::NoLine => sink.put(b"none\n"),
-            Reply::BadLine(fault) => send_fault(text, sink, fault),
-            Reply::Count(count) => send_count(sink, count),
-            Reply::Body(body) => sink.put(body.as_bytes()),
-            Reply::NoPlan(fault) => sink.put(plan_fault_line(fault)),
-            Reply::Unknown => sink.put(b"fault 95\n"),
-            Reply::BadRange => sink.put(b"fault 74 at 0\n"),
-            Reply::BelowRawMark(mark) => send_mark(text, sink, mark),
-            Reply::TooManySeries => sink.put(b"fault 41\n"),
-            Reply::TooManyFacts => sink.put(b"fault 52\n"),
-            Reply::RunInProgress => sink.put(b"fault 53\n"),
-            Reply::OutOfMemory => sink.put(b"fault memory\n"),
+            Reply::Nothing => answers.put(b"", sink),
+            Reply::Done => answers.put(b"ok\n", sink),
+            Reply::NoLine => answers.put(b"none\n", sink),
+            Reply::BadLine(fault) => send_fault(text, answers, sink, fault),
+            Reply::Count(count) => send_count(answers, sink, count),
+            Reply::Body(body) => answers.put(body.as_bytes(), sink),
+            Reply::NoPlan(fault) => answers.put(plan_fault_line(fault), sink),
+            Reply::Unknown => answers.put(b"fault 95\n", sink),
+            Reply::BadRange => answers.put(b"fault 74 at 0\n", sink),
+            Reply::BelowRawMark(mark) => send_mark(text, answers, sink, mark),
+            Reply::TooManySeries => answers.put(b"fault 41\n", sink),
+            Reply::TooManyFacts => answers.put(b"fault 52\n", sink),
+            Reply::RunInProgress => answers.put(b"fault 53\n", sink),
+            Reply::OutOfMemory => answers.put(b"fault memory\n", sink),
         }
     }
 }
 
-/// Writes the text of a fault with an LF, in one piece.
+/// Puts the text of a fault with an LF behind the answers before it.
 fn send_fault<W: Write, A: Allocator>(
     text: &mut String<A>,
+    answers: &mut Gathered<A>,
     sink: &mut Sink<W>,
     fault: LineFault,
 ) -> Result<(), Refused>
     requires { TEXT_ROOM ≤ string_capacity text.old }
     ensures room { TEXT_ROOM ≤ string_capacity text.new }
-    ensures ok { OnOk result (Appends sink.old.contents sink.new.contents (line (line_fault_text fault))) }
-    ensures err { OnErr result (AppendsFront sink.old.contents sink.new.contents (line (line_fault_text fault))) }
-    ensures failures { sink.new.failures ≡ sink.old.failures + one_if_err result }
+    ensures sent { IsPassedOn sink.old answers.old result (line (line_fault_text fault)) sink.new answers.new }
 {
     match fault_line(text, fault) {
-        Ok(()) => sink.put(text.as_bytes()),
+        Ok(()) => answers.put(text.as_bytes(), sink),
         Err(_) => unreachable!(),
     }
 }
@@ -115,20 +113,19 @@ fn fault_line<A: Allocator>(text: &mut String<A>, fault: LineFault) -> Result<()
     text.push_str("\n")
 }
 
-/// Writes the text of the fault of a line below the raw mark, with an LF, in one piece.
+/// Puts the text of the fault of a line below the raw mark, with an LF, behind the answers before it.
 fn send_mark<W: Write, A: Allocator>(
     text: &mut String<A>,
+    answers: &mut Gathered<A>,
     sink: &mut Sink<W>,
     mark: Time,
 ) -> Result<(), Refused>
     requires { TEXT_ROOM ≤ string_capacity text.old }
     ensures room { TEXT_ROOM ≤ string_capacity text.new }
-    ensures ok { OnOk result (Appends sink.old.contents sink.new.contents (line (fault_text FaultCode.BelowRawMark (FaultDetail.Mark mark)))) }
-    ensures err { OnErr result (AppendsFront sink.old.contents sink.new.contents (line (fault_text FaultCode.BelowRawMark (FaultDetail.Mark mark)))) }
-    ensures failures { sink.new.failures ≡ sink.old.failures + one_if_err result }
+    ensures sent { IsPassedOn sink.old answers.old result (line (fault_text FaultCode.BelowRawMark (FaultDetail.Mark mark))) sink.new answers.new }
 {
     match mark_fault_line(text, mark) {
-        Ok(()) => sink.put(text.as_bytes()),
+        Ok(()) => answers.put(text.as_bytes(), sink),
         Err(_) => unreachable!(),
     }
 }
@@ -144,13 +141,15 @@ fn plan_fault_line(fault: PlanFault) -> &'static [u8]
     }
 }
 
-/// Writes a number with an LF, in one piece.
-fn send_count<W: Write>(sink: &mut Sink<W>, count: u64) -> Result<(), Refused>
-    ensures ok { OnOk result (Appends sink.old.contents sink.new.contents (line (decimal count))) }
-    ensures err { OnErr result (AppendsFront sink.old.contents sink.new.contents (line (decimal count))) }
-    ensures failures { sink.new.failures ≡ sink.old.failures + one_if_err result }
+/// Puts a number with an LF behind the answers before it.
+fn send_count<W: Write, A: Allocator>(
+    answers: &mut Gathered<A>,
+    sink: &mut Sink<W>,
+    count: u64,
+) -> Result<(), Refused>
+    ensures sent { IsPassedOn sink.old answers.old result (line (decimal count)) sink.new answers.new }
 {
     let mut text = [b'\n'; 21];
     let start = write_digits(count, &mut text, 20);
-    sink.put(&text[start..])
+    answers.put(&text[start..], sink)
 }

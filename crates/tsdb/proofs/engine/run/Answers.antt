@@ -9,7 +9,7 @@ use Rattle.tsdb.specs.RunFaults.{fault_of_read}
 use Rattle.tsdb.specs.Script.{IsReplay}
 use Rattle.tsdb.specs.declared.run_fault.RunFault.{RunFault}
 use Rattle.tsdb.specs.declared.run_fault.RunFault.TheVariants.{OutOfMemory}
-use Rattle.tsdb.proofs.Progress.{begins, none_answered, goes_on, some_answered, cut_short, answers_next, all_answered, nothing_left, reader_told, turns_told, writer_silent, memory_silent}
+use Rattle.tsdb.proofs.Progress.{begins, none_answered, goes_on, sends, some_answered, cut_off, cut_short, answers_next, all_answered, nothing_left, reader_told, turns_told, writer_silent, memory_silent, writer_is_not_memory, writer_is_not_turns, done_has_no_fault}
 use Rattle.tsdb.proofs.engine.run.Goals as goal
 
 -- nothing is read or written where there is no memory
@@ -40,15 +40,17 @@ returns-in_err-text g c =
     let p = err_from_is_err_and c.from_residual-in_err-text.result c.from_residual-in_err-text.ensures.1 in
     without_memory c.args.source.now c.args.sink.now c.from_residual-in_err-text.result (p.1 ∙ ap Err p.2)
 
-pub send-requires : goal.send-requires
-send-requires g c = c.loop-text.invariant.room
+pub returns-in_err-answers : goal.returns-in_err-answers
+returns-in_err-answers g c =
+    let p = err_from_is_err_and c.from_residual-in_err-answers.result c.from_residual-in_err-answers.ensures.1 in
+    without_memory c.args.source.now c.args.sink.now c.from_residual-in_err-answers.result (p.1 ∙ ap Err p.2)
 
-pub loop-text-init : goal.loop-text-init
-loop-text-init g c =
+pub loop-answers-init : goal.loop-answers-init
+loop-answers-init g c =
     let e = c.in_ok-lines.ensures in
     let turns : c.in_ok-lines.lines.ahead.turns ≡ 0 = ap (λ (a : Ahead). a.turns) e in
     record {
-      progress = begins c.args.source.now.remaining c.args.sink.now.contents c.in_ok-lines.lines.ahead.buffered c.in_ok-machine.machine (ap (λ (a : Ahead). a.buffered) e) c.in_ok-machine.ensures;
+      progress = begins c.args.source.now.remaining c.args.sink.now.contents c.in_ok-lines.lines.ahead.buffered c.in_ok-machine.machine (ap (λ (a : Ahead). a.buffered) e) c.in_ok-machine.ensures c.in_ok-answers.answers c.in_ok-answers.ensures;
       end = λ h. let x : c.in_ok-lines.lines.ahead.ended ≡ false = ap (λ (a : Ahead). a.ended) e in cc;
       turns = omega (arith, turns);
       within = omega (arith, turns);
@@ -58,61 +60,80 @@ loop-text-init g c =
       room = c.in_ok-text.ensures.capacity;
     }
 
-pub loop-text-preserved : goal.loop-text-preserved
-loop-text-preserved g c =
-    let i = c.loop-text.invariant in
+pub returns-in_err-send_before_wait : goal.returns-in_err-send_before_wait
+returns-in_err-send_before_wait g c =
+    let p = err_from_is_err_and c.from_residual-in_err-send_before_wait.result c.from_residual-in_err-send_before_wait.ensures.1 in
+    let i = c.loop-answers.invariant in
+    let s = c.in_err-send_before_wait.ensures.sent in
+    rw (p.1, p.2) record {
+      answered = tt;
+      begun = cut_off c.args.source.now.remaining (to_come c.loop-answers.lines c.loop-answers.source) c.args.sink.now.contents c.loop-answers.sink.contents c.send_before_wait.new.sink.contents c.loop-answers.answers c.loop-answers.machine i.progress s.err;
+      memory = λ e. absurd (writer_is_not_memory _ refl e);
+      reader = omega (arith, i.reader);
+      writer = omega (arith, i.writer, s.failures);
+      end = tt;
+      within = omega (arith, i.turns, i.within);
+      limit = λ e. absurd (writer_is_not_turns _ refl e);
+    }
+
+pub loop-answers-preserved : goal.loop-answers-preserved
+loop-answers-preserved g c =
+    let i = c.loop-answers.invariant in
+    let b = c.in_ok-send_before_wait.ensures.sent in
     let n = c.in_ok-next.ensures in
     let a = c.answer-reply.ensures in
-    let s = c.in_ok-send.ensures in
+    let s = c.in_ok-send-2.ensures in
     record {
-      progress = goes_on c.args.source.now.remaining (to_come c.loop-text.lines c.loop-text.source) (to_come c.next.new.self c.next.new.source) c.args.sink.now.contents c.loop-text.sink.contents c.send.new.sink.contents c.loop-text.machine c.answer-reply.new.machine (text_of c.answer-reply.result)
-          i.progress
-          (answers_next (to_come c.loop-text.lines c.loop-text.source) (to_come c.next.new.self c.next.new.source) c.in_ok-next.next c.next.new.self.line c.line.result.now c.loop-text.machine c.answer-reply.new.machine (text_of c.answer-reply.result) c.line.ensures.line c.in_default.not-End n.next a)
-          s.ok;
+      progress = goes_on c.args.source.now.remaining (to_come c.loop-answers.lines c.loop-answers.source) (to_come c.next.new.self c.next.new.source) c.args.sink.now.contents c.send_before_wait.new.sink.contents c.send-in-loop-answers.new.sink.contents c.send_before_wait.new.answers c.send-in-loop-answers.new.answers c.loop-answers.machine c.answer-reply.new.machine (text_of c.answer-reply.result)
+          (sends c.args.source.now.remaining (to_come c.loop-answers.lines c.loop-answers.source) c.args.sink.now.contents c.loop-answers.sink.contents c.send_before_wait.new.sink.contents c.loop-answers.answers c.send_before_wait.new.answers c.loop-answers.machine i.progress c.in_ok-send_before_wait.ensures.sent.ok)
+          (answers_next (to_come c.loop-answers.lines c.loop-answers.source) (to_come c.next.new.self c.next.new.source) c.in_ok-next.next c.next.new.self.line c.line.result.now c.loop-answers.machine c.answer-reply.new.machine (text_of c.answer-reply.result) c.line.ensures.line c.in_default.not-End n.next a)
+          s.sent.ok;
       end = n.asked.end;
       turns = omega (arith, i.turns, n.asked.turns);
       within = n.asked.within;
       ends = omega (arith, i.ends, n.asked.ends);
       reader = omega (arith, i.reader, n.asked.failures);
-      writer = omega (arith, i.writer, s.failures);
+      writer = omega (arith, i.writer, b.failures, s.sent.failures);
       room = s.room;
     }
 
-pub returns-in_err-send : goal.returns-in_err-send
-returns-in_err-send g c =
-    let p = err_from_is_err_and c.from_residual-in_err-send.result c.from_residual-in_err-send.ensures.1 in
-    let i = c.loop-text.invariant in
+pub returns-in_err-send-2 : goal.returns-in_err-send-2
+returns-in_err-send-2 g c =
+    let p = err_from_is_err_and c.from_residual-in_err-send-2.result c.from_residual-in_err-send-2.ensures.1 in
+    let i = c.loop-answers.invariant in
+    let b = c.in_ok-send_before_wait.ensures.sent in
     let n = c.in_ok-next.ensures in
     let a = c.answer-reply.ensures in
-    let s = c.in_err-send.ensures in
+    let s = c.in_err-send-2.ensures.sent in
     rw (p.1, p.2) record {
       answered = tt;
-      begun = cut_short c.args.source.now.remaining (to_come c.loop-text.lines c.loop-text.source) (to_come c.next.new.self c.next.new.source) c.args.sink.now.contents c.loop-text.sink.contents c.send.new.sink.contents c.loop-text.machine c.answer-reply.new.machine (text_of c.answer-reply.result)
-          i.progress
-          (answers_next (to_come c.loop-text.lines c.loop-text.source) (to_come c.next.new.self c.next.new.source) c.in_ok-next.next c.next.new.self.line c.line.result.now c.loop-text.machine c.answer-reply.new.machine (text_of c.answer-reply.result) c.line.ensures.line c.in_default.not-End n.next a)
+      begun = cut_short c.args.source.now.remaining (to_come c.loop-answers.lines c.loop-answers.source) (to_come c.next.new.self c.next.new.source) c.args.sink.now.contents c.send_before_wait.new.sink.contents c.send-in-loop-answers.new.sink.contents c.send_before_wait.new.answers c.loop-answers.machine c.answer-reply.new.machine (text_of c.answer-reply.result)
+          (sends c.args.source.now.remaining (to_come c.loop-answers.lines c.loop-answers.source) c.args.sink.now.contents c.loop-answers.sink.contents c.send_before_wait.new.sink.contents c.loop-answers.answers c.send_before_wait.new.answers c.loop-answers.machine i.progress c.in_ok-send_before_wait.ensures.sent.ok)
+          (answers_next (to_come c.loop-answers.lines c.loop-answers.source) (to_come c.next.new.self c.next.new.source) c.in_ok-next.next c.next.new.self.line c.line.result.now c.loop-answers.machine c.answer-reply.new.machine (text_of c.answer-reply.result) c.line.ensures.line c.in_default.not-End n.next a)
           s.err;
-      memory = λ e. cc;
+      memory = λ e. absurd (writer_is_not_memory _ refl e);
       reader = omega (arith, i.reader, n.asked.failures);
-      writer = omega (arith, i.writer, s.failures);
+      writer = omega (arith, i.writer, b.failures, s.failures);
       end = tt;
       within = omega (arith, i.turns, n.asked.turns, n.asked.within);
-      limit = λ e. cc;
+      limit = λ e. absurd (writer_is_not_turns _ refl e);
     }
 
 pub returns-in_err-next : goal.returns-in_err-next
 returns-in_err-next g c =
     let result = c.from_residual-in_err-next.result in
     let p = err_from_is_err_and result c.from_residual-in_err-next.ensures.1 in
-    let i = c.loop-text.invariant in
+    let i = c.loop-answers.invariant in
+    let b = c.in_ok-send_before_wait.ensures.sent in
     let n = c.next.ensures.asked in
     let fault = c.in_err-next.field-0.0 in
     let told : result ≡ Err (fault_of_read fault) = p.1 ∙ ap Err p.2 in
     record {
       answered = rw told tt;
-      begun = on_any_err result (some_answered _ _ _ _ _ i.progress);
+      begun = on_any_err result (some_answered c.args.source.now.remaining (to_come c.loop-answers.lines c.loop-answers.source) c.args.sink.now.contents c.send_before_wait.new.sink.contents c.send_before_wait.new.answers c.loop-answers.machine (sends c.args.source.now.remaining (to_come c.loop-answers.lines c.loop-answers.source) c.args.sink.now.contents c.loop-answers.sink.contents c.send_before_wait.new.sink.contents c.loop-answers.answers c.send_before_wait.new.answers c.loop-answers.machine i.progress c.in_ok-send_before_wait.ensures.sent.ok));
       memory = λ e. absurd (memory_silent result fault told e);
       reader = omega (arith, i.reader, n.failures, reader_told fault result c.next.result told c.in_err-next.was);
-      writer = omega (arith, i.writer, writer_silent result fault told);
+      writer = omega (arith, i.writer, b.failures, writer_silent result fault told);
       end = rw told tt;
       within = omega (arith, i.turns, n.turns, n.within);
       limit = λ t.
@@ -120,22 +141,43 @@ returns-in_err-next g c =
           (omega (arith, i.turns, n.turns, at), omega (arith, i.ends, n.ends, ap bit c.in_err-next.ensures.asked.stays));
     }
 
-pub returns-in-End : goal.returns-in-End
-returns-in-End g c =
-    let i = c.loop-text.invariant in
+pub returns-in_err-send : goal.returns-in_err-send
+returns-in_err-send g c =
+    let p = err_from_is_err_and c.from_residual-in_err-send.result c.from_residual-in_err-send.ensures.1 in
+    let i = c.loop-answers.invariant in
+    let b = c.in_ok-send_before_wait.ensures.sent in
     let n = c.in_ok-next.ensures in
-    record {
-      answered = all_answered c.args.source.now.remaining (to_come c.loop-text.lines c.loop-text.source) c.args.sink.now.contents c.loop-text.sink.contents c.loop-text.machine
-          i.progress
-          (nothing_left (to_come c.loop-text.lines c.loop-text.source) (to_come c.next.new.self c.next.new.source) c.in_ok-next.next c.next.new.self.line c.in-End.is n.next);
-      begun = tt;
-      memory = λ e. cc;
+    let s = c.in_err-send.ensures.sent in
+    rw (p.1, p.2) record {
+      answered = tt;
+      begun = cut_off c.args.source.now.remaining (to_come c.loop-answers.lines c.loop-answers.source) c.args.sink.now.contents c.send_before_wait.new.sink.contents c.send.new.sink.contents c.send_before_wait.new.answers c.loop-answers.machine (sends c.args.source.now.remaining (to_come c.loop-answers.lines c.loop-answers.source) c.args.sink.now.contents c.loop-answers.sink.contents c.send_before_wait.new.sink.contents c.loop-answers.answers c.send_before_wait.new.answers c.loop-answers.machine i.progress c.in_ok-send_before_wait.ensures.sent.ok) s.err;
+      memory = λ e. absurd (writer_is_not_memory _ refl e);
       reader = omega (arith, i.reader, n.asked.failures);
-      writer = omega (arith, i.writer);
-      end = omega (arith, i.ends, n.asked.ends, ap bit (n.goes_on.over c.in-End.is));
+      writer = omega (arith, i.writer, b.failures, s.failures);
+      end = tt;
       within = omega (arith, i.turns, n.asked.turns, n.asked.within);
-      limit = λ e. cc;
+      limit = λ e. absurd (writer_is_not_turns _ refl e);
     }
 
-pub loop-text-smaller : goal.loop-text-smaller
-loop-text-smaller g c = c.in_ok-next.ensures.goes_on.less c.in_default.not-End
+pub returns-in-End : goal.returns-in-End
+returns-in-End g c =
+    let i = c.loop-answers.invariant in
+    let b = c.in_ok-send_before_wait.ensures.sent in
+    let n = c.in_ok-next.ensures in
+    let s = c.in_ok-send.ensures in
+    record {
+      answered = all_answered c.args.source.now.remaining (to_come c.loop-answers.lines c.loop-answers.source) c.args.sink.now.contents c.send.new.sink.contents c.send.new.self c.loop-answers.machine
+          (sends c.args.source.now.remaining (to_come c.loop-answers.lines c.loop-answers.source) c.args.sink.now.contents c.send_before_wait.new.sink.contents c.send.new.sink.contents c.send_before_wait.new.answers c.send.new.self c.loop-answers.machine (sends c.args.source.now.remaining (to_come c.loop-answers.lines c.loop-answers.source) c.args.sink.now.contents c.loop-answers.sink.contents c.send_before_wait.new.sink.contents c.loop-answers.answers c.send_before_wait.new.answers c.loop-answers.machine i.progress c.in_ok-send_before_wait.ensures.sent.ok) s.sent.ok)
+          s.nothing_kept
+          (nothing_left (to_come c.loop-answers.lines c.loop-answers.source) (to_come c.next.new.self c.next.new.source) c.in_ok-next.next c.next.new.self.line c.in-End.is n.next);
+      begun = tt;
+      memory = λ e. absurd (done_has_no_fault _ _ _ refl e);
+      reader = omega (arith, i.reader, n.asked.failures);
+      writer = omega (arith, i.writer, b.failures, s.sent.failures);
+      end = omega (arith, i.ends, n.asked.ends, ap bit (n.goes_on.over c.in-End.is));
+      within = omega (arith, i.turns, n.asked.turns, n.asked.within);
+      limit = λ e. absurd (done_has_no_fault _ _ _ refl e);
+    }
+
+pub loop-answers-smaller : goal.loop-answers-smaller
+loop-answers-smaller g c = c.in_ok-next.ensures.goes_on.less c.in_default.not-End

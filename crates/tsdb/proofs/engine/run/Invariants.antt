@@ -6,9 +6,9 @@ use Rattle.tsdb.specs.LineReading.{to_come}
 use Rattle.tsdb.proofs.Progress.{Progress}
 use Rattle.tsdb.proofs.engine.run.Given as goal
 
-abbrev pub invariant-loop-text : goal.invariant-loop-text
-invariant-loop-text g l = record {
-  progress : Progress l.initial.source.remaining (to_come l.lines l.source) l.initial.sink.contents l.sink.contents l.machine;
+abbrev pub invariant-loop-answers : goal.invariant-loop-answers
+invariant-loop-answers g l = record {
+  progress : Progress l.initial.source.remaining (to_come l.lines l.source) l.initial.sink.contents l.sink.contents l.answers l.machine;
   end : EndIsEnd l.lines.ahead l.source;
   turns : l.source.turns ≡ l.initial.source.turns + l.lines.ahead.turns;
   within : l.lines.ahead.turns ≤ turn_limit;
@@ -18,5 +18,5 @@ invariant-loop-text g l = record {
   room : TEXT_ROOM ≤ string_capacity l.text;
 }
 
-abbrev pub decreases-loop-text : goal.decreases-loop-text
-decreases-loop-text g l = weight l.lines.ahead
+abbrev pub decreases-loop-answers : goal.decreases-loop-answers
+decreases-loop-answers g l = weight l.lines.ahead

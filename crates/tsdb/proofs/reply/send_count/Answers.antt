@@ -1,7 +1,7 @@
-use Rattle.std.proofs.Common.{◌≡◌, ℕ, ◌-◌, List, length, take, drop, OnErr, subst, arith, ap, sym, ◌∙◌}
+use Rattle.std.proofs.Common.{◌≡◌, ℕ, ◌-◌, List, length, take, drop, subst, arith, ap, sym, ◌∙◌}
 use Rattle.std.proofs.lemmas.List.{take_rest}
 use Rattle.std.proofs.lemmas.Fmt.{length-decimal-le}
-use Rattle.ts_core.specs.Devices.{AppendsFront}
+use Rattle.tsdb.specs.Gathering.{IsPassedOn}
 use Rattle.tsdb.proofs.reply.send_count.Goals as goal
 
 pub write_digits-start-requires : goal.write_digits-start-requires
@@ -10,9 +10,9 @@ write_digits-start-requires g c = (length-decimal-le 20 c.args.count (omega arit
 whole_rest : (n k : ℕ) (bs : List ℕ) → length bs ≡ n → take (n - k) (drop k bs) ≡ drop k bs
 whole_rest n k bs e = ap (λ (j : ℕ). take (j - k) (drop k bs)) (sym e) ∙ take_rest bs k
 
-pub returns-clause-err : goal.returns-clause-err
-returns-clause-err g c =
+pub returns : goal.returns
+returns g c =
     let start = c.write_digits-start.result in
     let buf = c.write_digits-start.new.buf in
     let len : length buf ≡ 21 = omega (arith, c.write_digits-start.auto.buf) in
-    subst (λ (l : List ℕ). OnErr c.put.result (AppendsFront c.args.sink.now.contents c.put.new.self.contents l)) (whole_rest 21 start buf len ∙ c.write_digits-start.ensures.written) c.put.ensures.err
+    record { sent = subst (λ (l : List ℕ). IsPassedOn c.args.sink.now c.args.answers.now c.put.result l c.put.new.sink c.put.new.self) (whole_rest 21 start buf len ∙ c.write_digits-start.ensures.written) c.put.ensures }
