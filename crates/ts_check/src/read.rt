@@ -63,7 +63,7 @@ fn is_name(name: &str) -> bool
     (1 <= name.len() && name.len() <= 32) && are_name_bytes(name.as_bytes())
 }
 
-/// The source that a line tells first, and what stands behind it and a space.
+/// The source that a line begins with, and what stands behind it and a space.
 fn source(line: &str) -> Option<(PieceSource<'_>, &str)>
     ensures { TakesSpelled (IsSource line.now) (option_map (λ x. (source_of x.0, x.1.now)) result) }
 {

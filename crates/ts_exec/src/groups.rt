@@ -136,7 +136,7 @@ impl<'a, A: Allocator + Copy> Groups<'a, A> {
         Ok(groups)
     }
 
-    /// Makes room for a group that may get data, and tells where.
+    /// Makes room for a group that may get data, and answers where.
     pub(crate) fn expect(&mut self, values: &[&'a str]) -> Result<usize, AllocError>
         ensures { self.new ≡ self.old }
     {

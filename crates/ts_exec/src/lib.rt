@@ -1,7 +1,7 @@
 //! The executor: a checked plan is executed over what is seen of a store, and buckets without data are filled.
 //! It stands on ts_store's `View`, and on ts_check, by which a plan was checked. `execute` is proved to give the
-//! answer to the plan's query over all points ever accepted, whatever history the view shows, or to tell that
-//! the plan is stale; nothing else refuses it but want of memory.
+//! answer to the plan's query over all points ever accepted, whatever history the view shows, or to answer that
+//! the plan is stale; beside that it is refused only out of memory.
 //!
 //! An example, over a store and a plan that was checked for its settings and marks:
 //!

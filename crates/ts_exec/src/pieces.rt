@@ -79,7 +79,7 @@ fn expected_groups<'a, A: Allocator + Copy + 'a, V: View<A> + 'a>(
     Ok(expected)
 }
 
-/// Tells the groups of the columns that a query selects, in byte order, so that none is put before many others
+/// Announces the groups of the columns that a query selects, in byte order, so that none is put before many others
 /// later. Where each is to come, by its column.
 fn expect_groups<'a, A: Allocator + Copy + 'a, V: View<A> + 'a>(
     groups: &mut Groups<'a, A>,

@@ -49,7 +49,7 @@ pub fn whole(text: &str) -> Option<i64>
     }
 }
 
-/// The time that a number of units tells, each of so many nanoseconds; none where it isn't a valid time.
+/// The time that a number of units stands for, each of so many nanoseconds; none where it isn't a valid time.
 #[tactic(auto, unfolding(crate::specs::Lines::time_of))]
 pub fn moment(text: &str, unit: i64) -> Option<Time>
     requires number { is_number text.now ≡ true }
@@ -60,7 +60,7 @@ pub fn moment(text: &str, unit: i64) -> Option<Time>
     time_of(text, number, unit)
 }
 
-/// The time that the number of a text tells, of so many nanoseconds each unit; none where it isn't a valid time.
+/// The time that the number of a text stands for, of so many nanoseconds each unit; none where it isn't a valid time.
 #[tactic(auto, unfolding(crate::specs::Lines::time_of))]
 pub(crate) fn time_of(text: &str, number: i64, unit: i64) -> Option<Time>
     requires number { Some number ≡ whole_of text.now }

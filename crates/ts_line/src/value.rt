@@ -1,4 +1,4 @@
-//! The values of fields, told by their shape.
+//! The values of fields, recognized by their shape.
 ghost use Rattle.std.specs.Prelude.{◌≡◌, ◌≤◌, IfOk, option_map, if◌then◌else◌, false};
 ghost use Rattle.std.specs.Str.{IsCharBoundary};
 ghost use Rattle.ts_line.specs.FaultText.{fault_at};

@@ -1,4 +1,4 @@
-//! Moments that texts in quotes tell. The form is InfluxQL's, the calendar is jiff's.
+//! Moments that texts in quotes stand for. The form is InfluxQL's, the calendar is jiff's.
 ghost use Rattle.std.specs.Prelude.{◌≡◌, ◌≤ℤ◌, pos, neg_ℤ, IfSome, unsigned_abs, ◌≤◌, ◌^◌};
 ghost use Rattle.ts_ql.specs.Dates.{digits, midnight, date_of, place_value, fraction, clock_nanos, time_of_day, without_zone, moment_told};
 
@@ -123,7 +123,7 @@ fn without_zone(text: &[u8]) -> &[u8]
     }
 }
 
-/// The moment that a text tells, in nanoseconds of the Unix epoch.
+/// The moment that a text stands for, in nanoseconds of the Unix epoch.
 #[tactic(auto, unfolding(crate::specs::Dates::moment_told))]
 pub(crate) fn moment_told(text: &str) -> Option<i128>
     ensures { result ≡ moment_told text.now }

@@ -176,7 +176,7 @@ fn read<A: Allocator + Copy>(
 }
 
 /// Reads a text of InfluxQL: its statements as queries, or its first fault.
-/// Times are in nanoseconds of the Unix epoch; `now` is the moment that `now()` tells.
+/// Times are in nanoseconds of the Unix epoch; `now` is the moment that `now()` stands for.
 pub fn parse<A: Allocator + Copy>(
     alloc: A,
     text: &str,

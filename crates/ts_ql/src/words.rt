@@ -40,7 +40,7 @@ pub(crate) fn is_keyword(text: &str) -> bool
     is_clause_word(text) || is_foreign_keyword(text)
 }
 
-/// Whether the word, which is no keyword, tells what the profile leaves out.
+/// Whether the word, which is no keyword, is one of InfluxQL that isn't supported here.
 #[tactic(auto, unfolding(crate::specs::Words::is_foreign_word))]
 pub(crate) fn is_foreign_word(text: &str) -> bool
     ensures { result ≡ is_foreign_word text.now }

@@ -181,7 +181,7 @@ fn reply_to<A: Allocator + Copy>(
 
 /// Answers a text of queries at a moment, over all facts that the store ever accepted: by their plans, or one
 /// query by the text of a certificate that is handed in. The JSON is made in the memory of `json`, all else in
-/// that of `alloc`. Want of memory is its one refusal.
+/// that of `alloc`. It is refused only out of memory.
 pub fn answer<A: Allocator + Copy>(
     alloc: A,
     json: Global,

@@ -1,10 +1,10 @@
-//! How times are told.
+//! How replies write times.
 ghost use Rattle.std.specs.Prelude.{◌≡◌};
 ghost use Rattle.ts_reply.specs.Epochs.{epoch_unit_of, epoch_of};
 
 use ts_core::TimeUnit;
 
-/// How a reply tells times.
+/// How a reply writes times.
 #[derive(Clone, Copy, Debug, PartialEq, Eq)]
 pub enum Epoch {
     /// By text: RFC 3339 in UTC.
@@ -30,7 +30,7 @@ fn unit_called(name: &str) -> Option<TimeUnit>
 }
 
 impl Epoch {
-    /// How times are told under a name: `text`, or the unit `ns`, `n`, `u`, `µ`, `ms`, `s`, `m` or `h`.
+    /// How times are written under a name: `text`, or the unit `ns`, `n`, `u`, `µ`, `ms`, `s`, `m` or `h`.
     #[tactic(auto, unfolding(crate::specs::Epochs::epoch_of))]
     pub fn named(name: &str) -> Option<Epoch>
         ensures { result ≡ epoch_of name.now }

@@ -49,7 +49,7 @@ fn each_explained<'a, A: Allocator + Copy + 'a>(
 }
 
 /// Explains a text of queries at a moment: of each the certificate of the plan that `answer` follows now. The
-/// JSON is made in the memory of `json`, all else in that of `alloc`. Want of memory is its one refusal.
+/// JSON is made in the memory of `json`, all else in that of `alloc`. It is refused only out of memory.
 pub fn explain<A: Allocator + Copy>(
     alloc: A,
     json: Global,

@@ -44,7 +44,7 @@ pub(crate) fn check_fault_text(json: Global, fault: CheckFault) -> Result<String
     Ok(text)
 }
 
-/// The body of a reply that tells the first fault of a text.
+/// The body of a reply that has the first fault of a text.
 pub(crate) fn refusal_of(json: Global, fault: &QlFault<'_>) -> Result<String, AllocError>
     ensures { IfOk result (λ s. string_bytes s ≡ refusal_text (query_fault_text (as_fault fault.now))) }
 {

@@ -1,7 +1,7 @@
-//! Replies in JSON: what is told of queries, byte by byte.
+//! Replies in JSON: what is answered to queries, byte by byte.
 //! It stands on ts_ql, ts_plan, ts_check and ts_exec, which read, plan and answer queries, and on the kit's serde_json and jiff.
 //! It promises that a reply is the JSON that the definitions say (specs/Replies), and over a store that of all facts ever accepted
-//! (specs/Answering), by the queries' plans or by a certificate that is handed in; and that plans are told as they are (specs/Explaining).
+//! (specs/Answering), by the queries' plans or by a certificate that is handed in; and that plans are shown as they are (specs/Explaining).
 //!
 //! An example, over a store at a moment; where a certificate is handed in, it takes the plan's place:
 //!

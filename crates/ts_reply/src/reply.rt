@@ -161,7 +161,7 @@ fn push_results<A: Allocator>(
     }
 }
 
-/// What became of the statements of a text, as JSON. Want of memory is its one refusal.
+/// What became of the statements of a text, as JSON. It is refused only out of memory.
 pub fn reply_json<A: Allocator>(
     alloc: Global,
     outcomes: &[Outcome<'_, A>],

@@ -1,4 +1,4 @@
-//! What is told of statements, as JSON.
+//! What is answered to statements, as JSON.
 ghost use Rattle.std.specs.Prelude.{◌≡◌, codes, IfOk, string_bytes};
 ghost use Rattle.serde_json.specs.Data.{string, object};
 ghost use Rattle.serde_json.specs.View.{view};

@@ -61,7 +61,7 @@ fn text_json(alloc: Global, nanos: &i128) -> Result<Value, AllocError>
     }
 }
 
-/// A time, in nanoseconds of the Unix epoch, as a reply tells it.
+/// A time, in nanoseconds of the Unix epoch, as a reply writes it.
 pub(crate) fn time_json(alloc: Global, epoch: Epoch, nanos: &i128) -> Result<Value, AllocError>
     ensures { IfOk result (λ v. IsTimeData epoch nanos.now (view v)) }
 {
