@@ -1,13 +1,15 @@
 //! The engine of `tsdb replay`: a script is read line by line, and each line is answered.
-ghost use Rattle.std.specs.Prelude.{◌≡◌, ◌≢◌, ◌≤◌, [], false, Option, length};
+ghost use Rattle.std.specs.Prelude.{◌≡◌, ◌≢◌, ◌≤◌, [], false, Option, length, string_capacity};
 ghost use Rattle.ts_core.specs.Facts.{Text};
-ghost use Rattle.tsdb.specs.ScriptLines.{script_line_limit};
+ghost use Rattle.ts_core.specs.ReadingAhead.{nothing_ahead};
+ghost use Rattle.tsdb.specs.ScriptLines.{script_line_limit, turn_limit};
 ghost use Rattle.tsdb.specs.LineReading.{NextOf, has_lf};
 ghost use Rattle.tsdb.specs.Gathering.{IsPassedOn};
 ghost use Rattle.tsdb.specs.ScriptReplies.{text_of};
-ghost use Rattle.tsdb.specs.Machine.{State};
+ghost use Rattle.tsdb.specs.Machine.{State, start};
 ghost use Rattle.tsdb.specs.Serving.{IsIn, IsAnswered};
 ghost use Rattle.tsdb.specs.Script.{IsReplay};
+ghost use Rattle.tsdb.specs.declared.reply.TheConstants.{TEXT_ROOM};
 
 use crate::gathered::Gathered;
 use crate::line_reader::{LineReader, Next};
@@ -45,9 +47,36 @@ fn send_before_wait<W: Write, A: Allocator + Copy>(
     answers.send(sink)
 }
 
+/// Answers all lines that are left. Answers go out together, but none is kept while the next line is waited for.
+fn answer_all<R: Read, W: Write, A: Allocator + Copy>(
+    machine: &mut Machine<A>,
+    lines: &mut LineReader<A>,
+    text: &mut String<A>,
+    answers: &mut Gathered<A>,
+    source: &mut Source<R>,
+    sink: &mut Sink<W>,
+) -> Result<(), RunFault>
+    requires machine { IsIn start machine.old }
+    requires lines { lines.old.ahead ≡ nothing_ahead turn_limit }
+    requires text { TEXT_ROOM ≤ string_capacity text.old }
+    requires answers { answers.old ≡ [] }
+    ensures { IsReplay source.old sink.old result source.new sink.new }
+{
+    loop {
+        send_before_wait(lines, answers, sink)?;
+        let next = lines.next(source)?;
+        if let Next::End = next {
+            answers.send(sink)?;
+            return Ok(());
+        }
+        let reply = answer(machine, next, lines.line());
+        reply.send(text, answers, sink)?;
+    }
+}
+
 /// Answers each line of a script on the sink, from an empty store and the moment 0 on. All memory of
 /// reading, of the texts of faults and of gathering answers is taken before the first line. Replies are made in the memory of
-/// `json`, all else in that of `alloc`. Answers go out together, but none is kept while the next line is waited for.
+/// `json`, all else in that of `alloc`.
 pub fn run<R: Read, W: Write, A: Allocator + Copy>(
     alloc: A,
     json: Global,
@@ -60,14 +89,12 @@ pub fn run<R: Read, W: Write, A: Allocator + Copy>(
     let mut lines = LineReader::new(alloc)?;
     let mut text = String::with_capacity(alloc, TEXT_ROOM)?;
     let mut answers = Gathered::new(alloc)?;
-    loop {
-        send_before_wait(&lines, &mut answers, sink)?;
-        let next = lines.next(source)?;
-        if let Next::End = next {
-            answers.send(sink)?;
-            return Ok(());
-        }
-        let reply = answer(&mut machine, next, lines.line());
-        reply.send(&mut text, &mut answers, sink)?;
-    }
+    answer_all(
+        &mut machine,
+        &mut lines,
+        &mut text,
+        &mut answers,
+        source,
+        sink,
+    )
 }

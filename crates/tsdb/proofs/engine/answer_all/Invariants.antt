@@ -4,10 +4,10 @@ use Rattle.ts_core.specs.ReadingAhead.{EndIsEnd, bit, weight}
 use Rattle.tsdb.specs.ScriptLines.{turn_limit}
 use Rattle.tsdb.specs.LineReading.{to_come}
 use Rattle.tsdb.proofs.Progress.{Progress}
-use Rattle.tsdb.proofs.engine.run.Given as goal
+use Rattle.tsdb.proofs.engine.answer_all.Given as goal
 
-abbrev pub invariant-loop-answers : goal.invariant-loop-answers
-invariant-loop-answers g l = record {
+abbrev pub invariant-loop-lines : goal.invariant-loop-lines
+invariant-loop-lines g l = record {
   progress : Progress l.initial.source.remaining (to_come l.lines l.source) l.initial.sink.contents l.sink.contents l.answers l.machine;
   end : EndIsEnd l.lines.ahead l.source;
   turns : l.source.turns ≡ l.initial.source.turns + l.lines.ahead.turns;
@@ -18,5 +18,5 @@ invariant-loop-answers g l = record {
   room : TEXT_ROOM ≤ string_capacity l.text;
 }
 
-abbrev pub decreases-loop-answers : goal.decreases-loop-answers
-decreases-loop-answers g l = weight l.lines.ahead
+abbrev pub decreases-loop-lines : goal.decreases-loop-lines
+decreases-loop-lines g l = weight l.lines.ahead
