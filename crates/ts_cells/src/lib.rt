@@ -23,6 +23,3 @@ mod walk;
 pub use cells::Cells;
 pub use lane::LaneId;
 pub use walk::{Kept, Walk};
-
-#[cfg(test)]
-mod tests;

@@ -29,8 +29,3 @@ pub use fault::{CheckError, CheckFault};
 pub use read::read_certificate;
 pub use serves::{divides, keeps_tags};
 pub use write::write_certificate;
-
-#[cfg(test)]
-mod certificate_tests;
-#[cfg(test)]
-mod tests;

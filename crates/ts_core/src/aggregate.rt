@@ -271,6 +271,3 @@ impl Remainder for Agg {
 
     ghost possible_laws = { sound_laws };
 }
-
-#[cfg(test)]
-mod tests;

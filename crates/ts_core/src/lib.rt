@@ -69,12 +69,3 @@ pub use texts::is_among;
 pub use time::Time;
 pub use time_unit::TimeUnit;
 pub use value::{Function, Value};
-
-#[cfg(test)]
-mod devices_tests;
-#[cfg(test)]
-mod settings_tests;
-#[cfg(test)]
-mod settings_text_tests;
-#[cfg(test)]
-mod words_tests;

@@ -34,6 +34,3 @@ mod words;
 pub use fault::{ParseError, QlFault, QlFaultKind};
 pub use query::{Condition, Projection, Query, count_query};
 pub use reader::parse;
-
-#[cfg(test)]
-mod tests;

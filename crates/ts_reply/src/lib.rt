@@ -30,6 +30,3 @@ pub use clock::time_text;
 pub use epoch::Epoch;
 pub use explaining::explain;
 pub use reply::{Outcome, reply_json};
-
-#[cfg(test)]
-mod tests;

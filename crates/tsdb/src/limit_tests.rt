@@ -6,7 +6,7 @@ use std::test::Fail;
 /// A text, another that is repeated so often behind it, the text behind these, and what the script prints.
 type Repeated = (&'static str, &'static str, u32, &'static str, &'static str);
 
-const REPEATED: [Repeated; 12] = [
+const REPEATED: [Repeated; 16] = [
     // a line of protocol, and a line of a script
     ("write m f=1i", " ", 65_530, "", "ok\n"),
     ("write m f=1i", " ", 65_531, "", "fault 20 at 65536\n"),
@@ -22,6 +22,35 @@ const REPEATED: [Repeated; 12] = [
     // fields of one name count too
     ("write m f=1i", ",f=2i", 255, "\nlive", "ok\n1\n"),
     ("write m f=1i", ",f=2i", 256, "", "fault 20 at 1282\n"),
+    // a text of queries, parentheses within parentheses, and conditions
+    (
+        "query SELECT SUM(f) FROM m WHERE time >= 0 GROUP BY time(1m);",
+        " ",
+        65_481,
+        "",
+        "{\"results\":[{\"statement_id\":0}]}\n",
+    ),
+    (
+        "query SELECT SUM(f) FROM m WHERE time >= 0 GROUP BY time(1m);",
+        " ",
+        65_482,
+        "",
+        "{\"error\":\"fault 71 at 65536\"}\n",
+    ),
+    (
+        "query SELECT SUM(f) FROM m WHERE ",
+        "(",
+        33,
+        "",
+        "{\"error\":\"fault 72 at 59 (\"}\n",
+    ),
+    (
+        "query SELECT SUM(f) FROM m WHERE time >= 0",
+        " AND a = 'b'",
+        2_000,
+        " GROUP BY time(1m)",
+        "{\"results\":[{\"statement_id\":0}]}\n",
+    ),
 ];
 
 fn repeated(

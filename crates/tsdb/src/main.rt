@@ -11,6 +11,8 @@
 //! specs/Machine.antt, and the help in command_line.rt.
 #![tactic(auto)]
 
+#[cfg(test)]
+mod certificate_tests;
 mod certificate_text;
 mod chunk;
 #[cfg(test)]
@@ -50,7 +52,13 @@ mod run_fault;
 #[cfg(test)]
 mod script_tests;
 #[cfg(test)]
+mod settings_tests;
+#[cfg(test)]
 mod store_tests;
+#[cfg(test)]
+mod text_tests;
+#[cfg(test)]
+mod time_tests;
 
 use clap::Error;
 use command_line::Told;

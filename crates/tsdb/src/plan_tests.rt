@@ -47,7 +47,7 @@ precision s
 ";
 
 /// Certificates that are handed in, and the last that the scripts print.
-const CERTIFICATES: [Whole; 10] = [
+const CERTIFICATES: [Whole; 12] = [
     (
         MINUTES,
         "write cpu,host=a v=4i 10\nepoch s\ncert plan 1;raw 0 60000000000;end;\nquery SELECT COUNT(v) FROM cpu WHERE time >= 0 AND time < 60s GROUP BY time(1m)",
@@ -59,6 +59,16 @@ const CERTIFICATES: [Whole; 10] = [
         "{\"results\":[{\"error\":\"fault 83 piece 0\",\"statement_id\":0}]}\n",
     ),
     // faults of certificates
+    (
+        "",
+        "cert plan 1;end;\nquery SELECT COUNT(f) FROM m WHERE time >= 0 AND time < 5 GROUP BY time(5ns)",
+        "{\"results\":[{\"error\":\"fault 82 piece 0\",\"statement_id\":0}]}\n",
+    ),
+    (
+        MINUTES,
+        "at 200s\nretain\ncert plan 1;rollup m1 0 60000000000;raw 60000000000 180000000000;end;\nquery SELECT COUNT(v) FROM cpu WHERE time >= 0 AND time < 180s GROUP BY time(1m)",
+        "{\"results\":[{\"error\":\"fault 83 piece 1\",\"statement_id\":0}]}\n",
+    ),
     (
         "",
         "cert plan 1;raw 0 5;raw 5 5;end;\nquery SELECT COUNT(f) FROM m WHERE time >= 0 AND time < 5 GROUP BY time(5ns)",

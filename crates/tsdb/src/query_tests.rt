@@ -281,7 +281,7 @@ fn queries_have_their_rows(rt: HostRuntime) -> Result<(), Fail> {
 }
 
 /// A script, and the last that it prints.
-const REPLIES: [(&str, &str); 12] = [
+const REPLIES: [(&str, &str); 13] = [
     // nothing was written
     (
         "query SELECT COUNT(f) FROM m WHERE time >= 0 AND time < 10 GROUP BY time(5ns) fill(7)",
@@ -320,6 +320,11 @@ const REPLIES: [(&str, &str); 12] = [
     (
         "at 1m\nwrite m f=5i\nepoch s\nquery SELECT MAX(f) FROM m WHERE time > now() - 1m GROUP BY time(1m); SELECT COUNT(g) FROM m WHERE time >= 0 GROUP BY time(1h); SELECT COUNT(f) FROM m WHERE time = 5 AND time = 3 GROUP BY time(1ns)",
         "{\"results\":[{\"series\":[{\"columns\":[\"time\",\"max\"],\"name\":\"m\",\"values\":[[0,null],[60,5]]}],\"statement_id\":0},{\"statement_id\":1},{\"statement_id\":2}]}\n",
+    ),
+    // escapes, an alias, the order of groups, and words in small letters
+    (
+        "epoch ns\nwrite cpu,host=b v\"w=5i 1\nwrite cpu,host=a\\nb v\"w=9i 1\nquery SELECT MAX(\"v\\\"w\"), MEAN(\"v\\\"w\") AS \"m n\" FROM cpu WHERE host != 'a\\\\nb' AND time >= 0 AND time < 20 GROUP BY host, time(10ns), dc, host fill(-7); select last(x) from y where time > 1 group by time(1m)",
+        "{\"results\":[{\"series\":[{\"columns\":[\"time\",\"max\",\"m n\"],\"name\":\"cpu\",\"tags\":{\"dc\":\"\",\"host\":\"b\"},\"values\":[[0,5,\"5/1\"],[10,-7,\"-7/1\"]]}],\"statement_id\":0},{\"statement_id\":1}]}\n",
     ),
     // a fault refuses the whole text
     (

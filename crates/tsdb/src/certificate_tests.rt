@@ -1,8 +1,8 @@
 //! Certificates as text, over a table.
-use crate::{ReadCertificateError, read_certificate, write_certificate};
 use std::alloc::Global;
 use std::process::Abort;
 use std::test::Fail;
+use ts_check::{ReadCertificateError, read_certificate, write_certificate};
 
 /// A text, and the place of its fault where it is no certificate.
 const ROWS: [(&'static str, Option<usize>); 22] = [
