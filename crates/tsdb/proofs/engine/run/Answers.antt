@@ -39,4 +39,3 @@ pub returns-in_err-answers : goal.returns-in_err-answers
 returns-in_err-answers g c =
     let p = err_from_is_err_and c.from_residual-in_err-answers.result c.from_residual-in_err-answers.ensures.1 in
     without_memory c.args.source.now c.args.sink.now c.from_residual-in_err-answers.result (p.1 ∙ ap Err p.2)
-
