@@ -4,11 +4,6 @@ use crate::query_tests::{ends_with, joined};
 use crate::retention_tests::{MINUTES, RULE, RULE_END, SHORT, Whole};
 use std::alloc::Global;
 use std::test::Fail;
-use ts_check::{check, read_certificate};
-use ts_core::{Settings, Time};
-use ts_exec::{ExecFault, execute};
-use ts_ql::parse;
-use ts_store::{Store, View};
 
 /// An hour's rule, and behind it a minute's.
 const HOURS: &str = "\
@@ -272,31 +267,5 @@ fn a_certificate_has_many_pieces(rt: HostRuntime) -> Result<(), Fail> {
             "\"values\":[[0,3,9]]}],\"statement_id\":0}]}\n"
         )?
     );
-    Ok(())
-}
-
-const FIRST_MINUTE: &str =
-    "SELECT COUNT(v) FROM cpu WHERE time >= 0 AND time < 60s GROUP BY time(1m)";
-
-/// A plan is checked before a run of retention and followed behind it: it is stale, and the new mark is answered.
-#[test]
-fn a_run_makes_a_checked_plan_stale(rt: HostRuntime) -> Result<(), Fail> {
-    let alloc = rt.alloc();
-    let settings = Settings::read(alloc, alloc, "{\"raw\":\"2m\",\"rules\":[]}");
-    let mut store = Store::new(alloc, settings.ok().ok_or("settings")?)?;
-    let queries = parse(alloc, FIRST_MINUTE, Time::least())
-        .ok()
-        .ok_or("a text")?;
-    let query = queries.first().ok_or("a query")?;
-    let certificate = read_certificate(alloc, "plan 1\nraw 0 60000000000\nend\n");
-    let certificate = certificate.ok().ok_or("a certificate")?;
-    let checked = check(alloc, store.settings(), store.marks(), query, &certificate);
-    let checked = checked.ok().ok_or("a plan")?;
-    let now = Time::new(200_000_000_000).ok_or("a time")?;
-    store.retain(now).ok().ok_or("a run")?;
-    match execute(alloc, &store, &checked) {
-        Err(ExecFault::Stale(_, marks)) => assert_eq!(rt; marks.raw().nanos(), 80_000_000_000),
-        _ => Err("a table")?,
-    }
     Ok(())
 }
