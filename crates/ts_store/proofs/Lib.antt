@@ -16,3 +16,4 @@ pub mod RollupExpiry
 pub mod TurnsLeft
 pub mod CountsMoved
 pub mod RunsGoOn
+pub mod StoreFaultLemmas

@@ -5,6 +5,7 @@ pub mod Rooms
 pub mod ColumnsKept
 pub mod Registered
 pub mod Refusals
+pub mod StoreFaultTexts
 pub mod LinesPut
 pub mod CellCounts
 pub mod RollupSteps

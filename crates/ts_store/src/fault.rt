@@ -1,13 +1,17 @@
 //! Why a line was not written, and why a run didn't begin.
-use std::alloc::AllocError;
+ghost use Rattle.std.specs.Prelude.{◌≡◌, ◌+◌, ◌≤◌, ◌++◌, length, IsOk, OnOk, OnErr, string_bytes, string_len, string_capacity};
+ghost use Rattle.ts_core.specs.FaultTexts.{EndsEarly};
+ghost use Rattle.ts_store.specs.StoreFaultTexts.{write_fault_text, run_in_progress_text};
+
+use std::alloc::{AllocError, Allocator};
 use thiserror::Error;
-use ts_core::Time;
+use ts_core::{FaultCode, FaultDetail, Time};
 
 /// Why a line was not written.
 #[derive(Clone, Copy, Debug, PartialEq, Eq, Error)]
 pub enum WriteFault {
     /// Its time is below the raw mark, which it carries (number 51).
-    #[error("below the raw mark")]
+    #[error("below the raw mark, {}", .0.nanos())]
     BelowRawMark(Time),
     /// 1,000,000 series are registered, and this one isn't (number 41).
     #[error("too many series")]
@@ -18,6 +22,27 @@ pub enum WriteFault {
     /// No memory was found.
     #[error("out of memory")]
     OutOfMemory,
+}
+
+impl WriteFault {
+    /// Appends its text, or a beginning of it where memory is wanted. Where the room is there, none is.
+    #[tactic(auto, using(crate::proofs::StoreFaultLemmas::below_mark_short), unfolding(crate::specs::StoreFaultTexts::write_fault_text))]
+    pub fn text_to<A: Allocator>(&self, text: &mut String<A>) -> Result<(), AllocError>
+        ensures ok { OnOk result (string_bytes text.new ≡ string_bytes text.old ++ write_fault_text self.now) }
+        ensures err { OnErr result (EndsEarly (write_fault_text self.now) (string_bytes text.old) (string_bytes text.new)) }
+        ensures room { string_len text.old + length (write_fault_text self.now) ≤ string_capacity text.old → IsOk result }
+        ensures short { length (write_fault_text self.now) ≤ 34 }
+        ensures capacity { string_capacity text.old ≤ string_capacity text.new }
+    {
+        match self {
+            WriteFault::BelowRawMark(mark) => {
+                FaultCode::BelowRawMark.text_to(FaultDetail::Mark(mark.nanos()), text)
+            }
+            WriteFault::TooManySeries => FaultCode::TooManySeries.text_to(FaultDetail::Alone, text),
+            WriteFault::TooManyFacts => FaultCode::TooManyFacts.text_to(FaultDetail::Alone, text),
+            WriteFault::OutOfMemory => text.push_str("fault memory"),
+        }
+    }
 }
 
 impl From<AllocError> for WriteFault {
@@ -35,3 +60,15 @@ impl From<AllocError> for WriteFault {
 #[derive(Clone, Copy, Debug, PartialEq, Eq, Error)]
 #[error("a run is in progress")]
 pub struct RunInProgress;
+
+impl RunInProgress {
+    /// Appends its text, or a beginning of it where memory is wanted. Where the room is there, none is.
+    pub fn text_to<A: Allocator>(&self, text: &mut String<A>) -> Result<(), AllocError>
+        ensures ok { OnOk result (string_bytes text.new ≡ string_bytes text.old ++ run_in_progress_text) }
+        ensures err { OnErr result (EndsEarly run_in_progress_text (string_bytes text.old) (string_bytes text.new)) }
+        ensures room { string_len text.old + length run_in_progress_text ≤ string_capacity text.old → IsOk result }
+        ensures capacity { string_capacity text.old ≤ string_capacity text.new }
+    {
+        FaultCode::RunInProgress.text_to(FaultDetail::Alone, text)
+    }
+}

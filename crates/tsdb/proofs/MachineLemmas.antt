@@ -33,8 +33,9 @@ use Rattle.tsdb.specs.MarksTexts.{marks_text}
 use Rattle.tsdb.specs.Opening.{IsEmptyWith}
 use Rattle.ts_store.specs.declared.fault.WriteFault.{WriteFault}
 use Rattle.ts_store.specs.declared.fault.WriteFault.TheVariants as write
-use Rattle.tsdb.specs.ScriptReplies.{line, text_of, refusal_of, write_fault_text, unknown_text, bad_range_text}
+use Rattle.tsdb.specs.ScriptReplies.{line, text_of, unknown_text, bad_range_text}
 use Rattle.tsdb.specs.declared.reply.Reply.{Reply}
+use Rattle.tsdb.specs.declared.reply.Reply.TheVariants as reply
 use Rattle.tsdb.specs.declared.reply.Reply.TheVariants.{Done, OutOfMemory}
 use Rattle.tsdb.specs.Machine.{State, no_longer_fresh, with_certificate, opened_with, with_run, marks_told, with_line, with_series, at_moment, in_precision, line_in, refusal_in, in_epoch, refused, accepted_whole, found_no_memory, Counts, Does, Step, opens, refuses_settings, opens_no_memory, opens_late, moves, sets, shows, writes, passes_over, refuses, reads_no_memory, retains, retains_no_memory, hands_in, hands_in_no_memory, replies, replies_no_memory, explains, explains_no_memory, tells_live, counts, counts_nothing, refuses_count, refuses_unknown, too_long, no_text, skips, does}
 use Rattle.tsdb.specs.Serving.{Serving, IsIn, Replied, HasExplanation, Took, Did, Refused, Stepped, IsAnswered}
@@ -60,21 +61,15 @@ Written = Result (Unit {0}) WriteFault
 
 abbrev pub reply_to : Written → Reply
 reply_to (Ok done) = Done
-reply_to (Err fault) = refusal_of fault
-
-told : (fault : WriteFault) → text_of (refusal_of fault) ≡ line (write_fault_text fault)
-told (write.BelowRawMark mark) = refl
-told write.TooManySeries = refl
-told write.TooManyFacts = refl
-told write.OutOfMemory = refl
+reply_to (Err fault) = reply.Refused fault
 
 -- what the store says of a line, is so in the state
 same_refusal : (parts : Parts) (s : State) (m : Serving) → IsIn s m → write_fault m.kept.marks.raw m.kept.series m.kept.accepted parts ≡ refusal_in s parts
 same_refusal parts s m i = λ j. write_fault (i.stands.marks j).raw (i.series j) (i.stands.accepted j) parts
 
-took_refused : (parts : Parts) (s : State) (m : Serving) (k : StoreData) (fault : WriteFault) → IsIn s m → refusal_in s parts ≡ Some fault → k ≡ m.kept → Took parts s (text_of (refusal_of fault)) (keeping k m)
+took_refused : (parts : Parts) (s : State) (m : Serving) (k : StoreData) (fault : WriteFault) → IsIn s m → refusal_in s parts ≡ Some fault → k ≡ m.kept → Took parts s (text_of (reply.Refused fault)) (keeping k m)
 took_refused parts s m k fault i is same =
-    subst (λ answer. Took parts s answer (keeping k m)) (sym (told fault)) (s, refused fault is, subst (λ (l : StoreData). IsIn s (keeping l m)) (sym same) i)
+    (s, refused fault is, subst (λ (l : StoreData). IsIn s (keeping l m)) (sym same) i)
 
 took_whole : (parts : Parts) (s : State) (m : Serving) (k : StoreData) → IsIn s m → refusal_in s parts ≡ None → Accepts m.kept k parts → Took parts s (line (codes "ok")) (keeping k m)
 took_whole parts s m k i none a = (

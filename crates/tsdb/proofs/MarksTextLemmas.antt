@@ -72,19 +72,3 @@ names_short s h =
       | true ↦ λ q. rules_short s.raw_duration [] s.rules q
       | false ↦ λ q. absurd (let n : Some TooManyRules ≡ None = q in cc)
     ] h
-
--- ---- the fault of a line below the raw mark
-
-abbrev pub mark_fault : ℤ → Text
-mark_fault mark = fault_text BelowRawMark (Mark mark)
-
-valid_mag : (z : ℤ) → IsTime z → mag z ≤ 9223372036854775806
-valid_mag (pos n) t = let high : pos n ≤ℤ greatest_time = t.not_after in omega (arith, ints)
-valid_mag (negsuc n) t = let low : least_time ≤ℤ negsuc n = t.not_before in omega (arith, ints)
-
-pub mark_fault_short : (mark : ℤ) → IsTime mark → length (mark_fault mark) ≤ 34
-mark_fault_short mark t =
-    let m : mag mark ≤ 9223372036854775806 = valid_mag mark t in
-    let digits : length (signed_decimal mark) ≤ 19 + 1 = length_signed_le 19 mark (omega (arith, m)) (omega (arith, m)) in
-    let number : length (decimal 51) ≤ 2 = length-decimal-le 2 51 (omega arith) (omega arith) (omega arith) in
-    simp length-append (omega (arith, digits, number))

@@ -39,7 +39,8 @@ use Rattle.tsdb.specs.ScriptLines.{script_line_limit}
 use Rattle.tsdb.specs.ScriptCertificates.{with_line_feeds}
 use Rattle.tsdb.specs.Commands.{Command, OpenWith, At, SetPrecision, SetEpoch, Write, Live, Retain, SetCertificate, Query, Explain, Count, CountFault, Unknown, is_skipped, command_of}
 use Rattle.tsdb.specs.MarksTexts.{marks_text}
-use Rattle.tsdb.specs.ScriptReplies.{line, write_fault_text, unknown_text, bad_range_text}
+use Rattle.ts_store.specs.StoreFaultTexts.{write_fault_text}
+use Rattle.tsdb.specs.ScriptReplies.{line, unknown_text, bad_range_text}
 
 pub record State : Type 0 where
   -- the moment that the script has set, in nanoseconds, the precision of its timestamps, and how replies tell times

@@ -7,10 +7,9 @@ use Rattle.ts_core.specs.declared.fault_code.FaultCode.TheVariants as code
 use Rattle.ts_core.specs.declared.fault_text.FaultDetail.TheVariants as detail
 use Rattle.ts_line.specs.FaultText.{line_fault_text}
 use Rattle.ts_plan.specs.PlanTexts.{plan_fault_text}
-use Rattle.ts_store.specs.declared.fault.WriteFault.{WriteFault}
-use Rattle.ts_store.specs.declared.fault.WriteFault.TheVariants as write
+use Rattle.ts_store.specs.StoreFaultTexts.{write_fault_text, run_in_progress_text}
 use Rattle.tsdb.specs.declared.reply.Reply.{Reply}
-use Rattle.tsdb.specs.declared.reply.Reply.TheVariants.{Nothing, Done, NoLine, BadLine, Count, Body, NoPlan, Unknown, BadRange, BelowRawMark, TooManySeries, TooManyFacts, RunInProgress, OutOfMemory}
+use Rattle.tsdb.specs.declared.reply.Reply.TheVariants.{Nothing, Done, NoLine, BadLine, Count, Body, NoPlan, Unknown, BadRange, Refused, RunInProgress, OutOfMemory}
 
 -- a text with the LF that ends its line
 abbrev pub line : Text → Text
@@ -34,22 +33,6 @@ text_of (Body body) = string_bytes body
 text_of (NoPlan fault) = line (plan_fault_text fault)
 text_of Unknown = line unknown_text
 text_of BadRange = line bad_range_text
-text_of (BelowRawMark mark) = line (fault_text code.BelowRawMark (detail.Mark mark))
-text_of TooManySeries = line (fault_text code.TooManySeries detail.Alone)
-text_of TooManyFacts = line (fault_text code.TooManyFacts detail.Alone)
-text_of RunInProgress = line (fault_text code.RunInProgress detail.Alone)
+text_of (Refused fault) = line (write_fault_text fault)
+text_of RunInProgress = line run_in_progress_text
 text_of OutOfMemory = line memory_text
-
--- the text of a write that was not done
-abbrev pub write_fault_text : WriteFault → Text
-write_fault_text (write.BelowRawMark mark) = fault_text code.BelowRawMark (detail.Mark mark)
-write_fault_text write.TooManySeries = fault_text code.TooManySeries detail.Alone
-write_fault_text write.TooManyFacts = fault_text code.TooManyFacts detail.Alone
-write_fault_text write.OutOfMemory = memory_text
-
--- how a refused write is told
-abbrev pub refusal_of : WriteFault → Reply
-refusal_of (write.BelowRawMark mark) = BelowRawMark mark
-refusal_of write.TooManySeries = TooManySeries
-refusal_of write.TooManyFacts = TooManyFacts
-refusal_of write.OutOfMemory = OutOfMemory

@@ -6,7 +6,7 @@ ghost use Rattle.tsdb.specs.ScriptLines.{script_line_limit};
 ghost use Rattle.tsdb.specs.Machine.{State, start};
 ghost use Rattle.tsdb.specs.MarksTexts.{marks_text};
 ghost use Rattle.tsdb.specs.Commands.{OpenWith as OpenWithCommand, Write as WriteCommand, Retain as RetainCommand, SetCertificate as CertificateCommand, Query as QueryCommand, Explain as ExplainCommand, Count as CountCommand};
-ghost use Rattle.tsdb.specs.ScriptReplies.{line, text_of, refusal_of};
+ghost use Rattle.tsdb.specs.ScriptReplies.{line, text_of};
 ghost use Rattle.tsdb.specs.Serving.{IsIn, Replied, HasExplanation, Took, Did, Refused, Stepped};
 
 use crate::certificate_text::with_line_feeds;
@@ -21,7 +21,7 @@ use std::str;
 use ts_core::{Settings, SettingsError, Time, TimeUnit};
 use ts_line::{Line, ReadLineError, read_line};
 use ts_reply::{Epoch, answer, explain};
-use ts_store::{Store, View, WriteFault};
+use ts_store::{Store, View};
 
 /// The moment, the precision and the epoch that a script has set, whether settings may still come, the certificate for its next query,
 /// and its store.
@@ -265,7 +265,7 @@ impl<A: Allocator + Copy> Machine<A> {
     {
         match self.store.write(line) {
             Ok(()) => Reply::Done,
-            Err(fault) => refusal_of(fault),
+            Err(fault) => Reply::Refused(fault),
         }
     }
 }
@@ -286,16 +286,4 @@ fn ended(mut text: String) -> Result<String, AllocError>
 {
     text.push_str("\n")?;
     Ok(text)
-}
-
-/// How a refused write is answered.
-fn refusal_of(fault: WriteFault) -> Reply
-    ensures { result ≡ refusal_of fault }
-{
-    match fault {
-        WriteFault::BelowRawMark(mark) => Reply::BelowRawMark(mark),
-        WriteFault::TooManySeries => Reply::TooManySeries,
-        WriteFault::TooManyFacts => Reply::TooManyFacts,
-        WriteFault::OutOfMemory => Reply::OutOfMemory,
-    }
 }

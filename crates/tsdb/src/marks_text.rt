@@ -1,15 +1,13 @@
-//! Marks as a script prints them, also in the fault of a line below the raw mark.
-ghost use Rattle.std.specs.Prelude.{◌≡◌, ◌+◌, ◌*◌, ◌≤◌, ◌++◌, length, IsOk, OnOk, IfOk, string_bytes, string_len, string_capacity};
+//! Marks as a script prints them.
+ghost use Rattle.std.specs.Prelude.{◌≡◌, ◌+◌, ◌*◌, ◌≤◌, ◌++◌, length, IsOk, OnOk, string_bytes, string_len, string_capacity};
 ghost use Rattle.std.specs.List.{AllByRecursion};
-ghost use Rattle.ts_core.specs.FaultTexts.{fault_text};
 ghost use Rattle.ts_core.specs.Settings.{Rule as RuleValue};
 ghost use Rattle.tsdb.specs.MarksTexts.{low_text, lows_text, raw_text, marks_text};
 ghost use Rattle.tsdb.specs.ScriptReplies.{line};
 
-use crate::reply::TEXT_ROOM;
 use itoa::Buffer;
 use std::alloc::{AllocError, Allocator};
-use ts_core::{FaultCode, FaultDetail, Marks, Rule, Settings, Time, append_words};
+use ts_core::{Marks, Rule, Settings, append_words};
 
 /// How much room the text of marks takes at most, with its LF: 32 rules with names of 32 bytes, and 40 for a number.
 pub(crate) const MARKS_ROOM: usize = 2_415;
@@ -88,19 +86,4 @@ pub(crate) fn marks_line<A: Allocator, B: Allocator>(
         Ok(()) => text,
         Err(_) => unreachable!(),
     }
-}
-
-/// Makes the text of the fault of a line below the raw mark, with an LF, in place of what the text was.
-pub(crate) fn mark_fault_line<A: Allocator>(
-    text: &mut String<A>,
-    mark: Time,
-) -> Result<(), AllocError>
-    requires { TEXT_ROOM ≤ string_capacity text.old }
-    ensures room { TEXT_ROOM ≤ string_capacity text.new }
-    ensures text { OnOk result (string_bytes text.new ≡ line (fault_text FaultCode.BelowRawMark (FaultDetail.Mark mark))) }
-    ensures done { IsOk result }
-{
-    text.clear();
-    FaultCode::BelowRawMark.text_to(FaultDetail::Mark(mark.nanos()), text)?;
-    text.push_str("\n")
 }

@@ -1,20 +1,20 @@
 //! What a line of a script prints.
 ghost use Rattle.std.specs.Prelude.{◌≡◌, ◌≤◌, IsOk, OnOk, string_bytes, string_capacity};
 ghost use Rattle.std.specs.Fmt.{decimal};
-ghost use Rattle.ts_core.specs.FaultTexts.{fault_text};
 ghost use Rattle.ts_line.specs.FaultText.{line_fault_text};
 ghost use Rattle.ts_plan.specs.PlanTexts.{plan_fault_text};
+ghost use Rattle.ts_store.specs.StoreFaultTexts.{write_fault_text};
 ghost use Rattle.tsdb.specs.Gathering.{IsPassedOn};
 ghost use Rattle.tsdb.specs.ScriptReplies.{line, text_of};
 
 use crate::gathered::Gathered;
-use crate::marks_text::mark_fault_line;
 use itoa::write_digits;
 use std::alloc::{AllocError, Allocator};
 use std::io::Write;
-use ts_core::{FaultCode, FaultDetail, Refused, Sink, Time};
+use ts_core::{Refused, Sink};
 use ts_line::LineFault;
 use ts_plan::PlanFault;
+use ts_store::WriteFault;
 
 /// The answer to a line.
 #[derive(Debug, Drop)]
@@ -37,12 +37,8 @@ pub enum Reply {
     Unknown,
     /// A time isn't valid, or a range is too long (number 74).
     BadRange,
-    /// The line is below the raw mark (number 51).
-    BelowRawMark(Time),
-    /// Too many series are registered (number 41).
-    TooManySeries,
-    /// The facts that were accepted would pass 2^62 (number 52).
-    TooManyFacts,
+    /// A line was read and not written (numbers 51, 41 and 52, or out of memory). A series may be registered then.
+    Refused(WriteFault),
     /// A run of retention is open (number 53).
     RunInProgress,
     /// No memory was found. No fact was accepted; a line's series may be registered.
@@ -75,9 +71,7 @@ impl Reply {
             Reply::NoPlan(fault) => answers.put(plan_fault_line(fault), sink),
             Reply::Unknown => answers.put(b"fault 95\n", sink),
             Reply::BadRange => answers.put(b"fault 74 at 0\n", sink),
-            Reply::BelowRawMark(mark) => send_mark(text, answers, sink, mark),
-            Reply::TooManySeries => answers.put(b"fault 41\n", sink),
-            Reply::TooManyFacts => answers.put(b"fault 52\n", sink),
+            Reply::Refused(fault) => send_refusal(text, answers, sink, fault),
             Reply::RunInProgress => answers.put(b"fault 53\n", sink),
             Reply::OutOfMemory => answers.put(b"fault memory\n", sink),
         }
@@ -113,21 +107,33 @@ fn fault_line<A: Allocator>(text: &mut String<A>, fault: LineFault) -> Result<()
     text.push_str("\n")
 }
 
-/// Puts the text of the fault of a line below the raw mark, with an LF, behind the answers before it.
-fn send_mark<W: Write, A: Allocator>(
+/// Puts the text of the refusal of a write with an LF behind the answers before it.
+fn send_refusal<W: Write, A: Allocator>(
     text: &mut String<A>,
     answers: &mut Gathered<A>,
     sink: &mut Sink<W>,
-    mark: Time,
+    fault: WriteFault,
 ) -> Result<(), Refused>
     requires { TEXT_ROOM ≤ string_capacity text.old }
     ensures room { TEXT_ROOM ≤ string_capacity text.new }
-    ensures sent { IsPassedOn sink.old answers.old result (line (fault_text FaultCode.BelowRawMark (FaultDetail.Mark mark))) sink.new answers.new }
+    ensures sent { IsPassedOn sink.old answers.old result (line (write_fault_text fault)) sink.new answers.new }
 {
-    match mark_fault_line(text, mark) {
+    match refusal_line(text, fault) {
         Ok(()) => answers.put(text.as_bytes(), sink),
         Err(_) => unreachable!(),
     }
+}
+
+/// Makes the text of the refusal of a write with an LF, in place of what the text was.
+fn refusal_line<A: Allocator>(text: &mut String<A>, fault: WriteFault) -> Result<(), AllocError>
+    requires { TEXT_ROOM ≤ string_capacity text.old }
+    ensures room { TEXT_ROOM ≤ string_capacity text.new }
+    ensures text { OnOk result (string_bytes text.new ≡ line (write_fault_text fault)) }
+    ensures done { IsOk result }
+{
+    text.clear();
+    fault.text_to(text)?;
+    text.push_str("\n")
 }
 
 /// The text of the fault of a plan, with an LF.

@@ -10,5 +10,5 @@ returns g c = λ s i.
     let before = subst (λ (k : Serving). IsIn s k) (sym c.self.view_is) i in
     elim c.match-write.branch [
       | in-Ok w ↦ rw w.result-is (took c.args.line.now s m c.write.new.self (Ok tt) before w.in-Ok.ensures.ok w.in-Ok.ensures.refused w.in-Ok.ensures.taken)
-      | in-Err w ↦ rw (w.result-is, w.refusal_of.ensures) (took c.args.line.now s m c.write.new.self (Err w.in-Err.fault) before w.in-Err.ensures.ok w.in-Err.ensures.refused w.in-Err.ensures.taken)
+      | in-Err w ↦ rw w.result-is (took c.args.line.now s m c.write.new.self (Err w.in-Err.fault) before w.in-Err.ensures.ok w.in-Err.ensures.refused w.in-Err.ensures.taken)
     ]

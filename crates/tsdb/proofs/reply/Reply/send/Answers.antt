@@ -9,14 +9,6 @@ pub returns-in-BadRange-clause-sent : goal.returns-in-BadRange-clause-sent
 unfolding digits
 returns-in-BadRange-clause-sent g c = rw c.in-BadRange.is c.put-in-BadRange.ensures
 
-pub returns-in-TooManySeries-clause-sent : goal.returns-in-TooManySeries-clause-sent
-unfolding digits
-returns-in-TooManySeries-clause-sent g c = rw c.in-TooManySeries.is c.put-in-TooManySeries.ensures
-
-pub returns-in-TooManyFacts-clause-sent : goal.returns-in-TooManyFacts-clause-sent
-unfolding digits
-returns-in-TooManyFacts-clause-sent g c = rw c.in-TooManyFacts.is c.put-in-TooManyFacts.ensures
-
 pub returns-in-RunInProgress-clause-sent : goal.returns-in-RunInProgress-clause-sent
 unfolding digits
 returns-in-RunInProgress-clause-sent g c = rw c.in-RunInProgress.is c.put-in-RunInProgress.ensures
