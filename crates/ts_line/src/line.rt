@@ -221,8 +221,11 @@ impl<'a, A: Allocator> Line<'a, A> {
         self.time
     }
 
-    /// The texts of the tags with their values, in byte order of the keys. It takes no memory.
-    pub fn tags_by_key(&self) -> ArrayVec<(&str, &str), 64>
+    /// The texts of the tags with their values, in byte order of the keys, in an array of so many places. It takes no
+    /// memory. Nearly all lines have room in few places, and an array is filled with blanks first, so take a small one
+    /// where it serves.
+    pub fn tags_by_key<const N: usize>(&self) -> ArrayVec<(&str, &str), N>
+        requires room { length self.now.tags ≤ N }
         ensures value { lent_pairs result.items ≡ (series_of self.now).tags }
         ensures set { IsTagSet (lent_pairs result.items) }
     {
@@ -237,8 +240,9 @@ impl<'a, A: Allocator> Line<'a, A> {
 
     /// Puts the texts of the tags with their values in byte order of the keys.
     #[cold]
-    fn put_all<'b>(&'b self, pairs: &mut ArrayVec<(&'b str, &'b str), 64>)
-        requires { pairs.old.items ≡ [] }
+    fn put_all<'b, const N: usize>(&'b self, pairs: &mut ArrayVec<(&'b str, &'b str), N>)
+        requires none { pairs.old.items ≡ [] }
+        requires few { length self.now.tags ≤ N }
         ensures value { lent_pairs pairs.new.items ≡ (series_of self.now).tags }
         ensures set { IsTagSet (lent_pairs pairs.new.items) }
     {
@@ -265,9 +269,12 @@ fn rise<A: Allocator>(tags: &[Tag<'_, A>]) -> bool
 }
 
 /// Appends the texts of tags with their values.
-fn push_all<'a, A: Allocator>(pairs: &mut ArrayVec<(&'a str, &'a str), 64>, tags: &'a [Tag<'_, A>])
+fn push_all<'a, A: Allocator, const N: usize>(
+    pairs: &mut ArrayVec<(&'a str, &'a str), N>,
+    tags: &'a [Tag<'_, A>],
+)
     requires none { pairs.old.items ≡ [] }
-    requires few { length tags.now ≤ 64 }
+    requires few { length tags.now ≤ N }
     ensures { lent_pairs pairs.new.items ≡ map tag_texts tags.now }
 {
     for tag in tags {
@@ -291,8 +298,12 @@ fn place_of(pairs: &[(&str, &str)], key: &str) -> Result<usize, usize>
 }
 
 /// Puts a pair in its place by its key.
-fn put<'a>(pairs: &mut ArrayVec<(&'a str, &'a str), 64>, key: &'a str, value: &'a str)
-    requires { array_vec_len pairs.old < 64 }
+fn put<'a, const N: usize>(
+    pairs: &mut ArrayVec<(&'a str, &'a str), N>,
+    key: &'a str,
+    value: &'a str,
+)
+    requires { array_vec_len pairs.old < N }
     ensures pairs { lent_pairs pairs.new.items ≡ put text_cmp key.now value.now (lent_pairs pairs.old.items) }
     ensures few { array_vec_len pairs.new ≤ array_vec_len pairs.old + 1 }
 {

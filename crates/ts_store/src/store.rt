@@ -8,7 +8,7 @@ ghost use Rattle.ts_core.specs.History.{accepted};
 ghost use Rattle.ts_core.specs.RawFacts.{raw_facts};
 ghost use Rattle.ts_core.specs.StoreStates.{ColumnPoints, StandsFor, facts_of as facts_in};
 ghost use Rattle.ts_core.specs.StoreData.{state_of, new_data, OfEachHistory, ShowsEach};
-ghost use Rattle.ts_core.specs.Texts.{lent_pairs};
+ghost use Rattle.ts_core.specs.Texts.{lent_pairs, IsTagSet};
 ghost use Rattle.ts_line.specs.Parts.{series_of};
 ghost use Rattle.ts_core.specs.Views.{seen_of, seen_rule};
 ghost use Rattle.ts_core.specs.Numbered.{IsAt};
@@ -34,6 +34,9 @@ mod retention;
 
 /// How many facts are accepted at most, repeats counted: 2^62.
 const FACT_LIMIT: u64 = 4_611_686_018_427_387_904;
+
+/// Most lines have no more tags than this.
+const FEW_TAGS: usize = 8;
 
 /// The low index of each rule before any run: that of the least time.
 fn first_lows<A: Allocator + Copy>(alloc: A, rules: &[Rule<A>]) -> Result<Vec<i128, A>, AllocError>
@@ -98,11 +101,37 @@ impl<A: Allocator + Copy> Store<A> {
         ensures refused { IfSome (write_fault self.old.marks.raw self.old.series self.old.accepted line.now) (λ fault. (result ≡ Err fault) × (self.new ≡ self.old)) }
         ensures taken { IsNone (write_fault self.old.marks.raw self.old.series self.old.accepted line.now) → (result ≡ Ok tt) ⊎ ((result ≡ Err WriteFault.OutOfMemory) × Leaves self.old self.new line.now) }
     {
-        let tags = line.tags_by_key();
-        if let Some(fault) = self.refusal(line, &tags) {
+        if line.tags().len() > FEW_TAGS {
+            return self.write_many_tags(line);
+        }
+        let tags = line.tags_by_key::<8>();
+        self.write_tagged(line, &tags)
+    }
+
+    /// The same for a line of more tags than most have.
+    #[cold]
+    fn write_many_tags(&mut self, line: &Line<'_, A>) -> Result<(), WriteFault>
+        requires { length line.now.tags ≤ 64 }
+        ensures ok { OnOk result (Accepts self.old self.new line.now) }
+        ensures refused { IfSome (write_fault self.old.marks.raw self.old.series self.old.accepted line.now) (λ fault. (result ≡ Err fault) × (self.new ≡ self.old)) }
+        ensures taken { IsNone (write_fault self.old.marks.raw self.old.series self.old.accepted line.now) → (result ≡ Ok tt) ⊎ ((result ≡ Err WriteFault.OutOfMemory) × Leaves self.old self.new line.now) }
+    {
+        let tags = line.tags_by_key::<64>();
+        self.write_tagged(line, &tags)
+    }
+
+    /// The same for a line whose tags are these.
+    fn write_tagged(&mut self, line: &Line<'_, A>, tags: &[(&str, &str)]) -> Result<(), WriteFault>
+        requires set { IsTagSet (lent_pairs tags.now) }
+        requires tags { lent_pairs tags.now ≡ (series_of line.now).tags }
+        ensures ok { OnOk result (Accepts self.old self.new line.now) }
+        ensures refused { IfSome (write_fault self.old.marks.raw self.old.series self.old.accepted line.now) (λ fault. (result ≡ Err fault) × (self.new ≡ self.old)) }
+        ensures taken { IsNone (write_fault self.old.marks.raw self.old.series self.old.accepted line.now) → (result ≡ Ok tt) ⊎ ((result ≡ Err WriteFault.OutOfMemory) × Leaves self.old self.new line.now) }
+    {
+        if let Some(fault) = self.refusal(line, tags) {
             return Err(fault);
         }
-        self.facts.put_line(self.settings.rules(), line, &tags)?;
+        self.facts.put_line(self.settings.rules(), line, tags)?;
         self.accepted += line.fields().len() as u64;
         Ok(())
     }

@@ -7,7 +7,7 @@ use Rattle.ts_line.proofs.line.Line.put_all.Given as goal
 abbrev pub invariant-loop-left : goal.invariant-loop-left
 invariant-loop-left g l = record {
   put : put_all (map tag_texts l.left) (lent_pairs l.pairs.items) ≡ put_all (map tag_texts l.self.tags) [];
-  few : length l.pairs.items + length l.left ≤ 64;
+  few : length l.pairs.items + length l.left ≤ g.row.N;
 }
 
 abbrev pub decreases-loop-left : goal.decreases-loop-left

@@ -10,7 +10,7 @@ use Rattle.ts_store.specs.OpenRuns.{IsKept, kept_data}
 use Rattle.ts_store.specs.Refusals.{write_fault}
 use Rattle.ts_store.specs.Rollups.{AreRollups}
 use Rattle.ts_store.proofs.Stands.{accepted_by, left_by, kept_left, kept_accepted, not_refused, taken_from}
-use Rattle.ts_store.proofs.store.Store.write.Goals as goal
+use Rattle.ts_store.proofs.store.Store.write_tagged.Goals as goal
 
 pub put_line-requires-clause-few : goal.put_line-requires-clause-few
 put_line-requires-clause-few g c =
