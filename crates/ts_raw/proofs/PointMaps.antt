@@ -1,14 +1,16 @@
 -- A list in the order of its keys, as a finite map.
-use Rattle.std.proofs.Common.{◌≡◌, ℕ, ℤ, ◌<◌, ◌≤◌, ◌-◌, Bool, true, true≢false, cond, is_lt, T, List, [], ◌∷◌, ◌++◌, length, get_or, set, insert, refl, sym, ◌∙◌, ap, Option, None, Result, Ok, Err, Ordering, Less, Equal, Greater, arith}
+use Rattle.std.proofs.Common.{◌≡◌, ℕ, ℤ, ◌<◌, ◌≤◌, ◌-◌, Bool, true, false, true≢false, cond, is_lt, T, List, [], ◌∷◌, ◌++◌, length, filter, get_or, set, insert, refl, sym, ◌∙◌, ap, Option, None, Result, Ok, Err, Ordering, Less, Equal, Greater, arith}
 use Rattle.std.specs.Ordering.{int_cmp, ordering_index}
 use Rattle.std.specs.Cmp.{IsTotalOrder, int_cmp_total}
 use Rattle.std.specs.FinMap as map
 use Rattle.std.specs.FinMap.{put, is_sorted, from_sorted, entries, entries-from_sorted, get-from_sorted, entries-insert, same_entries_map, same_map, empty_of_len, len-entries, get-retain_keys, IsAntisymmetric, int_cmp-IsAntisymmetric}
-use Rattle.std.specs.FinMap.Entries.{is_sorted-put, is_sorted-where_key, find-where_key, where_key}
+use Rattle.std.specs.FinMap.Entries.{by_order, is_sorted-put, is_sorted-where_key, find-where_key, where_key}
 use Rattle.std.specs.List.Sorted.{IsBinarySearchResult}
 use Rattle.std.proofs.lemmas.List.{get_or_default}
 use Rattle.std.proofs.lemmas.List.Edits.{insert_end}
+use Rattle.ts_core.specs.Times.{IsTime}
 use Rattle.ts_core.proofs.Places.{rises, put_at, put_between}
+use Rattle.ts_raw.specs.Columns.{AreTimed}
 use Rattle.ts_raw.specs.PlainColumns.{IsRising, IsPlaceOf}
 
 pub from_sorted-nothing : {K X : Type 0} (R : K → K → Ordering) (es : List (K × X)) → es ≡ [] → from_sorted {R = R} es ≡ map.empty
@@ -32,6 +34,21 @@ module _ {K X : Type 0} {R : K → K → Ordering} (o : IsTotalOrder R) where
 
 pub rising-put : (points : List (ℤ × ℤ)) → IsRising points → (t v : ℤ) → IsRising (put int_cmp t v points)
 rising-put points s t v = is_sorted-put int_cmp int_cmp_total t v points s
+
+-- valid times stay valid: of the points that pass a test, and where one is put among them
+pub timed-where : (p : ℤ × ℤ → Bool) (points : List (ℤ × ℤ)) → AreTimed points → AreTimed (filter p points)
+timed-where p [] h = tt
+timed-where p (x ∷ points) h =
+    elim (p x) as (λ b. AreTimed (cond b (x ∷ filter p points) (filter p points))) [ true ↦ (h.0, timed-where p points h.1) | false ↦ timed-where p points h.1 ]
+
+pub timed-put : (points : List (ℤ × ℤ)) → AreTimed points → (t v : ℤ) → IsTime t → AreTimed (put int_cmp t v points)
+timed-put [] h t v is = (is, tt)
+timed-put (x ∷ points) h t v is =
+    elim (int_cmp t x.0) as (λ r. AreTimed (by_order r ((t, v) ∷ x ∷ points) ((x.0, v) ∷ points) (x ∷ put int_cmp t v points))) [
+      | Less ↦ (is, h)
+      | Equal ↦ h
+      | Greater ↦ (h.0, timed-put points h.1 t v is)
+    ]
 
 pub kept_map : (points : List (ℤ × ℤ)) → IsRising points → (p : ℤ → Bool) → from_sorted {R = int_cmp} (where_key int_cmp p points) ≡ map.retain_keys (from_sorted points) p
 kept_map points s p = from_sorted-where int_cmp_total int_cmp-IsAntisymmetric points s p (λ q x e. ap p (sym (int_cmp-IsAntisymmetric q x e)))

@@ -6,9 +6,9 @@ use Rattle.std.specs.FinMap.{from_sorted}
 use Rattle.std.specs.FinMap.Entries.{is_sorted-where_key}
 use Rattle.ts_core.specs.StoreMoves.{points_below}
 use Rattle.ts_core.proofs.Windows.{filter-window, filter-rest}
-use Rattle.ts_raw.specs.Columns.{points_from}
+use Rattle.ts_raw.specs.Columns.{AreTimed, points_from}
 use Rattle.ts_raw.specs.PlainColumns.{IsRising, IsStartOf}
-use Rattle.ts_raw.proofs.PointMaps.{kept_map}
+use Rattle.ts_raw.proofs.PointMaps.{kept_map, timed-where}
 
 below_mark : (mark t : ℤ) → int_lt t mark ≡ true → int_le mark t ≡ false
 below_mark mark t p = grind (arith, ints)
@@ -34,6 +34,9 @@ drop-before points mark i f l =
 -- dropping what is before the mark
 pub rising-drop : (points : List (ℤ × ℤ)) → IsRising points → (mark : ℤ) (i : ℕ) → IsStartOf mark points i → i ≤ length points → IsRising (drop i points)
 rising-drop points s mark i f l = subst IsRising (sym (drop-before points mark i f l)) (is_sorted-where_key int_cmp (int_le mark) points s)
+
+pub timed-drop : (points : List (ℤ × ℤ)) → AreTimed points → (mark : ℤ) (i : ℕ) → IsStartOf mark points i → i ≤ length points → AreTimed (drop i points)
+timed-drop points h mark i f l = subst AreTimed (sym (drop-before points mark i f l)) (timed-where (λ (p : ℤ × ℤ). int_le mark p.0) points h)
 
 pub from_sorted-drop : (points : List (ℤ × ℤ)) → IsRising points → (mark : ℤ) (i : ℕ) → IsStartOf mark points i → i ≤ length points → from_sorted {R = int_cmp} (drop i points) ≡ points_from (from_sorted points) mark
 from_sorted-drop points s mark i f l = ap (from_sorted {R = int_cmp}) (drop-before points mark i f l) ∙ kept_map points s (int_le mark)

@@ -4,12 +4,18 @@ use Rattle.std.specs.Prelude.{ℤ, List, filter, int_le, refl, Option}
 use Rattle.std.specs.Ordering.{int_cmp, int_eq}
 use Rattle.std.specs.FinMap as map
 use Rattle.std.specs.Coded.{Coded, code_by, coded×, coded_ℤ, coded_option}
+use Rattle.std.specs.List.{AllByRecursion}
 use Rattle.ts_core.specs.Facts.{is_within}
+use Rattle.ts_core.specs.Times.{IsTime}
 use Rattle.ts_core.specs.Buckets.{bucket_of}
 
 -- from each time to its value
 abbrev pub PointMap : Type 0
 PointMap = map.FinMap int_cmp ℤ
+
+-- each of these points has a valid time
+abbrev pub AreTimed : List (ℤ × ℤ) → Type 0
+AreTimed points = AllByRecursion (λ (p : ℤ × ℤ). IsTime p.0) points
 
 -- the points from a on and before b, in the order of time
 abbrev pub points_within : PointMap → ℤ → ℤ → List (ℤ × ℤ)

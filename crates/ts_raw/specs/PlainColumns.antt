@@ -5,14 +5,16 @@ use Rattle.std.specs.Ordering.{int_cmp}
 use Rattle.std.specs.List.{HoldsAt}
 use Rattle.std.specs.List.Sorted.{IsPartitionPoint}
 use Rattle.std.specs.FinMap.{is_sorted}
+use Rattle.ts_raw.specs.Columns.{AreTimed}
 
 -- times strictly rise
 abbrev pub IsRising : List (ℤ × ℤ) → Type 0
 IsRising points = T (is_sorted int_cmp points)
 
--- the times rise, and there is room for the point that is set aside
+-- the times rise and are valid, and there is room for the point that is set aside
 pub record IsReady (points : List (ℤ × ℤ)) (len capacity : ℕ) (aside : Option (ℤ × ℤ)) : Type 0 where
   pub rising : IsRising points
+  pub timed : AreTimed points
   pub room : IsSome aside → len < capacity
 
 -- where the point of a time is, or where it would go

@@ -2,7 +2,7 @@
 ghost use Rattle.std.specs.Prelude.{◌≡◌, ◌+◌, ◌≤◌, ◌≤ℤ◌, pos, ℤ, Option, IsSome, IfSome, is_ok, if◌then◌else◌};
 ghost use Rattle.std.specs.FinMap as map;
 ghost use Rattle.ts_core.specs.StoreMoves.{points_below};
-ghost use Rattle.ts_raw.specs.Columns.{PointMap, points_within, points_from, points_in_bucket};
+ghost use Rattle.ts_raw.specs.Columns.{PointMap, AreTimed, points_within, points_from, points_in_bucket};
 
 use crate::points::Points;
 use std::alloc::AllocError;
@@ -32,11 +32,13 @@ pub trait Column {
     /// The points from a time on and before another (nanoseconds), in the order of time: none where the
     /// first isn't below the second.
     fn range(&self, from: i64, to: i64) -> Points<'_>
-        ensures { result ≡ points_within (points self.now) from to };
+        ensures points { result ≡ points_within (points self.now) from to }
+        ensures timed { AreTimed result };
 
     /// The points before the mark, in the order of time.
     fn below(&self, mark: Time) -> Points<'_>
-        ensures { result ≡ points_below mark (map.entries (points self.now)) };
+        ensures points { result ≡ points_below mark (map.entries (points self.now)) }
+        ensures timed { AreTimed result };
 
     /// The points of a bucket, in the order of time, of buckets of an interval with an offset (nanoseconds).
     fn bucket(&self, index: &i128, interval: i64, offset: i64) -> Points<'_>

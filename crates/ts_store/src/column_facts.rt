@@ -7,6 +7,7 @@ ghost use Rattle.ts_core.specs.History.{MayBeTaken};
 ghost use Rattle.ts_core.specs.StoreStates.{facts_of as facts_in};
 ghost use Rattle.ts_core.specs.Texts.{lent_pairs, lent_series, IsTagSet};
 ghost use Rattle.ts_line.specs.Parts.{series_of, line_facts};
+ghost use Rattle.ts_raw.specs.Columns.{AreTimed};
 ghost use Rattle.ts_raw.specs.PlainColumns.{IsRising};
 ghost use Rattle.ts_store.specs.ColumnsKept.{AreKnown};
 ghost use Rattle.ts_store.specs.Refusals.{is_too_many};
@@ -141,6 +142,7 @@ impl<A: Allocator + Copy> ColumnFacts<A> {
         requires { column < length self.now.columns }
         ensures points { result ≡ points_at self.now.columns column from to }
         ensures rising { IsRising result }
+        ensures timed { AreTimed result }
     {
         raw_range(self.columns.as_slice(), column.number(), from, to)
     }

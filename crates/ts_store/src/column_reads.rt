@@ -1,7 +1,7 @@
 //! What is read from columns: how many points there are, and the points of one column.
 ghost use Rattle.std.specs.Prelude.{◌≡◌, ◌+◌, ◌*◌, ◌≤◌, ◌<◌, ◌^◌, length, get_or};
 ghost use Rattle.std.specs.FinMap as map;
-ghost use Rattle.ts_raw.specs.Columns.{points_within};
+ghost use Rattle.ts_raw.specs.Columns.{AreTimed, points_within};
 ghost use Rattle.ts_raw.specs.PlainColumns.{IsRising};
 ghost use Rattle.ts_store.specs.ColumnsKept.{point_maps};
 ghost use Rattle.ts_store.specs.PointsRead.{number_of_points};
@@ -45,6 +45,7 @@ pub(crate) fn raw_range<'a, A: Allocator + Copy>(
     requires { at < length columns.now }
     ensures points { result ≡ points_within (get_or (point_maps columns.now) at map.empty) from to }
     ensures rising { IsRising result }
+    ensures timed { AreTimed result }
 {
     columns[at].range(from, to)
 }

@@ -12,6 +12,7 @@ ghost use Rattle.ts_core.specs.Texts.{lent_pairs, IsTagSet};
 ghost use Rattle.ts_line.specs.Parts.{series_of};
 ghost use Rattle.ts_core.specs.Views.{seen_of, seen_rule};
 ghost use Rattle.ts_core.specs.Numbered.{IsAt};
+ghost use Rattle.ts_raw.specs.Columns.{AreTimed};
 ghost use Rattle.ts_raw.specs.PlainColumns.{IsRising};
 ghost use Rattle.ts_store.specs.PointsRead.{AreLatestOf};
 ghost use Rattle.ts_store.specs.Seats.{points_at};
@@ -215,6 +216,7 @@ impl<A: Allocator + Copy> View<A> for Store<A> {
         ensures points { result ≡ points_at self.now.columns column from to }
         ensures facts { (s : ColumnPoints) → IsAt self.now.columns column s → OfEachHistory self.now (AreLatestOf s.column from to result) }
         ensures rising { IsRising result }
+        ensures timed { AreTimed result }
     {
         self.facts.raw_range(column, from, to)
     }

@@ -12,7 +12,7 @@ returns-clause-points g c =
     let same : c.index-columns-at.result ≡ get_or c.args.columns.now c.args.at no_column =
     c.index-columns-at.is ∙ get_or_default c.args.columns.now c.args.at c.index-columns-at.result no_column c.requires in
     let points = ap (λ (s : ColumnState). s.points) same ∙ sym (points_at c.args.columns.now c.args.at) in
-    c.range.ensures ∙ (λ i. points_within (points i) (to_z-of_z c.ranges.from i) (to_z-of_z c.ranges.to i))
+    c.range.ensures.points ∙ (λ i. points_within (points i) (to_z-of_z c.ranges.from i) (to_z-of_z c.ranges.to i))
 
 pub returns-clause-rising : goal.returns-clause-rising
-returns-clause-rising g c = subst IsRising (sym c.range.ensures) (within-rising c.index-columns-at.result.points _ _)
+returns-clause-rising g c = subst IsRising (sym c.range.ensures.points) (within-rising c.index-columns-at.result.points _ _)

@@ -10,7 +10,7 @@ use Rattle.ts_store.proofs.freezing.freeze_column.Goals as goal
 
 pub freeze_points-requires-clause-few : goal.freeze_points-requires-clause-few
 freeze_points-requires-clause-few g c =
-    let is : length c.below.result ≡ length (points_below c.args.mark (finmap.entries c.args.points.now.points)) = ap length c.below.ensures in
+    let is : length c.below.result ≡ length (points_below c.args.mark (finmap.entries c.args.points.now.points)) = ap length c.below.ensures.points in
     let fewer : length (points_below c.args.mark (finmap.entries c.args.points.now.points)) ≤ length (finmap.entries c.args.points.now.points) = length-filter _ (finmap.entries c.args.points.now.points) in
     let all : finmap.len c.args.points.now.points ≡ length (finmap.entries c.args.points.now.points) = len-entries c.args.points.now.points in
     omega (arith, c.requires.few)
@@ -21,5 +21,5 @@ returns-then-rolls g c = λ d is fit.
     let below : List (ℤ × ℤ) = points_below c.args.mark (finmap.entries c.args.points.now.points) in
     frozen_rolled c.args.rule.now d below c.args.column c.args.rollup.now c.freeze_points.new.rollup rolled is c.freeze_points.ensures.lanes
     (λ l at lane.
-    c.freeze_points.ensures.cells d l at lane (subst (λ (ps : List (ℤ × ℤ)). FreezesFit c.args.rule.now d ps c.args.rollup.now.grid.cells) (sym c.below.ensures) fit)
-    ∙ ap (λ (ps : List (ℤ × ℤ)). frozen_points c.args.rule.now d ps c.args.rollup.now.grid.cells) c.below.ensures)
+    c.freeze_points.ensures.cells d l at lane (subst (λ (ps : List (ℤ × ℤ)). FreezesFit c.args.rule.now d ps c.args.rollup.now.grid.cells) (sym c.below.ensures.points) fit)
+    ∙ ap (λ (ps : List (ℤ × ℤ)). frozen_points c.args.rule.now d ps c.args.rollup.now.grid.cells) c.below.ensures.points)

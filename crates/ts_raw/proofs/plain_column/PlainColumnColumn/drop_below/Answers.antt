@@ -1,6 +1,6 @@
 use Rattle.std.proofs.Common.{rules, true≢false, sym, SFits, w64, to_z-of_z, ◌∙◌, ap}
 use Rattle.ts_raw.specs.Columns.{ColumnState, points_from}
-use Rattle.ts_raw.proofs.PointRanges.{rising-drop, from_sorted-drop}
+use Rattle.ts_raw.proofs.PointRanges.{rising-drop, timed-drop, from_sorted-drop}
 use Rattle.ts_raw.proofs.plain_column.PlainColumnColumn.drop_below.Goals as goal
 
 pub invariant_of-self : goal.invariant_of-self
@@ -10,6 +10,7 @@ invariant_of-self g c =
     let bound = rw c.as_slice.ensures.value at c.count_before-count.ensures.bound in
     record {
       rising = rw c.drop_front.ensures (rising-drop points c.self.invariant.rising _ c.count_before-count.result start bound);
+      timed = rw c.drop_front.ensures (timed-drop points c.self.invariant.timed _ c.count_before-count.result start bound);
       room = λ h. absurd (true≢false (sym h));
     }
 

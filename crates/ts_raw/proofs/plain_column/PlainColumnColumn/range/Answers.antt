@@ -3,10 +3,11 @@ use Rattle.std.specs.Ordering.{int_cmp}
 use Rattle.std.specs.FinMap.{entries-from_sorted}
 use Rattle.ts_core.specs.Facts.{is_within}
 use Rattle.ts_raw.specs.Columns.{ColumnState, points_within}
+use Rattle.ts_raw.proofs.PointMaps.{timed-where}
 use Rattle.ts_raw.proofs.plain_column.PlainColumnColumn.range.Goals as goal
 
-pub returns : goal.returns
-returns g c =
+pub returns-clause-points : goal.returns-clause-points
+returns-clause-points g c =
     let points = c.self.inside.points.items in
     let within : ℤ → ℤ → List (ℤ × ℤ) → List (ℤ × ℤ) = λ a b ps. filter (λ (p : ℤ × ℤ). is_within a b p.0) ps in
     let from_fits : SFits w64 c.args.from = search rules in
@@ -16,3 +17,6 @@ returns g c =
     ∙ ap (λ z. within c.args.from z c.as_slice.result.now) (to_z-of_z to_fits)
     ∙ ap (within c.args.from c.args.to) (c.as_slice.ensures.value ∙ sym (entries-from_sorted int_cmp points c.self.invariant.rising))
     ∙ ap (λ (s : ColumnState). points_within s.points c.args.from c.args.to) c.self.view_is
+
+pub returns-clause-timed : goal.returns-clause-timed
+returns-clause-timed g c = rw (c.plain.ensures, c.between.ensures, c.as_slice.ensures.value) (timed-where _ c.self.inside.points.items c.self.invariant.timed)
