@@ -6,9 +6,9 @@ ghost use Rattle.std.specs.Str.{str_eq_ignore_ascii_case};
 ghost use Rattle.ts_ql.specs.Literals.{magnitude, within, literal, escape, text_spelled};
 ghost use Rattle.ts_ql.specs.DurationUnits.{nanos_of_unit};
 
-use crate::bytes::byte_at;
 use crate::unit::nanos_of_unit;
 use std::alloc::{AllocError, Allocator};
+use ts_core::byte_at;
 
 /// A total and so many units more.
 fn with_units(total: u64, number: u64, unit: u64) -> Option<u64>
