@@ -59,6 +59,7 @@ pub mod MovesStand
 pub mod LineStands
 pub mod StoreNew
 pub mod FaultTextLemmas
+pub mod UnitLemmas
 pub mod DurationSteps
 pub mod EachItem
 pub mod SettingsForms
