@@ -16,7 +16,7 @@ use Rattle.ts_core.specs.Members.{AllDistinct}
 use Rattle.ts_core.specs.Cells.{Cell, cell_cmp}
 use Rattle.ts_core.proofs.Ids.{equal_of}
 use Rattle.ts_core.proofs.PieceCells.{cells_total}
-use Rattle.ts_core.proofs.Tests.{lt_not}
+use Rattle.ts_core.proofs.Comparisons.{lt_not}
 use Rattle.ts_core.proofs.Places.{both_of, less_of}
 use Rattle.ts_core.specs.Changes.{or_else}
 use Rattle.std.specs.Bool.{OnTrue, OnFalse}

@@ -10,7 +10,7 @@ use Rattle.ts_core.specs.Queries.{Query, is_selected, matches, group_of}
 use Rattle.ts_core.specs.Answers.{buckets_in, is_in_row, groups_of, answer_of}
 use Rattle.ts_core.proofs.MembersLemmas.{Among-filter_passes, Among-filter_was, Among-filter_stays, AllDistinct-filter}
 use Rattle.ts_core.proofs.Folds.{fold-same, fold-split}
-use Rattle.ts_core.proofs.Tests.{same_bool, lt_from, lt_true}
+use Rattle.ts_core.proofs.Comparisons.{same_bool, lt_from, lt_true}
 use Rattle.ts_core.proofs.GroupsInOrder.{from_map, to_map, all_groups-same}
 use Rattle.ts_core.proofs.Covered.{within_true, within_below, within_above}
 

@@ -22,12 +22,12 @@ use Rattle.ts_core.proofs.Intervals.{IsWide, asked_wide, settings_faultless}
 use Rattle.ts_core.proofs.MembersLemmas.{Among-left, Among-right, Among-append, Among-filter_passes, Among-filter_was, Among-filter_stays, Among-map, map_back}
 use Rattle.ts_core.proofs.Folds.{fold-count}
 use Rattle.ts_core.proofs.GroupsInOrder.{HasMatch, from_map, to_map, all_groups-same}
-use Rattle.ts_core.proofs.Tests.{le_true, lt_true}
+use Rattle.ts_core.proofs.Comparisons.{le_true, lt_true}
 use Rattle.ts_core.proofs.Cuts.{one_fact}
 use Rattle.ts_core.proofs.StateLemmas.{le_trans}
 use Rattle.ts_core.proofs.Shown.{stands_shows}
 use Rattle.ts_core.proofs.Boundaries.{within_parts}
-use Rattle.ts_core.proofs.RowTests.{same_match, same_group_of}
+use Rattle.ts_core.proofs.CellsInRows.{same_match, same_group_of}
 use Rattle.ts_core.proofs.PieceCells.{same_cell-eq, same_cell-refl, Serving, serving, index_of-high, start_of-high, is_rolled-matches}
 use Rattle.ts_core.proofs.AssembledRows.{assembled-row}
 use Rattle.ts_core.proofs.LowIndices.{not_zero}

@@ -24,11 +24,11 @@ use Rattle.ts_core.proofs.MembersLemmas.{AllDistinct-filter, Among-filter_passes
 use Rattle.ts_core.proofs.Folds.{fold-same}
 use Rattle.ts_core.proofs.Groups.{fold-groups}
 use Rattle.ts_core.proofs.Latests.{latest-distinct}
-use Rattle.ts_core.proofs.Tests.{same_bool}
+use Rattle.ts_core.proofs.Comparisons.{same_bool}
 use Rattle.ts_core.proofs.Cuts.{one_fact, aggregate_where, filter-agree, aggregate_where-agree, Part, aggregate_where-part}
 use Rattle.ts_core.proofs.StateLemmas.{le_trans}
 use Rattle.ts_core.proofs.Boundaries.{within_parts}
-use Rattle.ts_core.proofs.RowTests.{and_none, same_row, in_row-matches}
+use Rattle.ts_core.proofs.CellsInRows.{and_none, same_row, in_row-matches}
 use Rattle.ts_core.proofs.PieceCells.{same_cell-eq, same_cell-refl, Serving, serving, index_of-high, start_of-high, is_rolled-matches}
 use Rattle.ts_core.proofs.AnswersLaws.{filter_both}
 

@@ -10,7 +10,7 @@ use Rattle.ts_core.specs.Marks.{index_of}
 use Rattle.ts_core.specs.Queries.{Query}
 use Rattle.ts_core.specs.Pieces.{start_of, IsBoundary, Divides, IsInOneBucket}
 use Rattle.ts_core.proofs.BucketsOrder.{bucket_same, bucket_is, one_more, times_le, bucket_le}
-use Rattle.ts_core.proofs.Tests.{le_from, le_true, lt_from, lt_true, same_bool}
+use Rattle.ts_core.proofs.Comparisons.{le_from, le_true, lt_from, lt_true, same_bool}
 use Rattle.ts_core.proofs.GoodPlaces.{index_of-start}
 
 -- ---- products

@@ -6,7 +6,7 @@ use Rattle.ts_core.specs.Members.{Among, AllDistinct}
 use Rattle.ts_core.specs.Queries.{Query}
 use Rattle.ts_core.specs.Answers.{at_least_none, numbers_from, bucket_in, buckets_in}
 use Rattle.ts_core.proofs.BucketsOrder.{bucket_is, bucket_le, times_le, bucket_of-start}
-use Rattle.ts_core.proofs.Tests.{lt_from, lt_true}
+use Rattle.ts_core.proofs.Comparisons.{lt_from, lt_true}
 
 -- each is less than those after it
 abbrev pub AreRising : List ℤ → Type 0

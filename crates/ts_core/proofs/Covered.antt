@@ -7,7 +7,7 @@ use Rattle.ts_core.specs.Settings.{Settings}
 use Rattle.ts_core.specs.Marks.{Marks}
 use Rattle.ts_core.specs.Queries.{Query}
 use Rattle.ts_core.specs.Pieces.{Piece, Covers, IsValid}
-use Rattle.ts_core.proofs.Tests.{le_true, lt_true, le_from, lt_from}
+use Rattle.ts_core.proofs.Comparisons.{le_true, lt_true, le_from, lt_from}
 
 pub within_true : (a b t : ℤ) → a ≤ℤ t → t <ℤ b → is_within a b t ≡ true
 within_true a b t l u = and_from _ _ (le_true a t l) (lt_true t b u)

@@ -2,16 +2,15 @@
 use Rattle.std.proofs.Common.{◌≡◌, ◌≢◌, ◌⊎◌, ℕ, ◌+◌, ◌-◌, ◌*◌, ◌<◌, ◌&&◌, nat_lt, Bool, true, false, not, List, [], ◌∷◌, ◌++◌, length, cond, Option, Some, None, option_map, option_and_then, unsigned_abs, inl, inr, ⊎_elim, refl, sym, ap, ◌∙◌, arith, append_assoc, append-nil}
 use Rattle.std.proofs.lemmas.Bool.{not-true}
 use Rattle.std.proofs.lemmas.Bool.Decides.{nat_tests}
-use Rattle.std.proofs.lemmas.Slice.Eq.{bytes_eq-Decides}
 use Rattle.std.specs.List.{list_all}
-use Rattle.std.specs.Str.{bytes_eq}
 use Rattle.std.specs.Char.{is_ascii_digit, digit_value}
 use Rattle.std.specs.Str.Parse.{IsNumeral, AllDigits, digits_value, digits_value_after}
 use Rattle.ts_core.specs.Facts.{Text}
 use Rattle.ts_core.specs.declared.time_unit.TimeUnit.{TimeUnit}
-use Rattle.ts_core.specs.TimeUnits.{nanoseconds_of, duration_unit_of, duration_names, unit_called, UnitNames}
+use Rattle.ts_core.specs.TimeUnits.{nanoseconds_of, duration_unit_of, duration_names}
 use Rattle.ts_core.specs.Durations.{with_term, before_digit, added_up, duration_of, Term, IsTerm, AreTerms, spelled, total, DurationsAddUp}
 use Rattle.ts_core.proofs.DurationSteps.{starts}
+use Rattle.ts_core.proofs.UnitLemmas.{of_called}
 
 -- ---- digits and letters
 
@@ -36,24 +35,14 @@ and_both false b h = absurd (cc)
 abbrev is_lettered : Text → Bool
 is_lettered name = list_all (λ b. not (is_ascii_digit b)) name
 
-abbrev may_be_name : Text → Bool
-may_be_name name = nat_lt 0 (length name) && is_lettered name
+abbrev MayBeName : Text → TimeUnit → Type 0
+MayBeName name unit = (nat_lt 0 (length name) ≡ true) × (is_lettered name ≡ true)
 
-called_first : (p : Text → Bool) (known : Text × TimeUnit) (names : UnitNames) (name : Text) (unit : TimeUnit) (b : Bool) → (b ≡ true → name ≡ known.0) → p known.0 ≡ true
-    → (unit_called names name ≡ Some unit → p name ≡ true) → cond b (Some known.1) (unit_called names name) ≡ Some unit → p name ≡ true
-called_first p known names name unit true same first rest e = ap p (same refl) ∙ first
-called_first p known names name unit false same first rest e = rest e
-
-called_has : (p : Text → Bool) (names : UnitNames) (name : Text) (unit : TimeUnit) → list_all (λ (known : Text × TimeUnit). p known.0) names ≡ true → unit_called names name ≡ Some unit → p name ≡ true
-called_has p [] name unit all e = absurd (cc)
-called_has p (known ∷ names) name unit all e =
-    let both = and_both (p known.0) (list_all (λ (k : Text × TimeUnit). p k.0) names) all in
-    called_first p known names name unit (bytes_eq name known.0) ((bytes_eq-Decides name known.0).0)
-    both.0 (λ h. called_has p names name unit both.1 h) e
-
-name_is : (name : Text) (unit : TimeUnit) → duration_unit_of name ≡ Some unit → (nat_lt 0 (length name) ≡ true) × (is_lettered name ≡ true)
+name_is : (name : Text) (unit : TimeUnit) → duration_unit_of name ≡ Some unit → MayBeName name unit
 unfolding duration_unit_of
-name_is name unit e = and_both (nat_lt 0 (length name)) (is_lettered name) (called_has may_be_name duration_names name unit refl e)
+name_is name unit e =
+    of_called MayBeName duration_names name unit
+    ((refl, refl), ((refl, refl), ((refl, refl), ((refl, refl), ((refl, refl), ((refl, refl), ((refl, refl), ((refl, refl), ((refl, refl), tt))))))))) e
 
 -- ---- each list of terms is read
 

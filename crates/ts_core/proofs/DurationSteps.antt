@@ -1,8 +1,7 @@
 -- Adding up a duration byte by byte: what was read so far is reached, so that past 64 bits there is no way back.
-use Rattle.std.proofs.Common.{◌≡◌, ℕ, suc, ◌+◌, ◌-◌, ◌*◌, ◌^◌, ◌<◌, ◌≤◌, cond, Bool, true, false, [], ◌∷◌, ◌++◌, length, drop, take, get_or, slice_range, Option, Some, None, option_map, option_and_then, unsigned_abs, refl, sym, ap, ◌∙◌, arith, lit≤, length-drop}
+use Rattle.std.proofs.Common.{◌≡◌, ℕ, ◌+◌, ◌-◌, ◌*◌, ◌^◌, ◌<◌, ◌≤◌, cond, Bool, true, false, [], ◌∷◌, ◌++◌, length, drop, take, get_or, slice_range, Option, Some, None, option_map, option_and_then, unsigned_abs, refl, sym, ap, ◌∙◌, arith, lit≤}
 use Rattle.std.proofs.Math.Nat.{le-mul_of_pos_right}
-use Rattle.std.proofs.Math.Seq.{take-suc}
-use Rattle.std.proofs.lemmas.List.{get_or-drop, at_drop_more}
+use Rattle.std.proofs.lemmas.List.{at_drop_more}
 use Rattle.std.specs.Char.{is_ascii_digit}
 use Rattle.ts_core.proofs.ListSteps.{slice_step}
 use Rattle.ts_core.specs.Facts.{Text}

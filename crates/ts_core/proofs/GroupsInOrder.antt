@@ -13,7 +13,7 @@ use Rattle.ts_core.specs.Queries.{Query, matches, group_of}
 use Rattle.ts_core.specs.Answers.{group_cmp, same_group, placed, with_group, all_groups, groups_of}
 use Rattle.ts_core.proofs.MembersLemmas.{Among-filter_passes, Among-filter_was, Among-filter_stays}
 use Rattle.ts_core.proofs.Ids.{equal_of}
-use Rattle.ts_core.proofs.Tests.{same_bool}
+use Rattle.ts_core.proofs.Comparisons.{same_bool}
 
 pub groups_total : IsTotalOrder group_cmp
 groups_total = lists_total nat_list_cmp_total

@@ -13,7 +13,7 @@ pub mod BucketsLemmas
 pub mod BucketsOrder
 pub mod Intervals
 pub mod GoodPlaces
-pub mod Tests
+pub mod Comparisons
 pub mod Validity
 pub mod Walks
 pub mod AggregatesLemmas
@@ -46,7 +46,7 @@ pub mod LowIndices
 pub mod NewStates
 pub mod ColumnFacts
 pub mod Boundaries
-pub mod RowTests
+pub mod CellsInRows
 pub mod PieceCells
 pub mod AssembledRows
 pub mod AssembledAnswers
@@ -59,6 +59,7 @@ pub mod MovesStand
 pub mod LineStands
 pub mod StoreNew
 pub mod FaultTextLemmas
+pub mod UnitLemmas
 pub mod DurationSteps
 pub mod EachItem
 pub mod SettingsForms

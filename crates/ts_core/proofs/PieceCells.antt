@@ -19,12 +19,12 @@ use Rattle.ts_core.specs.Views.{RuleTotals, Seen, HasTotals, Shows, seen_rule, s
 use Rattle.ts_core.specs.Assembly.{rule_shown}
 use Rattle.ts_core.proofs.Intervals.{IsWide}
 use Rattle.ts_core.proofs.Ids.{equal_of, same_text-eq}
-use Rattle.ts_core.proofs.Tests.{same_text-from_eq}
+use Rattle.ts_core.proofs.Comparisons.{same_text-from_eq}
 use Rattle.ts_core.proofs.GoodPlaces.{index_of-start}
 use Rattle.ts_core.proofs.BucketsOrder.{bucket_le}
 use Rattle.ts_core.proofs.StateLemmas.{le_trans}
 use Rattle.ts_core.proofs.Boundaries.{within_parts}
-use Rattle.ts_core.proofs.RowTests.{matches-measurement}
+use Rattle.ts_core.proofs.CellsInRows.{matches-measurement}
 
 -- ---- cells are the same where their order ties them
 

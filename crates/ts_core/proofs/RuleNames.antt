@@ -6,7 +6,7 @@ use Rattle.ts_core.specs.Facts.{Text, same_text}
 use Rattle.ts_core.specs.Settings.{Rule}
 use Rattle.ts_core.specs.Pieces.{MarkedRule, marked_rules, rule_named}
 use Rattle.ts_core.proofs.Ids.{same_text-eq}
-use Rattle.ts_core.proofs.Tests.{same_text-refl}
+use Rattle.ts_core.proofs.Comparisons.{same_text-refl}
 
 abbrev pub name_of : MarkedRule → Text
 name_of r = r.rule.name

@@ -14,7 +14,7 @@ use Rattle.ts_core.specs.Cells.{Cell, cell_of, is_in_cell}
 use Rattle.ts_core.specs.StoreStates.{ColumnPoints, RuleCells, StoreState, StandsFor, HasCells, column_of, rule_of, lowest_of, facts_at, facts_of}
 use Rattle.ts_core.proofs.MembersLemmas.{AllDistinct-filter, Among-filter_passes, Among-filter_was, Among-filter_stays}
 use Rattle.ts_core.proofs.Latests.{latest-distinct}
-use Rattle.ts_core.proofs.Tests.{le_true, le_from}
+use Rattle.ts_core.proofs.Comparisons.{le_true, le_from}
 use Rattle.ts_core.proofs.Cuts.{aggregate_where, aggregate_where-agree, CutRises, passed_of, frozen_of-gains, aggregate_where-held, live_of-held, Holds}
 use Rattle.ts_core.proofs.Moves.{AllTwo, is_left, left_points, columns_left, IsMoved, moved, IsExpired, expired, closed}
 use Rattle.ts_core.proofs.StateLemmas.{AllTwo-all, AllTwo-map, cons_not, same_column-eq, is_waiting-not, earlier_mark-le, le_trans, Holds-raw_of, StandsFor-Holds, HasCells-as}

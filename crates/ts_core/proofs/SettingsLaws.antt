@@ -11,7 +11,7 @@ use Rattle.ts_core.specs.Members.{Among, AllDistinct}
 use Rattle.ts_core.specs.Facts.{Text, same_text}
 use Rattle.ts_core.specs.Settings.{Rule, Settings, Outlasts, AreSettings}
 use Rattle.ts_core.specs.SettingsFaults.{unless, is_named, is_interval, outlasts, fault_of_rule, or_rule_fault, rules_fault, settings_fault}
-use Rattle.ts_core.proofs.Tests.{le_from, same_text-refl}
+use Rattle.ts_core.proofs.Comparisons.{le_from, same_text-refl}
 use Rattle.ts_core.proofs.MembersLemmas.{Among-left, Among-right}
 
 well : (b : Bool) (f : RuleFault) (next : Option RuleFault) → unless b f next ≡ None → (b ≡ true) × (next ≡ None)

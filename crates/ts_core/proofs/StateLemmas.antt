@@ -15,7 +15,7 @@ use Rattle.ts_core.specs.RawFacts.{same_column, is_waiting, earlier_mark, kept_f
 use Rattle.ts_core.specs.StoreStates.{RuleCells, StoreState, StandsFor, HasCells, facts_of}
 use Rattle.ts_core.proofs.Ids.{columns_total, exact_columns, equal_of}
 use Rattle.ts_core.proofs.MembersLemmas.{Among-filter_passes, Among-filter_was, Among-filter_stays}
-use Rattle.ts_core.proofs.Tests.{le_true}
+use Rattle.ts_core.proofs.Comparisons.{le_true}
 use Rattle.ts_core.proofs.Cuts.{Holds}
 use Rattle.ts_core.proofs.Moves.{AllTwo}
 

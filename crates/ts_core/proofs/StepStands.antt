@@ -17,7 +17,7 @@ use Rattle.ts_core.specs.StoreStates.{ColumnPoints, fact_at, StoreState, StandsF
 use Rattle.ts_core.proofs.Folds.{fold-count}
 use Rattle.ts_core.proofs.MembersLemmas.{no_members, Among-filter_was, Among-filter_passes}
 use Rattle.ts_core.proofs.PieceCells.{same_cell-eq, same_cell-refl}
-use Rattle.ts_core.proofs.Tests.{same_bool}
+use Rattle.ts_core.proofs.Comparisons.{same_bool}
 use Rattle.ts_core.proofs.Latests.{latest-distinct}
 use Rattle.ts_core.proofs.Cuts.{aggregate_where, one_fact, Holds, total_of-parts, live_of-held}
 use Rattle.ts_core.proofs.Moves.{AllTwo, IsMoved, is_left, left_points, columns_left}

@@ -12,7 +12,7 @@ use Rattle.ts_core.specs.Queries.{Query}
 use Rattle.ts_core.specs.Pieces.{Source, Raw, Rollup, Piece, MarkedRule, Asked, asked, rule_named, start_of, Divides, IsInOneBucket, tags_of, RuleServes, SourceServes, IsValidPiece, Covers, IsValidFrom, IsValid}
 use Rattle.ts_core.specs.SettingsFaults.{unless}
 use Rattle.ts_core.specs.Faults.{Fault, Gap, NoSuchRule, divides, is_in_one_bucket, rule_fault, source_fault, piece_fault, gap_at, or_fault, pieces_fault, or_gap, fault_from, first_fault}
-use Rattle.ts_core.proofs.Tests.{le_from, le_true, lt_from, lt_true, same_text-from_eq, all_among, among_all}
+use Rattle.ts_core.proofs.Comparisons.{le_from, le_true, lt_from, lt_true, same_text-from_eq, all_among, among_all}
 use Rattle.ts_core.proofs.Ids.{same_text-eq}
 
 well : (b : Bool) (f : Fault) (next : Option Fault) → unless b f next ≡ None → (b ≡ true) × (next ≡ None)

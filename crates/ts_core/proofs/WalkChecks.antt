@@ -9,7 +9,7 @@ use Rattle.ts_core.specs.Pieces.{Source, Raw, Rollup, Piece, MarkedRule, Asked, 
 use Rattle.ts_core.specs.Faults.{piece_fault}
 use Rattle.ts_core.specs.Plans.{IsGood, rollup_piece, LeadsOn, NoneBefore, IsFirstToLead, Steps, IsWalk, is_faultless}
 use Rattle.ts_core.proofs.Intervals.{IsWide}
-use Rattle.ts_core.proofs.Tests.{lt_from, le_from}
+use Rattle.ts_core.proofs.Comparisons.{lt_from, le_from}
 use Rattle.ts_core.proofs.Ids.{same_text-eq}
 use Rattle.ts_core.proofs.Validity.{source_from, source_none}
 use Rattle.ts_core.proofs.Walks.{walk_valid, faultless_none}

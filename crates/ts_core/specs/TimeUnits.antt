@@ -1,7 +1,7 @@
 -- Units of time, and the names of them that each place takes, side by side.
 -- (InfluxData 1.8, InfluxQL reference, durations: ns, u or µ, ms, s, m, h, d, w. HTTP API reference, /write, the parameter `precision`:
 -- ns, u, ms, s, m, h. Own rules: a precision is also called `n`, and a script's moment is without a unit in nanoseconds.)
-use Rattle.std.specs.Prelude.{ℤ, pos, List, [], ◌∷◌, if◌then◌else◌, Option, Some, None, bytes_eq, codes}
+use Rattle.std.specs.Prelude.{ℕ, ℤ, pos, List, [], ◌∷◌, if◌then◌else◌, Option, Some, None, option_map, bytes_eq, codes}
 use Rattle.ts_core.specs.Facts.{Text}
 use Rattle.ts_core.specs.declared.time_unit.TimeUnit.{TimeUnit}
 use Rattle.ts_core.specs.declared.time_unit.TimeUnit.TheVariants.{Nanoseconds, Microseconds, Milliseconds, Seconds, Minutes, Hours, Days, Weeks}
@@ -49,3 +49,12 @@ duration_unit_of = unit_called duration_names
 
 unfoldable pub moment_unit_of : Text → Option TimeUnit
 moment_unit_of = unit_called moment_names
+
+-- the unit that a name of two bytes calls counts before the one that a name of one byte calls; and how many bytes the name has
+abbrev pub longer_first : Option TimeUnit → Option TimeUnit → Option (TimeUnit × ℕ)
+longer_first (Some unit) other = Some (unit, 2)
+longer_first None other = option_map (λ unit. (unit, 1)) other
+
+-- the unit of a duration that begins with this byte before that one
+unfoldable pub unit_begun : ℕ → ℕ → Option (TimeUnit × ℕ)
+unit_begun byte next = longer_first (duration_unit_of (byte ∷ next ∷ [])) (duration_unit_of (byte ∷ []))

@@ -17,6 +17,7 @@
 mod aggregate;
 mod bucket;
 mod chains;
+mod cursor;
 mod duration;
 mod fact;
 mod fault;
@@ -46,6 +47,7 @@ mod value;
 pub use aggregate::{Agg, Extremes};
 pub use bucket::{bucket_index, index_of};
 pub use chains::Chains;
+pub use cursor::{after, byte_at};
 pub use fact::Fact;
 pub use fault::Fault;
 pub use fault_code::FaultCode;

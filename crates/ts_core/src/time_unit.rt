@@ -1,6 +1,6 @@
 //! Units of time, and the names of them that each place takes, side by side.
 ghost use Rattle.std.specs.Prelude.{◌≡◌};
-ghost use Rattle.ts_core.specs.TimeUnits.{nanoseconds_of, precision_of, duration_unit_of, moment_unit_of};
+ghost use Rattle.ts_core.specs.TimeUnits.{nanoseconds_of, precision_of, duration_unit_of, moment_unit_of, unit_begun};
 
 /// A unit of time.
 #[derive(Clone, Copy, Debug, PartialEq, Eq)]
@@ -71,6 +71,19 @@ impl TimeUnit {
             b"w" => Some(TimeUnit::Weeks),
             _ => None,
         }
+    }
+
+    /// The unit of a duration that begins with a byte before another, and how many bytes its name has: the longest name
+    /// counts.
+    #[tactic(auto, unfolding(crate::specs::TimeUnits::unit_begun))]
+    pub fn begun_by(byte: u8, next: u8) -> Option<(TimeUnit, usize)>
+        ensures { result ≡ unit_begun byte next }
+    {
+        if let Some(unit) = TimeUnit::of_duration_name(&[byte, next]) {
+            return Some((unit, 2));
+        }
+        let unit = TimeUnit::of_duration_name(&[byte])?;
+        Some((unit, 1))
     }
 
     /// The unit of a script's moment, by its name: a duration's units, and nanoseconds without a name.

@@ -29,7 +29,7 @@ use Rattle.ts_core.proofs.Cuts.{filter-agree}
 use Rattle.ts_core.proofs.Boundaries.{within_parts}
 use Rattle.ts_core.proofs.BucketsOrder.{bucket_le, times_le, bucket_of-start}
 use Rattle.ts_core.proofs.BucketsInRange.{at_least_none-is}
-use Rattle.ts_core.proofs.Tests.{le_true, lt_true, same_bool}
+use Rattle.ts_core.proofs.Comparisons.{le_true, lt_true, same_bool}
 use Rattle.ts_core.proofs.GroupsInOrder.{same_group-eq, same_group-refl}
 use Rattle.ts_core.proofs.Folds.{fold-append}
 use Rattle.ts_store.specs.Seats.{Seat, seats_from, seats_where, no_points, points_at, CellTotal, with_total, cells_within}

@@ -5,7 +5,7 @@ use Rattle.ts_core.specs.Queries.{Query}
 use Rattle.ts_core.specs.Answers.{at_least_none, numbers_from, bucket_in}
 use Rattle.ts_core.proofs.BucketsOrder.{bucket_le}
 use Rattle.ts_core.proofs.BucketsInRange.{at_least_none-is}
-use Rattle.ts_core.proofs.Tests.{lt_true}
+use Rattle.ts_core.proofs.Comparisons.{lt_true}
 use Rattle.ts_exec.specs.RowParts.{bucket_grid, place_at}
 use Rattle.ts_exec.specs.GroupTables.{width}
 

@@ -9,9 +9,10 @@ use crate::fault::{LineFaultKind, ReadLineError};
 use crate::line::Field;
 use crate::mark::slot_of;
 use crate::part::part_at;
-use crate::scan::{Stops, after, byte_at, end_at};
+use crate::scan::{Stops, end_at};
 use crate::value::value_begun_at;
 use std::alloc::{AllocError, Allocator};
+use ts_core::{after, byte_at};
 
 /// A line has no more fields than this.
 const FIELD_LIMIT: usize = 256;

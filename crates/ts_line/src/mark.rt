@@ -2,7 +2,7 @@
 ghost use Rattle.std.specs.Prelude.{◌≡◌, ◌<◌};
 ghost use Rattle.ts_line.specs.NameMarks.{slot_of};
 
-use crate::scan::byte_at;
+use ts_core::byte_at;
 
 /// Where the mark of a name is: most names of a line differ in their length or in their last two bytes.
 pub(crate) fn slot_of(name: &str) -> usize

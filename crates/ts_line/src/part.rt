@@ -7,9 +7,10 @@ ghost use Rattle.ts_line.specs.Scan.{is_backslash, is_stop};
 ghost use Rattle.ts_line.specs.PartTexts.{begins_escapable, unescaped, piece_at};
 
 use crate::line::Part;
-use crate::scan::{End, Stops, after, is_stop};
+use crate::scan::{End, Stops, is_stop};
 use std::alloc::{AllocError, Allocator};
 use std::borrow::CowStr;
+use ts_core::after;
 
 /// The part of a line from `start` to an end.
 pub fn part_at<'a, A: Allocator>(

@@ -14,11 +14,11 @@ use crate::field::fields;
 use crate::line::{Line, Part};
 use crate::number::{is_number, moment, time_of};
 use crate::part::part_at;
-use crate::scan::{Stops, after_spaces, byte_at, end_at};
+use crate::scan::{Stops, after_spaces, end_at};
 use crate::short::short_number;
 use crate::tag::tags;
 use std::alloc::Allocator;
-use ts_core::{Time, TimeUnit};
+use ts_core::{Time, TimeUnit, byte_at};
 
 /// A line has no more bytes than this.
 const LINE_LIMIT: usize = 65_536;

@@ -1,8 +1,10 @@
 //! Where the parts of a line end.
-ghost use Rattle.std.specs.Prelude.{◌≡◌, ◌≤◌, ◌<◌, ◌+◌, length, slice_index, slice_range, false};
+ghost use Rattle.std.specs.Prelude.{◌≡◌, ◌≤◌, length, slice_range};
 ghost use Rattle.std.specs.List.{list_any};
 ghost use Rattle.std.specs.Str.{IsCharBoundary};
 ghost use Rattle.ts_line.specs.Scan.{is_stop, ends, end_of, spaces_end};
+
+use ts_core::after;
 
 /// Which bytes end a part.
 #[derive(Clone, Copy, Debug, PartialEq, Eq)]
@@ -113,24 +115,4 @@ pub fn after_spaces(line: &str, from: usize) -> usize
         at = after(line, at);
     }
     at
-}
-
-/// The byte at a place, and 0 at the end.
-pub fn byte_at(line: &str, at: usize) -> u8
-    ensures { result ≡ slice_index line.now at }
-{
-    match line.as_bytes().get(at) {
-        Some(byte) => *byte,
-        None => 0,
-    }
-}
-
-/// The place after an ASCII character.
-pub fn after(line: &str, at: usize) -> usize
-    requires in_range { at < length line.now }
-    requires ascii { slice_index line.now at < 128 }
-    ensures value { result ≡ at + 1 }
-    ensures boundary { IsCharBoundary line.now result }
-{
-    at + 1
 }

@@ -7,8 +7,8 @@ ghost use Rattle.std.specs.Str.Parse.{digits_value};
 ghost use Rattle.ts_line.specs.Numbers.{is_number, whole_of};
 ghost use Rattle.ts_line.specs.Values.{value_begun_at, is_value_end};
 
-use crate::scan::{after, byte_at};
 use crate::value::is_value_end;
+use ts_core::{after, byte_at};
 
 /// So many digits fit 64 bits, whichever they are.
 const DIGIT_LIMIT: usize = 19;

@@ -9,8 +9,9 @@ use crate::fault::{LineFaultKind, ReadLineError};
 use crate::line::{TAG_LIMIT, Tag};
 use crate::mark::slot_of;
 use crate::part::part_at;
-use crate::scan::{Stops, after, byte_at, end_at};
+use crate::scan::{Stops, end_at};
 use std::alloc::Allocator;
+use ts_core::{after, byte_at};
 
 /// Room for so many tags is taken at first.
 const TAGS_AT_FIRST: usize = 8;

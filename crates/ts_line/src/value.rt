@@ -7,8 +7,9 @@ ghost use Rattle.ts_line.specs.Values.{is_unsigned, is_boolean, is_float, behind
 
 use crate::fault::{LineFault, LineFaultKind};
 use crate::number::{after_minus, are_digits, is_number, whole};
-use crate::scan::{Stops, byte_at, end_at};
+use crate::scan::{Stops, end_at};
 use crate::short::short_integer;
+use ts_core::byte_at;
 
 fn is_unsigned(text: &[u8]) -> bool
     ensures { result ≡ is_unsigned text.now }

@@ -15,7 +15,7 @@ use Rattle.ts_core.specs.Faults.{is_boundary, divides, is_in_one_bucket, keeps, 
 use Rattle.ts_core.specs.Plans.{is_same_rule, is_faultless, drawn}
 use Rattle.ts_core.proofs.Ids.{same_text-eq}
 use Rattle.ts_core.proofs.RuleNames.{name_of, rule_named-at}
-use Rattle.ts_core.proofs.Tests.{le_true, same_text-from_eq, among_all}
+use Rattle.ts_core.proofs.Comparisons.{le_true, same_text-from_eq, among_all}
 use Rattle.ts_core.proofs.Validity.{serves_from, serves_none, source_from}
 use Rattle.ts_core.proofs.Walks.{faultless_none}
 use Rattle.ts_plan.specs.declared.steps.Step.{Step}

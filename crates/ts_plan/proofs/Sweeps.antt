@@ -11,7 +11,7 @@ use Rattle.ts_core.specs.Pieces.{Asked, RuleServes}
 use Rattle.ts_core.specs.Plans.{IsGood, rollup_piece, raw_piece, LeadsOn}
 use Rattle.ts_core.proofs.GoodPlaces.{rule_wide, good_within, good_leads}
 use Rattle.ts_core.proofs.RuleNames.{rule_named-at}
-use Rattle.ts_core.proofs.Tests.{le_from, le_true}
+use Rattle.ts_core.proofs.Comparisons.{le_from, le_true}
 use Rattle.ts_plan.specs.declared.steps.Step.{Step}
 use Rattle.ts_plan.specs.Steps.{IsPlannable, IsStep, Upto, Ascends, starts_first, starts_at, leads_on, kept_if, kept_steps}
 

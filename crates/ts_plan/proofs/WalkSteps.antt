@@ -7,7 +7,7 @@ use Rattle.ts_core.specs.Faults.{piece_fault}
 use Rattle.ts_core.specs.Pieces.{Piece, MarkedRule, Asked, IsValidPiece}
 use Rattle.ts_core.proofs.Intervals.{IsWide}
 use Rattle.ts_core.specs.Plans.{IsGood, rollup_piece, LeadsOn, NoneBefore, IsWalk}
-use Rattle.ts_core.proofs.Tests.{lt_not}
+use Rattle.ts_core.proofs.Comparisons.{lt_not}
 use Rattle.ts_core.proofs.Validity.{source_from, source_none}
 use Rattle.ts_core.proofs.GoodPlaces.{good_leads}
 use Rattle.ts_core.proofs.Walks.{walk_valid}

@@ -12,7 +12,10 @@ use Rattle.ts_core.specs.Facts.{Text}
 use Rattle.ts_ql.specs.declared.bytes.Class.{Class}
 use Rattle.ts_ql.specs.declared.bytes.Class.TheVariants.{Space, Name, Digit}
 use Rattle.ts_ql.specs.Lexing.{is_in, run_end, is_escape_byte, closing, parts_end}
-use Rattle.ts_ql.specs.DurationUnits.{unit_len}
+use Rattle.ts_core.specs.declared.time_unit.TimeUnit.{TimeUnit}
+use Rattle.ts_core.specs.TimeUnits.{unit_begun}
+use Rattle.ts_core.proofs.UnitLemmas.{Begun, begun_fits}
+use Rattle.ts_ql.specs.DurationUnits.{unit_len, begun_len}
 
 pub run_end_step : (class : Class) (at : ℕ) (text : Text) (i : ℕ) → i < length text
     → run_end class at (drop i text) ≡ cond (is_in class (get_or text i 0)) (run_end class (at + 1) (drop (i + 1) text)) at
@@ -83,9 +86,16 @@ micro_boundary text at utf8 lt first second =
     IsCharBoundary-past_char text (drop (suc (suc at)) text) at 181 (omega arith) (IsUtf8-drop text at utf8 here) split
 
 -- a unit of one byte is ASCII, one of two bytes is the micro sign or ends in ASCII
-unit_cases : (byte next : ℕ) → 0 < unit_len byte next → ((unit_len byte next ≡ 1) × (byte < 128)) ⊎ (((unit_len byte next ≡ 2) × (next < 128) × (0 < next)) ⊎ ((unit_len byte next ≡ 2) × (byte ≡ 194) × (next ≡ 181)))
+abbrev Cases : ℕ → ℕ → ℕ → Type 0
+Cases byte next len = ((len ≡ 1) × (byte < 128)) ⊎ (((len ≡ 2) × (next < 128) × (0 < next)) ⊎ ((len ≡ 2) × (byte ≡ 194) × (next ≡ 181)))
+
+begun_cases : (byte next : ℕ) (begun : Option (TimeUnit × ℕ)) → Begun byte next begun → 0 < begun_len begun → Cases byte next (begun_len begun)
+begun_cases byte next None fits some = absurd (omega (arith, some))
+begun_cases byte next (Some begun) fits some = fits
+
+pub unit_cases : (byte next : ℕ) → 0 < unit_len byte next → Cases byte next (unit_len byte next)
 unfolding unit_len
-unit_cases byte next some = grind (arith, nat_tests)
+unit_cases byte next some = begun_cases byte next (unit_begun byte next) (begun_fits byte next) some
 
 pub in_text : (text : Text) (i : ℕ) → 0 < get_or text i 0 → i < length text
 in_text text i some = elim (cases_lt i (length text)) [ inl lt ↦ lt | inr past ↦ let none = get_or_past text i 0 past in absurd (omega arith) ]

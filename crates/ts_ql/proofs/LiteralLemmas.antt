@@ -1,5 +1,5 @@
 -- One step of what literals mean.
-use Rattle.std.proofs.Common.{◌≡◌, ℕ, ◌+◌, ◌*◌, ◌-◌, ◌<◌, ◌≤◌, Bool, true, false, cond, [], ◌∷◌, ◌++◌, length, get_or, drop, arith, refl, sym, ◌∙◌, None, append-nil, append_assoc}
+use Rattle.std.proofs.Common.{◌≡◌, ℕ, ◌+◌, ◌*◌, ◌-◌, ◌<◌, ◌≤◌, Bool, true, false, cond, [], ◌∷◌, ◌++◌, length, get_or, drop, arith, refl, sym, ◌∙◌, Option, Some, None, append-nil, append_assoc}
 use Rattle.std.proofs.lemmas.List.{at_drop_more}
 use Rattle.std.proofs.lemmas.Str.{chars_past_char}
 use Rattle.std.specs.Char.{is_ascii_digit}
@@ -7,23 +7,29 @@ use Rattle.std.specs.Char.{encode_utf8}
 use Rattle.std.specs.Str.{encode_utf8_all, chars, IsUtf8}
 use Rattle.std.proofs.lemmas.Bool.{le-ltb, eq-eqb, ne_eqb}
 use Rattle.std.proofs.Math.Nat.{mul-le-mul_left}
-use Rattle.std.proofs.lemmas.Bool.Decides.{nat_tests}
 use Rattle.ts_core.specs.Facts.{Text}
 use Rattle.ts_ql.proofs.LexingLemmas.{next_byte}
 use Rattle.ts_ql.specs.Literals.{units_added_up, within, escape, characters_spelled}
-use Rattle.ts_ql.specs.DurationUnits.{nanos_of_unit}
+use Rattle.ts_core.specs.declared.time_unit.TimeUnit.{TimeUnit}
+use Rattle.ts_core.specs.TimeUnits.{unit_begun}
+use Rattle.ts_core.proofs.DurationSteps.{unit_counts}
+use Rattle.ts_ql.specs.DurationUnits.{nanoseconds_of_unit, begun_nanoseconds}
 
 -- ---- numbers
 
 pub added_up_step : (total number : ℕ) (text : Text) (i : ℕ) → i < length text
     → units_added_up total number (drop i text) ≡ cond (is_ascii_digit (get_or text i 0))
     (units_added_up total (number * 10 + (get_or text i 0 - 48)) (drop (i + 1) text))
-    (units_added_up (total + number * nanos_of_unit (get_or text i 0) (get_or text (i + 1) 0)) 0 (drop (i + 1) text))
+    (units_added_up (total + number * nanoseconds_of_unit (get_or text i 0) (get_or text (i + 1) 0)) 0 (drop (i + 1) text))
 added_up_step total number text i lt = at_drop_more (units_added_up total number) text i 0 lt ∙ rw (next_byte text i) refl
 
-unit_some : (byte next : ℕ) → 1 ≤ nanos_of_unit byte next
-unfolding nanos_of_unit
-unit_some byte next = grind (arith, nat_tests)
+begun_some : (begun : Option (TimeUnit × ℕ)) → 1 ≤ begun_nanoseconds begun
+begun_some None = omega arith
+begun_some (Some begun) = unit_counts begun.0
+
+unit_some : (byte next : ℕ) → 1 ≤ nanoseconds_of_unit byte next
+unfolding nanoseconds_of_unit
+unit_some byte next = begun_some (unit_begun byte next)
 
 least_by : (b : Bool) (n x y : ℕ) → n ≤ x → n ≤ y → n ≤ cond b x y
 least_by true n x y h k = h
@@ -34,9 +40,9 @@ pub at_least : (total number : ℕ) (text : Text) → total + number ≤ units_a
 at_least total number [] = omega arith
 at_least total number (b ∷ bs) =
     let digit = at_least total (number * 10 + (b - 48)) bs in
-    let other = at_least (total + number * nanos_of_unit b (get_or bs 0 0)) 0 bs in
+    let other = at_least (total + number * nanoseconds_of_unit b (get_or bs 0 0)) 0 bs in
     let some = mul-le-mul_left number (unit_some b (get_or bs 0 0)) in
-    least_by (is_ascii_digit b) (total + number) (units_added_up total (number * 10 + (b - 48)) bs) (units_added_up (total + number * nanos_of_unit b (get_or bs 0 0)) 0 bs) (omega arith) (omega arith)
+    least_by (is_ascii_digit b) (total + number) (units_added_up total (number * 10 + (b - 48)) bs) (units_added_up (total + number * nanoseconds_of_unit b (get_or bs 0 0)) 0 bs) (omega arith) (omega arith)
 
 pub none_within : (limit n : ℕ) → limit ≤ n → None ≡ within limit n
 none_within limit n le = rw (le-ltb n limit le) refl
@@ -52,11 +58,11 @@ digit_past total number limit text i whole lt is digit past =
 
 -- past the limit with one number more
 pub unit_past : (total number limit : ℕ) (text : Text) (i whole : ℕ) → i < length text → units_added_up total number (drop i text) ≡ whole
-    → is_ascii_digit (get_or text i 0) ≡ false → (total + number * nanos_of_unit (get_or text i 0) (get_or text (i + 1) 0) < limit → ⊥) → None ≡ within limit whole
+    → is_ascii_digit (get_or text i 0) ≡ false → (total + number * nanoseconds_of_unit (get_or text i 0) (get_or text (i + 1) 0) < limit → ⊥) → None ≡ within limit whole
 unit_past total number limit text i whole lt is digit past =
     let step = added_up_step total number text i lt in
     let here = rw digit at step in
-    let low = at_least (total + number * nanos_of_unit (get_or text i 0) (get_or text (i + 1) 0)) 0 (drop (i + 1) text) in
+    let low = at_least (total + number * nanoseconds_of_unit (get_or text i 0) (get_or text (i + 1) 0)) 0 (drop (i + 1) text) in
     none_within limit whole (omega arith)
 
 -- ---- texts

@@ -1,57 +1,91 @@
--- What a duration counts is the sum of its numbers, each times its unit; what an integer counts is its number.
-use Rattle.std.proofs.Common.{◌≡◌, ℕ, ◌+◌, ◌*◌, ◌-◌, ◌<◌, ◌==◌, true, false, List, [], ◌∷◌, ◌++◌, length, arith, refl, sym, ap, ◌∙◌, slice_index, append-nil}
+-- What a duration counts is the sum of its terms, each number times its unit; what an integer counts is its number.
+use Rattle.std.proofs.Common.{◌≡◌, ℕ, ◌+◌, ◌*◌, ◌-◌, ◌==◌, true, false, List, [], ◌∷◌, ◌++◌, arith, refl, sym, ap, ◌∙◌, slice_index, append-nil, Some, unsigned_abs}
 use Rattle.std.proofs.lemmas.Bool.Decides.{nat_tests}
-use Rattle.std.specs.Char.{is_ascii_digit}
+use Rattle.std.specs.Char.{is_ascii_digit, digit_value}
+use Rattle.std.specs.Str.Parse.{IsNumeral, AllDigits, digits_value, digits_value_after}
 use Rattle.ts_core.specs.Facts.{Text}
-use Rattle.ts_ql.specs.Laws.{LiteralsCount}
-use Rattle.ts_ql.specs.Literals.{units_added_up, magnitude, number_written, AreDigits, Part, AreDurationParts, written, counted}
-use Rattle.ts_ql.specs.DurationUnits.{nanos_of_unit, Unit, Nanosecond, Microsecond, Micro, Millisecond, Second, Minute, Hour, Day, Week, unit_text, unit_nanos}
+use Rattle.ts_core.specs.declared.time_unit.TimeUnit.{TimeUnit}
+use Rattle.ts_core.specs.TimeUnits.{nanoseconds_of, duration_unit_of, duration_names, unit_begun}
+use Rattle.ts_core.specs.Durations.{Term, AreTerms, spelled, total}
+use Rattle.ts_core.proofs.DurationLaws.{digit_is, value_is}
+use Rattle.ts_core.proofs.UnitLemmas.{of_called}
+use Rattle.ts_ql.specs.Laws.{LiteralsCount, DurationsCount, IntegersCount}
+use Rattle.ts_ql.specs.Literals.{units_added_up, magnitude}
+use Rattle.ts_ql.specs.DurationUnits.{nanoseconds_of_unit}
 
 -- digits before a text
-digits_added : (total n : ℕ) (ds rest : Text) → AreDigits ds → units_added_up total n (ds ++ rest) ≡ units_added_up total (number_written n ds) rest
-digits_added total n [] rest w = refl
-digits_added total n (b ∷ bs) rest w = rw (w.0) (digits_added total (n * 10 + (b - 48)) bs rest w.1)
+digits_added : (sum n : ℕ) (ds rest : Text) → AllDigits 10 ds → units_added_up sum n (ds ++ rest) ≡ units_added_up sum (digits_value_after 10 n ds) rest
+digits_added sum n [] rest w = refl
+digits_added sum n (b ∷ bs) rest w =
+    let digit = digit_is b w.0 in
+    let here : units_added_up sum n (b ∷ (bs ++ rest)) ≡ units_added_up sum (n * 10 + (b - 48)) (bs ++ rest) = rw digit refl in
+    here ∙ ap (λ (d : ℕ). units_added_up sum (n * 10 + d) (bs ++ rest)) (sym (value_is b digit)) ∙ digits_added sum (n * 10 + digit_value b) bs rest w.1
 
 digit_not_s : (b : ℕ) → is_ascii_digit b ≡ true → (b == 115) ≡ false
 digit_not_s b is = grind (arith, nat_tests, is)
 
-first_not_s : (ds rest : Text) → AreDigits ds → 0 < length ds → (slice_index (ds ++ rest) 0 == 115) ≡ false
-first_not_s [] rest w some = absurd (omega (arith, some))
-first_not_s (b ∷ bs) rest w some = digit_not_s b w.0
+first_not_s : (ds rest : Text) → IsNumeral 10 ds → (slice_index (ds ++ rest) 0 == 115) ≡ false
+first_not_s [] rest w = absurd (omega (arith, w.0))
+first_not_s (b ∷ bs) rest w = digit_not_s b (digit_is b w.1.0)
 
--- no parts begin with an s
-no_s_first : (ps : List Part) → AreDurationParts ps → (slice_index (written ps) 0 == 115) ≡ false
+-- no terms begin with an s
+no_s_first : (ts : List Term) → AreTerms ts → (slice_index (spelled ts) 0 == 115) ≡ false
 no_s_first [] w = refl
-no_s_first (p ∷ ps) w = first_not_s p.digits (unit_text p.unit ++ written ps) w.0 w.1
+no_s_first (t ∷ ts) w = first_not_s t.digits (t.name ++ spelled ts) w.0.number
 
-plus_zero : (x : ℕ) → x + 0 ≡ x
-plus_zero x = omega arith
+-- ---- units: where no s stands behind a name, its unit is counted
 
-unit_added : (total n : ℕ) (u : Unit) (rest : Text) → (slice_index rest 0 == 115) ≡ false → units_added_up total n (unit_text u ++ rest) ≡ units_added_up (total + n * unit_nanos u) 0 rest
-unfolding nanos_of_unit
-unit_added total n Nanosecond rest e = ap (λ (x : ℕ). units_added_up x 0 rest) (plus_zero (total + n * 1))
-unit_added total n Microsecond rest e = refl
-unit_added total n Micro rest e = ap (λ (x : ℕ). units_added_up x 0 rest) (plus_zero (total + n * 1000))
-unit_added total n Millisecond rest e = ap (λ (x : ℕ). units_added_up x 0 rest) (plus_zero (total + n * 1000000))
-unit_added total n Second rest e = refl
-unit_added total n Minute rest e = rw e refl
-unit_added total n Hour rest e = refl
-unit_added total n Day rest e = refl
-unit_added total n Week rest e = refl
+abbrev Counts : Text → TimeUnit → Type 0
+Counts name unit =
+    (sum n : ℕ) (rest : Text) → (slice_index rest 0 == 115) ≡ false → units_added_up sum n (name ++ rest) ≡ units_added_up (sum + n * unsigned_abs (nanoseconds_of unit)) 0 rest
 
-parts_added : (total : ℕ) (ps : List Part) → AreDurationParts ps → units_added_up total 0 (written ps) ≡ total + counted ps
-parts_added total [] w = refl
-parts_added total (p ∷ ps) w =
-    digits_added total 0 p.digits (unit_text p.unit ++ written ps) w.0 ∙ unit_added total (number_written 0 p.digits) p.unit (written ps) (no_s_first ps w.2)
-    ∙ parts_added (total + number_written 0 p.digits * unit_nanos p.unit) ps w.2 ∙ omega arith
+-- the second byte of a name has no number before it
+second_adds_none : (x : ℕ) (rest : Text) → units_added_up (x + 0) 0 rest ≡ units_added_up x 0 rest
+second_adds_none x rest = ap (λ (y : ℕ). units_added_up y 0 rest) (omega arith)
 
-duration_counts : (ps : List Part) → AreDurationParts ps → magnitude (written ps) ≡ counted ps
-unfolding magnitude
-duration_counts ps w = parts_added 0 ps w ∙ omega arith
+unit_counted : (name : Text) (unit : TimeUnit) → duration_unit_of name ≡ Some unit → Counts name unit
+unfolding duration_unit_of unit_begun nanoseconds_of_unit
+unit_counted name unit e =
+    of_called Counts duration_names name unit (
+      (λ sum n rest s. second_adds_none (sum + n * 1) rest),
+      (
+        (λ sum n rest s. refl),
+        (
+          (λ sum n rest s. second_adds_none (sum + n * 1000) rest),
+          (
+            (λ sum n rest s. second_adds_none (sum + n * 1000000) rest),
+            (
+              (λ sum n rest s. refl),
+              (
+                (λ sum n rest s. rw s refl),
+                (
+                  (λ sum n rest s. refl),
+                  (
+                    (λ sum n rest s. refl),
+                    ((λ sum n rest s. refl), tt),
+                  ),
+                ),
+              ),
+            ),
+          ),
+        ),
+      ),
+    ) e
 
-integer_counts : (ds : Text) → AreDigits ds → magnitude ds ≡ number_written 0 ds
-unfolding magnitude
-integer_counts ds w = ap (units_added_up 0 0) (sym (append-nil ds)) ∙ digits_added 0 0 ds [] w ∙ omega arith
+terms_added : (sum : ℕ) (ts : List Term) → AreTerms ts → units_added_up sum 0 (spelled ts) ≡ sum + total ts
+terms_added sum [] w = refl
+terms_added sum (t ∷ ts) w =
+    digits_added sum 0 t.digits (t.name ++ spelled ts) w.0.number.1
+    ∙ unit_counted t.name t.unit w.0.called sum (digits_value 10 t.digits) (spelled ts) (no_s_first ts w.1)
+    ∙ terms_added (sum + digits_value 10 t.digits * unsigned_abs (nanoseconds_of t.unit)) ts w.1 ∙ omega arith
+
+durations_count : DurationsCount
+unfolding DurationsCount magnitude
+durations_count ts w = terms_added 0 ts w ∙ omega arith
+
+integers_count : IntegersCount
+unfolding IntegersCount magnitude
+integers_count ds w = ap (units_added_up 0 0) (sym (append-nil ds)) ∙ digits_added 0 0 ds [] w ∙ omega arith
 
 pub literals_count : LiteralsCount
-literals_count = record { durations = duration_counts; integers = integer_counts }
+literals_count = record { durations = durations_count; integers = integers_count }

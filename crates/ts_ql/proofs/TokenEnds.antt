@@ -15,7 +15,7 @@ use Rattle.ts_ql.specs.Lexing.{is_in, run_end, end_of_run, is_escape_byte, closi
 use Rattle.ts_ql.specs.DurationUnits.{unit_len}
 use Rattle.ts_ql.specs.Tokenizing.{is_end_of_text}
 use Rattle.ts_ql.specs.Words.{is_keyword}
-use Rattle.ts_ql.proofs.LexingLemmas.{in_text}
+use Rattle.ts_ql.proofs.LexingLemmas.{in_text, unit_cases}
 
 -- ---- runs of bytes
 
@@ -71,8 +71,14 @@ quote_within quote text from le =
 -- ---- durations
 
 unit_parts : (byte next : ℕ) → (unit_len byte next ≤ 1) ⊎ ((unit_len byte next ≡ 2) × (0 < next))
-unfolding unit_len
-unit_parts byte next = grind (arith, nat_tests)
+unit_parts byte next =
+    elim (cases_lt 0 (unit_len byte next)) [
+      | inl some ↦ elim (unit_cases byte next some) [
+        | inl one ↦ inl (omega (arith, one.0))
+        | inr two ↦ elim two [ inl ascii ↦ inr (ascii.0, ascii.2) | inr micro ↦ inr (micro.0, omega (arith, micro.2)) ]
+      ]
+      | inr none ↦ inl (omega arith)
+    ]
 
 unit_in : (byte : ℕ) (bs : Text) → unit_len byte (get_or bs 0 0) ≤ 1 + length bs
 unit_in byte bs =

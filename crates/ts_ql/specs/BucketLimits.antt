@@ -1,5 +1,5 @@
 -- What each query has: how many buckets there may be, and when the first may start. (Own rules.)
-use Rattle.std.specs.Prelude.{ℤ, ◌≤◌, ◌≤ℤ◌, ◌<ℤ◌, length}
+use Rattle.std.specs.Prelude.{◌≤◌, ◌≤ℤ◌, ◌<ℤ◌, length}
 use Rattle.ts_core.specs.Buckets.{bucket_start}
 use Rattle.ts_core.specs.Times.{least_time}
 use Rattle.ts_core.specs.Queries.{Query, IsQuery}

@@ -1,12 +1,14 @@
 -- What the tokens of a text say: its queries, or its first fault.
 -- (InfluxData 1.8, InfluxQL reference: queries. Own rule: the first fault, with the tokens before it the beginning of a text.)
 use Rattle.std.specs.Prelude.{◌≡◌, ◌⊎◌, ℤ, List, [], ◌∷◌, ◌++◌, length, map, nat_lt, Bool, true, false, Some, None, Result, Ok, Err, ⊤}
+use Rattle.std.specs.Str.Parse.{AllDigits, digits_value}
 use Rattle.ts_core.specs.Facts.{Text}
+use Rattle.ts_core.specs.Durations.{Term, AreTerms, spelled, total}
 use Rattle.ts_ql.specs.declared.fault.ParseError.{ParseError}
 use Rattle.ts_ql.specs.declared.fault.ParseError.TheVariants as errors
 use Rattle.ts_ql.specs.QueryFaults.{Fault, Syntax, as_fault, unexpected, Gives}
 use Rattle.ts_ql.specs.Grammar.{Item, Any, This, Examine, Is, Script}
-use Rattle.ts_ql.specs.Literals.{Part, AreDurationParts, written, counted, AreDigits, magnitude, number_written}
+use Rattle.ts_ql.specs.Literals.{magnitude}
 use Rattle.ts_ql.specs.Meanings.{sayings}
 use Rattle.ts_ql.specs.Selects.{Select}
 use Rattle.ts_ql.specs.Productions.{spell}
@@ -110,7 +112,14 @@ pub record IsDecided (now : ℤ) (text : Text) : Type 0 where
   pub one_meaning : (queries others : List Select) → TextSays now text queries → TextSays now text others → queries ≡ others
   pub one_fault : (fault other : Fault) → TextFault now text fault → TextFault now text other → fault ≡ other
 
--- digits count in tens, and a duration is the sum of its numbers, each times its unit
+-- a duration is the sum of its terms, each number times its unit
+unfoldable pub DurationsCount : Type 0
+DurationsCount = (terms : List Term) → AreTerms terms → magnitude (spelled terms) ≡ total terms
+
+-- digits count in tens
+unfoldable pub IntegersCount : Type 0
+IntegersCount = (digits : Text) → AllDigits 10 digits → magnitude digits ≡ digits_value 10 digits
+
 pub record LiteralsCount : Type 0 where
-  pub durations : (ps : List Part) → AreDurationParts ps → magnitude (written ps) ≡ counted ps
-  pub integers : (digits : Text) → AreDigits digits → magnitude digits ≡ number_written 0 digits
+  pub durations : DurationsCount
+  pub integers : IntegersCount

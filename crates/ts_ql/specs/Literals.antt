@@ -1,10 +1,10 @@
 -- What literals mean: numbers, durations, and texts in quotes.
 -- (InfluxData 1.8, InfluxQL reference, literals: integers, durations, strings. Own rule: the four escapes, and the ranges.)
-use Rattle.std.specs.Prelude.{◌≡◌, ◌<◌, ◌++◌, length, codes, ⊤, ℕ, ℤ, pos, neg_ℤ, ◌+◌, ◌-◌, ◌*◌, [], ◌∷◌, List, Bool, true, false, nat_lt, nat_le, ◌||◌, ◌==◌, if◌then◌else◌, Option, Some, None, slice_index, encode_utf8_all}
+use Rattle.std.specs.Prelude.{ℕ, ℤ, pos, neg_ℤ, ◌+◌, ◌-◌, ◌*◌, [], ◌∷◌, List, Bool, true, false, nat_lt, nat_le, ◌==◌, if◌then◌else◌, Option, Some, None, slice_index, encode_utf8_all}
 use Rattle.std.specs.Char.{is_ascii_digit}
 use Rattle.std.specs.Str.{chars, str_eq_ignore_ascii_case}
 use Rattle.ts_core.specs.Facts.{Text}
-use Rattle.ts_ql.specs.DurationUnits.{Unit, unit_text, unit_nanos, nanos_of_unit}
+use Rattle.ts_ql.specs.DurationUnits.{nanoseconds_of_unit}
 
 -- ---- numbers
 
@@ -14,39 +14,11 @@ abbrev pub units_added_up : ℕ → ℕ → Text → ℕ
 units_added_up total number [] = total + number
 units_added_up total number (b ∷ bs) =
     if is_ascii_digit b then units_added_up total (number * 10 + (b - 48)) bs
-    else units_added_up (total + number * nanos_of_unit b (slice_index bs 0)) 0 bs
+    else units_added_up (total + number * nanoseconds_of_unit b (slice_index bs 0)) 0 bs
 
 -- what an integer counts, or how many nanoseconds a duration has
 unfoldable pub magnitude : Text → ℕ
 magnitude text = units_added_up 0 0 text
-
--- ---- the same as it is written: numbers with their units
-
--- the number that digits write behind those of `n`
-abbrev pub number_written : ℕ → Text → ℕ
-number_written n [] = n
-number_written n (b ∷ bs) = number_written (n * 10 + (b - 48)) bs
-
-abbrev pub AreDigits : Text → Type 0
-AreDigits [] = ⊤
-AreDigits (b ∷ bs) = (is_ascii_digit b ≡ true) × AreDigits bs
-
--- a digit or more, and a unit
-pub record Part : Type 0 where
-  pub digits : Text
-  pub unit : Unit
-
-abbrev pub AreDurationParts : List Part → Type 0
-AreDurationParts [] = ⊤
-AreDurationParts (p ∷ ps) = AreDigits p.digits × (0 < length p.digits) × AreDurationParts ps
-
-abbrev pub written : List Part → Text
-written [] = []
-written (p ∷ ps) = p.digits ++ (unit_text p.unit ++ written ps)
-
-abbrev pub counted : List Part → ℕ
-counted [] = 0
-counted (p ∷ ps) = number_written 0 p.digits * unit_nanos p.unit + counted ps
 
 -- ---- ranges
 

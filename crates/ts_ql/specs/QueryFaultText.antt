@@ -1,5 +1,4 @@
 -- The faults of texts of queries in the table of all faults, and their texts. (Own rules.)
-use Rattle.std.specs.Prelude.{ℕ}
 use Rattle.ts_core.specs.Facts.{Text}
 use Rattle.ts_core.specs.declared.fault_code.FaultCode.{FaultCode}
 use Rattle.ts_core.specs.declared.fault_code.FaultCode.TheVariants as coded

@@ -1,7 +1,9 @@
 //! Runs of bytes in a text.
-ghost use Rattle.std.specs.Prelude.{◌≡◌, ◌+◌, ◌<◌, ◌≤◌, IfSome, true, length, slice_index};
+ghost use Rattle.std.specs.Prelude.{◌≡◌, ◌<◌, ◌≤◌, IfSome, true, length, slice_index};
 ghost use Rattle.std.specs.Str.{IsCharBoundary};
 ghost use Rattle.ts_ql.specs.Lexing.{is_in, end_of_run, is_escape_byte, closing_quote};
+
+use ts_core::after;
 
 /// A class of bytes.
 #[derive(Clone, Copy, Debug, PartialEq, Eq)]
@@ -21,26 +23,6 @@ pub(crate) fn is_in(class: Class, byte: u8) -> bool
         Class::Name => byte.is_ascii_alphabetic() || byte == b'_' || byte.is_ascii_digit(),
         Class::Digit => byte.is_ascii_digit(),
     }
-}
-
-/// The byte at a place, and 0 at the end.
-pub(crate) fn byte_at(text: &str, at: usize) -> u8
-    ensures { result ≡ slice_index text.now at }
-{
-    match text.as_bytes().get(at) {
-        Some(byte) => *byte,
-        None => 0,
-    }
-}
-
-/// The place after an ASCII character.
-pub(crate) fn after(text: &str, at: usize) -> usize
-    requires in_range { at < length text.now }
-    requires ascii { slice_index text.now at < 128 }
-    ensures value { result ≡ at + 1 }
-    ensures boundary { IsCharBoundary text.now result }
-{
-    at + 1
 }
 
 /// The first place from `from` on whose byte isn't in the class.

@@ -4,11 +4,11 @@ ghost use Rattle.std.specs.Char.{is_ascii_digit};
 ghost use Rattle.std.specs.Option.{SomeIff};
 ghost use Rattle.std.specs.Str.{str_eq_ignore_ascii_case};
 ghost use Rattle.ts_ql.specs.Literals.{magnitude, within, literal, escape, text_spelled};
-ghost use Rattle.ts_ql.specs.DurationUnits.{nanos_of_unit};
+ghost use Rattle.ts_ql.specs.DurationUnits.{nanoseconds_of_unit};
 
-use crate::bytes::byte_at;
-use crate::unit::nanos_of_unit;
+use crate::unit::nanoseconds_of_unit;
 use std::alloc::{AllocError, Allocator};
+use ts_core::byte_at;
 
 /// A total and so many units more.
 fn with_units(total: u64, number: u64, unit: u64) -> Option<u64>
@@ -39,7 +39,8 @@ pub(crate) fn magnitude(text: &str) -> Option<u64>
         if byte.is_ascii_digit() {
             number = with_digit(number, byte - b'0')?;
         } else {
-            total = with_units(total, number, nanos_of_unit(byte, byte_at(text, at + 1)))?;
+            let unit = nanoseconds_of_unit(byte, byte_at(text, at + 1));
+            total = with_units(total, number, unit)?;
             number = 0;
         }
         at += 1;

@@ -4,8 +4,8 @@ ghost use Rattle.std.specs.Str.{IsCharBoundary};
 ghost use Rattle.ts_ql.specs.Lexing.{duration_end};
 ghost use Rattle.ts_ql.specs.DurationUnits.{unit_len};
 
-use crate::bytes::byte_at;
 use crate::unit::unit_len;
+use ts_core::byte_at;
 
 /// The end of the unit that begins at that place, or the place where none begins.
 fn unit_end(text: &str, at: usize) -> usize

@@ -4,9 +4,10 @@ ghost use Rattle.std.specs.Str.{IsCharBoundary};
 ghost use Rattle.ts_ql.specs.Lexing.{double, single, operator_at, number_at, quoted_at, shape_at, is_quoted, is_in};
 ghost use Rattle.ts_ql.specs.declared.bytes.Class.TheVariants as classes;
 
-use crate::bytes::{Class, after, byte_at, closing_quote, end_of_run, is_in};
+use crate::bytes::{Class, closing_quote, end_of_run, is_in};
 use crate::number::duration_end;
 use crate::token::Kind;
+use ts_core::{after, byte_at};
 
 /// An operator of two bytes.
 #[tactic(auto, unfolding(crate::specs::Lexing::double))]

@@ -14,7 +14,7 @@ use Rattle.ts_core.specs.Facts.{is_within}
 use Rattle.ts_core.specs.StoreMoves.{points_below}
 use Rattle.ts_core.proofs.MembersLemmas.{Among-filter_passes, Among-filter_was, Among-filter_stays}
 use Rattle.ts_core.proofs.Sorted.{sorted-distinct, found_among, among_found}
-use Rattle.ts_core.proofs.Tests.{le_from, le_true, lt_from, lt_true}
+use Rattle.ts_core.proofs.Comparisons.{le_from, le_true, lt_from, lt_true}
 use Rattle.ts_core.proofs.Ids.{equal_of}
 use Rattle.ts_raw.specs.Columns.{PointMap, points_within, points_from, points_in_bucket}
 use Rattle.ts_raw.specs.PlainColumns.{IsRising}

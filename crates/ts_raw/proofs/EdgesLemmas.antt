@@ -8,7 +8,7 @@ use Rattle.ts_core.specs.Buckets.{IsBucketOf, bucket_of, bucket_start}
 use Rattle.ts_core.specs.Facts.{is_within}
 use Rattle.ts_core.specs.Times.{IsTime}
 use Rattle.ts_core.proofs.BucketsOrder.{bucket_is, bucket_same}
-use Rattle.ts_core.proofs.Tests.{le_from, le_true, lt_from, lt_true, same_bool}
+use Rattle.ts_core.proofs.Comparisons.{le_from, le_true, lt_from, lt_true, same_bool}
 use Rattle.ts_raw.specs.Edges.{IsEdgeAt}
 
 -- t is far from the bounds of an `i128`

@@ -6,7 +6,7 @@ use Rattle.std.proofs.lemmas.Bool.{and_parts, false_from_ne_true}
 use Rattle.ts_core.specs.Members.{Among}
 use Rattle.ts_core.specs.Facts.{Text, Series, Column, is_of, same_text}
 use Rattle.ts_core.proofs.Ids.{same_text-eq}
-use Rattle.ts_core.proofs.Tests.{same_text-from_eq, same_bool}
+use Rattle.ts_core.proofs.Comparisons.{same_text-from_eq, same_bool}
 use Rattle.ts_raw.specs.FieldKeys.{FieldKey, field_key}
 use Rattle.ts_raw.specs.ColumnTables.{ColumnNumbers, has_field}
 use Rattle.ts_raw.specs.Indexed.{IsSoundIndex, no_series, column_in}

@@ -14,7 +14,7 @@ use Rattle.ts_core.specs.MergeLaws.{aggregate_laws}
 use Rattle.ts_core.proofs.Folds.{fold-append, fold-count}
 use Rattle.ts_core.specs.Cells.{Cell, same_cell, cell_of, is_in_cell, total_of}
 use Rattle.ts_core.specs.StoreStates.{fact_at, facts_at, facts_of}
-use Rattle.ts_core.proofs.Tests.{same_bool}
+use Rattle.ts_core.proofs.Comparisons.{same_bool}
 use Rattle.ts_core.proofs.AggregatesLemmas.{aggregate_of-points}
 use Rattle.ts_core.proofs.PieceCells.{same_cell-eq, same_cell-refl}
 use Rattle.ts_core.proofs.RunSteps.{filter-append}

@@ -15,7 +15,7 @@ use Rattle.ts_core.specs.StoreData.{FrozenCells}
 use Rattle.ts_core.specs.StoreMoves.{frozen_with, frozen_points}
 use Rattle.ts_core.proofs.Freezing.{frozen_with-fits}
 use Rattle.ts_core.proofs.PieceCells.{cells_total, exact_cells, same_cell-eq, same_cell-refl}
-use Rattle.ts_core.proofs.Tests.{same_bool}
+use Rattle.ts_core.proofs.Comparisons.{same_bool}
 use Rattle.ts_cells.proofs.GridMoves.{get-changed}
 use Rattle.ts_cells.specs.Grids.{no_lane, cell_at}
 use Rattle.ts_store.specs.CellCounts.{frozen_count}

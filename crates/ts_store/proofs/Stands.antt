@@ -24,7 +24,7 @@ use Rattle.ts_core.specs.StoreMoves.{PutsFacts, HaveRoom}
 use Rattle.ts_core.proofs.Ids.{series_total, exact_series, equal_of}
 use Rattle.ts_core.proofs.MembersLemmas.{Among-left, Among-right, Among-map, Among-filter_passes, Among-filter_was, Among-filter_stays, AllDistinct-filter}
 use Rattle.ts_core.proofs.Folds.{length-same}
-use Rattle.ts_core.proofs.Tests.{le_from, le_true, lt_not}
+use Rattle.ts_core.proofs.Comparisons.{le_from, le_true, lt_not}
 use Rattle.ts_core.proofs.Latests.{latest-distinct}
 use Rattle.ts_core.proofs.Cuts.{Holds}
 use Rattle.ts_core.proofs.StateLemmas.{StandsFor-Holds, same_column-eq}

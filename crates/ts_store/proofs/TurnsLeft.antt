@@ -18,7 +18,7 @@ use Rattle.ts_core.proofs.StepStands.{keys_column}
 use Rattle.ts_core.proofs.MembersLemmas.{no_members, Among-filter_was, Among-filter_passes, Among-filter_stays, AllDistinct-filter}
 use Rattle.ts_core.proofs.MovesStand.{keys_once, key_there, key_not}
 use Rattle.ts_core.proofs.PieceCells.{cells_total, same_cell-eq, same_cell-refl}
-use Rattle.ts_core.proofs.Tests.{lt_from, lt_true}
+use Rattle.ts_core.proofs.Comparisons.{lt_from, lt_true}
 use Rattle.std.proofs.lemmas.Int.{ints}
 use Rattle.ts_cells.specs.Expiry.{Removes, RemovesOne}
 use Rattle.ts_store.specs.CellCounts.{frozen_count, HoldFew}

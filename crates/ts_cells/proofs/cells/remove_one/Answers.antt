@@ -1,7 +1,7 @@
 use Rattle.std.proofs.Common.{rules, ◌≡◌, ◌<◌, ◌≤◌, ℕ, List, length, set, sym, ◌∙◌, ap, subst, true, false, int_lt}
 use Rattle.std.specs.List.{AllByRecursion}
 use Rattle.ts_cells.specs.Grids.{RowOf, held, cells_of_bucket, HasLost}
-use Rattle.ts_core.proofs.Tests.{lt_from}
+use Rattle.ts_core.proofs.Comparisons.{lt_from}
 use Rattle.ts_cells.specs.Expiry.{HasNoneBelow}
 use Rattle.ts_cells.proofs.GridMoves.{RowPut, row_kept}
 use Rattle.ts_cells.proofs.ExpiryLemmas.{all_above, none_left, front_grows, loses, unchanged, put_here, was_here, no_wider}

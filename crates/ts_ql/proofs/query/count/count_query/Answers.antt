@@ -1,4 +1,4 @@
-use Rattle.std.proofs.Common.{◌≡◌, ◌∙◌, ap, sym, ℤ, pos, ◌-ℤ◌, ◌≤ℤ◌, ◌<ℤ◌, List, [], ◌∷◌, to_z, of_z, w64, FitsSigned, arith, refl, rules, subst, string_bytes}
+use Rattle.std.proofs.Common.{◌≡◌, ◌∙◌, ap, sym, ℤ, pos, ◌-ℤ◌, ◌≤ℤ◌, List, [], to_z, of_z, w64, FitsSigned, arith, rules, subst}
 use Rattle.std.proofs.lemmas.Int.{ints, to_z-of_z}
 use Rattle.ts_core.specs.Facts.{Text}
 use Rattle.ts_core.specs.Queries.{Condition}

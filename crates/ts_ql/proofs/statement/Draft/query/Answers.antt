@@ -1,4 +1,4 @@
-use Rattle.std.proofs.Common.{◌≡◌, ◌≤ℤ◌, pos, refl, sym}
+use Rattle.std.proofs.Common.{◌≤ℤ◌, pos, refl, sym}
 use Rattle.ts_ql.proofs.BucketLimitsLemmas.{limited}
 use Rattle.ts_ql.proofs.statement.Draft.query.Goals as goal
 

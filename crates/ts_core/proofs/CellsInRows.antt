@@ -14,7 +14,7 @@ use Rattle.ts_core.specs.Cells.{cell_of, is_rolled}
 use Rattle.ts_core.specs.Answers.{same_group, is_in_row, bucket_in}
 use Rattle.ts_core.specs.Assembly.{stand_in, in_part}
 use Rattle.ts_core.proofs.Ids.{same_text-eq}
-use Rattle.ts_core.proofs.Tests.{le_true, lt_true, same_text-refl}
+use Rattle.ts_core.proofs.Comparisons.{le_true, lt_true, same_text-refl}
 use Rattle.ts_core.proofs.Boundaries.{cell_start, within_cell, within_parts, one_bucket}
 
 -- ---- tags
