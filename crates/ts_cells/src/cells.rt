@@ -16,7 +16,7 @@ ghost use Rattle.ts_cells.specs.Walks.{entry_of, entries_within};
 
 use crate::lane::LaneId;
 use crate::lanes::Lanes;
-use crate::room::reserve_quarter;
+use crate::room::reserve_eighth;
 use crate::row::Row;
 use crate::walk::{Walk, rows_between};
 use std::alloc::{AllocError, Allocator};
@@ -72,7 +72,18 @@ fn place_of<P: Partial + Drop, A: Allocator + Copy>(
     search_row(rows, index)
 }
 
-/// The place of a bucket's row, which is made without cells where there is none.
+/// Gives back the memory that waits for cells in the row before a place.
+fn shrink_before<P: Partial + Drop, A: Allocator + Copy>(rows: &mut Vec<Row<P, A>, A>, at: usize)
+    requires { at ≤ length rows.old.items }
+    ensures { rows.new.items ≡ rows.old.items }
+{
+    if let Some(before) = at.checked_sub(1) {
+        rows[before].shrink();
+    }
+}
+
+/// The place of a bucket's row, which is made without cells where there is none. Cells mostly come in the order of time, so
+/// the row before a new one mostly has all that it will have.
 fn row_for<P: Partial + Drop, A: Allocator + Copy>(
     rows: &mut Vec<Row<P, A>, A>,
     index: &i128,
@@ -87,7 +98,8 @@ fn row_for<P: Partial + Drop, A: Allocator + Copy>(
     match place_of(rows.as_slice(), index) {
         Ok(at) => Ok(at),
         Err(at) => {
-            reserve_quarter(rows, 1)?;
+            reserve_eighth(rows, 1)?;
+            shrink_before(rows, at);
             let row = Row::new(*rows.allocator(), index);
             rows.insert(at, row)?;
             Ok(at)

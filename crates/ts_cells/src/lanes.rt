@@ -8,6 +8,7 @@ ghost use Rattle.ts_cells.specs.Grids.{lane_named};
 ghost use Rattle.ts_cells.specs.Lanes.{found_cmp, IsOrdered};
 
 use crate::lane::{Lane, hash_lane};
+use crate::room::reserve_eighth;
 use std::alloc::{AllocError, Allocator};
 use std::cmp::Ordering;
 use std::marker::Model;
@@ -121,8 +122,8 @@ impl<A: Allocator + Copy> Lanes<A> {
         }
         let number = next_number(self.lanes.len())?;
         let lane = Lane::new(*self.lanes.allocator(), field, group)?;
-        self.lanes.reserve(1)?;
-        self.order.reserve(1)?;
+        reserve_eighth(&mut self.lanes, 1)?;
+        reserve_eighth(&mut self.order, 1)?;
         let at = place_in_order(self.lanes.as_slice(), self.order.as_slice(), field, group);
         self.chains.push(hash_lane(field, group))?;
         self.lanes.push(lane).unwrap();

@@ -2,7 +2,7 @@
 ghost use Rattle.std.specs.Prelude.{◌≡◌, ◌≤◌, ◌<◌, ◌+◌, ℕ, ◌==◌, [], length, max, OnOk, OnErr, if◌then◌else◌};
 ghost use Rattle.ts_cells.specs.Rows.{no_place, place_of, from_first};
 
-use crate::room::reserve_quarter;
+use crate::room::reserve_eighth;
 use std::alloc::{AllocError, Allocator};
 use std::marker::Model;
 
@@ -10,7 +10,7 @@ use std::marker::Model;
 pub(crate) const NO_CELL: u32 = u32::MAX;
 
 /// Of each lane the place of its cell. It keeps 4 bytes for each lane from the lowest to the highest that had a cell, and
-/// for at most as many below them.
+/// for at most an eighth of them below.
 #[derive(Drop)]
 pub(crate) struct Places<A: Allocator> {
     /// The lane that the places begin at.
@@ -40,8 +40,8 @@ fn place_at(places: &[u32], offset: u32) -> u32
     }
 }
 
-/// Makes the places begin at a lane or below it. They grow at the front by as many as there are, at least, or down to lane
-/// 0: so lanes that come in falling order are put in linear time together.
+/// Makes the places begin at a lane or below it. They grow at the front by an eighth, at least, or down to lane 0: so lanes
+/// that come in falling order are put in linear time together.
 fn widen_front<A: Allocator>(
     first: &mut u32,
     places: &mut Vec<u32, A>,
@@ -60,7 +60,8 @@ fn widen_front<A: Allocator>(
     }
     let len = places.len();
     let below = *first as usize;
-    let more = ((*first - lane) as usize).max(len).min(below);
+    let more = ((*first - lane) as usize).max(len / 8).min(below);
+    reserve_eighth(places, more)?;
     places.resize(len + more, NO_CELL)?;
     places.rotate_right(more);
     *first = (below - more) as u32;
@@ -77,7 +78,7 @@ fn widen_back<A: Allocator>(places: &mut Vec<u32, A>, offset: u32) -> Result<(),
     if offset < places.len() {
         return Ok(());
     }
-    reserve_quarter(places, offset + 1 - places.len())?;
+    reserve_eighth(places, offset + 1 - places.len())?;
     places.resize(offset + 1, NO_CELL)
 }
 
@@ -127,5 +128,11 @@ impl<A: Allocator> Places<A> {
         if offset < self.places.len() {
             self.places[offset] = NO_CELL;
         }
+    }
+    /// Gives back the memory that waits for places.
+    pub(crate) fn shrink(&mut self)
+        ensures { self.new ≡ self.old }
+    {
+        self.places.shrink_to_fit();
     }
 }

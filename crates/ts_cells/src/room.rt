@@ -3,9 +3,9 @@ ghost use Rattle.std.specs.Prelude.{◌≡◌, ◌≤◌, ◌+◌, vec_len, vec_
 
 use std::alloc::{AllocError, Allocator};
 
-/// Makes room for some members more. A list without it grows by a quarter, or by those where they are more: so at most a
-/// fifth of its memory waits for members.
-pub(crate) fn reserve_quarter<T, A: Allocator>(
+/// Makes room for some members more. A list without it grows by an eighth, or by those where they are more: so at most a
+/// ninth of its memory waits for members.
+pub(crate) fn reserve_eighth<T, A: Allocator>(
     list: &mut Vec<T, A>,
     more: usize,
 ) -> Result<(), AllocError>
@@ -15,5 +15,5 @@ pub(crate) fn reserve_quarter<T, A: Allocator>(
     if more <= list.capacity() - list.len() {
         return Ok(());
     }
-    list.reserve_exact(more.max(list.len() / 4))
+    list.reserve_exact(more.max(list.len() / 8))
 }

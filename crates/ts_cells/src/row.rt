@@ -7,7 +7,7 @@ ghost use Rattle.ts_cells.specs.Rows.{no_place};
 ghost use Rattle.std.specs.Bool.{OnTrue, OnFalse};
 
 use crate::places::{NO_CELL, Places};
-use crate::room::reserve_quarter;
+use crate::room::reserve_eighth;
 use std::alloc::{AllocError, Allocator};
 use std::cmp::Ordering;
 use std::marker::Model;
@@ -138,8 +138,8 @@ impl<P: Partial + Drop, A: Allocator + Copy> Row<P, A> {
             return Ok(());
         }
         let place = next_place(self.parts.len())?;
-        reserve_quarter(&mut self.parts, 1)?;
-        reserve_quarter(&mut self.lanes, 1)?;
+        reserve_eighth(&mut self.parts, 1)?;
+        reserve_eighth(&mut self.lanes, 1)?;
         self.places.put(lane, place)?;
         self.parts.push(P::empty()).unwrap();
         self.lanes.push(lane).unwrap();
@@ -156,5 +156,13 @@ impl<P: Partial + Drop, A: Allocator + Copy> Row<P, A> {
         if place < self.parts.len() {
             self.parts[place] = joined(self.parts[place], part);
         }
+    }
+    /// Gives back the memory that waits for cells.
+    pub(crate) fn shrink(&mut self)
+        ensures { self.new ≡ self.old }
+    {
+        self.places.shrink();
+        self.lanes.shrink_to_fit();
+        self.parts.shrink_to_fit();
     }
 }

@@ -8,7 +8,7 @@ use Rattle.ts_cells.proofs.cells.row_for.Given.{Over}
 use Rattle.ts_cells.proofs.cells.row_for.Goals as goal
 
 items : (g : Over) (c : goal.In_ok-insert-in-Err g) → c.insert.new.self.items ≡ insert c.args.rows.now.items c.in-Err.at (c.args.index.now, [])
-items g c = c.in_ok-insert-in-Err.ensures.items ∙ ap (λ rs. insert rs c.in-Err.at c.new-row.result) c.reserve_quarter.ensures.items
+items g c = c.in_ok-insert-in-Err.ensures.items ∙ ap (λ rs. insert rs c.in-Err.at c.new-row.result) (c.shrink_before.ensures ∙ c.reserve_eighth.ensures.items)
     ∙ ap (insert c.args.rows.now.items c.in-Err.at) c.new-row.ensures
 
 row : (g : Over) (c : goal.In_ok-insert-in-Err g) → RowPut c.args.rows.now.items c.insert.new.self.items c.args.index.now []

@@ -19,8 +19,8 @@ returns-in-Some-clause-ok g c =
 pushed : (g : Over) (c : goal.After-unwrap-2 g) → c.push-2.new.self.items ≡ c.self.inside.lanes.items ++ lane_named c.args.field.now c.args.group.now ∷ []
 pushed g c =
     let before : List Lane = c.self.inside.lanes.items in
-    c.push-2.ensures.items ∙ ap (λ r. if is_ok r then c.reserve.new.self.items ++ c.in_ok-lane.lane ∷ [] else c.reserve.new.self.items) c.unwrap.ensures
-    ∙ ap (λ (xs : List Lane). xs ++ c.in_ok-lane.lane ∷ []) c.in_ok-reserve.ensures.items ∙ ap (λ (x : Lane). before ++ x ∷ []) c.in_ok-lane.ensures
+    c.push-2.ensures.items ∙ ap (λ r. if is_ok r then c.reserve_eighth.new.list.items ++ c.in_ok-lane.lane ∷ [] else c.reserve_eighth.new.list.items) c.unwrap.ensures
+    ∙ ap (λ (xs : List Lane). xs ++ c.in_ok-lane.lane ∷ []) c.reserve_eighth.ensures.items ∙ ap (λ (x : Lane). before ++ x ∷ []) c.in_ok-lane.ensures
 
 -- its number is how many there were
 counted : (g : Over) (c : goal.After-unwrap-2 g) → c.in_ok-number.number ≡ length c.self.inside.lanes.items
@@ -36,8 +36,8 @@ ordered g c =
     let order : List ℕ = c.self.inside.order.items in
     let at : ℕ = c.place_in_order-at.result in
     let number : ℕ = c.in_ok-number.number in
-    c.insert.ensures.items ∙ ap (λ r. if is_ok r then insert c.reserve-2.new.self.items at number else c.reserve-2.new.self.items) c.unwrap-2.ensures
-    ∙ ap (λ xs. insert xs at number) c.in_ok-reserve-2.ensures.items ∙ ap (insert order at) (counted g c)
+    c.insert.ensures.items ∙ ap (λ r. if is_ok r then insert c.reserve_eighth-2.new.list.items at number else c.reserve_eighth-2.new.list.items) c.unwrap-2.ensures
+    ∙ ap (λ xs. insert xs at number) c.reserve_eighth-2.ensures.items ∙ ap (insert order at) (counted g c)
 
 pub invariant_of-self-2 : goal.invariant_of-self-2
 invariant_of-self-2 g c =
@@ -46,9 +46,9 @@ invariant_of-self-2 g c =
     let hashes : List ℕ = c.self.inside.chains in
     let order : List ℕ = c.self.inside.order.items in
     let at : ℕ = c.place_in_order-at.result in
-    let bound : at ≤ length order = rw (c.as_slice-2.ensures.value, c.in_ok-reserve-2.ensures.items) at c.place_in_order-at.ensures.bound in
+    let bound : at ≤ length order = rw (c.as_slice-2.ensures.value, c.reserve_eighth-2.ensures.items) at c.place_in_order-at.ensures.bound in
     let place : IsPartitionPoint (λ n. found_cmp (slice_get ls n) l ≡ Less) (λ n. found_cmp (slice_get ls n) l ≡ Greater) order at =
-    rw (c.as_slice.ensures.value, c.as_slice-2.ensures.value, c.in_ok-reserve.ensures.items, c.in_ok-reserve-2.ensures.items) at c.place_in_order-at.ensures.place in
+    rw (c.as_slice.ensures.value, c.as_slice-2.ensures.value, c.reserve_eighth.ensures.items, c.reserve_eighth-2.ensures.items) at c.place_in_order-at.ensures.place in
     let hashed : c.push.new.self ≡ hashes ++ hash_of_lane l ∷ [] = c.in_ok-push.ensures.ok ∙ ap (λ n. hashes ++ n ∷ []) c.hash_lane.ensures in
     let found : AreFound (ls ++ l ∷ []) (hashes ++ hash_of_lane l ∷ []) (insert order at (length ls)) = record {
       table = table_more hash_of_lane ls hashes l c.self.invariant.table (unknown g c);

@@ -18,22 +18,22 @@ returns-then-get-len-clause-ok g c = λ j.
 
 pub returns-in_err-put-clause-err : goal.returns-in_err-put-clause-err
 returns-in_err-put-clause-err g c =
-    let same : (j : ℕ) → held (by_lane c.reserve_quarter.new.list.items c.put.new.self) j ≡ held c.args.self.now.1 j = λ j.
-    ap (λ (ps : List g.row.P.Denot). held (by_lane ps c.put.new.self) j) c.reserve_quarter.ensures.items
+    let same : (j : ℕ) → held (by_lane c.reserve_eighth.new.list.items c.put.new.self) j ≡ held c.args.self.now.1 j = λ j.
+    ap (λ (ps : List g.row.P.Denot). held (by_lane ps c.put.new.self) j) c.reserve_eighth.ensures.items
     ∙ same_held c.self.inside.parts.items c.self.inside.places c.put.new.self j c.self.invariant.few c.in_err-put.ensures.err ∙ ap (λ (s : RowOf g.row.P.Denot). held s.1 j) c.self.view_is in
     on_any_err _ same
 
 -- what stands behind the others
 parts_after : (g : Over) (c : goal.After-unwrap-2 g) → c.push.new.self.items ≡ c.self.inside.parts.items ++ g.P.Partial.nil ∷ []
 parts_after g c =
-    c.push.ensures.items ∙ ap (λ r. if is_ok r then c.reserve_quarter.new.list.items ++ c.empty.result ∷ [] else c.reserve_quarter.new.list.items) c.unwrap.ensures
-    ∙ ap (λ (ps : List g.row.P.Denot). ps ++ c.empty.result ∷ []) c.reserve_quarter.ensures.items
+    c.push.ensures.items ∙ ap (λ r. if is_ok r then c.reserve_eighth.new.list.items ++ c.empty.result ∷ [] else c.reserve_eighth.new.list.items) c.unwrap.ensures
+    ∙ ap (λ (ps : List g.row.P.Denot). ps ++ c.empty.result ∷ []) c.reserve_eighth.ensures.items
     ∙ ap (λ (x : g.row.P.Denot). c.self.inside.parts.items ++ x ∷ []) c.empty.ensures
 
 lanes_after : (g : Over) (c : goal.After-unwrap-2 g) → c.push-2.new.self.items ≡ c.self.inside.lanes.items ++ c.args.lane ∷ []
 lanes_after g c =
-    c.push-2.ensures.items ∙ ap (λ r. if is_ok r then c.reserve_quarter-2.new.list.items ++ c.args.lane ∷ [] else c.reserve_quarter-2.new.list.items) c.unwrap-2.ensures
-    ∙ ap (λ ls. ls ++ c.args.lane ∷ []) c.reserve_quarter-2.ensures.items
+    c.push-2.ensures.items ∙ ap (λ r. if is_ok r then c.reserve_eighth-2.new.list.items ++ c.args.lane ∷ [] else c.reserve_eighth-2.new.list.items) c.unwrap-2.ensures
+    ∙ ap (λ ls. ls ++ c.args.lane ∷ []) c.reserve_eighth-2.ensures.items
 
 here : (g : Over) (c : goal.After-unwrap-2 g) → c.in_ok-place.place ≡ length c.self.inside.parts.items
 here g c = search rules
