@@ -1,10 +1,15 @@
-pub mod Searches
-pub mod GridLemmas
+-- Grids, CellChanges: the finite map of cells
 pub mod GridMoves
-pub mod LaneLemmas
+pub mod GridLemmas
+pub mod Searches
+-- Lanes: their numbers in order
 pub mod LaneOrder
+pub mod LaneLemmas
+-- Rows: cells by the places of their lanes
 pub mod RowLemmas
 pub mod PlaceLemmas
-pub mod ExpiryLemmas
+-- Expiry: cells are removed
 pub mod Sweeps
+pub mod ExpiryLemmas
+-- Walks: entries one by one
 pub mod WalkLemmas

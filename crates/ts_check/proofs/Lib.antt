@@ -1,8 +1,11 @@
-pub mod Bits
-pub mod BoundaryNumbers
-pub mod NamedRules
-pub mod FaultLemmas
+-- Checks: plans without a fault are valid
 pub mod CheckedPlans
+pub mod NamedRules
+pub mod BoundaryNumbers
+pub mod Bits
+-- CertificateTexts, CertificateLines: a certificate has one text, and one reading
+pub mod CertificateLaws
 pub mod CertificateTokens
 pub mod CertificateNumbers
-pub mod CertificateLaws
+-- CheckTexts
+pub mod FaultLemmas

@@ -1,5 +1,7 @@
-pub mod Certificates
-pub mod CertificateLines
+-- what public contracts and laws cite
 pub mod CertificateTexts
 pub mod Checks
 pub mod CheckTexts
+-- what only models and proofs of the code need
+pub mod Certificates
+pub mod CertificateLines

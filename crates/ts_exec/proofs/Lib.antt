@@ -1,11 +1,17 @@
-pub mod LentLemmas
-mod Slotted
+-- Executions, Answered: what is given of a view is the answer over all points ever accepted
+mod Given
+mod Linked
 mod Shares
 mod Entries
-mod Linked
-mod Given
-mod Spans
-mod Widths
+-- GroupTables, FirstOf: the cells and points of a piece
 mod Walked
 mod NamedRules
+mod Widths
+-- RowParts: buckets of a row
+mod Spans
+-- Slots, Searches: the groups in order
+mod Slotted
+-- Fillings
 pub mod FillSteps
+-- Lent
+pub mod LentLemmas

@@ -1,23 +1,31 @@
-pub mod ScanLemmas
-pub mod NumberLemmas
-pub mod SortingLemmas
+-- Spelling, EscapeLaws: what is spelled is read, and what is read is spelled so
+pub mod Laws
+pub mod SpellingRead
+pub mod LineSpelled
+pub mod FieldsSpelled
+pub mod TagsSpelled
+pub mod SpellingTold
+pub mod LineTold
+pub mod FieldsTold
+pub mod TagsTold
+pub mod PartsTold
+pub mod Suffixes
+-- Spans: the parts stand in the line
+pub mod SpansLemmas
+-- Lines: its parts in turn
 pub mod LineLemmas
-pub mod PieceLemmas
+-- TagParts, Fields, NameMarks: tag by tag, field by field
 pub mod TagLemmas
 pub mod FieldLemmas
-pub mod ValueLemmas
-pub mod FaultLemmas
-pub mod Suffixes
-pub mod TagsSpelled
-pub mod FieldsSpelled
-pub mod LineSpelled
-pub mod SpellingRead
-pub mod PartsTold
-pub mod TagsTold
-pub mod FieldsTold
-pub mod LineTold
-pub mod SpellingTold
-pub mod Laws
-pub mod SpansLemmas
-pub mod ShortLemmas
 pub mod MarkLemmas
+-- Scan, PartTexts: byte by byte
+pub mod ScanLemmas
+pub mod PieceLemmas
+-- Numbers, Values
+pub mod NumberLemmas
+pub mod ShortLemmas
+pub mod ValueLemmas
+-- Sorting
+pub mod SortingLemmas
+-- FaultText
+pub mod FaultLemmas

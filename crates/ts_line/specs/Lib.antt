@@ -1,5 +1,5 @@
+-- what public contracts and laws cite
 pub mod Parts
-pub mod Sorting
 pub mod FaultText
 pub mod Numbers
 pub mod Scan
@@ -8,8 +8,10 @@ pub mod ReadSteps
 pub mod TagParts
 pub mod Values
 pub mod Fields
-pub mod NameMarks
 pub mod Lines
 pub mod EscapeLaws
 pub mod Spelling
 pub mod Spans
+-- what only models and proofs of the code need
+pub mod Sorting
+pub mod NameMarks

@@ -1,15 +1,18 @@
-pub mod WalkSteps
-pub mod TooMany
+-- Planning: what a planner answers
 pub mod Planned
 pub mod Plannable
+pub mod TooMany
 pub mod RuleNumbers
-pub mod ListLemmas
-pub mod BucketStarts
-pub mod BucketTests
-pub mod Scans
-pub mod Sweeps
-pub mod Searches
-pub mod StepMoves
-pub mod StepWalks
+-- Steps: the sweep and the walk give the plan
 pub mod StepPlans
-pub mod WalkEnds
+pub mod StepWalks
+pub mod WalkSteps
+pub mod Sweeps
+pub mod StepMoves
+pub mod Searches
+-- Steps: which steps there are
+pub mod Scans
+pub mod BucketStarts
+pub mod ListLemmas
+-- Joins: steps are joined to pieces
+pub mod BucketsAsked

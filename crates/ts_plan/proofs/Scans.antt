@@ -13,7 +13,7 @@ use Rattle.ts_plan.specs.Steps.{IsPlannable, IsStep, Upto, Ascends, has_columns,
 use Rattle.ts_plan.proofs.WalkSteps.{in_range}
 use Rattle.ts_plan.proofs.ListLemmas.{all_push, among_push, among_last}
 use Rattle.ts_plan.proofs.RuleNumbers.{same_rule}
-use Rattle.ts_plan.proofs.BucketTests.{test_serves, serves_test, serves_columns}
+use Rattle.ts_plan.proofs.BucketsAsked.{test_serves, serves_test, serves_columns}
 
 -- how far the next place is from the end
 abbrev pub left_to : ℤ → Option ℤ → ℕ

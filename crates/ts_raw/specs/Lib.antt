@@ -1,4 +1,7 @@
+-- what public contracts and laws cite
 pub mod Columns
+pub mod Indexed
+-- what only models and proofs of the code need
 pub mod PlainColumns
 pub mod PointsLeft
 pub mod Edges
@@ -6,5 +9,4 @@ pub mod Hashes
 pub mod FieldKeys
 pub mod ColumnTables
 pub mod Lists
-pub mod Indexed
 pub mod IndexParts

@@ -1,19 +1,26 @@
-pub mod ColumnsLemmas
-pub mod ColumnsReads
-pub mod CountsKept
-pub mod ColumnsAside
+-- StandsFor of ts_core, LinesPut, Refusals: a store goes on standing for its history
 pub mod Stands
-pub mod SeatLemmas
-pub mod LiveParts
-pub mod ShownCells
-pub mod RollupLemmas
-pub mod RoomLemmas
-pub mod RollupsGrow
+pub mod RunsGoOn
+-- ColumnsKept, Registered, PointsRead: columns and their points
+pub mod ColumnsReads
+pub mod ColumnsAside
+pub mod ColumnsLemmas
+-- Rollups, Rooms: what is kept for rules, when a lane, a column or room is made and a line is put
 pub mod RollupsPut
-pub mod PointsFrozen
+pub mod RollupsGrow
+pub mod RoomLemmas
+pub mod RollupLemmas
+-- RollupSteps: the steps of a run
 pub mod RollupMoves
 pub mod RollupExpiry
+pub mod PointsFrozen
 pub mod TurnsLeft
+-- CellCounts
 pub mod CountsMoved
-pub mod RunsGoOn
+pub mod CountsKept
+-- Seats, LiveCells: what a view lends
+pub mod ShownCells
+pub mod LiveParts
+pub mod SeatLemmas
+-- StoreFaultTexts
 pub mod StoreFaultLemmas

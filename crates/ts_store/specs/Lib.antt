@@ -1,14 +1,16 @@
-pub mod Seats
+-- what public contracts and laws cite
 pub mod PointsRead
+pub mod Seats
 pub mod Rollups
-pub mod Rooms
 pub mod ColumnsKept
 pub mod Registered
 pub mod Refusals
 pub mod StoreFaultTexts
 pub mod LinesPut
-pub mod CellCounts
 pub mod RollupSteps
-pub mod OpenRuns
 pub mod WholeRuns
+-- what only models and proofs of the code need
+pub mod Rooms
+pub mod CellCounts
+pub mod OpenRuns
 pub mod LiveCells

@@ -1,13 +1,20 @@
-pub mod LineScan
-pub mod NumberLemmas
-pub mod CommandLemmas
-pub mod GatheringLemmas
+-- Script, Serving: how far a run has come
 pub mod Progress
+-- Machine: one step
 pub mod MachineLemmas
-pub mod CountAnswers
+pub mod CommandLemmas
+pub mod NumberLemmas
+-- Counted: what a count prints
 pub mod CountLemmas
-pub mod CommandLineLemmas
-pub mod CommandLineLaws
+pub mod CountAnswers
+-- ScriptLines, HeldLine, LineReading: how lines are cut
+pub mod LineScan
+-- Gathering: bytes that are passed on
+pub mod GatheringLemmas
+-- ScriptCertificates, MarksTexts, FaultTables: texts
 pub mod CertificateTextLemmas
 pub mod MarksTextLemmas
 pub mod FaultTableLemmas
+-- CommandLines
+pub mod CommandLineLaws
+pub mod CommandLineLemmas

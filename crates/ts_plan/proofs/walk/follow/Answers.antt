@@ -1,7 +1,7 @@
 use Rattle.std.proofs.Common.{◌≡◌, ◌∙◌, sym, refl, subst, true}
 use Rattle.ts_plan.specs.Steps.{bucket_piece}
 use Rattle.ts_plan.specs.Joins.{AreHeld, held_piece, joins}
-use Rattle.ts_plan.proofs.BucketTests.{join_held}
+use Rattle.ts_plan.proofs.BucketsAsked.{join_held}
 use Rattle.ts_plan.proofs.walk.follow.Goals as goal
 
 pub returns-then-joins-clause-held : goal.returns-then-joins-clause-held

@@ -1,4 +1,4 @@
--- The short tests of buckets: what is left to ask of one where its rule and its ends are known to be right.
+-- What is left to ask of a bucket where its rule and its ends are known to be right.
 use Rattle.std.proofs.Common.{◌≡◌, ℕ, ℤ, int_le, refl, sym, ap, ◌∙◌, subst, Some, None, Bool, true, false, ◌&&◌, ◌||◌, nat_eq, true≢false, arith}
 use Rattle.std.specs.Prelude.{slice_get}
 use Rattle.std.specs.List.{list_all}
