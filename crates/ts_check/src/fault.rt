@@ -10,17 +10,12 @@ use ts_core::{Fault, FaultDetail};
 
 /// What is wrong with a list of pieces that is to stand for all points of a query.
 #[derive(Clone, Copy, Debug, PartialEq, Eq, Error)]
-#[error("{}, at piece {piece}", words(*.kind))]
+#[error("{}, at piece {piece}", .kind.code().words())]
 pub struct CheckFault {
     /// What is wrong.
     pub kind: Fault,
     /// The number of the piece, from 0; that of the pieces where the last one doesn't reach the end.
     pub piece: usize,
-}
-
-/// A fault in words.
-fn words(kind: Fault) -> &'static str {
-    kind.code().words()
 }
 
 impl CheckFault {

@@ -6,14 +6,14 @@ ghost use Rattle.ts_core.specs.Durations.{in_64_bits, sum_in_64_bits, with_term,
 use crate::time_unit::TimeUnit;
 
 /// A number and one digit more, in 64 bits.
-fn with_digit(number: u64, digit: u8) -> Option<u64>
+pub fn with_digit(number: u64, digit: u8) -> Option<u64>
     ensures { SomeIff result (number * 10 + digit < 2 ^ 64) (number * 10 + digit) }
 {
     number.checked_mul(10)?.checked_add(u64::from(digit))
 }
 
 /// A sum and so many units more, in 64 bits.
-fn with_units(sum: u64, number: u64, unit: u64) -> Option<u64>
+pub fn with_units(sum: u64, number: u64, unit: u64) -> Option<u64>
     requires { 1 ≤ unit }
     ensures { SomeIff result (sum + number * unit < 2 ^ 64) (sum + number * unit) }
 {

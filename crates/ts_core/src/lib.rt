@@ -48,6 +48,7 @@ pub use aggregate::{Agg, Extremes};
 pub use bucket::{bucket_index, index_of};
 pub use chains::Chains;
 pub use cursor::{after, byte_at};
+pub use duration::{with_digit, with_units};
 pub use fact::Fact;
 pub use fault::Fault;
 pub use fault_code::FaultCode;

@@ -38,17 +38,12 @@ pub enum LineFaultKind {
 
 /// Why a line is refused, and where.
 #[derive(Clone, Copy, Debug, PartialEq, Eq, Error)]
-#[error("{}, at byte {at}", words(*.kind))]
+#[error("{}, at byte {at}", .kind.code().words())]
 pub struct LineFault {
     /// What is wrong.
     pub kind: LineFaultKind,
     /// The place in the text that `read_line` was given: of a byte, counted from 0, or of the end where no byte is left.
     pub at: usize,
-}
-
-/// A fault in words.
-fn words(kind: LineFaultKind) -> &'static str {
-    kind.code().words()
 }
 
 impl LineFaultKind {

@@ -3,6 +3,7 @@ ghost use Rattle.std.specs.Prelude.{◌≡◌, ◌≤ℤ◌, pos, neg_ℤ, IfSom
 ghost use Rattle.ts_ql.specs.Dates.{digits, midnight, date_of, place_value, fraction, clock_nanos, time_of_day, without_zone, moment_told};
 
 use jiff::civil::{Date, date};
+use ts_core::with_digit;
 
 /// The number that digits write.
 #[tactic(auto, using(crate::proofs::DateLemmas::digits_step, crate::proofs::DateLemmas::digits_past), unfolding(crate::specs::Dates::digits))]
@@ -16,7 +17,7 @@ fn digits(text: &[u8]) -> Option<u64>
         if !byte.is_ascii_digit() {
             return None;
         }
-        number = number.checked_mul(10)?.checked_add(u64::from(byte - b'0'))?;
+        number = with_digit(number, byte - b'0')?;
         at += 1;
     }
     Some(number)

@@ -1,29 +1,13 @@
 //! What literals mean.
-ghost use Rattle.std.specs.Prelude.{◌≡◌, ◌+◌, ◌*◌, ◌-◌, ◌<◌, ◌≤◌, ◌^◌, IfOk, pos, string_bytes};
+ghost use Rattle.std.specs.Prelude.{◌≡◌, ◌-◌, ◌<◌, IfOk, pos, string_bytes};
 ghost use Rattle.std.specs.Char.{is_ascii_digit};
-ghost use Rattle.std.specs.Option.{SomeIff};
 ghost use Rattle.std.specs.Str.{str_eq_ignore_ascii_case};
 ghost use Rattle.ts_ql.specs.Literals.{magnitude, within, literal, escape, text_spelled};
 ghost use Rattle.ts_ql.specs.DurationUnits.{nanoseconds_of_unit};
 
 use crate::unit::nanoseconds_of_unit;
 use std::alloc::{AllocError, Allocator};
-use ts_core::byte_at;
-
-/// A total and so many units more.
-fn with_units(total: u64, number: u64, unit: u64) -> Option<u64>
-    requires { 1 ≤ unit }
-    ensures { SomeIff result (total + number * unit < 2 ^ 64) (total + number * unit) }
-{
-    total.checked_add(number.checked_mul(unit)?)
-}
-
-/// A number and one digit more.
-fn with_digit(number: u64, digit: u8) -> Option<u64>
-    ensures { SomeIff result (number * 10 + digit < 2 ^ 64) (number * 10 + digit) }
-{
-    number.checked_mul(10)?.checked_add(u64::from(digit))
-}
+use ts_core::{byte_at, with_digit, with_units};
 
 /// What an integer counts, or how many nanoseconds a duration has, where it is below 2^64.
 #[tactic(auto, unfolding(crate::specs::Literals::magnitude))]
