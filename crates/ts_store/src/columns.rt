@@ -75,7 +75,7 @@ fn make_column<A: Allocator + Copy>(
 {
     columns.reserve(1)?;
     prepare_rollups(rules, rollups, index.key_of(series), field)?;
-    let column = index.add_column(None, series, field)?;
+    let column = index.add_column(series, field)?;
     columns
         .push(PlainColumn::new(*columns.allocator()))
         .unwrap();
@@ -83,14 +83,12 @@ fn make_column<A: Allocator + Copy>(
     Ok(column)
 }
 
-/// The column of a series and a field, made without points where there is none yet. It is looked for right behind the
-/// column before.
+/// The column of a series and a field, made without points where there is none yet.
 fn column_for<A: Allocator + Copy>(
     index: &mut Index<A>,
     columns: &mut Vec<PlainColumn<A>, A>,
     rules: &[Rule<A>],
     rollups: &mut [Rollup<A>],
-    before: Option<ColumnId>,
     series: SeriesId,
     field: &str,
 ) -> Result<ColumnId, AllocError>
@@ -105,7 +103,7 @@ fn column_for<A: Allocator + Copy>(
     ensures rollups { AreRollups rules.now index.new.columns rollups.new }
     ensures cells { cells_of rollups.new ≡ cells_of rollups.old }
 {
-    match index.column_after(before, series, field) {
+    match index.find_column(series, field) {
         Some(column) => Ok(column),
         None => make_column(index, columns, rules, rollups, series, field),
     }
@@ -163,9 +161,8 @@ pub(crate) fn prepare_line<A: Allocator + Copy>(
     ensures cells { cells_of rollups.new ≡ cells_of rollups.old }
 {
     for field in line.fields() {
-        let before = touched.last().copied();
         let name = field.name().text();
-        let column = column_for(index, columns, rules, rollups, before, series, name)?;
+        let column = column_for(index, columns, rules, rollups, series, name)?;
         prepare_at(columns, column.number(), line.time(), field.value())?;
         touched.push(column)?;
     }

@@ -8,7 +8,6 @@ ghost use Rattle.ts_core.specs.History.{accepted};
 ghost use Rattle.ts_core.specs.RawFacts.{raw_facts};
 ghost use Rattle.ts_core.specs.StoreStates.{ColumnPoints, StandsFor, facts_of as facts_in};
 ghost use Rattle.ts_core.specs.StoreData.{state_of, new_data, OfEachHistory, ShowsEach};
-ghost use Rattle.ts_core.specs.Texts.{lent_pairs};
 ghost use Rattle.ts_line.specs.Parts.{series_of};
 ghost use Rattle.ts_core.specs.Views.{seen_of, seen_rule};
 ghost use Rattle.ts_core.specs.Numbered.{IsAt};
@@ -27,7 +26,7 @@ use crate::run::Run;
 use crate::view::View;
 use std::alloc::{AllocError, Allocator};
 use std::marker::Model;
-use ts_core::{Marks, Rule, Settings, Time, index_of};
+use ts_core::{KeyRef, Marks, Rule, Settings, Time, index_of};
 use ts_line::Line;
 use ts_raw::{ColumnId, Points};
 
@@ -100,23 +99,24 @@ impl<A: Allocator + Copy> Store<A> {
         ensures taken { IsNone (write_fault self.old.marks.raw self.old.series self.old.accepted line.now) → (result ≡ Ok tt) ⊎ ((result ≡ Err WriteFault.OutOfMemory) × Leaves self.old self.new line.now) }
     {
         let tags = line.tags_by_key();
-        if let Some(fault) = self.refusal(line, &tags) {
+        let key = KeyRef::new(line.measurement().text(), &tags);
+        if let Some(fault) = self.refusal(line, &key) {
             return Err(fault);
         }
-        self.facts.put_line(self.settings.rules(), line, &tags)?;
+        self.facts.put_line(self.settings.rules(), line, &key)?;
         self.accepted += line.fields().len() as u64;
         Ok(())
     }
 
     /// What a line is refused by.
-    fn refusal(&self, line: &Line<'_, A>, tags: &[(&str, &str)]) -> Option<WriteFault>
-        requires { lent_pairs tags.now ≡ (series_of line.now).tags }
+    fn refusal(&self, line: &Line<'_, A>, key: &KeyRef<'_>) -> Option<WriteFault>
+        requires { key.now ≡ series_of line.now }
         ensures { result ≡ write_fault self.now.marks.raw self.now.series self.now.accepted line.now }
     {
         if line.time() < self.marks.raw() {
             return Some(WriteFault::BelowRawMark(self.marks.raw()));
         }
-        if self.facts.refuses(line.measurement().text(), tags) {
+        if self.facts.refuses(key) {
             return Some(WriteFault::TooManySeries);
         }
         if line.fields().len() as u64 > FACT_LIMIT - self.accepted {
