@@ -7,4 +7,5 @@ pub mod FieldKeys
 pub mod ColumnTables
 pub mod Lists
 pub mod Indexed
+pub mod Registering
 pub mod IndexParts

@@ -1,10 +1,11 @@
 //! Series and columns by name.
 ghost use Rattle.std.specs.Bool.{OnTrue};
-ghost use Rattle.std.specs.Prelude.{◌≡◌, ◌≤◌, ◌<◌, ◌↔◌, ◌++◌, [], ◌∷◌, length, IfSome, IfNone, IfOk, OnOk, OnErr, IsOk, Err};
+ghost use Rattle.std.specs.Prelude.{◌≡◌, ◌≤◌, ◌<◌, ◌↔◌, [], length, IfSome, IfNone, Err};
 ghost use Rattle.ts_core.specs.Facts.{Column, is_of};
 ghost use Rattle.ts_core.specs.Members.{Among};
 ghost use Rattle.ts_raw.specs.Indexed.{IsSoundIndex, column_in};
-ghost use Rattle.ts_core.specs.Numbered.{IsAt, Gains, numbers_where};
+ghost use Rattle.ts_raw.specs.Registering.{IsRegistered};
+ghost use Rattle.ts_core.specs.Numbered.{IsAt, numbers_where};
 
 mod column_id;
 mod columns;
@@ -91,13 +92,8 @@ impl<A: Allocator + Copy> Index<A> {
 
     /// The series of a key, registered where it is not yet.
     pub fn register(&mut self, key: &KeyRef<'_>) -> Result<SeriesId, IndexFault>
-        ensures number { IfOk result (λ id. IsAt self.new.series id key.now) }
-        ensures ok { OnOk result (Gains self.old.series self.new.series key.now) }
+        ensures registered { IsRegistered self.old.series self.new.series result key.now }
         ensures columns { self.new.columns ≡ self.old.columns }
-        ensures err { OnErr result (self.new ≡ self.old) }
-
-        // Only a series that isn't there takes memory or is one too many.
-        ensures known { Among key.now self.old.series → IsOk result }
         ensures full { (result ≡ Err IndexFault.TooManySeries) ↔ ((1_000_000 ≤ length self.old.series) × (Among key.now self.old.series → ⊥)) }
         ensures sound { IsSoundIndex self.new }
     {
@@ -196,13 +192,8 @@ impl<A: Allocator + Copy> Index<A> {
     /// one too many is answered as out of memory.
     pub fn add_column(&mut self, series: SeriesId, field: &str) -> Result<ColumnId, AllocError>
         requires { series < length self.old.series }
-        ensures number { IfOk result (λ id. IsAt self.new.columns id (column_in self.old series field.now)) }
-        ensures ok { OnOk result (Gains self.old.columns self.new.columns (column_in self.old series field.now)) }
+        ensures registered { IsRegistered self.old.columns self.new.columns result (column_in self.old series field.now) }
         ensures series { self.new.series ≡ self.old.series }
-        ensures err { OnErr result (self.new ≡ self.old) }
-
-        // Only a column that isn't there takes memory.
-        ensures known { Among (column_in self.old series field.now) self.old.columns → IsOk result }
         ensures sound { IsSoundIndex self.new }
     {
         match self.find_column(series, field) {
@@ -214,10 +205,8 @@ impl<A: Allocator + Copy> Index<A> {
     fn make_column(&mut self, series: SeriesId, field: &str) -> Result<ColumnId, AllocError>
         requires series { series < length self.old.series }
         requires absent { Among (column_in self.old series field.now) self.old.columns → ⊥ }
-        ensures number { IfOk result (λ id. IsAt self.new.columns id (column_in self.old series field.now)) }
-        ensures ok { OnOk result (self.new.columns ≡ self.old.columns ++ column_in self.old series field.now ∷ []) }
+        ensures registered { IsRegistered self.old.columns self.new.columns result (column_in self.old series field.now) }
         ensures series { self.new.series ≡ self.old.series }
-        ensures err { OnErr result (self.new ≡ self.old) }
         ensures sound { IsSoundIndex self.new }
     {
         self.columns.make_room(self.fields.len())?;

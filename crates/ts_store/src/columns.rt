@@ -1,12 +1,12 @@
 //! What a line writes to columns that are found through an index: each of its columns is looked up once.
-ghost use Rattle.std.specs.Prelude.{◌≡◌, ◌<◌, [], ◌∷◌, ◌++◌, length, map, IsSome, OnOk, OnErr, IfOk, set, get_or};
+ghost use Rattle.std.specs.Prelude.{◌≡◌, ◌<◌, [], length, map, IsSome, OnOk, set, get_or};
 ghost use Rattle.std.specs.List.{AllByRecursion};
 ghost use Rattle.ts_core.specs.Times.{least_time};
 ghost use Rattle.ts_core.specs.History.{MayBeTaken};
 ghost use Rattle.ts_line.specs.Parts.{series_of, line_facts};
-ghost use Rattle.ts_raw.specs.Indexed.{IsSoundIndex, column_in};
+ghost use Rattle.ts_raw.specs.Indexed.{column_in};
 ghost use Rattle.ts_core.specs.Numbered.{IsAt};
-ghost use Rattle.ts_store.specs.ColumnsKept.{no_column, point_maps, columns_in, with_point_aside, all_committed, AreReady, AreAside, MayGrow, IsHeld};
+ghost use Rattle.ts_store.specs.ColumnsKept.{no_column, point_maps, columns_in, with_point_aside, all_committed, AreReady, AreAside, IsColumnFor, IsHeld};
 ghost use Rattle.ts_store.specs.Registered.{MakesFirst, MakesAll};
 ghost use Rattle.ts_store.specs.Rollups.{AreRollups, KeepCells, HaveNext, with_next, cells_of};
 ghost use Rattle.ts_core.specs.Members.{Among};
@@ -65,11 +65,7 @@ fn make_column<A: Allocator + Copy>(
     requires series { series < length index.old.series }
     requires absent { Among (column_in index.old series field.now) index.old.columns → ⊥ }
     requires rollups { AreRollups rules.now index.old.columns rollups.old }
-    ensures number { IfOk result (λ id. IsAt index.new.columns id (column_in index.old series field.now)) }
-    ensures made { OnOk result ((index.new.columns ≡ index.old.columns ++ column_in index.old series field.now ∷ []) × (columns.new.items ≡ columns.old.items ++ no_column ∷ [])) }
-    ensures err { OnErr result ((index.new.columns ≡ index.old.columns) × (columns.new.items ≡ columns.old.items)) }
-    ensures series { index.new.series ≡ index.old.series }
-    ensures sound { IsSoundIndex index.old → IsSoundIndex index.new }
+    ensures column { IsColumnFor (column_in index.old series field.now) index.old columns.old.items index.new columns.new.items result }
     ensures rollups { AreRollups rules.now index.new.columns rollups.new }
     ensures cells { cells_of rollups.new ≡ cells_of rollups.old }
 {
@@ -95,11 +91,7 @@ fn column_for<A: Allocator + Copy>(
     requires len { length columns.old.items ≡ length index.old.columns }
     requires series { series < length index.old.series }
     requires rollups { AreRollups rules.now index.old.columns rollups.old }
-    ensures number { IfOk result (λ id. IsAt index.new.columns id (column_in index.old series field.now)) }
-    ensures grown { OnOk result (MayGrow (column_in index.old series field.now) index.old.columns columns.old.items index.new.columns columns.new.items) }
-    ensures err { OnErr result ((index.new.columns ≡ index.old.columns) × (columns.new.items ≡ columns.old.items)) }
-    ensures series { index.new.series ≡ index.old.series }
-    ensures sound { IsSoundIndex index.old → IsSoundIndex index.new }
+    ensures column { IsColumnFor (column_in index.old series field.now) index.old columns.old.items index.new columns.new.items result }
     ensures rollups { AreRollups rules.now index.new.columns rollups.new }
     ensures cells { cells_of rollups.new ≡ cells_of rollups.old }
 {

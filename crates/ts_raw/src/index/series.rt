@@ -1,8 +1,9 @@
 //! Series by their keys.
-ghost use Rattle.std.specs.Prelude.{◌≡◌, ◌≤◌, ◌<◌, ◌↔◌, [], length, IfSome, IfNone, IfOk, OnOk, OnErr, IsOk, Err, Some};
+ghost use Rattle.std.specs.Prelude.{◌≡◌, ◌≤◌, ◌<◌, ◌↔◌, [], length, IfSome, IfNone, Err};
 ghost use Rattle.ts_core.specs.Members.{Among, AllDistinct};
 ghost use Rattle.ts_raw.specs.Hashes.{hash_of_series};
-ghost use Rattle.ts_core.specs.Numbered.{IsAt, Gains};
+ghost use Rattle.ts_raw.specs.Registering.{IsRegistered};
+ghost use Rattle.ts_core.specs.Numbered.{IsAt};
 
 use crate::index::fault::IndexFault;
 use crate::index::hash::hash_series;
@@ -107,11 +108,8 @@ impl<A: Allocator + Copy> SeriesTable<A> {
         limit: usize,
         key: &KeyRef<'_>,
     ) -> Result<SeriesId, IndexFault>
-        ensures number { IfOk result (λ id. IsAt self.new id key.now) }
-        ensures ok { OnOk result (Gains self.old self.new key.now) }
-        ensures err { OnErr result (self.new ≡ self.old) }
+        ensures registered { IsRegistered self.old self.new result key.now }
         ensures full { (result ≡ Err IndexFault.TooManySeries) ↔ ((limit ≤ length self.old) × (Among key.now self.old → ⊥)) }
-        ensures known { Among key.now self.old → IsOk result }
         ensures once { AllDistinct self.new }
     {
         if let Some(series) = self.lookup_follower(key) {
@@ -127,11 +125,8 @@ impl<A: Allocator + Copy> SeriesTable<A> {
     }
 
     fn register_by_hash(&mut self, limit: usize, key: &KeyRef<'_>) -> Result<SeriesId, IndexFault>
-        ensures number { IfOk result (λ id. IsAt self.new id key.now) }
-        ensures ok { OnOk result (Gains self.old self.new key.now) }
-        ensures err { OnErr result (self.new ≡ self.old) }
+        ensures registered { IsRegistered self.old self.new result key.now }
         ensures full { (result ≡ Err IndexFault.TooManySeries) ↔ ((limit ≤ length self.old) × (Among key.now self.old → ⊥)) }
-        ensures known { Among key.now self.old → IsOk result }
         ensures once { AllDistinct self.new }
     {
         let hash = hash_series(key);

@@ -1,7 +1,10 @@
-use Rattle.std.proofs.Common.{◌≡◌, ℕ, List, [], ◌∷◌, ◌++◌, length, cond, is_ok, inl, refl, sym, ◌∙◌, ap, subst, rules}
+use Rattle.std.proofs.Common.{◌≡◌, ℕ, List, [], ◌∷◌, ◌++◌, length, cond, is_ok, Result, inl, inr, refl, sym, ◌∙◌, ap, subst, rules}
+use Rattle.std.proofs.lemmas.Result.{err_from_is_err_and}
 use Rattle.ts_core.specs.Members.{Among}
 use Rattle.ts_core.specs.Facts.{Series}
 use Rattle.ts_raw.specs.Hashes.{hash_of_series}
+use Rattle.ts_raw.specs.Registering.{IsRegistered}
+use Rattle.ts_raw.specs.declared.index.fault.IndexFault.{IndexFault}
 use Rattle.ts_core.specs.Numbered.{IsAt}
 use Rattle.ts_core.specs.Tables.{IsTable}
 use Rattle.ts_core.proofs.NumberedLemmas.{at_among, at_end}
@@ -9,9 +12,13 @@ use Rattle.ts_core.proofs.TableLemmas.{table_more}
 use Rattle.ts_raw.proofs.index.series.SeriesTable.register_by_hash.Given.{Over}
 use Rattle.ts_raw.proofs.index.series.SeriesTable.register_by_hash.Goals as goal
 
-pub returns-in-Some-clause-ok : goal.returns-in-Some-clause-ok
-returns-in-Some-clause-ok g c =
-    let key : Series = c.args.key.now in inl (at_among c.args.self.now c.in-Some.series key c.in-Some.ensures.found, refl)
+pub returns-in-Some-clause-registered : goal.returns-in-Some-clause-registered
+returns-in-Some-clause-registered g c = record {
+  number = search rules;
+  gains = inl (at_among c.args.self.now c.in-Some.series c.args.key.now c.in-Some.ensures.found, refl);
+  known = search rules;
+  kept = search rules;
+}
 
 pub returns-in-Some-clause-full : goal.returns-in-Some-clause-full
 returns-in-Some-clause-full g c =
@@ -35,12 +42,28 @@ invariant_of-self-2 g c =
     subst (λ (xs : List Series). IsTable hash_of_series xs c.push.new.self) (sym (pushed g c))
     (subst (IsTable hash_of_series (before ++ key ∷ [])) (sym hashed) (table_more hash_of_series before hashes key c.self.invariant absent))
 
-pub returns-clause-number : goal.returns-clause-number
-returns-clause-number g c =
+pub returns-in_err-push-clause-registered : goal.returns-in_err-push-clause-registered
+returns-in_err-push-clause-registered g c =
+    let before : List Series = c.args.self.now in
+    let p = err_from_is_err_and c.from_residual-in_err-push.result c.from_residual-in_err-push.ensures.1 in
+    subst (λ (r : Result ℕ IndexFault). IsRegistered before c.reserve.new.self.items r c.args.key.now) (sym p.1) (record {
+      number = tt;
+      gains = tt;
+      known = λ there. absurd (c.in_default.ensures.absent there);
+      kept = c.in_ok-reserve.ensures.items ∙ c.self.view_is;
+    })
+
+pub returns-clause-registered : goal.returns-clause-registered
+returns-clause-registered g c =
     let key : Series = c.args.key.now in
     let before : List Series = c.self.inside.keys.items in
     let number : c.in_ok-number.number ≡ length before = search rules in
-    subst (λ (xs : List Series). IsAt xs c.in_ok-number.number key) (sym (pushed g c)) (subst (λ n. IsAt (before ++ key ∷ []) n key) (sym number) (at_end before key))
+    record {
+      number = subst (λ (xs : List Series). IsAt xs c.in_ok-number.number key) (sym (pushed g c)) (subst (λ n. IsAt (before ++ key ∷ []) n key) (sym number) (at_end before key));
+      gains = inr (c.in_default.ensures.absent, pushed g c ∙ ap (λ (xs : List Series). xs ++ key ∷ []) c.self.view_is);
+      known = search rules;
+      kept = search rules;
+    }
 
 pub returns-clause-once : goal.returns-clause-once
 returns-clause-once g c = (invariant_of-self-2 g c).once
