@@ -1,4 +1,4 @@
-use Rattle.std.proofs.Common.{◌≡◌, List, ap, inl, refl, rules, subst, sym}
+use Rattle.std.proofs.Common.{◌≡◌, ap, inl, refl, rules, subst, sym}
 use Rattle.ts_core.specs.Facts.{Column}
 use Rattle.ts_core.proofs.NumberedLemmas.{at_among}
 use Rattle.ts_raw.specs.Indexed.{Indexed, IsSoundIndex, column_in}

@@ -1,4 +1,4 @@
-use Rattle.std.proofs.Common.{◌≡◌, List, ap, inl, rules}
+use Rattle.std.proofs.Common.{◌≡◌, ap, inl, rules}
 use Rattle.ts_core.specs.Facts.{Column}
 use Rattle.ts_core.proofs.NumberedLemmas.{at_among}
 use Rattle.ts_raw.specs.Indexed.{Indexed, column_in}
