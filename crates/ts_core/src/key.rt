@@ -29,6 +29,49 @@ impl<A: Allocator> Model for Key<A> {
     ghost invariant = { λ k. IsTagSet (owned_pairs k.tags.items) };
 }
 
+/// The key of a series, lent: a measurement, and its tags in byte order of their keys, each key once. It is what a series is
+/// looked for by.
+#[derive(Drop)]
+pub struct KeyRef<'a> {
+    measurement: &'a str,
+    tags: &'a [(&'a str, &'a str)],
+}
+
+impl<'a> Model for KeyRef<'a> {
+    ghost use Rattle.ts_core.specs.Facts.{Series};
+    ghost use Rattle.ts_core.specs.Texts.{lent_pairs, lent_series, IsTagSet};
+
+    ghost Value = { Series };
+
+    ghost view = { λ k. lent_series k.measurement.now k.tags.now };
+
+    ghost invariant = { λ k. IsTagSet (lent_pairs k.tags.now) };
+}
+
+impl<'a> KeyRef<'a> {
+    /// The key of a measurement and tags, which stand in byte order of their keys, each key once.
+    pub fn new(measurement: &'a str, tags: &'a [(&'a str, &'a str)]) -> KeyRef<'a>
+        requires { IsTagSet (lent_pairs tags.now) }
+        ensures { result ≡ lent_series measurement.now tags.now }
+    {
+        KeyRef { measurement, tags }
+    }
+
+    /// The measurement.
+    pub fn measurement(&self) -> &'a str
+        ensures { result.now ≡ self.now.measurement }
+    {
+        self.measurement
+    }
+
+    /// The tags with their values, in byte order of the keys.
+    pub fn tags(&self) -> &'a [(&'a str, &'a str)]
+        ensures { lent_pairs result.now ≡ self.now.tags }
+    {
+        self.tags
+    }
+}
+
 fn owned<A: Allocator + Copy>(
     alloc: A,
     pairs: &[(&str, &str)],
@@ -79,14 +122,13 @@ fn value_among<'a, A: Allocator>(tags: &'a [(String<A>, String<A>)], tag: &str) 
 }
 
 impl<A: Allocator + Copy> Key<A> {
-    /// Copies a measurement and its tags, which stand in byte order of their keys, each key once.
-    pub fn new(alloc: A, measurement: &str, tags: &[(&str, &str)]) -> Result<Key<A>, AllocError>
-        requires { IsTagSet (lent_pairs tags.now) }
-        ensures { IfOk result (λ k. k ≡ lent_series measurement.now tags.now) }
+    /// A copy of a key that is lent.
+    pub fn new(alloc: A, key: &KeyRef<'_>) -> Result<Key<A>, AllocError>
+        ensures { IfOk result (λ k. k ≡ key.now) }
     {
         Ok(Key {
-            measurement: String::from_str(alloc, measurement)?,
-            tags: owned(alloc, tags)?,
+            measurement: String::from_str(alloc, key.measurement)?,
+            tags: owned(alloc, key.tags)?,
         })
     }
 
@@ -112,12 +154,12 @@ impl<A: Allocator + Copy> Key<A> {
         value_among(self.tags.as_slice(), tag)
     }
 
-    /// The order of this key and the one of a measurement and its tags.
-    pub fn compare(&self, measurement: &str, tags: &[(&str, &str)]) -> Ordering
-        ensures { result ≡ series_cmp self.now (lent_series measurement.now tags.now) }
+    /// The order of this key and one that is lent.
+    pub fn compare(&self, key: &KeyRef<'_>) -> Ordering
+        ensures { result ≡ series_cmp self.now key.now }
     {
-        match self.measurement.as_str().cmp(&measurement) {
-            Ordering::Equal => compare_tags(self.tags.as_slice(), tags),
+        match self.measurement.as_str().cmp(key.measurement) {
+            Ordering::Equal => compare_tags(self.tags.as_slice(), key.tags),
             order => order,
         }
     }

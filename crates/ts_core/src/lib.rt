@@ -56,7 +56,7 @@ pub use fault_text::{FaultDetail, append_words};
 pub use field_name::FieldName;
 pub use fill::Fill;
 pub use fold::{aggregate_points, fold_points};
-pub use key::Key;
+pub use key::{Key, KeyRef};
 pub use marks::Marks;
 pub use means::{Frac, mean};
 pub use numbers::next_number;

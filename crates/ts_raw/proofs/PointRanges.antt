@@ -1,5 +1,5 @@
 -- What lies before a time, and behind it, in the order of time.
-use Rattle.std.proofs.Common.{◌≡◌, ℕ, ℤ, ◌≤◌, Bool, true, false, List, length, take, drop, filter, sym, ◌∙◌, ap, subst, arith, slice_index_or, int_lt, int_le}
+use Rattle.std.proofs.Common.{◌≡◌, ℕ, ℤ, ◌≤◌, true, false, List, length, take, drop, filter, sym, ◌∙◌, ap, subst, arith, slice_index_or, int_lt, int_le}
 use Rattle.std.proofs.lemmas.Int.{ints}
 use Rattle.std.specs.Ordering.{int_cmp}
 use Rattle.std.specs.FinMap.{from_sorted}

@@ -1,6 +1,7 @@
 -- what public contracts and laws cite
 pub mod Columns
 pub mod Indexed
+pub mod Registering
 -- what only models and proofs of the code need
 pub mod PlainColumns
 pub mod PointsLeft

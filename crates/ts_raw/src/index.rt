@@ -1,11 +1,11 @@
 //! Series and columns by name.
 ghost use Rattle.std.specs.Bool.{OnTrue};
-ghost use Rattle.std.specs.Prelude.{◌≡◌, ◌≤◌, ◌<◌, ◌↔◌, ◌++◌, [], ◌∷◌, length, IfSome, IfNone, IfOk, OnOk, OnErr, IsOk, Err};
+ghost use Rattle.std.specs.Prelude.{◌≡◌, ◌≤◌, ◌<◌, ◌↔◌, [], length, IfSome, IfNone, Err};
 ghost use Rattle.ts_core.specs.Facts.{Column, is_of};
 ghost use Rattle.ts_core.specs.Members.{Among};
-ghost use Rattle.ts_core.specs.Texts.{lent_pairs, lent_series, IsTagSet};
 ghost use Rattle.ts_raw.specs.Indexed.{IsSoundIndex, column_in};
-ghost use Rattle.ts_core.specs.Numbered.{IsAt, Gains, numbers_where};
+ghost use Rattle.ts_raw.specs.Registering.{IsRegistered};
+ghost use Rattle.ts_core.specs.Numbered.{IsAt, numbers_where};
 
 mod column_id;
 mod columns;
@@ -23,18 +23,22 @@ use series::SeriesTable;
 pub use series_id::SeriesId;
 use std::alloc::{AllocError, Allocator};
 use std::marker::Model;
-use ts_core::{FieldName, Key};
+use ts_core::{FieldName, Key, KeyRef};
 
 /// How many series are registered at most.
 pub const SERIES_LIMIT: usize = 1_000_000;
 
 /// The registered series and their columns, each found by its names and numbered in the order of making.
 /// (InfluxData 1.8: series, field key.)
+///
+/// It guesses which column is asked for next: behind `register` the first of that series, behind `find_column` the one that was made
+/// after the one found. A column that was guessed is found at once; a wrong guess costs one comparison.
 #[derive(Drop)]
 pub struct Index<A: Allocator> {
     series: SeriesTable<A>,
     fields: FieldTable<A>,
     columns: ColumnTable<A>,
+    guess: Option<ColumnId>,
 }
 
 impl<A: Allocator> Model for Index<A> {
@@ -58,6 +62,7 @@ impl<A: Allocator + Copy> Index<A> {
             series: SeriesTable::new(alloc),
             fields: FieldTable::new(alloc),
             columns: ColumnTable::new(alloc),
+            guess: None,
         }
     }
 
@@ -77,32 +82,24 @@ impl<A: Allocator + Copy> Index<A> {
         self.columns.len()
     }
 
-    /// The series of that key, where it is registered. It is found only by tags in byte order of their keys.
-    pub fn lookup(&self, measurement: &str, tags: &[(&str, &str)]) -> Option<SeriesId>
-        ensures found { IfSome result (λ id. IsAt self.now.series id (lent_series measurement.now tags.now)) }
-        ensures absent { IfNone result (Among (lent_series measurement.now tags.now) self.now.series → ⊥) }
+    /// The series of a key, where it is registered.
+    pub fn lookup(&self, key: &KeyRef<'_>) -> Option<SeriesId>
+        ensures found { IfSome result (λ id. IsAt self.now.series id key.now) }
+        ensures absent { IfNone result (Among key.now self.now.series → ⊥) }
     {
-        self.series.lookup(measurement, tags)
+        self.series.lookup(key)
     }
 
-    /// The series of that key, registered where it is not yet.
-    pub fn register(
-        &mut self,
-        measurement: &str,
-        tags: &[(&str, &str)],
-    ) -> Result<SeriesId, IndexFault>
-        requires { IsTagSet (lent_pairs tags.now) }
-        ensures number { IfOk result (λ id. IsAt self.new.series id (lent_series measurement.now tags.now)) }
-        ensures ok { OnOk result (Gains self.old.series self.new.series (lent_series measurement.now tags.now)) }
+    /// The series of a key, registered where it is not yet.
+    pub fn register(&mut self, key: &KeyRef<'_>) -> Result<SeriesId, IndexFault>
+        ensures registered { IsRegistered self.old.series self.new.series result key.now }
         ensures columns { self.new.columns ≡ self.old.columns }
-        ensures err { OnErr result (self.new ≡ self.old) }
-
-        // Only a series that isn't there takes memory or is one too many.
-        ensures known { Among (lent_series measurement.now tags.now) self.old.series → IsOk result }
-        ensures full { (result ≡ Err IndexFault.TooManySeries) ↔ ((1_000_000 ≤ length self.old.series) × (Among (lent_series measurement.now tags.now) self.old.series → ⊥)) }
+        ensures full { (result ≡ Err IndexFault.TooManySeries) ↔ ((1_000_000 ≤ length self.old.series) × (Among key.now self.old.series → ⊥)) }
         ensures sound { IsSoundIndex self.new }
     {
-        self.series.register(SERIES_LIMIT, measurement, tags)
+        let series = self.series.register(SERIES_LIMIT, key)?;
+        self.guess = self.columns.first_of(series.number);
+        Ok(series)
     }
 
     /// The key of a series.
@@ -132,7 +129,7 @@ impl<A: Allocator + Copy> Index<A> {
         self.fields.key(number).field()
     }
 
-    /// The column of a series and a field, where there is one.
+    /// The column of a series and a field, where there is one. The guess isn't tried.
     fn column(&self, series: SeriesId, field: &str) -> Option<ColumnId>
         requires { series < length self.now.series }
         ensures found { IfSome result (λ id. IsAt self.now.columns id (column_in self.now series field.now)) }
@@ -144,25 +141,32 @@ impl<A: Allocator + Copy> Index<A> {
         self.columns.lookup(series.number, field)
     }
 
-    /// The same as `column`, found at once where it was made right after the one before, or, with none before, where it
-    /// was the first of its series.
-    pub fn column_after(
-        &self,
-        before: Option<ColumnId>,
-        series: SeriesId,
-        field: &str,
-    ) -> Option<ColumnId>
-        requires { series < length self.now.series }
-        ensures found { IfSome result (λ id. IsAt self.now.columns id (column_in self.now series field.now)) }
-        ensures absent { IfNone result (Among (column_in self.now series field.now) self.now.columns → ⊥) }
-        ensures sound { IsSoundIndex self.now }
+    /// The guess, where it is the column of a series and a field.
+    fn guessed(&self, series: SeriesId, field: &str) -> Option<ColumnId>
+        ensures { IfSome result (λ id. IsAt self.now.columns id (column_in self.now series field.now)) }
     {
-        if let Some(guess) = self.columns.guess(before, series.number) {
-            if self.is_column(guess, series, field) {
-                return Some(guess);
-            }
+        let guess = self.guess?;
+        if guess.number() < self.columns.len() && self.is_column(guess, series, field) {
+            Some(guess)
+        } else {
+            None
         }
-        self.column(series, field)
+    }
+
+    /// The column of a series and a field, where there is one.
+    pub fn find_column(&mut self, series: SeriesId, field: &str) -> Option<ColumnId>
+        requires { series < length self.old.series }
+        ensures found { IfSome result (λ id. IsAt self.old.columns id (column_in self.old series field.now)) }
+        ensures absent { IfNone result (Among (column_in self.old series field.now) self.old.columns → ⊥) }
+        ensures unchanged { self.new ≡ self.old }
+        ensures sound { IsSoundIndex self.old }
+    {
+        let column = match self.guessed(series, field) {
+            Some(column) => column,
+            None => self.column(series, field)?,
+        };
+        self.guess = Some(column.next());
+        Some(column)
     }
 
     /// Whether a column is of a series and a field.
@@ -184,26 +188,15 @@ impl<A: Allocator + Copy> Index<A> {
         }
     }
 
-    /// The column of a series and a field, made where there is none yet. The column of the field before is a guess: a
-    /// column that was made right after it is found at once. Fields and columns have numbers of 32 bits, and one too
-    /// many is answered as out of memory.
-    pub fn add_column(
-        &mut self,
-        before: Option<ColumnId>,
-        series: SeriesId,
-        field: &str,
-    ) -> Result<ColumnId, AllocError>
+    /// The column of a series and a field, made where there is none yet. Fields and columns have numbers of 32 bits, and
+    /// one too many is answered as out of memory.
+    pub fn add_column(&mut self, series: SeriesId, field: &str) -> Result<ColumnId, AllocError>
         requires { series < length self.old.series }
-        ensures number { IfOk result (λ id. IsAt self.new.columns id (column_in self.old series field.now)) }
-        ensures ok { OnOk result (Gains self.old.columns self.new.columns (column_in self.old series field.now)) }
+        ensures registered { IsRegistered self.old.columns self.new.columns result (column_in self.old series field.now) }
         ensures series { self.new.series ≡ self.old.series }
-        ensures err { OnErr result (self.new ≡ self.old) }
-
-        // Only a column that isn't there takes memory.
-        ensures known { Among (column_in self.old series field.now) self.old.columns → IsOk result }
         ensures sound { IsSoundIndex self.new }
     {
-        match self.column_after(before, series, field) {
+        match self.find_column(series, field) {
             Some(column) => Ok(column),
             None => self.make_column(series, field),
         }
@@ -212,10 +205,8 @@ impl<A: Allocator + Copy> Index<A> {
     fn make_column(&mut self, series: SeriesId, field: &str) -> Result<ColumnId, AllocError>
         requires series { series < length self.old.series }
         requires absent { Among (column_in self.old series field.now) self.old.columns → ⊥ }
-        ensures number { IfOk result (λ id. IsAt self.new.columns id (column_in self.old series field.now)) }
-        ensures ok { OnOk result (self.new.columns ≡ self.old.columns ++ column_in self.old series field.now ∷ []) }
+        ensures registered { IsRegistered self.old.columns self.new.columns result (column_in self.old series field.now) }
         ensures series { self.new.series ≡ self.old.series }
-        ensures err { OnErr result (self.new ≡ self.old) }
         ensures sound { IsSoundIndex self.new }
     {
         self.columns.make_room(self.fields.len())?;

@@ -3,8 +3,9 @@
 //! its series and the list of its columns, in the order of making.
 //!
 //! ```text
-//! let series = index.register("cpu", &[("host", "a")])?;   // tags in byte order of their keys
-//! let column = index.add_column(None, series, "v")?;
+//! let key = KeyRef::new("cpu", &[("host", "a")]);          // tags in byte order of their keys
+//! let series = index.register(&key)?;
+//! let column = index.add_column(series, "v")?;
 //! points.prepare(time, 5)?;                                // sets the point aside: all memory is taken here
 //! points.commit();                                         // puts it in, in place of an older one of that time
 //! points.range(from, to)                                   // a `Points`: an iterator of (Time, i64), in the order of time

@@ -1,5 +1,5 @@
 -- What the facts of columns become when points that were set aside are put in.
-use Rattle.std.proofs.Common.{◌≡◌, ℕ, zero, suc, ℤ, ◌+◌, ◌<◌, not, cond, List, [], ◌∷◌, ◌++◌, length, map, filter, set, get_or, refl, sym, ◌∙◌, ap, subst, take, drop, true≢false, inl, inr, ⊎_elim, arith, Option, Some, None, IsSome, IfSome, Result, Ok, Err, OnOk}
+use Rattle.std.proofs.Common.{◌≡◌, ℕ, zero, suc, ℤ, ◌+◌, ◌<◌, not, cond, List, [], ◌∷◌, ◌++◌, length, map, filter, set, get_or, refl, sym, ◌∙◌, ap, subst, take, drop, true≢false, inl, inr, ⊎_elim, arith, Option, Some, None, IsSome, IfSome}
 use Rattle.std.specs.List.{slice_get}
 use Rattle.std.specs.FinMap as finmap
 use Rattle.std.proofs.lemmas.List.{append-nil, take-append-drop, get_or_default, get_or-set_same, append_assoc, map-append, length-append, take_more, map-set, get_or-set_other, length-set, length-map, get_or_append_left}
@@ -195,12 +195,6 @@ grown_aside c cs cs' ss ss' ns fs l grown a =
       ap length made.2 ∙ length-append ss (no_column ∷ []) ∙ ap (λ k. k + 1) l ∙ sym (length-append cs (c ∷ [])) ∙ sym (ap length made.1),
     ))
     grown
-
--- a column that wasn't there is made, or there was no memory
-pub grown_by_one : {T E : Type 0} (result : Result T E) (c : Column) (cs cs' : List Column) (ss ss' : List ColumnState) → (Among c cs → ⊥)
-    → OnOk result ((cs' ≡ cs ++ c ∷ []) × (ss' ≡ ss ++ no_column ∷ [])) → OnOk result (MayGrow c cs ss cs' ss')
-grown_by_one (Ok x) c cs cs' ss ss' away made = inr (away, made.0, made.1)
-grown_by_one (Err e) c cs cs' ss ss' away made = tt
 
 -- ---- columns that are made
 

@@ -1,8 +1,9 @@
 -- The facts of columns, each with its points, and what becomes of points that were set aside. (Own rule.)
-use Rattle.std.specs.Prelude.{◌≡◌, ◌⊎◌, ℕ, ℤ, List, [], ◌∷◌, ◌++◌, ◌<◌, length, map, IsSome, Option, Some, None, slice_get, set, get_or, refl}
+use Rattle.std.specs.Prelude.{◌≡◌, ◌⊎◌, ℕ, ℤ, List, [], ◌∷◌, ◌++◌, ◌<◌, length, map, IsSome, Option, Some, None, Result, IfOk, OnOk, OnErr, slice_get, set, get_or, refl}
 use Rattle.std.specs.FinMap as finmap
 use Rattle.ts_core.specs.Members.{Among, AllDistinct}
 use Rattle.ts_core.specs.Facts.{Series, Column, Fact}
+use Rattle.ts_core.specs.Numbered.{IsAt}
 use Rattle.ts_core.specs.StoreStates.{ColumnPoints, column_of, fact_at, facts_of}
 use Rattle.ts_raw.specs.Columns.{PointMap, ColumnState}
 use Rattle.ts_raw.specs.Indexed.{Indexed, IsSoundIndex}
@@ -37,6 +38,15 @@ no_column = record { points = finmap.empty; aside = None }
 abbrev pub MayGrow : Column → List Column → List ColumnState → List Column → List ColumnState → Type 0
 MayGrow c columns states columns' states' =
     (Among c columns × (columns' ≡ columns) × (states' ≡ states)) ⊎ ((Among c columns → ⊥) × (columns' ≡ columns ++ c ∷ []) × (states' ≡ states ++ no_column ∷ []))
+
+-- what is left by a call that asks for the number of a column, and makes it where it isn't there: no other column is made, no
+-- series is registered, and a refusal changes no column
+pub record IsColumnFor {E : Type 0} (c : Column) (before : Indexed) (states : List ColumnState) (after : Indexed) (states' : List ColumnState) (result : Result ℕ E) : Type 0 where
+  pub number : IfOk result (λ n. IsAt after.columns n c)
+  pub grown : OnOk result (MayGrow c before.columns states after.columns states')
+  pub kept : OnErr result ((after.columns ≡ before.columns) × (states' ≡ states))
+  pub series : after.series ≡ before.series
+  pub sound : IsSoundIndex before → IsSoundIndex after
 
 -- ---- points aside
 

@@ -5,7 +5,6 @@ ghost use Rattle.ts_core.specs.Times.{least_time};
 ghost use Rattle.ts_core.specs.Facts.{is_of};
 ghost use Rattle.ts_core.specs.History.{MayBeTaken};
 ghost use Rattle.ts_core.specs.StoreStates.{facts_of as facts_in};
-ghost use Rattle.ts_core.specs.Texts.{lent_pairs, lent_series, IsTagSet};
 ghost use Rattle.ts_line.specs.Parts.{series_of, line_facts};
 ghost use Rattle.ts_raw.specs.Columns.{AreTimed};
 ghost use Rattle.ts_raw.specs.PlainColumns.{IsRising};
@@ -23,7 +22,7 @@ use crate::rollup::{Rollup, new_rollups};
 use crate::rooms::make_rooms;
 use std::alloc::{AllocError, Allocator};
 use std::marker::Model;
-use ts_core::Rule;
+use ts_core::{KeyRef, Rule};
 use ts_line::Line;
 use ts_raw::{ColumnId, Index, PlainColumn, Points, SERIES_LIMIT};
 
@@ -64,10 +63,10 @@ impl<A: Allocator + Copy> ColumnFacts<A> {
     }
 
     /// Whether so many series are registered that this one is refused.
-    pub(crate) fn refuses(&self, measurement: &str, tags: &[(&str, &str)]) -> bool
-        ensures { result ≡ is_too_many self.now.series (lent_series measurement.now tags.now) }
+    pub(crate) fn refuses(&self, key: &KeyRef<'_>) -> bool
+        ensures { result ≡ is_too_many self.now.series key.now }
     {
-        self.index.series_count() >= SERIES_LIMIT && self.index.lookup(measurement, tags).is_none()
+        self.index.series_count() >= SERIES_LIMIT && self.index.lookup(key).is_none()
     }
 
     /// Puts the facts of a line in, each in place of the one of its id. All room is taken before the first:
@@ -76,10 +75,9 @@ impl<A: Allocator + Copy> ColumnFacts<A> {
         &mut self,
         rules: &[Rule<A>],
         line: &Line<'_, A>,
-        tags: &[(&str, &str)],
+        key: &KeyRef<'_>,
     ) -> Result<(), AllocError>
-        requires set { IsTagSet (lent_pairs tags.now) }
-        requires tags { lent_pairs tags.now ≡ (series_of line.now).tags }
+        requires key { key.now ≡ series_of line.now }
         requires few { is_too_many self.old.series (series_of line.now) ≡ false }
         requires rollups { AreRollups rules.now (map column_of self.old.columns) self.old.rollups }
         requires intervals { AllByRecursion (λ r. pos 1 ≤ℤ r.interval) rules.now }
@@ -88,7 +86,7 @@ impl<A: Allocator + Copy> ColumnFacts<A> {
         ensures taken { OnOk result (AllByRecursion (MayBeTaken least_time) (line_facts line.now)) }
         ensures known { AreKnown self.new }
     {
-        let series = match self.index.register(line.measurement().text(), tags) {
+        let series = match self.index.register(key) {
             Ok(series) => series,
             Err(_) => return Err(AllocError),
         };

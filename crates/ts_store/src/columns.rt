@@ -1,12 +1,12 @@
 //! What a line writes to columns that are found through an index: each of its columns is looked up once.
-ghost use Rattle.std.specs.Prelude.{◌≡◌, ◌<◌, [], ◌∷◌, ◌++◌, length, map, IsSome, OnOk, OnErr, IfOk, set, get_or};
+ghost use Rattle.std.specs.Prelude.{◌≡◌, ◌<◌, [], length, map, IsSome, OnOk, set, get_or};
 ghost use Rattle.std.specs.List.{AllByRecursion};
 ghost use Rattle.ts_core.specs.Times.{least_time};
 ghost use Rattle.ts_core.specs.History.{MayBeTaken};
 ghost use Rattle.ts_line.specs.Parts.{series_of, line_facts};
-ghost use Rattle.ts_raw.specs.Indexed.{IsSoundIndex, column_in};
+ghost use Rattle.ts_raw.specs.Indexed.{column_in};
 ghost use Rattle.ts_core.specs.Numbered.{IsAt};
-ghost use Rattle.ts_store.specs.ColumnsKept.{no_column, point_maps, columns_in, with_point_aside, all_committed, AreReady, AreAside, MayGrow, IsHeld};
+ghost use Rattle.ts_store.specs.ColumnsKept.{no_column, point_maps, columns_in, with_point_aside, all_committed, AreReady, AreAside, IsColumnFor, IsHeld};
 ghost use Rattle.ts_store.specs.Registered.{MakesFirst, MakesAll};
 ghost use Rattle.ts_store.specs.Rollups.{AreRollups, KeepCells, HaveNext, with_next, cells_of};
 ghost use Rattle.ts_core.specs.Members.{Among};
@@ -65,17 +65,13 @@ fn make_column<A: Allocator + Copy>(
     requires series { series < length index.old.series }
     requires absent { Among (column_in index.old series field.now) index.old.columns → ⊥ }
     requires rollups { AreRollups rules.now index.old.columns rollups.old }
-    ensures number { IfOk result (λ id. IsAt index.new.columns id (column_in index.old series field.now)) }
-    ensures made { OnOk result ((index.new.columns ≡ index.old.columns ++ column_in index.old series field.now ∷ []) × (columns.new.items ≡ columns.old.items ++ no_column ∷ [])) }
-    ensures err { OnErr result ((index.new.columns ≡ index.old.columns) × (columns.new.items ≡ columns.old.items)) }
-    ensures series { index.new.series ≡ index.old.series }
-    ensures sound { IsSoundIndex index.old → IsSoundIndex index.new }
+    ensures column { IsColumnFor (column_in index.old series field.now) index.old columns.old.items index.new columns.new.items result }
     ensures rollups { AreRollups rules.now index.new.columns rollups.new }
     ensures cells { cells_of rollups.new ≡ cells_of rollups.old }
 {
     columns.reserve(1)?;
     prepare_rollups(rules, rollups, index.key_of(series), field)?;
-    let column = index.add_column(None, series, field)?;
+    let column = index.add_column(series, field)?;
     columns
         .push(PlainColumn::new(*columns.allocator()))
         .unwrap();
@@ -83,29 +79,23 @@ fn make_column<A: Allocator + Copy>(
     Ok(column)
 }
 
-/// The column of a series and a field, made without points where there is none yet. It is looked for right behind the
-/// column before.
+/// The column of a series and a field, made without points where there is none yet.
 fn column_for<A: Allocator + Copy>(
     index: &mut Index<A>,
     columns: &mut Vec<PlainColumn<A>, A>,
     rules: &[Rule<A>],
     rollups: &mut [Rollup<A>],
-    before: Option<ColumnId>,
     series: SeriesId,
     field: &str,
 ) -> Result<ColumnId, AllocError>
     requires len { length columns.old.items ≡ length index.old.columns }
     requires series { series < length index.old.series }
     requires rollups { AreRollups rules.now index.old.columns rollups.old }
-    ensures number { IfOk result (λ id. IsAt index.new.columns id (column_in index.old series field.now)) }
-    ensures grown { OnOk result (MayGrow (column_in index.old series field.now) index.old.columns columns.old.items index.new.columns columns.new.items) }
-    ensures err { OnErr result ((index.new.columns ≡ index.old.columns) × (columns.new.items ≡ columns.old.items)) }
-    ensures series { index.new.series ≡ index.old.series }
-    ensures sound { IsSoundIndex index.old → IsSoundIndex index.new }
+    ensures column { IsColumnFor (column_in index.old series field.now) index.old columns.old.items index.new columns.new.items result }
     ensures rollups { AreRollups rules.now index.new.columns rollups.new }
     ensures cells { cells_of rollups.new ≡ cells_of rollups.old }
 {
-    match index.column_after(before, series, field) {
+    match index.find_column(series, field) {
         Some(column) => Ok(column),
         None => make_column(index, columns, rules, rollups, series, field),
     }
@@ -163,9 +153,8 @@ pub(crate) fn prepare_line<A: Allocator + Copy>(
     ensures cells { cells_of rollups.new ≡ cells_of rollups.old }
 {
     for field in line.fields() {
-        let before = touched.last().copied();
         let name = field.name().text();
-        let column = column_for(index, columns, rules, rollups, before, series, name)?;
+        let column = column_for(index, columns, rules, rollups, series, name)?;
         prepare_at(columns, column.number(), line.time(), field.value())?;
         touched.push(column)?;
     }

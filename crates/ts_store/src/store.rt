@@ -27,7 +27,7 @@ use crate::run::Run;
 use crate::view::View;
 use std::alloc::{AllocError, Allocator};
 use std::marker::Model;
-use ts_core::{Marks, Rule, Settings, Time, index_of};
+use ts_core::{KeyRef, Marks, Rule, Settings, Time, index_of};
 use ts_line::Line;
 use ts_raw::{ColumnId, Points};
 
@@ -129,23 +129,24 @@ impl<A: Allocator + Copy> Store<A> {
         ensures refused { IfSome (write_fault self.old.marks.raw self.old.series self.old.accepted line.now) (λ fault. (result ≡ Err fault) × (self.new ≡ self.old)) }
         ensures taken { IsNone (write_fault self.old.marks.raw self.old.series self.old.accepted line.now) → (result ≡ Ok tt) ⊎ ((result ≡ Err WriteFault.OutOfMemory) × Leaves self.old self.new line.now) }
     {
-        if let Some(fault) = self.refusal(line, tags) {
+        let key = KeyRef::new(line.measurement().text(), tags);
+        if let Some(fault) = self.refusal(line, &key) {
             return Err(fault);
         }
-        self.facts.put_line(self.settings.rules(), line, tags)?;
+        self.facts.put_line(self.settings.rules(), line, &key)?;
         self.accepted += line.fields().len() as u64;
         Ok(())
     }
 
     /// What a line is refused by.
-    fn refusal(&self, line: &Line<'_, A>, tags: &[(&str, &str)]) -> Option<WriteFault>
-        requires { lent_pairs tags.now ≡ (series_of line.now).tags }
+    fn refusal(&self, line: &Line<'_, A>, key: &KeyRef<'_>) -> Option<WriteFault>
+        requires { key.now ≡ series_of line.now }
         ensures { result ≡ write_fault self.now.marks.raw self.now.series self.now.accepted line.now }
     {
         if line.time() < self.marks.raw() {
             return Some(WriteFault::BelowRawMark(self.marks.raw()));
         }
-        if self.facts.refuses(line.measurement().text(), tags) {
+        if self.facts.refuses(key) {
             return Some(WriteFault::TooManySeries);
         }
         if line.fields().len() as u64 > FACT_LIMIT - self.accepted {

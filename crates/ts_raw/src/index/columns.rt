@@ -87,19 +87,9 @@ impl<A: Allocator + Copy> ColumnTable<A> {
         Some(ColumnId { number })
     }
 
-    /// The column made after another, or else the first of a series, where it is likely that there is one.
-    pub(crate) fn guess(&self, before: Option<ColumnId>, series: u32) -> Option<ColumnId>
-        ensures { IfSome result (λ id. id < length self.now.columns) }
-    {
-        let guess = match before {
-            Some(before) => before.next(),
-            None => *self.firsts.get(series as usize)?,
-        };
-        if guess.number() < self.columns.len() {
-            Some(guess)
-        } else {
-            None
-        }
+    /// The first column of a series, where one is noted. It is a guess.
+    pub(crate) fn first_of(&self, series: u32) -> Option<ColumnId> {
+        self.firsts.get(series as usize).copied()
     }
 
     /// The columns of a field.

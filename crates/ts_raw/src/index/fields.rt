@@ -1,8 +1,9 @@
 //! The fields of measurements by their names.
-ghost use Rattle.std.specs.Prelude.{◌≡◌, ◌<◌, ◌↔◌, [], length, IfSome, IfNone, IfOk, OnOk, OnErr, IsTrue};
+ghost use Rattle.std.specs.Prelude.{◌≡◌, ◌<◌, ◌↔◌, [], length, IfSome, IfNone, IfOk, IsTrue};
 ghost use Rattle.ts_core.specs.Members.{Among, AllDistinct};
 ghost use Rattle.ts_raw.specs.FieldKeys.{field_key};
-ghost use Rattle.ts_core.specs.Numbered.{IsAt, Gains};
+ghost use Rattle.ts_raw.specs.Registering.{IsRegistered};
+ghost use Rattle.ts_core.specs.Numbered.{IsAt};
 
 use crate::index::hash::hash_field;
 use std::alloc::{AllocError, Allocator};
@@ -113,9 +114,7 @@ impl<A: Allocator + Copy> FieldTable<A> {
 
     /// The number of a field of a measurement, made where there is none.
     pub(crate) fn register(&mut self, measurement: &str, field: &str) -> Result<u32, AllocError>
-        ensures number { IfOk result (λ n. IsAt self.new n (field_key measurement.now field.now)) }
-        ensures ok { OnOk result (Gains self.old self.new (field_key measurement.now field.now)) }
-        ensures err { OnErr result (self.new ≡ self.old) }
+        ensures registered { IsRegistered self.old self.new result (field_key measurement.now field.now) }
         ensures once { AllDistinct self.new }
     {
         if let Some(number) = self.lookup(measurement, field) {

@@ -1,19 +1,19 @@
 //! Hashes of names.
 ghost use Rattle.std.specs.Prelude.{◌≡◌};
-ghost use Rattle.ts_core.specs.Texts.{lent_series};
 ghost use Rattle.ts_raw.specs.FieldKeys.{field_key, hash_of_field};
 ghost use Rattle.ts_raw.specs.Hashes.{hash_of_series};
 
 use std::hash::{FoldHasher, Hasher};
+use ts_core::KeyRef;
 
 /// The hash of a series.
-pub(crate) fn hash_series(measurement: &str, tags: &[(&str, &str)]) -> u64
-    ensures { result ≡ hash_of_series (lent_series measurement.now tags.now) }
+pub(crate) fn hash_series(key: &KeyRef<'_>) -> u64
+    ensures { result ≡ hash_of_series key.now }
 {
     let mut hasher = FoldHasher::default();
-    hasher.write(measurement.as_bytes());
-    for (key, value) in tags {
-        hasher.write(key.as_bytes());
+    hasher.write(key.measurement().as_bytes());
+    for (tag, value) in key.tags() {
+        hasher.write(tag.as_bytes());
         hasher.write(value.as_bytes());
     }
     hasher.finish()

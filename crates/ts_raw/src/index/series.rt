@@ -1,9 +1,9 @@
 //! Series by their keys.
-ghost use Rattle.std.specs.Prelude.{◌≡◌, ◌≤◌, ◌<◌, ◌↔◌, [], length, IfSome, IfNone, IfOk, OnOk, OnErr, IsOk, Err, Some};
+ghost use Rattle.std.specs.Prelude.{◌≡◌, ◌≤◌, ◌<◌, ◌↔◌, [], length, IfSome, IfNone, Err};
 ghost use Rattle.ts_core.specs.Members.{Among, AllDistinct};
-ghost use Rattle.ts_core.specs.Texts.{lent_pairs, lent_series, IsTagSet};
 ghost use Rattle.ts_raw.specs.Hashes.{hash_of_series};
-ghost use Rattle.ts_core.specs.Numbered.{IsAt, Gains};
+ghost use Rattle.ts_raw.specs.Registering.{IsRegistered};
+ghost use Rattle.ts_core.specs.Numbered.{IsAt};
 
 use crate::index::fault::IndexFault;
 use crate::index::hash::hash_series;
@@ -11,7 +11,7 @@ use crate::index::series_id::SeriesId;
 use std::alloc::Allocator;
 use std::cmp::Ordering;
 use std::marker::Model;
-use ts_core::{Chains, Key, next_number};
+use ts_core::{Chains, Key, KeyRef, next_number};
 
 /// The registered series, seen as their list in the order of making. Of each series the one is known that came after it
 /// last time, so that series which come in one order again and again are found at once.
@@ -66,27 +66,22 @@ impl<A: Allocator + Copy> SeriesTable<A> {
     }
 
     /// The series of that key.
-    pub(crate) fn lookup(&self, measurement: &str, tags: &[(&str, &str)]) -> Option<SeriesId>
-        ensures found { IfSome result (λ id. IsAt self.now id (lent_series measurement.now tags.now)) }
-        ensures absent { IfNone result (Among (lent_series measurement.now tags.now) self.now → ⊥) }
+    pub(crate) fn lookup(&self, key: &KeyRef<'_>) -> Option<SeriesId>
+        ensures found { IfSome result (λ id. IsAt self.now id key.now) }
+        ensures absent { IfNone result (Among key.now self.now → ⊥) }
     {
-        self.lookup_by_hash(hash_series(measurement, tags), measurement, tags)
+        self.lookup_by_hash(hash_series(key), key)
     }
 
-    fn lookup_by_hash(
-        &self,
-        hash: u64,
-        measurement: &str,
-        tags: &[(&str, &str)],
-    ) -> Option<SeriesId>
-        requires { hash ≡ hash_of_series (lent_series measurement.now tags.now) }
-        ensures found { IfSome result (λ id. IsAt self.now id (lent_series measurement.now tags.now)) }
-        ensures absent { IfNone result (Among (lent_series measurement.now tags.now) self.now → ⊥) }
+    fn lookup_by_hash(&self, hash: u64, key: &KeyRef<'_>) -> Option<SeriesId>
+        requires { hash ≡ hash_of_series key.now }
+        ensures found { IfSome result (λ id. IsAt self.now id key.now) }
+        ensures absent { IfNone result (Among key.now self.now → ⊥) }
     {
         let mut next = self.chains.newest(hash);
         while let Some(at) = next {
-            let key = &self.keys[at as usize];
-            if key.compare(measurement, tags) == Ordering::Equal {
+            let other = &self.keys[at as usize];
+            if other.compare(key) == Ordering::Equal {
                 return Some(SeriesId { number: at });
             }
             next = self.chains.older(at);
@@ -95,12 +90,12 @@ impl<A: Allocator + Copy> SeriesTable<A> {
     }
 
     /// The series of that key, where it is the one that came after the last one before.
-    fn lookup_follower(&self, measurement: &str, tags: &[(&str, &str)]) -> Option<SeriesId>
-        ensures { IfSome result (λ id. IsAt self.now id (lent_series measurement.now tags.now)) }
+    fn lookup_follower(&self, key: &KeyRef<'_>) -> Option<SeriesId>
+        ensures { IfSome result (λ id. IsAt self.now id key.now) }
     {
         let number = *self.followers.get(self.last as usize)?;
-        let key = self.keys.get(number as usize)?;
-        if key.compare(measurement, tags) == Ordering::Equal {
+        let other = self.keys.get(number as usize)?;
+        if other.compare(key) == Ordering::Equal {
             Some(SeriesId { number })
         } else {
             None
@@ -111,22 +106,17 @@ impl<A: Allocator + Copy> SeriesTable<A> {
     pub(crate) fn register(
         &mut self,
         limit: usize,
-        measurement: &str,
-        tags: &[(&str, &str)],
+        key: &KeyRef<'_>,
     ) -> Result<SeriesId, IndexFault>
-        requires { IsTagSet (lent_pairs tags.now) }
-        ensures number { IfOk result (λ id. IsAt self.new id (lent_series measurement.now tags.now)) }
-        ensures ok { OnOk result (Gains self.old self.new (lent_series measurement.now tags.now)) }
-        ensures err { OnErr result (self.new ≡ self.old) }
-        ensures full { (result ≡ Err IndexFault.TooManySeries) ↔ ((limit ≤ length self.old) × (Among (lent_series measurement.now tags.now) self.old → ⊥)) }
-        ensures known { Among (lent_series measurement.now tags.now) self.old → IsOk result }
+        ensures registered { IsRegistered self.old self.new result key.now }
+        ensures full { (result ≡ Err IndexFault.TooManySeries) ↔ ((limit ≤ length self.old) × (Among key.now self.old → ⊥)) }
         ensures once { AllDistinct self.new }
     {
-        if let Some(series) = self.lookup_follower(measurement, tags) {
+        if let Some(series) = self.lookup_follower(key) {
             self.last = series.number;
             return Ok(series);
         }
-        let series = self.register_by_hash(limit, measurement, tags)?;
+        let series = self.register_by_hash(limit, key)?;
         if let Some(follower) = self.followers.get_mut(self.last as usize) {
             *follower = series.number;
         }
@@ -134,33 +124,24 @@ impl<A: Allocator + Copy> SeriesTable<A> {
         Ok(series)
     }
 
-    fn register_by_hash(
-        &mut self,
-        limit: usize,
-        measurement: &str,
-        tags: &[(&str, &str)],
-    ) -> Result<SeriesId, IndexFault>
-        requires { IsTagSet (lent_pairs tags.now) }
-        ensures number { IfOk result (λ id. IsAt self.new id (lent_series measurement.now tags.now)) }
-        ensures ok { OnOk result (Gains self.old self.new (lent_series measurement.now tags.now)) }
-        ensures err { OnErr result (self.new ≡ self.old) }
-        ensures full { (result ≡ Err IndexFault.TooManySeries) ↔ ((limit ≤ length self.old) × (Among (lent_series measurement.now tags.now) self.old → ⊥)) }
-        ensures known { Among (lent_series measurement.now tags.now) self.old → IsOk result }
+    fn register_by_hash(&mut self, limit: usize, key: &KeyRef<'_>) -> Result<SeriesId, IndexFault>
+        ensures registered { IsRegistered self.old self.new result key.now }
+        ensures full { (result ≡ Err IndexFault.TooManySeries) ↔ ((limit ≤ length self.old) × (Among key.now self.old → ⊥)) }
         ensures once { AllDistinct self.new }
     {
-        let hash = hash_series(measurement, tags);
-        if let Some(series) = self.lookup_by_hash(hash, measurement, tags) {
+        let hash = hash_series(key);
+        if let Some(series) = self.lookup_by_hash(hash, key) {
             return Ok(series);
         }
         if self.keys.len() >= limit {
             return Err(IndexFault::TooManySeries);
         }
         let number = next_number(self.keys.len())?;
-        let key = Key::new(*self.keys.allocator(), measurement, tags)?;
+        let copy = Key::new(*self.keys.allocator(), key)?;
         self.keys.reserve(1)?;
         self.followers.reserve(1)?;
         self.chains.push(hash)?;
-        self.keys.push(key).unwrap();
+        self.keys.push(copy).unwrap();
         self.followers.push(number.saturating_add(1)).unwrap();
         Ok(SeriesId { number })
     }

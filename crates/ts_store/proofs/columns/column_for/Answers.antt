@@ -1,11 +1,17 @@
-use Rattle.std.proofs.Common.{inl, refl}
+use Rattle.std.proofs.Common.{◌≡◌, ap, inl, refl, rules, subst, sym}
+use Rattle.ts_core.specs.Facts.{Column}
 use Rattle.ts_core.proofs.NumberedLemmas.{at_among}
-use Rattle.ts_store.proofs.ColumnsAside.{grown_by_one}
+use Rattle.ts_raw.specs.Indexed.{Indexed, IsSoundIndex, column_in}
 use Rattle.ts_store.proofs.columns.column_for.Goals as goal
 
-pub returns-in-Some-clause-grown : goal.returns-in-Some-clause-grown
-returns-in-Some-clause-grown g c = inl (at_among c.args.index.now.columns c.in-Some.column _ c.in-Some.ensures.found, refl, refl)
-
-pub returns-in-None-clause-grown : goal.returns-in-None-clause-grown
-returns-in-None-clause-grown g c =
-    grown_by_one c.make_column.result _ c.args.index.now.columns c.make_column.new.index.columns c.args.columns.now.items c.make_column.new.columns.items c.in-None.ensures.absent c.make_column.ensures.made
+pub returns-in-Some-clause-column : goal.returns-in-Some-clause-column
+returns-in-Some-clause-column g c =
+    let column : Column = column_in c.args.index.now c.args.series c.args.field.now in
+    let same : c.find_column.new.self.columns ≡ c.args.index.now.columns = ap (λ (i : Indexed). i.columns) c.find_column.ensures.unchanged in
+    record {
+      number = search rules;
+      grown = inl (at_among c.args.index.now.columns c.in-Some.column column c.in-Some.ensures.found, same, refl);
+      kept = search rules;
+      series = ap (λ (i : Indexed). i.series) c.find_column.ensures.unchanged;
+      sound = λ sound. subst IsSoundIndex (sym c.find_column.ensures.unchanged) sound;
+    }

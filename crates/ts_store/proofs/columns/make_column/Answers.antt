@@ -1,7 +1,9 @@
-use Rattle.std.proofs.Common.{◌≡◌, ◌∙◌, List, map, ap, sym, subst}
+use Rattle.std.proofs.Common.{◌≡◌, ◌∙◌, List, [], ◌∷◌, ◌++◌, map, ap, sym, subst, inr, cond, is_ok, rules}
 use Rattle.std.proofs.lemmas.Option.{get_or_from_slice_get}
 use Rattle.ts_core.specs.Facts.{Column}
+use Rattle.ts_raw.specs.Columns.{ColumnState}
 use Rattle.ts_raw.specs.Indexed.{no_series, column_in}
+use Rattle.ts_store.specs.ColumnsKept.{no_column}
 use Rattle.ts_store.specs.Rollups.{RollupState, AreRollups, HaveNext, with_next, cells_of}
 use Rattle.ts_store.proofs.RollupsGrow.{rollups-length, rollups_kept, cells_kept, rollups_made, cells_made, ready_to_make, made_behind}
 use Rattle.ts_store.proofs.columns.make_column.Goals as goal
@@ -17,7 +19,7 @@ returns-in_err-prepare_rollups-clause-cells g c = cells_kept c.args.rollups.now 
 
 pub returns-in_err-column-clause-rollups : goal.returns-in_err-column-clause-rollups
 returns-in_err-column-clause-rollups g c =
-    subst (λ (cs : List Column). AreRollups c.args.rules.now cs c.prepare_rollups.new.rollups) (sym (ap (λ i. i.columns) c.in_err-column.ensures.err))
+    subst (λ (cs : List Column). AreRollups c.args.rules.now cs c.prepare_rollups.new.rollups) (sym c.in_err-column.ensures.registered.kept)
     (rollups_kept _ _ c.args.rollups.now _ c.requires.rollups c.prepare_rollups.ensures.kept)
 
 pub returns-in_err-column-clause-cells : goal.returns-in_err-column-clause-cells
@@ -31,7 +33,24 @@ commit_rollups-requires g c =
     ready_to_make c.args.rules.now c.args.index.now.columns column c.in_ok-column.column c.prepare_rollups.new.rollups
     (rollups_kept _ _ c.args.rollups.now _ c.requires.rollups c.prepare_rollups.ensures.kept)
     (subst (λ (d : Column). HaveNext c.args.rules.now d c.prepare_rollups.new.rollups) named c.in_ok-prepare_rollups.ensures.next)
-    (made_behind c.args.index.now.columns c.add_column.new.self.columns column c.in_ok-column.column c.requires.absent c.in_ok-column.ensures.ok c.in_ok-column.ensures.number).1
+    (made_behind c.args.index.now.columns c.add_column.new.self.columns column c.in_ok-column.column c.requires.absent c.in_ok-column.ensures.registered.gains c.in_ok-column.ensures.registered.number).1
+
+pub returns-clause-column : goal.returns-clause-column
+returns-clause-column g c =
+    let column : Column = column_in c.args.index.now c.args.series c.args.field.now in
+    let before : List ColumnState = c.reserve.new.self.items in
+    let empty : c.new.result ≡ no_column = λ i. record { points = c.new.ensures.points i; aside = c.new.ensures.none_aside i } in
+    let pushed : c.push.new.self.items ≡ c.args.columns.now.items ++ no_column ∷ [] =
+    c.push.ensures.items ∙ ap (λ r. cond (is_ok r) (before ++ c.new.result ∷ []) before) c.unwrap.ensures
+    ∙ ap (λ (xs : List ColumnState). xs ++ c.new.result ∷ []) c.in_ok-reserve.ensures.items ∙ ap (λ (s : ColumnState). c.args.columns.now.items ++ s ∷ []) empty in
+    let made = made_behind c.args.index.now.columns c.add_column.new.self.columns column c.in_ok-column.column c.requires.absent c.in_ok-column.ensures.registered.gains c.in_ok-column.ensures.registered.number in
+    record {
+      number = c.in_ok-column.ensures.registered.number;
+      grown = inr (c.requires.absent, made.0, pushed);
+      kept = search rules;
+      series = c.add_column.ensures.series;
+      sound = λ before. c.add_column.ensures.sound;
+    }
 
 pub returns-clause-rollups : goal.returns-clause-rollups
 returns-clause-rollups g c =
@@ -43,7 +62,7 @@ returns-clause-rollups g c =
     (subst (λ (d : Column). HaveNext c.args.rules.now d c.prepare_rollups.new.rollups) named c.in_ok-prepare_rollups.ensures.next) in
     subst (λ (ss : List RollupState). AreRollups c.args.rules.now c.add_column.new.self.columns ss) (sym c.commit_rollups.ensures)
     (subst (λ (cs : List Column). AreRollups c.args.rules.now cs (map with_next c.prepare_rollups.new.rollups))
-    (sym (made_behind c.args.index.now.columns c.add_column.new.self.columns column c.in_ok-column.column c.requires.absent c.in_ok-column.ensures.ok c.in_ok-column.ensures.number).0) made)
+    (sym (made_behind c.args.index.now.columns c.add_column.new.self.columns column c.in_ok-column.column c.requires.absent c.in_ok-column.ensures.registered.gains c.in_ok-column.ensures.registered.number).0) made)
 
 pub returns-clause-cells : goal.returns-clause-cells
 returns-clause-cells g c =

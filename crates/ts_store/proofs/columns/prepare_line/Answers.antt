@@ -21,27 +21,27 @@ column_for-requires-clause-series g c =
 pub returns-in_err-column-clause-made : goal.returns-in_err-column-clause-made
 returns-in_err-column-clause-made g c =
     let i = c.loop-field.invariant in
-    let same = c.in_err-column.ensures.err in
+    let same = c.in_err-column.ensures.column.kept in
     first_made c.args.line.now _ _ c.fields-field-items.result.now c.loop-field.field-index c.fields-field-items.ensures.value ((λ j. with_points (same.0 j) (point_maps (same.1 j))) ∙ i.made)
 
 pub returns-in_err-column-clause-held : goal.returns-in_err-column-clause-held
 returns-in_err-column-clause-held g c =
     let i = c.loop-field.invariant in
-    let same = c.in_err-column.ensures.err in
-    record { sound = c.column_for.ensures.sound i.held.sound; each = ap length same.1 ∙ i.held.each ∙ sym (ap length same.0) }
+    let same = c.in_err-column.ensures.column.kept in
+    record { sound = c.column_for.ensures.column.sound i.held.sound; each = ap length same.1 ∙ i.held.each ∙ sym (ap length same.0) }
 
 pub prepare_at-requires : goal.prepare_at-requires
 prepare_at-requires g c =
     let i = c.loop-field.invariant in
-    let len = (grown_aside _ c.loop-field.index.columns c.column_for.new.index.columns c.loop-field.columns.items c.column_for.new.columns.items c.loop-field.touched.items _ i.held.each c.in_ok-column.ensures.grown i.aside).1 in
-    let w = slice_get_within c.column_for.new.index.columns c.in_ok-column.column _ c.in_ok-column.ensures.number in
+    let len = (grown_aside _ c.loop-field.index.columns c.column_for.new.index.columns c.loop-field.columns.items c.column_for.new.columns.items c.loop-field.touched.items _ i.held.each c.in_ok-column.ensures.column.grown i.aside).1 in
+    let w = slice_get_within c.column_for.new.index.columns c.in_ok-column.column _ c.in_ok-column.ensures.column.number in
     omega (arith, w, len, c.number.ensures)
 
 pub returns-in_err-prepare_at-clause-made : goal.returns-in_err-prepare_at-clause-made
 returns-in_err-prepare_at-clause-made g c =
     let i = c.loop-field.invariant in
     let more = made_next c.args.line.now c.loop-field.index c.args.series c.text-name.result.now _ c.column_for.new.index.columns c.loop-field.columns.items c.column_for.new.columns.items c.fields-field-items.result.now c.loop-field.field-index
-    c.field-item.result c.in_ok-column.ensures.grown (ap (λ (xs : List Series). slice_get xs c.args.series) i.series ∙ c.requires.series) (c.text-name.ensures ∙ ap (λ (q : LinePart). q.text) c.name.ensures)
+    c.field-item.result c.in_ok-column.ensures.column.grown (ap (λ (xs : List Series). slice_get xs c.args.series) i.series ∙ c.requires.series) (c.text-name.ensures ∙ ap (λ (q : LinePart). q.text) c.name.ensures)
     c.fields-field-items.ensures.value c.fields-field-items.ensures.once c.loop-field-test.true c.field-item.is i.held.each i.made in
     first_made c.args.line.now _ _ c.fields-field-items.result.now (c.loop-field.field-index + 1) c.fields-field-items.ensures.value (ap (with_points c.column_for.new.index.columns) c.prepare_at.ensures.unchanged ∙ more)
 
@@ -49,15 +49,15 @@ pub returns-in_err-prepare_at-clause-held : goal.returns-in_err-prepare_at-claus
 returns-in_err-prepare_at-clause-held g c =
     let i = c.loop-field.invariant in
     record {
-      sound = c.column_for.ensures.sound i.held.sound;
-      each = c.prepare_at.ensures.len ∙ (grown_aside _ c.loop-field.index.columns c.column_for.new.index.columns c.loop-field.columns.items c.column_for.new.columns.items c.loop-field.touched.items _ i.held.each c.in_ok-column.ensures.grown i.aside).1;
+      sound = c.column_for.ensures.column.sound i.held.sound;
+      each = c.prepare_at.ensures.len ∙ (grown_aside _ c.loop-field.index.columns c.column_for.new.index.columns c.loop-field.columns.items c.column_for.new.columns.items c.loop-field.touched.items _ i.held.each c.in_ok-column.ensures.column.grown i.aside).1;
     }
 
 pub returns-in_err-push-clause-made : goal.returns-in_err-push-clause-made
 returns-in_err-push-clause-made g c =
     let i = c.loop-field.invariant in
     let more = made_next c.args.line.now c.loop-field.index c.args.series c.text-name.result.now _ c.column_for.new.index.columns c.loop-field.columns.items c.column_for.new.columns.items c.fields-field-items.result.now c.loop-field.field-index
-    c.field-item.result c.in_ok-column.ensures.grown (ap (λ (xs : List Series). slice_get xs c.args.series) i.series ∙ c.requires.series) (c.text-name.ensures ∙ ap (λ (q : LinePart). q.text) c.name.ensures)
+    c.field-item.result c.in_ok-column.ensures.column.grown (ap (λ (xs : List Series). slice_get xs c.args.series) i.series ∙ c.requires.series) (c.text-name.ensures ∙ ap (λ (q : LinePart). q.text) c.name.ensures)
     c.fields-field-items.ensures.value c.fields-field-items.ensures.once c.loop-field-test.true c.field-item.is i.held.each i.made in
     first_made c.args.line.now _ _ c.fields-field-items.result.now (c.loop-field.field-index + 1) c.fields-field-items.ensures.value (ap (with_points c.column_for.new.index.columns) c.prepare_at.ensures.unchanged ∙ more)
 
@@ -65,8 +65,8 @@ pub returns-in_err-push-clause-held : goal.returns-in_err-push-clause-held
 returns-in_err-push-clause-held g c =
     let i = c.loop-field.invariant in
     record {
-      sound = c.column_for.ensures.sound i.held.sound;
-      each = c.prepare_at.ensures.len ∙ (grown_aside _ c.loop-field.index.columns c.column_for.new.index.columns c.loop-field.columns.items c.column_for.new.columns.items c.loop-field.touched.items _ i.held.each c.in_ok-column.ensures.grown i.aside).1;
+      sound = c.column_for.ensures.column.sound i.held.sound;
+      each = c.prepare_at.ensures.len ∙ (grown_aside _ c.loop-field.index.columns c.column_for.new.index.columns c.loop-field.columns.items c.column_for.new.columns.items c.loop-field.touched.items _ i.held.each c.in_ok-column.ensures.column.grown i.aside).1;
     }
 
 pub loop-field-preserved : goal.loop-field-preserved
@@ -90,8 +90,8 @@ loop-field-preserved g c =
     let there : slice_get c.loop-field.index.series c.args.series ≡ Some (series_of p) = ap (λ (xs : List Series). slice_get xs c.args.series) i.series ∙ c.requires.series in
     let name : c.text-name.result.now ≡ x.0.text = c.text-name.ensures ∙ ap (λ (q : LinePart). q.text) c.name.ensures in
     let named : column_in c.loop-field.index c.args.series c.text-name.result.now ≡ (fact_of p x).column = column_is p c.loop-field.index c.args.series c.text-name.result.now x there name in
-    let at : slice_get cs' n ≡ Some (fact_of p x).column = c.in_ok-column.ensures.number ∙ ap Some named in
-    let grown : MayGrow (fact_of p x).column cs ss cs' ss' = subst (λ (d : Column). MayGrow d cs ss cs' ss') named c.in_ok-column.ensures.grown in
+    let at : slice_get cs' n ≡ Some (fact_of p x).column = c.in_ok-column.ensures.column.number ∙ ap Some named in
+    let grown : MayGrow (fact_of p x).column cs ss cs' ss' = subst (λ (d : Column). MayGrow d cs ss cs' ss') named c.in_ok-column.ensures.column.grown in
     let fits : SFits w64 c.value.result = search rules in
     let value : to_z w64 (of_z w64 c.value.result) ≡ x.1 = to_z-of_z fits ∙ c.value.ensures in
     let time : IsTime c.time.result = search rules in
@@ -104,11 +104,11 @@ loop-field-preserved g c =
       taken = subst (λ (fs : List (LinePart × ℤ)). AllByRecursion (MayBeTaken least_time) (map (fact_of p) (take (k + 1) fs))) (sym e)
           (subst (AllByRecursion (MayBeTaken least_time)) (facts_next p k x within is) (taken_more least_time (map (fact_of p) (take k p.fields)) (fact_of p x)
           (subst (λ (fs : List (LinePart × ℤ)). AllByRecursion (MayBeTaken least_time) (map (fact_of p) (take k fs))) e i.taken) taken));
-      made = ap (with_points cs') c.prepare_at.ensures.unchanged ∙ made_next p c.loop-field.index c.args.series c.text-name.result.now _ cs' ss ss' c.fields-field-items.result.now k x c.in_ok-column.ensures.grown there name e c.fields-field-items.ensures.once c.loop-field-test.true c.field-item.is i.held.each i.made;
-      held = record { sound = c.column_for.ensures.sound i.held.sound; each = next.1 };
+      made = ap (with_points cs') c.prepare_at.ensures.unchanged ∙ made_next p c.loop-field.index c.args.series c.text-name.result.now _ cs' ss ss' c.fields-field-items.result.now k x c.in_ok-column.ensures.column.grown there name e c.fields-field-items.ensures.once c.loop-field-test.true c.field-item.is i.held.each i.made;
+      held = record { sound = c.column_for.ensures.column.sound i.held.sound; each = next.1 };
       rollups = c.column_for.ensures.rollups;
       cells = c.column_for.ensures.cells ∙ i.cells;
-      series = c.column_for.ensures.series ∙ i.series;
+      series = c.column_for.ensures.column.series ∙ i.series;
     }
 
 pub returns-clause-made : goal.returns-clause-made

@@ -1,6 +1,6 @@
-use Rattle.std.proofs.Common.{◌≡◌, ◌<◌, List, [], ◌∷◌, ◌++◌, length, map, OnOk, sym, ◌∙◌, ap, subst}
+use Rattle.std.proofs.Common.{◌≡◌, ◌<◌, List, [], ◌∷◌, ◌++◌, length, map, OnOk, inr, sym, ◌∙◌, ap, subst}
 use Rattle.std.proofs.lemmas.Result.{on_err_weaker, on_ok_weaker}
-use Rattle.ts_core.specs.Facts.{Series, Column}
+use Rattle.ts_core.specs.Facts.{Series}
 use Rattle.ts_core.specs.Members.{Among}
 use Rattle.ts_raw.specs.FieldKeys.{FieldKey}
 use Rattle.ts_raw.specs.IndexParts.{column_named, IsIndex}
@@ -22,7 +22,7 @@ returns-in_err-make_room-clause-sound g c = index_sound c.self.inside.series c.s
 pub invariant_of-self-in_err-field : goal.invariant_of-self-in_err-field
 invariant_of-self-in_err-field g c =
     let series : List Series = c.self.inside.series in
-    subst (λ (fs : List FieldKey). IsIndex series fs c.make_room.new.self) (sym c.in_err-field.ensures.err)
+    subst (λ (fs : List FieldKey). IsIndex series fs c.make_room.new.self) (sym c.in_err-field.ensures.registered.kept)
     (index_roomy series c.self.inside.fields c.self.inside.columns c.make_room.new.self c.self.invariant c.make_room.ensures.columns c.make_room.ensures.more)
 
 pub returns-in_err-field-clause-sound : goal.returns-in_err-field-clause-sound
@@ -37,9 +37,9 @@ making g c = record {
   of = measurement_of c.self.inside.series c.args.series c.key.result.now c.measurement-measurement.result.now c.key.ensures c.measurement-measurement.ensures;
   same = c.make_room.ensures.columns;
   room = subst (λ n. n < c.make_room.new.self.fields) c.len.ensures.value c.in_ok-make_room.ensures.ok;
-  more = c.in_ok-field.ensures.ok;
+  more = c.in_ok-field.ensures.registered.gains;
   once = c.in_ok-field.ensures.once;
-  at = c.in_ok-field.ensures.number;
+  at = c.in_ok-field.ensures.registered.number;
 }
 
 -- and after
@@ -51,9 +51,9 @@ made g c = record {
   of = measurement_of c.self.inside.series c.args.series c.key.result.now c.measurement-measurement.result.now c.key.ensures c.measurement-measurement.ensures;
   same = c.make_room.ensures.columns;
   room = subst (λ n. n < c.make_room.new.self.fields) c.len.ensures.value c.in_ok-make_room.ensures.ok;
-  more = c.in_ok-field.ensures.ok;
+  more = c.in_ok-field.ensures.registered.gains;
   once = c.in_ok-field.ensures.once;
-  at = c.in_ok-field.ensures.number;
+  at = c.in_ok-field.ensures.registered.number;
 }
 
 pub push-requires-clause-field : goal.push-requires-clause-field
@@ -78,35 +78,34 @@ invariant_of-self-2 g c =
     made_pushes c.self.inside.series c.self.inside.fields c.register.new.self c.self.inside.columns c.make_room.new.self c.args.series c.measurement-measurement.result.now c.args.field.now
     c.in_ok-field.field (made g c) c.push.new.self absent (outcome c.push.result (pushed g c) c.push.ensures.err) c.push.ensures.fields
 
-pub returns-clause-number : goal.returns-clause-number
-returns-clause-number g c =
+pub returns-clause-registered : goal.returns-clause-registered
+returns-clause-registered g c =
     let series : List Series = c.self.inside.series in
-    ok_with c.push.result
-    (λ n e p.
-    subst (λ (i : Indexed). IsAt (map (column_named series c.register.new.self) c.push.new.self.columns) n (column_in i c.args.series c.args.field.now)) c.self.view_is
-    (made_at series c.self.inside.fields c.register.new.self c.self.inside.columns c.make_room.new.self c.args.series c.measurement-measurement.result.now c.args.field.now c.in_ok-field.field
-    (made g c) c.push.new.self n e p))
-    c.push.ensures.number (pushed g c)
-
-pub returns-clause-ok : goal.returns-clause-ok
-returns-clause-ok g c =
-    let series : List Series = c.self.inside.series in
-    on_ok_weaker c.push.result
-    (λ p.
-    made_more series c.self.inside.fields c.register.new.self c.self.inside.columns c.make_room.new.self c.args.series c.measurement-measurement.result.now c.args.field.now c.in_ok-field.field
-    (made g c) c.push.new.self p
-    ∙ ap (λ (i : Indexed). i.columns ++ column_in i c.args.series c.args.field.now ∷ []) c.self.view_is)
-    (pushed g c)
-
-pub returns-clause-err : goal.returns-clause-err
-returns-clause-err g c =
-    let series : List Series = c.self.inside.series in
-    on_err_weaker c.push.result
-    (λ kept.
-    let columns = made_same series c.self.inside.fields c.register.new.self c.self.inside.columns c.make_room.new.self c.args.series c.measurement-measurement.result.now c.args.field.now
-    c.in_ok-field.field (made g c) c.push.new.self kept in
-    ap (λ (cs : List Column). let i : Indexed = record { series = series; columns = cs } in i) columns ∙ c.self.view_is)
-    c.push.ensures.err
+    let absent : Among (column_in c.args.self.now c.args.series c.args.field.now) c.args.self.now.columns → ⊥ = c.requires.absent in
+    record {
+      number = ok_with c.push.result
+          (λ n e p.
+          subst (λ (i : Indexed). IsAt (map (column_named series c.register.new.self) c.push.new.self.columns) n (column_in i c.args.series c.args.field.now)) c.self.view_is
+          (made_at series c.self.inside.fields c.register.new.self c.self.inside.columns c.make_room.new.self c.args.series c.measurement-measurement.result.now c.args.field.now c.in_ok-field.field
+          (made g c) c.push.new.self n e p))
+          c.push.ensures.number (pushed g c);
+      gains = on_ok_weaker c.push.result
+          (λ p.
+          inr (
+            absent,
+            made_more series c.self.inside.fields c.register.new.self c.self.inside.columns c.make_room.new.self c.args.series c.measurement-measurement.result.now c.args.field.now c.in_ok-field.field
+                (made g c) c.push.new.self p
+                ∙ ap (λ (i : Indexed). i.columns ++ column_in i c.args.series c.args.field.now ∷ []) c.self.view_is,
+          ))
+          (pushed g c);
+      known = λ there. absurd (absent there);
+      kept = on_err_weaker c.push.result
+          (λ kept.
+          made_same series c.self.inside.fields c.register.new.self c.self.inside.columns c.make_room.new.self c.args.series c.measurement-measurement.result.now c.args.field.now
+          c.in_ok-field.field (made g c) c.push.new.self kept
+          ∙ ap (λ (i : Indexed). i.columns) c.self.view_is)
+          c.push.ensures.err;
+    }
 
 pub returns-clause-sound : goal.returns-clause-sound
 returns-clause-sound g c = index_sound c.self.inside.series c.register.new.self c.push.new.self (invariant_of-self-2 g c)

@@ -5,12 +5,10 @@ use Rattle.ts_core.specs.Members.{AllDistinct}
 use Rattle.ts_core.specs.Facts.{Series, Column}
 use Rattle.ts_core.specs.StoreStates.{ColumnPoints, column_of}
 use Rattle.ts_core.specs.StoreMoves.{PutsFacts, HaveRoom}
-use Rattle.ts_line.specs.Parts.{LinePart, Parts, series_of, line_facts}
-use Rattle.ts_core.specs.Texts.{lent_pairs}
+use Rattle.ts_line.specs.Parts.{Parts, series_of, line_facts}
 use Rattle.ts_raw.specs.Columns.{ColumnState}
 use Rattle.ts_core.specs.Numbered.{Gains}
 use Rattle.ts_core.proofs.Results.{on_any_err}
-use Rattle.ts_store.proofs.Stands.{series_from}
 use Rattle.ts_store.specs.Registered.{MakesFirst, with_columns, new_columns}
 use Rattle.ts_store.specs.ColumnsKept.{Held, columns_in, with_points, point_maps, all_committed}
 use Rattle.ts_store.proofs.ColumnsAside.{ready_of, numbers_distinct, line_columns, all_put, all_committed-length}
@@ -46,8 +44,7 @@ returns-clause-ok g c =
     let cs : List Column = c.prepare_line.new.index.columns in
     let ss : List ColumnState = c.prepare_line.new.columns.items in
     let ns : List ℕ = c.prepare_line.new.touched.items in
-    let same = series_from p c.text.result.now (lent_pairs c.args.tags.now) (c.text.ensures ∙ ap (λ (q : LinePart). q.text) c.measurement.ensures) c.requires.tags in
-    let gains : Gains c.self.inside.index.series c.register.new.self.series (series_of p) = subst (λ (s : Series). Gains c.self.inside.index.series c.register.new.self.series s) same c.in-Ok.ensures.ok in
+    let gains : Gains c.self.inside.index.series c.register.new.self.series (series_of p) = subst (λ (s : Series). Gains c.self.inside.index.series c.register.new.self.series s) c.requires.key c.in-Ok.ensures.registered.gains in
     let us : List RollupState = c.prepare_line.new.rollups in
     let long : length c.prepare_line.new.rollups ≡ c.self.inside.rollups.len = omega (arith, c.prepare_line.auto.rollups, ap length c.as_mut_slice.ensures.value, c.self.inside.rollups.ok.0) in
     let written : (with_items c.self.inside.rollups c.prepare_line.new.rollups).items ≡ c.prepare_line.new.rollups = with_items_is c.self.inside.rollups c.prepare_line.new.rollups long in
@@ -92,8 +89,7 @@ returns-in_err-prepare_line-clause-known g c = known_of c.prepare_line.new.index
 pub returns-in_err-prepare_line-clause-err : goal.returns-in_err-prepare_line-clause-err
 returns-in_err-prepare_line-clause-err g c =
     let p : Parts = c.args.line.now in
-    let same = series_from p c.text.result.now (lent_pairs c.args.tags.now) (c.text.ensures ∙ ap (λ (q : LinePart). q.text) c.measurement.ensures) c.requires.tags in
-    let gains : Gains c.self.inside.index.series c.register.new.self.series (series_of p) = subst (λ (s : Series). Gains c.self.inside.index.series c.register.new.self.series s) same c.in-Ok.ensures.ok in
+    let gains : Gains c.self.inside.index.series c.register.new.self.series (series_of p) = subst (λ (s : Series). Gains c.self.inside.index.series c.register.new.self.series s) c.requires.key c.in-Ok.ensures.registered.gains in
     let before : columns_in c.register.new.self c.self.inside.columns.items ≡ c.args.self.now.columns =
     ap (λ (xs : List Column). with_points xs (point_maps c.self.inside.columns.items)) c.register.ensures.columns ∙ ap (λ (h : Held). h.columns) c.self.view_is in
     let long : length c.prepare_line.new.rollups ≡ c.self.inside.rollups.len = omega (arith, c.prepare_line.auto.rollups, ap length c.as_mut_slice.ensures.value, c.self.inside.rollups.ok.0) in
@@ -112,8 +108,7 @@ returns-in_err-prepare_line-clause-err g c =
 pub returns-in_err-make_rooms-clause-err : goal.returns-in_err-make_rooms-clause-err
 returns-in_err-make_rooms-clause-err g c =
     let p : Parts = c.args.line.now in
-    let same = series_from p c.text.result.now (lent_pairs c.args.tags.now) (c.text.ensures ∙ ap (λ (q : LinePart). q.text) c.measurement.ensures) c.requires.tags in
-    let gains : Gains c.self.inside.index.series c.register.new.self.series (series_of p) = subst (λ (s : Series). Gains c.self.inside.index.series c.register.new.self.series s) same c.in-Ok.ensures.ok in
+    let gains : Gains c.self.inside.index.series c.register.new.self.series (series_of p) = subst (λ (s : Series). Gains c.self.inside.index.series c.register.new.self.series s) c.requires.key c.in-Ok.ensures.registered.gains in
     let before : columns_in c.register.new.self c.self.inside.columns.items ≡ c.args.self.now.columns =
     ap (λ (xs : List Column). with_points xs (point_maps c.self.inside.columns.items)) c.register.ensures.columns ∙ ap (λ (h : Held). h.columns) c.self.view_is in
     let long : length c.prepare_line.new.rollups ≡ c.self.inside.rollups.len = omega (arith, c.prepare_line.auto.rollups, ap length c.as_mut_slice.ensures.value, c.self.inside.rollups.ok.0) in
@@ -170,8 +165,7 @@ returns-in_err-reserve-clause-known g c =
 pub returns-in_err-reserve-clause-err : goal.returns-in_err-reserve-clause-err
 returns-in_err-reserve-clause-err g c =
     let p : Parts = c.args.line.now in
-    let same = series_from p c.text.result.now (lent_pairs c.args.tags.now) (c.text.ensures ∙ ap (λ (q : LinePart). q.text) c.measurement.ensures) c.requires.tags in
-    let gains : Gains c.self.inside.index.series c.register.new.self.series (series_of p) = subst (λ (s : Series). Gains c.self.inside.index.series c.register.new.self.series s) same c.in-Ok.ensures.ok in
+    let gains : Gains c.self.inside.index.series c.register.new.self.series (series_of p) = subst (λ (s : Series). Gains c.self.inside.index.series c.register.new.self.series s) c.requires.key c.in-Ok.ensures.registered.gains in
     let before : columns_in c.register.new.self c.self.inside.columns.items ≡ c.args.self.now.columns =
     ap (λ (xs : List Column). with_points xs (point_maps c.self.inside.columns.items)) c.register.ensures.columns ∙ ap (λ (h : Held). h.columns) c.self.view_is in
     let rolls : c.self.inside.rollups.items ≡ c.args.self.now.rollups = ap (λ (h : Held). h.rollups) c.self.view_is in
@@ -190,7 +184,7 @@ returns-in-Err-clause-err g c =
     ap (λ (xs : List Column). with_points xs (point_maps c.self.inside.columns.items)) c.register.ensures.columns ∙ ap (λ (h : Held). h.columns) c.self.view_is in
     let rolls : c.self.inside.rollups.items ≡ c.args.self.now.rollups = ap (λ (h : Held). h.rollups) c.self.view_is in
     record {
-      series = inl (ap (λ i. i.series) c.in-Err.ensures.err ∙ ap (λ (h : Held). h.series) c.self.view_is);
+      series = inl (c.in-Err.ensures.registered.kept ∙ ap (λ (h : Held). h.series) c.self.view_is);
       columns = record { made = []; others = new_columns (map column_of c.args.self.now.columns) (line_facts p); order = refl; columns = before ∙ sym (append-nil c.args.self.now.columns) };
       rollups = subst (λ (ds : List ColumnPoints). AreRollups c.args.rules.now (map column_of ds) c.self.inside.rollups.items) (sym before)
           (subst (λ (us : List RollupState). AreRollups c.args.rules.now (map column_of c.args.self.now.columns) us) (sym rolls) c.requires.rollups);

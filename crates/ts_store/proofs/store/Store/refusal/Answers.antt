@@ -1,12 +1,11 @@
-use Rattle.std.proofs.Common.{◌≡◌, ◌<◌, ◌≤◌, ◌+◌, ◌^◌, ◌≤ℤ◌, ◌∙◌, ap, sym, length, rules, arith, false}
+use Rattle.std.proofs.Common.{◌≡◌, ◌<◌, ◌≤◌, ◌+◌, ◌^◌, ◌≤ℤ◌, ◌∙◌, ap, sym, length, arith, false}
 use Rattle.std.proofs.lemmas.List.{length-map}
 use Rattle.ts_core.specs.StoreData.{StoreData}
-use Rattle.ts_core.specs.Texts.{lent_pairs}
 use Rattle.ts_line.specs.Parts.{series_of, fact_of, line_facts}
 use Rattle.ts_store.specs.OpenRuns.{kept_data}
 use Rattle.ts_store.specs.Refusals.{write_fault, is_too_many}
 use Rattle.ts_store.proofs.CountsKept.{accepted-few}
-use Rattle.ts_store.proofs.Stands.{not_before, series_from, facts_refused, welcome}
+use Rattle.ts_store.proofs.Stands.{not_before, facts_refused, welcome}
 use Rattle.ts_store.proofs.store.Store.refusal.Goals as goal
 
 pub overflow_sub-self-inside : goal.overflow_sub-self-inside
@@ -20,9 +19,8 @@ returns-then-fields-self g c =
     let inside = c.self.inside in
     let line = c.args.line.now in
     let late : inside.marks.raw ≤ℤ line.time = not_before line.time inside.marks.raw c.time.result c.raw.result c.time.ensures c.raw.ensures (sym c.lt.ensures ∙ c.if-lt.false) in
-    let text : c.text.result.now ≡ line.measurement.text = search rules in
     let registers : is_too_many inside.facts.series (series_of line) ≡ false =
-    sym (ap (is_too_many inside.facts.series) (series_from line c.text.result.now (lent_pairs c.args.tags.now) text c.requires)) ∙ sym c.refuses.ensures ∙ c.if-refuses.false in
+    sym (ap (is_too_many inside.facts.series) c.requires) ∙ sym c.refuses.ensures ∙ c.if-refuses.false in
     let fields = ap length c.fields.ensures.value in
     let facts = length-map line.fields (fact_of line) in
     let many : 2 ^ 62 < inside.accepted + length (line_facts line) = let more = c.if-fields-self.true in omega (arith, fields, facts, more) in
@@ -34,9 +32,8 @@ returns g c =
     let reached = c.self.invariant.reached in
     let line = c.args.line.now in
     let late : inside.marks.raw ≤ℤ line.time = not_before line.time inside.marks.raw c.time.result c.raw.result c.time.ensures c.raw.ensures (sym c.lt.ensures ∙ c.if-lt.false) in
-    let text : c.text.result.now ≡ line.measurement.text = search rules in
     let registers : is_too_many inside.facts.series (series_of line) ≡ false =
-    sym (ap (is_too_many inside.facts.series) (series_from line c.text.result.now (lent_pairs c.args.tags.now) text c.requires)) ∙ sym c.refuses.ensures ∙ c.if-refuses.false in
+    sym (ap (is_too_many inside.facts.series) c.requires) ∙ sym c.refuses.ensures ∙ c.if-refuses.false in
     let fields = ap length c.fields.ensures.value in
     let facts = length-map line.fields (fact_of line) in
     let all = accepted-few reached.opening reached.history (kept_data inside.settings inside.marks inside.accepted inside.facts inside.run) reached.stands in

@@ -2,6 +2,7 @@ use Rattle.std.proofs.Common.{◌≡◌, ◌+◌, ◌≤◌, sym, ◌∙◌, ap,
 use Rattle.std.proofs.lemmas.List.{length-map}
 use Rattle.std.proofs.lemmas.Result.{err_from_is_err_and}
 use Rattle.ts_core.specs.Settings.{Rule}
+use Rattle.ts_core.specs.Texts.{lent_pairs}
 use Rattle.ts_core.specs.StoreStates.{column_of}
 use Rattle.ts_core.specs.StoreData.{StoreData}
 use Rattle.ts_line.specs.Parts.{LinePart, Parts, fact_of, line_facts}
@@ -9,8 +10,18 @@ use Rattle.ts_store.specs.LinesPut.{PutsLine, GrowsForLine, Accepts, Leaves}
 use Rattle.ts_store.specs.OpenRuns.{IsKept, kept_data}
 use Rattle.ts_store.specs.Refusals.{write_fault}
 use Rattle.ts_store.specs.Rollups.{AreRollups}
-use Rattle.ts_store.proofs.Stands.{accepted_by, left_by, kept_left, kept_accepted, not_refused, taken_from}
+use Rattle.ts_store.proofs.Stands.{series_from, accepted_by, left_by, kept_left, kept_accepted, not_refused, taken_from}
 use Rattle.ts_store.proofs.store.Store.write_tagged.Goals as goal
+
+pub refusal-requires : goal.refusal-requires
+refusal-requires g c =
+    c.new-key.ensures
+    ∙ series_from c.args.line.now c.text.result.now (lent_pairs c.args.tags.now) (c.text.ensures ∙ ap (λ (q : LinePart). q.text) c.measurement.ensures) c.requires.tags
+
+pub put_line-requires-clause-key : goal.put_line-requires-clause-key
+put_line-requires-clause-key g c =
+    c.new-key.ensures
+    ∙ series_from c.args.line.now c.text.result.now (lent_pairs c.args.tags.now) (c.text.ensures ∙ ap (λ (q : LinePart). q.text) c.measurement.ensures) c.requires.tags
 
 pub put_line-requires-clause-few : goal.put_line-requires-clause-few
 put_line-requires-clause-few g c =

@@ -1,4 +1,4 @@
-use Rattle.std.proofs.Common.{◌≡◌, ℕ, List, [], ◌∷◌, ◌++◌, length, cond, is_ok, inl, refl, sym, ◌∙◌, ap, subst, rules}
+use Rattle.std.proofs.Common.{◌≡◌, ℕ, List, [], ◌∷◌, ◌++◌, length, cond, is_ok, inl, inr, refl, sym, ◌∙◌, ap, subst, rules}
 use Rattle.ts_core.specs.Members.{Among}
 use Rattle.ts_raw.specs.FieldKeys.{FieldKey, field_key, hash_of_field}
 use Rattle.ts_core.specs.Numbered.{IsAt}
@@ -8,9 +8,15 @@ use Rattle.ts_core.proofs.TableLemmas.{table_more}
 use Rattle.ts_raw.proofs.index.fields.FieldTable.register.Given.{Over}
 use Rattle.ts_raw.proofs.index.fields.FieldTable.register.Goals as goal
 
-pub returns-in-Some-clause-ok : goal.returns-in-Some-clause-ok
-returns-in-Some-clause-ok g c =
-    let key : FieldKey = field_key c.args.measurement.now c.args.field.now in inl (at_among c.args.self.now c.in-Some.number key c.in-Some.ensures.found, refl)
+pub returns-in-Some-clause-registered : goal.returns-in-Some-clause-registered
+returns-in-Some-clause-registered g c =
+    let key : FieldKey = field_key c.args.measurement.now c.args.field.now in
+    record {
+      number = search rules;
+      gains = inl (at_among c.args.self.now c.in-Some.number key c.in-Some.ensures.found, refl);
+      known = search rules;
+      kept = search rules;
+    }
 
 -- the key stands behind the others
 pushed : (g : Over) (c : goal.After-unwrap g) → c.push-2.new.self.items ≡ c.self.inside.keys.items ++ field_key c.args.measurement.now c.args.field.now ∷ []
@@ -29,12 +35,17 @@ invariant_of-self-2 g c =
     subst (λ (xs : List FieldKey). IsTable hash_of_field xs c.push.new.self) (sym (pushed g c))
     (subst (IsTable hash_of_field (before ++ key ∷ [])) (sym hashed) (table_more hash_of_field before hashes key c.self.invariant absent))
 
-pub returns-clause-number : goal.returns-clause-number
-returns-clause-number g c =
+pub returns-clause-registered : goal.returns-clause-registered
+returns-clause-registered g c =
     let key : FieldKey = field_key c.args.measurement.now c.args.field.now in
     let before : List FieldKey = c.self.inside.keys.items in
     let number : c.in_ok-number.number ≡ length before = search rules in
-    subst (λ (xs : List FieldKey). IsAt xs c.in_ok-number.number key) (sym (pushed g c)) (subst (λ n. IsAt (before ++ key ∷ []) n key) (sym number) (at_end before key))
+    record {
+      number = subst (λ (xs : List FieldKey). IsAt xs c.in_ok-number.number key) (sym (pushed g c)) (subst (λ n. IsAt (before ++ key ∷ []) n key) (sym number) (at_end before key));
+      gains = inr (c.in_default.ensures.absent, pushed g c ∙ ap (λ (xs : List FieldKey). xs ++ key ∷ []) c.self.view_is);
+      known = search rules;
+      kept = search rules;
+    }
 
 pub returns-clause-once : goal.returns-clause-once
 returns-clause-once g c = (invariant_of-self-2 g c).once

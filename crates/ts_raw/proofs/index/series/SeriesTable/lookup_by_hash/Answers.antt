@@ -1,7 +1,6 @@
 use Rattle.std.proofs.Common.{◌≡◌, ℕ, ◌+◌, ◌<◌, List, length, subst, sym, ◌∙◌, rules, Option, None, get_or}
 use Rattle.ts_core.specs.Members.{Among}
 use Rattle.ts_core.specs.Facts.{Series}
-use Rattle.ts_core.specs.Texts.{lent_series}
 use Rattle.ts_raw.specs.Hashes.{hash_of_series}
 use Rattle.ts_core.specs.Numbered.{IsAt}
 use Rattle.ts_core.proofs.ChainSearches.{IsSearched, search_within, places_left, places_fall}
@@ -12,9 +11,9 @@ use Rattle.ts_raw.proofs.index.series.SeriesTable.lookup_by_hash.Goals as goal
 abbrev Sought : List Series → List ℕ → Series → Option ℕ → Type 0
 Sought series hashes key next = IsSearched hashes (hash_of_series key) (λ (n : ℕ). IsAt series n key) next
 
-pub index-key-requires : goal.index-key-requires
-index-key-requires g c =
-    let key : Series = lent_series c.args.measurement.now c.args.tags.now in
+pub index-other-requires : goal.index-other-requires
+index-other-requires g c =
+    let key : Series = c.args.key.now in
     let series : List Series = c.self.inside.keys.items in
     let hashes : List ℕ = c.self.inside.chains in
     let within : c.in-Some.at < length series =
@@ -23,17 +22,17 @@ index-key-requires g c =
 
 pub returns-then-eq-clause-found : goal.returns-then-eq-clause-found
 returns-then-eq-clause-found g c =
-    let key : Series = lent_series c.args.measurement.now c.args.tags.now in
+    let key : Series = c.args.key.now in
     let series : List Series = c.self.inside.keys.items in
     let hashes : List ℕ = c.self.inside.chains in
     let within : c.in-Some.at < length series =
     sought_within hash_of_series series hashes c.self.invariant key c.in-Some.at (subst (Sought series hashes key) c.in-Some.is c.loop-next.invariant) in
-    let same : c.index-key.result.now ≡ key = same_series c.index-key.result.now key c.compare.result c.compare.ensures (sym c.eq.ensures ∙ c.if-eq.true) in
-    subst (λ (all : List Series). IsAt all c.in-Some.at key) c.self.view_is (found_at series c.in-Some.at c.index-key.result.now key within c.index-key.ensures same)
+    let same : c.index-other.result.now ≡ key = same_series c.index-other.result.now key c.compare.result c.compare.ensures (sym c.eq.ensures ∙ c.if-eq.true) in
+    subst (λ (all : List Series). IsAt all c.in-Some.at key) c.self.view_is (found_at series c.in-Some.at c.index-other.result.now key within c.index-other.ensures same)
 
 pub older-next-requires : goal.older-next-requires
 older-next-requires g c =
-    let key : Series = lent_series c.args.measurement.now c.args.tags.now in
+    let key : Series = c.args.key.now in
     let series : List Series = c.self.inside.keys.items in
     let hashes : List ℕ = c.self.inside.chains in
     search_within hashes (hash_of_series key) (λ (n : ℕ). IsAt series n key) c.in-Some.at (subst (Sought series hashes key) c.in-Some.is c.loop-next.invariant)
@@ -46,18 +45,18 @@ loop-next-smaller g c =
 
 pub loop-next-preserved : goal.loop-next-preserved
 loop-next-preserved g c =
-    let key : Series = lent_series c.args.measurement.now c.args.tags.now in
+    let key : Series = c.args.key.now in
     let series : List Series = c.self.inside.keys.items in
     let hashes : List ℕ = c.self.inside.chains in
-    let other : c.index-key.result.now ≡ key → ⊥ =
-    other_series c.index-key.result.now key c.compare.result c.compare.ensures (sym c.eq.ensures ∙ c.if-eq.false) in
+    let other : c.index-other.result.now ≡ key → ⊥ =
+    other_series c.index-other.result.now key c.compare.result c.compare.ensures (sym c.eq.ensures ∙ c.if-eq.false) in
     subst (Sought series hashes key) (sym c.older-next.ensures)
-    (sought_on hash_of_series series hashes c.self.invariant key c.in-Some.at c.index-key.result.now c.index-key.ensures other
+    (sought_on hash_of_series series hashes c.self.invariant key c.in-Some.at c.index-other.result.now c.index-other.ensures other
     (subst (Sought series hashes key) c.in-Some.is c.loop-next.invariant))
 
 pub returns-clause-absent : goal.returns-clause-absent
 returns-clause-absent g c =
-    let key : Series = lent_series c.args.measurement.now c.args.tags.now in
+    let key : Series = c.args.key.now in
     let series : List Series = c.self.inside.keys.items in
     let hashes : List ℕ = c.self.inside.chains in
     let ended : c.loop-next.next ≡ None = search rules in
