@@ -4,3 +4,6 @@ pub mod Times
 pub mod Answered
 pub mod OneText
 pub mod Appended
+pub mod PlainTexts
+pub mod RowTexts
+pub mod SeriesParts

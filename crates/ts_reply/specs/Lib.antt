@@ -3,6 +3,7 @@ pub mod Epochs
 pub mod Outcomes
 pub mod Told
 pub mod Replies
+pub mod SeriesTexts
 pub mod Appending
 pub mod Answering
 pub mod Explaining
