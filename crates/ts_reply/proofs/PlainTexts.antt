@@ -1,5 +1,5 @@
 -- A text whose bytes stand for themselves is quoted as it is.
-use Rattle.std.proofs.Common.{◌≡◌, ◌==◌, true, List, [], ◌∷◌, ◌++◌, codes, ap, ◌∙◌, sym, refl, append_assoc}
+use Rattle.std.proofs.Common.{◌≡◌, ◌==◌, true, [], ◌∷◌, ◌++◌, codes, ap, ◌∙◌, sym, refl, append_assoc}
 use Rattle.std.proofs.lemmas.Bool.{or_parts, and_parts, not-true, eqb-false, ltb-false}
 use Rattle.std.specs.List.{list_all}
 use Rattle.json.specs.Print.{escape, quoted}

@@ -1,7 +1,6 @@
 -- The text of a row, and of values, part by part.
-use Rattle.std.proofs.Common.{◌≡◌, ℤ, true, List, [], ◌∷◌, ◌++◌, map, codes, ap, ◌∙◌, sym, refl, append_assoc}
-use Rattle.json.specs.Print.{quoted}
-use Rattle.serde_json.specs.Data.{Data, array, item}
+use Rattle.std.proofs.Common.{◌≡◌, true, List, ◌∷◌, ◌++◌, map, codes, ap, ◌∙◌, refl, append_assoc}
+use Rattle.serde_json.specs.Data.{array, item}
 use Rattle.serde_json.specs.View.{items_of}
 use Rattle.serde_json.specs.Written.{compact_text, items_text}
 use Rattle.ts_core.specs.Facts.{Text}

@@ -2,7 +2,7 @@
 use Rattle.std.proofs.Common.{◌≡◌, List, [], ◌∷◌, ◌++◌, codes, ap, ◌∙◌, sym, refl, append_assoc}
 use Rattle.json.specs.Print.{quoted}
 use Rattle.serde_json.proofs.OnLiterals.{serde_json_on_literals}
-use Rattle.serde_json.specs.Data.{Data, array, object, string, Items, member, no_members}
+use Rattle.serde_json.specs.Data.{Data, array, Items}
 use Rattle.serde_json.specs.Written.{compact_text}
 use Rattle.ts_core.specs.Facts.{Text}
 use Rattle.ts_core.specs.Fills.{FilledGroup}

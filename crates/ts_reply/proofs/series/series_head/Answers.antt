@@ -1,4 +1,4 @@
-use Rattle.std.proofs.Common.{rules, ◌≡◌, ap, ◌∙◌}
+use Rattle.std.proofs.Common.{rules, ◌≡◌}
 use Rattle.serde_json.specs.View.{view}
 use Rattle.ts_reply.specs.Replies.{columns_data}
 use Rattle.ts_reply.proofs.Floats.{columns_without}

@@ -1,4 +1,4 @@
-use Rattle.std.proofs.Common.{rules, ◌≡◌, ◌++◌, ap, ◌∙◌, string_bytes, OnOk}
+use Rattle.std.proofs.Common.{rules, ◌≡◌, ◌++◌, string_bytes, OnOk}
 use Rattle.std.proofs.lemmas.Result.{on_ok_weaker}
 use Rattle.json.specs.Print.{quoted}
 use Rattle.ts_reply.specs.Replies.{is_valid_time}
