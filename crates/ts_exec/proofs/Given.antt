@@ -8,7 +8,7 @@ use Rattle.ts_core.specs.Aggregates.{Aggregate, empty_aggregate, merged, aggrega
 use Rattle.ts_core.specs.MergeLaws.{aggregate_laws}
 use Rattle.ts_core.specs.Settings.{Settings}
 use Rattle.ts_core.specs.SettingsFaults.{settings_fault}
-use Rattle.ts_core.specs.History.{History, accepted, Line, Begin, Step, IsLawful}
+use Rattle.ts_core.specs.History.{History, accepted}
 use Rattle.ts_core.specs.Latest.{others, latest, latest_of}
 use Rattle.ts_core.specs.Queries.{Query, IsQuery, matches}
 use Rattle.ts_core.specs.Answers.{Group, same_group, numbers_from, bucket_in, buckets_in, all_groups, is_in_row, at_least_none, answer_of}

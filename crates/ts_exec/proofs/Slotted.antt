@@ -1,7 +1,8 @@
 -- Expected groups in order: what a search finds, what an edit there does, and which of them have data.
-use Rattle.std.proofs.Common.{◌≡◌, ℕ, ◌<◌, ◌≤◌, T, List, [], ◌∷◌, length, get_or, set, insert, refl, sym, ◌∙◌, ap, subst, Option, Some, None, Result, Ok, Err, Ordering, Less, Greater, Bool, true, false, cond, is_eq, is_lt, ◌&&◌, zero, suc, arith}
-use Rattle.std.specs.Ordering.{ordering_reverse}
+use Rattle.std.proofs.Common.{◌≡◌, ℕ, ◌<◌, ◌≤◌, T, List, [], ◌∷◌, length, get_or, set, insert, refl, sym, ◌∙◌, ap, subst, Option, Some, None, ◌-◌, Result, Ok, Err, Ordering, Less, Equal, Greater, Bool, true, false, cond, is_eq, is_lt, ◌&&◌, zero, suc, arith}
+use Rattle.std.specs.Ordering.{ordering_index, ordering_reverse}
 use Rattle.std.specs.List.{AllWithin}
+use Rattle.std.proofs.lemmas.List.{get_or_default}
 use Rattle.std.proofs.lemmas.List.Edits.{length-insert, get_or-insert_at}
 use Rattle.std.proofs.lemmas.Cmp.{tied_itself}
 use Rattle.std.specs.FinMap.{find, put, is_sorted}
@@ -24,6 +25,25 @@ Slot = List Text × Option (List Aggregate)
 pub found_place : (slots : Slots) → AreSlots slots → (g : List Text) (r : Result ℕ ℕ) → IsBinarySearchResult (λ (e : Slot). group_cmp e.0 g) slots r → IsPlaceOfGroup g slots r
 found_place slots s g (Ok i) h = h
 found_place slots s g (Err i) h = h (rises groups_total slots s g)
+
+index_less : (o : Ordering) → ordering_index o ≤ 0 → o ≡ Less
+index_less Less h = refl
+index_less Equal h = absurd (omega arith)
+index_less Greater h = absurd (omega arith)
+
+-- where the last one is less than the group, all are
+pub behind_all : (slots : Slots) → AreSlots slots → (g : List Text) (last : Slot) → 0 < length slots → get_or slots (length slots - 1) last ≡ last → group_cmp last.0 g ≡ Less → IsPlaceOfGroup g slots (Err (length slots))
+behind_all slots s g last some is less = (
+  λ j d a b.
+      let end : get_or slots (length slots - 1) d ≡ last = get_or_default slots (length slots - 1) d last (omega arith) ∙ is in
+      let none : ordering_index (group_cmp (get_or slots (length slots - 1) d).0 g) ≡ 0 = ap (λ (e : Slot). ordering_index (group_cmp e.0 g)) end ∙ ap ordering_index less in
+      let rising = rises groups_total slots s g j (length slots - 1) d (omega arith) (omega arith) in
+      index_less _ (omega (arith, none, rising)),
+  λ j d a b. absurd (omega arith),
+)
+
+pub behind_none : (slots : Slots) (g : List Text) → length slots ≡ 0 → IsPlaceOfGroup g slots (Err (length slots))
+behind_none slots g none = (λ j d a b. absurd (omega arith), λ j d a b. absurd (omega arith))
 
 other : (x : Slot) (g : List Text) (a : Ordering) → group_cmp x.0 g ≡ a → is_eq (ordering_reverse a) ≡ false → same_group g x.0 ≡ false
 other x g a e n = ap is_eq (groups_total.antisymm g x.0 ∙ ap ordering_reverse e) ∙ n

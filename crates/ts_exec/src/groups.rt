@@ -1,5 +1,5 @@
 //! Groups with their rows.
-ghost use Rattle.std.specs.Prelude.{◌≡◌, true, [], length, OnOk, IfOk};
+ghost use Rattle.std.specs.Prelude.{◌≡◌, true, [], length, Err, OnOk, IfOk};
 ghost use Rattle.std.specs.List.Sorted.{IsSearchInRange};
 ghost use Rattle.ts_exec.specs.Lent.{lent};
 ghost use Rattle.ts_exec.specs.Searches.{IsPlaceOfGroup, HoldsGroup};
@@ -48,12 +48,26 @@ impl<'a, A: Allocator> GroupRows<'a, A> {
     }
 }
 
-/// Where a group is, or where it would go.
+/// Whether a group goes behind all others.
+fn is_behind<A: Allocator + Copy>(slots: &[Slot<'_, A>], values: &[&str]) -> bool
+    requires { AreSlots slots.now }
+    ensures { result ≡ true → IsPlaceOfGroup (lent values.now) slots.now (Err (length slots.now)) }
+{
+    match slots.last() {
+        Some(slot) => slot.compare(values) == Ordering::Less,
+        None => true,
+    }
+}
+
+/// Where a group is, or where it would go. Groups that are told in their order go behind all others.
 fn place_of<A: Allocator + Copy>(slots: &[Slot<'_, A>], values: &[&str]) -> Result<usize, usize>
     requires { AreSlots slots.now }
     ensures bound { IsSearchInRange result (length slots.now) }
     ensures place { IsPlaceOfGroup (lent values.now) slots.now result }
 {
+    if is_behind(slots, values) {
+        return Err(slots.len());
+    }
     slots.binary_search_by(|slot| slot.compare(values))
 }
 

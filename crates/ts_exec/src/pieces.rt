@@ -60,25 +60,6 @@ fn read_values<'a, A: Allocator + Copy>(
     Ok(())
 }
 
-/// The groups of the columns that a query selects, in byte order, each with the number of its column among these.
-fn expected_groups<'a, A: Allocator + Copy + 'a, V: View<A> + 'a>(
-    alloc: A,
-    query: &Query<A>,
-    view: &'a V,
-) -> Result<Vec<(Vec<&'a str, A>, usize), A>, AllocError> {
-    let mut expected: Vec<(Vec<&'a str, A>, usize), A> = Vec::new(alloc);
-    for column in view.columns_of(query.measurement(), query.field()) {
-        if are_met(column.key, query.conditions()) {
-            let mut values = Vec::new(alloc);
-            read_values(&mut values, column.key, query.group_tags())?;
-            let number = expected.len();
-            expected.push((values, number))?;
-        }
-    }
-    expected.sort()?;
-    Ok(expected)
-}
-
 /// Announces the groups of the columns that a query selects, in byte order, so that none is put before many others
 /// later. Where each is to come, by its column.
 fn expect_groups<'a, A: Allocator + Copy + 'a, V: View<A> + 'a>(
@@ -89,7 +70,16 @@ fn expect_groups<'a, A: Allocator + Copy + 'a, V: View<A> + 'a>(
 ) -> Result<Vec<usize, A>, AllocError>
     ensures { groups.new ≡ groups.old }
 {
-    let expected = expected_groups(alloc, query, view)?;
+    let mut expected: Vec<(Vec<&'a str, A>, usize), A> = Vec::new(alloc);
+    for column in view.columns_of(query.measurement(), query.field()) {
+        if are_met(column.key, query.conditions()) {
+            let mut values = Vec::new(alloc);
+            read_values(&mut values, column.key, query.group_tags())?;
+            let number = expected.len();
+            expected.push((values, number))?;
+        }
+    }
+    expected.sort()?;
     let mut places = Vec::from_elem(alloc, 0usize, expected.len())?;
     for (values, number) in &expected {
         let at = groups.expect(values.as_slice())?;

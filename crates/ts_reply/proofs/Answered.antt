@@ -1,13 +1,8 @@
 -- What becomes of a query, by what a plan gives of a store.
-use Rattle.std.proofs.Common.{◌≡◌, ℕ, List, [], ◌∷◌, length, Result, Ok, Err, Some, false, true≢false, refl, sym, ap, ◌∙◌, subst}
-use Rattle.std.specs.Prelude.{◌==◌, codes}
-use Rattle.serde_json.specs.Data.{Data, array}
-use Rattle.serde_json.specs.View.{items_view}
-use Rattle.serde_json.specs.declared.value.Value.{Value}
+use Rattle.std.proofs.Common.{◌≡◌, List, Result, Ok, Err, Some, refl, sym, ap, ◌∙◌, subst}
 use Rattle.ts_core.proofs.Validity.{first_fault-not_valid}
 use Rattle.ts_core.specs.Facts.{Text}
 use Rattle.ts_core.specs.Faults.{first_fault}
-use Rattle.ts_core.specs.Fills.{FilledGroup}
 use Rattle.ts_core.specs.declared.fill.Fill.{Fill}
 use Rattle.ts_core.specs.Answers.{answer_of}
 use Rattle.ts_core.specs.History.{History, settings_of}
@@ -37,9 +32,7 @@ use Rattle.ts_ql.specs.Selects.{Select}
 use Rattle.ts_reply.specs.Answering.{IsPlannedOutcome, answered, refused, IsChecked, invalid, valid, IsCertified, misspelled}
 use Rattle.ts_reply.specs.Explaining as explaining
 use Rattle.ts_reply.specs.Explaining.{IsExplained}
-use Rattle.ts_reply.specs.declared.epoch.Epoch.{Epoch}
-use Rattle.ts_reply.specs.Outcomes.{Outcome, Rows, Certificate, Fault, rows_outcome, rows_over}
-use Rattle.ts_reply.specs.Replies.{AreEach, IsSeriesData, result_of, IsResultData}
+use Rattle.ts_reply.specs.Outcomes.{Outcome, Certificate, Fault, rows_outcome, rows_over}
 
 pub rows_shown : (k : StoreData) (s : Select) (fill : Fill) (plan : Plan) (table : Answered) (r : FilledAnswer)
     → ShowsEach k → plan.select ≡ s → fill ≡ s.fill → IsAnswer (seen_of (state_of k)) plan table → r ≡ filled_answer fill table

@@ -22,7 +22,7 @@ pub if_pushed : {T E : Type 0} (r : Result T E) (new pushed old : Text) → new 
 if_pushed (Ok x) new pushed old e = e
 if_pushed (Err x) new pushed old e = tt
 
--- ---- groups
+-- ---- items
 
 -- each behind a comma
 abbrev pub behind_commas : List Data → Text
@@ -32,49 +32,56 @@ items_closed : (ds : List Data) → items_text true (items_of ds) ≡ behind_com
 items_closed [] = refl
 items_closed (d ∷ ds) = ap (λ (t : Text). 44 ∷ (compact_text d ++ t)) (items_closed ds) ∙ ap (λ (t : Text). 44 ∷ t) (sym (append_assoc (compact_text d) (behind_commas ds) (93 ∷ [])))
 
--- of all groups some are left, and the text of the others was appended
-pub record IsTold (epoch : Epoch) (s : Select) (all left : List FilledGroup) (old new : Text) : Type 0 where
-  pub done : List FilledGroup
+-- of all elements some are left, and the text of the others was appended
+pub record IsTold {X : Type 0} (Is : X → Data → Type 0) (all left : List X) (old new : Text) : Type 0 where
+  pub done : List X
   pub told : List Data
   pub parts : done ++ left ≡ all
-  pub each : AreEach (IsSeriesData epoch s) done (items_of told)
+  pub each : AreEach Is done (items_of told)
   pub appended : new ≡ old ++ behind_commas told
 
-pub none_told : (epoch : Epoch) (s : Select) (all left : List FilledGroup) (old : Text) → left ≡ all → IsTold epoch s all left old old
-none_told epoch s all left old e = record { done = []; told = []; parts = e; each = tt; appended = sym (append-nil old) }
+pub none_told : {X : Type 0} (Is : X → Data → Type 0) (all left : List X) (old : Text) → left ≡ all → IsTold Is all left old old
+none_told Is all left old e = record { done = []; told = []; parts = e; each = tt; appended = sym (append-nil old) }
 
 comma_regrouped : (o t c : Text) → ((o ++ t) ++ codes ",") ++ c ≡ o ++ (t ++ ((44 ∷ c) ++ []))
 comma_regrouped o t c = simp (append_assoc, append-nil)
 
-pub one_more_told : (epoch : Epoch) (s : Select) (all : List FilledGroup) (g : FilledGroup) (left : List FilledGroup) (old new comma newer : Text)
-    → IsTold epoch s all (g ∷ left) old new → comma ≡ new ++ codes "," → AppendsData (IsSeriesData epoch s g) comma newer → IsTold epoch s all left old newer
-one_more_told epoch s all g left old new comma newer t e a = record {
-  done = t.done ++ g ∷ [];
+pub one_more_told : {X : Type 0} (Is : X → Data → Type 0) (all : List X) (x : X) (left : List X) (old new comma newer : Text)
+    → IsTold Is all (x ∷ left) old new → comma ≡ new ++ codes "," → AppendsData (Is x) comma newer → IsTold Is all left old newer
+one_more_told {X} Is all x left old new comma newer t e a = record {
+  done = t.done ++ x ∷ [];
   told = t.told ++ a.told ∷ [];
-  parts = append_assoc t.done (g ∷ []) left ∙ t.parts;
-  each = each_more (IsSeriesData epoch s) t.done t.told g a.told t.each a.is;
-  appended = a.appended ∙ ap (λ (x : Text). x ++ compact_text a.told) (e ∙ ap (λ (x : Text). x ++ codes ",") t.appended)
-      ∙ comma_regrouped old (behind_commas t.told) (compact_text a.told) ∙ ap (λ (x : Text). old ++ x) (sym (flat_map-append (λ (d : Data). 44 ∷ compact_text d) t.told (a.told ∷ [])));
+  parts = append_assoc t.done (x ∷ []) left ∙ t.parts;
+  each = each_more Is t.done t.told x a.told t.each a.is;
+  appended = a.appended ∙ ap (λ (y : Text). y ++ compact_text a.told) (e ∙ ap (λ (y : Text). y ++ codes ",") t.appended)
+      ∙ comma_regrouped old (behind_commas t.told) (compact_text a.told) ∙ ap (λ (y : Text). old ++ y) (sym (flat_map-append (λ (d : Data). 44 ∷ compact_text d) t.told (a.told ∷ [])));
 }
 
-pub all_told : (epoch : Epoch) (s : Select) (all : List FilledGroup) (old new newer : Text) → IsTold epoch s all [] old new → newer ≡ new ++ codes "]" → AppendsItems (AreEach (IsSeriesData epoch s) all) true old newer
-all_told epoch s all old new newer t e = record {
+pub all_told : {X : Type 0} (Is : X → Data → Type 0) (all : List X) (old new newer : Text) → IsTold Is all [] old new → newer ≡ new ++ codes "]" → AppendsItems (AreEach Is all) true old newer
+all_told {X} Is all old new newer t e = record {
   told = items_of t.told;
-  are = subst (λ (gs : List FilledGroup). AreEach (IsSeriesData epoch s) gs (items_of t.told)) (sym (append-nil t.done) ∙ t.parts) t.each;
-  appended = e ∙ ap (λ (x : Text). x ++ codes "]") t.appended ∙ append_assoc old (behind_commas t.told) (codes "]") ∙ ap (λ (x : Text). old ++ x) (sym (items_closed t.told));
+  are = subst (λ (xs : List X). AreEach Is xs (items_of t.told)) (sym (append-nil t.done) ∙ t.parts) t.each;
+  appended = e ∙ ap (λ (y : Text). y ++ codes "]") t.appended ∙ append_assoc old (behind_commas t.told) (codes "]") ∙ ap (λ (y : Text). old ++ y) (sym (items_closed t.told));
 }
 
 bracket_regrouped : (o c t : Text) → ((o ++ codes "[") ++ c) ++ t ≡ o ++ (91 ∷ (c ++ t))
 bracket_regrouped o c t = simp append_assoc
 
-pub series_appended : (epoch : Epoch) (s : Select) (g : FilledGroup) (gs : List FilledGroup) (old a b new : Text)
-    → a ≡ old ++ codes "[" → AppendsData (IsSeriesData epoch s g) a b → AppendsItems (AreEach (IsSeriesData epoch s) gs) true b new
-    → AppendsData (IsArray (AreEach (IsSeriesData epoch s) (g ∷ gs))) old new
-series_appended epoch s g gs old a b new e first others = record {
+pub array_appended : {X : Type 0} (Is : X → Data → Type 0) (x : X) (xs : List X) (old a b new : Text)
+    → a ≡ old ++ codes "[" → AppendsData (Is x) a b → AppendsItems (AreEach Is xs) true b new
+    → AppendsData (IsArray (AreEach Is (x ∷ xs))) old new
+array_appended Is x xs old a b new e first others = record {
   told = array (item first.told others.told);
   is = record { items = item first.told others.told; are = (first.is, others.are); is = refl };
-  appended = others.appended ∙ ap (λ (x : Text). x ++ items_text true others.told) (first.appended ∙ ap (λ (x : Text). x ++ compact_text first.told) e)
+  appended = others.appended ∙ ap (λ (y : Text). y ++ items_text true others.told) (first.appended ∙ ap (λ (y : Text). y ++ compact_text first.told) e)
       ∙ bracket_regrouped old (compact_text first.told) (items_text true others.told);
+}
+
+pub no_items_appended : {X : Type 0} (Is : X → Data → Type 0) (all : List X) (old new : Text) → all ≡ [] → new ≡ old ++ codes "[]" → AppendsData (IsArray (AreEach Is all)) old new
+no_items_appended {X} Is all old new none e = record {
+  told = array no_items;
+  is = record { items = no_items; are = subst (λ (xs : List X). AreEach Is xs no_items) (sym none) tt; is = refl };
+  appended = e;
 }
 
 -- ---- results

@@ -1,9 +1,8 @@
 -- One element more, behind those that have their items.
 use Rattle.std.proofs.Common.{◌≡◌, ℕ, ◌+◌, ◌<◌, List, [], ◌∷◌, ◌++◌, length, map, take, get_or, sym, ap, ◌∙◌, subst}
-use Rattle.std.proofs.lemmas.List.{map-append, take_more}
+use Rattle.std.proofs.lemmas.List.{take_more}
 use Rattle.serde_json.specs.Data.{Data}
-use Rattle.serde_json.specs.View.{view, items_of, items_view}
-use Rattle.serde_json.specs.declared.value.Value.{Value}
+use Rattle.serde_json.specs.View.{items_of}
 use Rattle.ts_ql.specs.Selects.{Select}
 use Rattle.ts_reply.specs.Answering.{AreOutcomes}
 use Rattle.ts_reply.specs.Outcomes.{Outcome}
@@ -14,10 +13,6 @@ each_more P [] [] x d h p = (p, tt)
 each_more P [] (e ∷ ds) x d h p = absurd h
 each_more P (y ∷ ys) [] x d h p = absurd h
 each_more P (y ∷ ys) (e ∷ ds) x d h p = (h.0, each_more P ys ds x d h.1 p)
-
-pub each_pushed : {X : Type 0} (P : X → Data → Type 0) (xs : List X) (vs : List Value) (x : X) (v : Value) → AreEach P xs (items_view vs) → P x (view v) → AreEach P (xs ++ x ∷ []) (items_view (vs ++ v ∷ []))
-each_pushed P xs vs x v h p =
-    subst (λ (ds : List Data). AreEach P (xs ++ x ∷ []) (items_of ds)) (sym (map-append view vs (v ∷ []))) (each_more P xs (map view vs) x (view v) h p)
 
 outcomes_pushed : {X : Type 0} (told : X → Outcome) (Becomes : Select → Outcome → Type 0) (ss : List Select) (xs : List X) (s : Select) (x : X)
     → AreOutcomes Becomes ss (map told xs) → Becomes s (told x) → AreOutcomes Becomes (ss ++ s ∷ []) (map told (xs ++ x ∷ []))

@@ -4,6 +4,10 @@ pub mod Each
 -- Replies, Appending: texts part by part
 pub mod Appended
 pub mod Floats
+-- SeriesTexts: texts of series and rows
+pub mod SeriesParts
+pub mod RowTexts
+pub mod PlainTexts
 -- TimeTexts: how a time is told
 pub mod OneText
 pub mod Times

@@ -1,14 +1,15 @@
 -- How a time is told.
-use Rattle.std.proofs.Common.{◌≡◌, ℤ, Bool, true, false, subst, sym, true≢false}
+use Rattle.std.proofs.Common.{◌≡◌, ℤ, Bool, true, false, ◌++◌, subst, sym, refl, true≢false}
+use Rattle.json.specs.Print.{quoted}
 use Rattle.serde_json.specs.Data.{Data, string}
 use Rattle.ts_core.specs.Facts.{Text}
-use Rattle.ts_reply.specs.Replies.{integer_data, IsTextOrCount}
+use Rattle.ts_reply.specs.Appending.{AppendsData}
+use Rattle.ts_reply.specs.Replies.{IsTextOrCount}
 use Rattle.ts_reply.specs.TimeTexts.{IsTimeText}
 
-pub text_told : (valid : Bool) (t time : ℤ) (text : Text) (d : Data) → time ≡ t → valid ≡ true → IsTimeText time text → d ≡ string text → IsTextOrCount valid t d
+text_told : (valid : Bool) (t time : ℤ) (text : Text) (d : Data) → time ≡ t → valid ≡ true → IsTimeText time text → d ≡ string text → IsTextOrCount valid t d
 text_told true t time text d e v h is = (text, subst (λ (z : ℤ). IsTimeText z text) e h, is)
 text_told false t time text d e v h is = absurd (true≢false (sym v))
 
-pub count_told : (valid : Bool) (t : ℤ) (d : Data) → valid ≡ false → d ≡ integer_data t → IsTextOrCount valid t d
-count_told true t d v is = absurd (true≢false v)
-count_told false t d v is = is
+pub text_appended : (valid : Bool) (t time : ℤ) (words old new : Text) → time ≡ t → valid ≡ true → IsTimeText time words → new ≡ old ++ quoted words → AppendsData (IsTextOrCount valid t) old new
+text_appended valid t time words old new e v h is = record { told = string words; is = text_told valid t time words (string words) e v h refl; appended = is }

@@ -7,4 +7,5 @@ pub mod Replies
 pub mod Answering
 pub mod Explaining
 -- what only models and proofs of the code need
+pub mod SeriesTexts
 pub mod Appending

@@ -23,6 +23,7 @@ mod reply;
 mod results;
 mod rows;
 mod series;
+mod text;
 mod value;
 
 pub use answering::{Reply, answer};

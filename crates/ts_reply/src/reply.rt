@@ -1,17 +1,17 @@
-//! Replies. Their text is made part by part, so that of a series the JSON value lives only until its text stands.
+//! Replies. Their text is made part by part: what comes once in a statement as JSON values, the series and their rows straight as text.
 ghost use Rattle.std.specs.Prelude.{◌≡◌, ◌+◌, ◌<◌, ◌^◌, ◌∷◌, ◌++◌, true, false, length, map, nat_lt, IfOk, OnOk, string_bytes};
-ghost use Rattle.serde_json.specs.View.{view};
-ghost use Rattle.serde_json.specs.Written.{has_float, comma_if, compact_text};
+ghost use Rattle.serde_json.specs.Written.{comma_if};
 ghost use Rattle.ts_reply.specs.Appending.{AppendsData, AppendsItems, IsArray};
 ghost use Rattle.ts_reply.specs.Replies.{AreEach, IsSeriesData, IsResultData, AreResults, TellsOutcomes};
 ghost use Rattle.ts_reply.specs.Told.{outcome_view};
 ghost use Rattle.ts_reply.specs.Outcomes.{rows_outcome};
+ghost use Rattle.ts_reply.specs.SeriesTexts.{series_head};
 
 use crate::epoch::Epoch;
 use crate::results::{certificate_told, fault_told, nothing_told};
-use crate::rows::group_json;
+use crate::series::{push_group, series_head};
+use crate::text::push_value;
 use itoa::Buffer;
-use serde_json::Value;
 use std::alloc::{AllocError, Allocator, Global};
 use ts_exec::{FilledGroup, FilledGroups, Rows};
 use ts_ql::Query;
@@ -27,42 +27,21 @@ pub enum Outcome<'a, A: Allocator> {
     Fault(String),
 }
 
-/// Appends a value.
-fn push_value(alloc: Global, text: &mut String, value: &Value) -> Result<(), AllocError>
-    requires { has_float (view value.now) ≡ false }
-    ensures { OnOk result (string_bytes text.new ≡ string_bytes text.old ++ compact_text (view value.now)) }
-{
-    let written = value.to_string(alloc)?;
-    text.push_str(written.as_str())
-}
-
-/// Appends a group.
-fn push_group<A: Allocator>(
-    alloc: Global,
-    text: &mut String,
-    epoch: Epoch,
-    query: &Query<A>,
-    group: FilledGroup<'_, '_, A>,
-) -> Result<(), AllocError>
-    ensures { OnOk result (AppendsData (IsSeriesData epoch query.now group.entry) (string_bytes text.old) (string_bytes text.new)) }
-{
-    let series = group_json(alloc, epoch, query, group)?;
-    push_value(alloc, text, &series)
-}
-
 /// Appends groups, each behind a comma, and the bracket that closes them.
 fn push_more_groups<A: Allocator>(
     alloc: Global,
     text: &mut String,
     epoch: Epoch,
     query: &Query<A>,
+    head: &str,
     groups: FilledGroups<'_, '_, A>,
 ) -> Result<(), AllocError>
+    requires { head.now ≡ series_head query.now }
     ensures { OnOk result (AppendsItems (AreEach (IsSeriesData epoch query.now) groups.entry) true (string_bytes text.old) (string_bytes text.new)) }
 {
     for group in groups {
         text.push_str(",")?;
-        push_group(alloc, text, epoch, query, group)?;
+        push_group(alloc, text, epoch, query, head, group)?;
     }
     text.push_str("]")
 }
@@ -78,9 +57,10 @@ fn push_series<A: Allocator>(
 ) -> Result<(), AllocError>
     ensures { OnOk result (AppendsData (IsArray (AreEach (IsSeriesData epoch query.now) (first.entry ∷ others.entry))) (string_bytes text.old) (string_bytes text.new)) }
 {
+    let head = series_head(alloc, query)?;
     text.push_str("[")?;
-    push_group(alloc, text, epoch, query, first)?;
-    push_more_groups(alloc, text, epoch, query, others)
+    push_group(alloc, text, epoch, query, head.as_str(), first)?;
+    push_more_groups(alloc, text, epoch, query, head.as_str(), others)
 }
 
 /// Appends the rows of a statement, by its number from 0.

@@ -1,73 +1,75 @@
-//! Rows as JSON, and the series that they stand in.
-ghost use Rattle.std.specs.Prelude.{◌≡◌, ◌∷◌, map, IfOk};
-ghost use Rattle.serde_json.specs.View.{view, items_view};
-ghost use Rattle.ts_reply.specs.Replies.{value_data, AreEach, IsRowData, IsSeriesData};
+//! Rows as JSON.
+ghost use Rattle.std.specs.Prelude.{◌≡◌, ◌++◌, true, map, OnOk, string_bytes};
+ghost use Rattle.serde_json.specs.View.{items_of};
+ghost use Rattle.serde_json.specs.Written.{items_text};
+ghost use Rattle.ts_reply.specs.Appending.{AppendsData, AppendsItems, IsArray};
+ghost use Rattle.ts_reply.specs.Replies.{value_data, AreEach, IsRowData};
 
 use crate::epoch::Epoch;
-use crate::series::series_json;
-use crate::value::{time_json, value_json};
-use serde_json::Value;
+use crate::value::{push_cell, push_time};
 use std::alloc::{AllocError, Allocator, Global};
-use ts_exec::{FilledGroup, FilledRow, FilledRows};
-use ts_ql::Query;
+use ts_exec::{FilledRow, FilledRows, Values};
 
-/// A time, and the values of a row behind it: `width` cells.
-fn cells_json<A: Allocator>(
+/// Appends values, each behind a comma, and the bracket that closes their row.
+fn push_values<A: Allocator>(
     alloc: Global,
-    width: usize,
-    time: Value,
-    row: &FilledRow<'_, A>,
-) -> Result<Vec<Value>, AllocError>
-    ensures { IfOk result (λ v. map view v.items ≡ view time ∷ map value_data row.now.values) }
+    text: &mut String,
+    values: Values<'_, A>,
+) -> Result<(), AllocError>
+    ensures { OnOk result (string_bytes text.new ≡ string_bytes text.old ++ items_text true (items_of (map value_data values.entry))) }
 {
-    let mut cells = Vec::with_capacity(alloc, width)?;
-    cells.push(time)?;
-    for value in row.values() {
-        cells.push(value_json(alloc, &value)?)?;
+    for value in values {
+        text.push_str(",")?;
+        push_cell(alloc, text, &value)?;
     }
-    Ok(cells)
+    text.push_str("]")
 }
 
-/// A row: its time, and a value for each column.
-fn row_json<A: Allocator>(
+/// Appends a row: its time, and a value for each column.
+fn push_row<A: Allocator>(
     alloc: Global,
+    text: &mut String,
     epoch: Epoch,
-    width: usize,
     row: &FilledRow<'_, A>,
-) -> Result<Value, AllocError>
-    ensures { IfOk result (λ v. IsRowData epoch row.now (view v)) }
+) -> Result<(), AllocError>
+    ensures { OnOk result (AppendsData (IsRowData epoch row.now) (string_bytes text.old) (string_bytes text.new)) }
 {
-    let time = time_json(alloc, epoch, &row.start())?;
-    let cells = cells_json(alloc, width, time, row)?;
-    Ok(Value::from(cells))
+    text.push_str("[")?;
+    push_time(alloc, text, epoch, &row.start())?;
+    push_values(alloc, text, row.values())
 }
 
-/// The rows of a group.
-fn rows_json<A: Allocator>(
+/// Appends rows, each behind a comma, and the bracket that closes them.
+fn push_more_rows<A: Allocator>(
     alloc: Global,
+    text: &mut String,
     epoch: Epoch,
-    width: usize,
     rows: FilledRows<'_, A>,
-) -> Result<Vec<Value>, AllocError>
-    ensures { IfOk result (λ v. AreEach (IsRowData epoch) rows.entry (items_view v.items)) }
+) -> Result<(), AllocError>
+    ensures { OnOk result (AppendsItems (AreEach (IsRowData epoch) rows.entry) true (string_bytes text.old) (string_bytes text.new)) }
 {
-    let mut told = Vec::new(alloc);
     for row in rows {
-        told.push(row_json(alloc, epoch, width, &row)?)?;
+        text.push_str(",")?;
+        push_row(alloc, text, epoch, &row)?;
     }
-    Ok(told)
+    text.push_str("]")
 }
 
-/// A group with its rows.
-pub(crate) fn group_json<A: Allocator>(
+/// Appends the rows of a group.
+pub(crate) fn push_group_rows<A: Allocator>(
     alloc: Global,
+    text: &mut String,
     epoch: Epoch,
-    query: &Query<A>,
-    group: FilledGroup<'_, '_, A>,
-) -> Result<Value, AllocError>
-    ensures { IfOk result (λ v. IsSeriesData epoch query.now group.entry (view v)) }
+    mut rows: FilledRows<'_, A>,
+) -> Result<(), AllocError>
+    ensures { OnOk result (AppendsData (IsArray (AreEach (IsRowData epoch) rows.entry)) (string_bytes text.old) (string_bytes text.new)) }
 {
-    let width = query.columns().len().saturating_add(1);
-    let rows = rows_json(alloc, epoch, width, group.rows)?;
-    series_json(alloc, query, group.values, rows)
+    match rows.next() {
+        None => text.push_str("[]"),
+        Some(first) => {
+            text.push_str("[")?;
+            push_row(alloc, text, epoch, &first)?;
+            push_more_rows(alloc, text, epoch, rows)
+        }
+    }
 }

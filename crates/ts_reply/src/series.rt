@@ -1,13 +1,20 @@
-//! Series as JSON: a group of the answer with its rows.
-ghost use Rattle.std.specs.Prelude.{◌≡◌, ◌∷◌, map, codes, IfOk, OnOk};
-ghost use Rattle.serde_json.specs.Data.{array, string};
-ghost use Rattle.serde_json.specs.View.{view, items_view, members_view};
+//! Series as JSON: a group of the answer with its rows. What is the same in every series of a query is made once, as text.
+ghost use Rattle.std.specs.Prelude.{◌≡◌, ◌∷◌, ◌++◌, map, codes, IfOk, OnOk, string_bytes};
+ghost use Rattle.serde_json.specs.Data.{object, member, no_members, string};
+ghost use Rattle.serde_json.specs.View.{view, members_view};
+ghost use Rattle.serde_json.specs.Written.{compact_text};
 ghost use Rattle.ts_exec.specs.Lent.{lent};
 ghost use Rattle.ts_ql.specs.Selects.{texts};
-ghost use Rattle.ts_reply.specs.Replies.{column_data, tags_among, tagged_series, series_data};
+ghost use Rattle.ts_reply.specs.Appending.{AppendsData};
+ghost use Rattle.ts_reply.specs.Replies.{column_data, tags_among, IsSeriesData};
+ghost use Rattle.ts_reply.specs.SeriesTexts.{series_head, tags_text};
 
-use serde_json::{Map, Value, json, put};
+use crate::epoch::Epoch;
+use crate::rows::push_group_rows;
+use crate::text::{push_quoted, push_value};
+use serde_json::{Map, Value, put};
 use std::alloc::{AllocError, Allocator, Global};
+use ts_exec::FilledGroup;
 use ts_ql::{Projection, Query};
 
 /// The names of the columns, behind `time`.
@@ -23,6 +30,21 @@ fn columns_json<A: Allocator>(
         names.push(Value::try_from_str(alloc, column.name())?)?;
     }
     Ok(names)
+}
+
+/// What the text of every series of a query begins with.
+pub(crate) fn series_head<A: Allocator>(
+    alloc: Global,
+    query: &Query<A>,
+) -> Result<String, AllocError>
+    ensures { IfOk result (λ s. string_bytes s ≡ series_head query.now) }
+{
+    let columns = Value::from(columns_json(alloc, query.columns())?);
+    let mut head = String::from_str(alloc, "{\"columns\":")?;
+    push_value(alloc, &mut head, &columns)?;
+    head.push_str(",\"name\":")?;
+    push_quoted(alloc, &mut head, query.measurement())?;
+    Ok(head)
 }
 
 /// Puts tags among others, each with its value.
@@ -48,35 +70,66 @@ fn put_tags<A: Allocator>(
     }
 }
 
-/// A series with tags.
-fn tagged_json(
+/// Appends some tags with their values.
+fn push_tag_map<A: Allocator>(
     alloc: Global,
-    columns: Vec<Value>,
-    name: &str,
-    tags: Map<String, Value>,
-    rows: Vec<Value>,
-) -> Result<Value, AllocError>
-    ensures { IfOk result (λ v. view v ≡ tagged_series (array (items_view columns.items)) name.now (members_view tags.entries) (items_view rows.items)) }
+    text: &mut String,
+    tags: &[String<A>],
+    values: &[&str],
+) -> Result<(), AllocError>
+    ensures { OnOk result (string_bytes text.new ≡ string_bytes text.old ++ compact_text (object (tags_among no_members (texts tags.now) (lent values.now)))) }
 {
-    json!(in alloc; {"columns": columns, "name": name, "tags": tags, "values": rows})
+    let mut members = Map::new(alloc);
+    put_tags(&mut members, alloc, tags, values)?;
+    push_value(alloc, text, &Value::from(members))
 }
 
-/// A group: the names of its columns, its measurement, its tags and its rows.
-pub(crate) fn series_json<A: Allocator>(
-    alloc: Global,
-    query: &Query<A>,
-    values: &[&str],
-    rows: Vec<Value>,
-) -> Result<Value, AllocError>
-    ensures { IfOk result (λ v. view v ≡ series_data query.now (lent values.now) (items_view rows.items)) }
+/// Appends one tag with its value.
+fn push_tag(alloc: Global, text: &mut String, tag: &str, value: &str) -> Result<(), AllocError>
+    ensures { OnOk result (string_bytes text.new ≡ string_bytes text.old ++ compact_text (object (member tag.now (string value.now) no_members))) }
 {
-    let columns = columns_json(alloc, query.columns())?;
-    let name = query.measurement();
-    let keys = query.group_tags();
-    if keys.is_empty() {
-        return json!(in alloc; {"columns": columns, "name": name, "values": rows});
+    text.push_str("{")?;
+    push_quoted(alloc, text, tag)?;
+    text.push_str(":")?;
+    push_quoted(alloc, text, value)?;
+    text.push_str("}")
+}
+
+/// Appends the tags of a group, where some tag is grouped.
+fn push_tags<A: Allocator>(
+    alloc: Global,
+    text: &mut String,
+    tags: &[String<A>],
+    values: &[&str],
+) -> Result<(), AllocError>
+    ensures { OnOk result (string_bytes text.new ≡ string_bytes text.old ++ tags_text (texts tags.now) (lent values.now)) }
+{
+    if tags.is_empty() {
+        return Ok(());
     }
-    let mut tags = Map::new(alloc);
-    put_tags(&mut tags, alloc, keys, values)?;
-    tagged_json(alloc, columns, name, tags, rows)
+    text.push_str(",\"tags\":")?;
+    if tags.len() == 1 && values.len() == 1 {
+        push_tag(alloc, text, tags[0].as_str(), values[0])
+    } else {
+        push_tag_map(alloc, text, tags, values)
+    }
+}
+
+/// Appends a group: the names of its columns, its measurement, its tags and its rows.
+pub(crate) fn push_group<A: Allocator>(
+    alloc: Global,
+    text: &mut String,
+    epoch: Epoch,
+    query: &Query<A>,
+    head: &str,
+    group: FilledGroup<'_, '_, A>,
+) -> Result<(), AllocError>
+    requires { head.now ≡ series_head query.now }
+    ensures { OnOk result (AppendsData (IsSeriesData epoch query.now group.entry) (string_bytes text.old) (string_bytes text.new)) }
+{
+    text.push_str(head)?;
+    push_tags(alloc, text, query.group_tags(), group.values)?;
+    text.push_str(",\"values\":")?;
+    push_group_rows(alloc, text, epoch, group.rows)?;
+    text.push_str("}")
 }

@@ -1,22 +1,23 @@
 //! Values and times as JSON.
-ghost use Rattle.std.specs.Prelude.{◌≡◌, true, false, IfOk, MatchOption, string_bytes};
-ghost use Rattle.serde_json.specs.View.{view};
+ghost use Rattle.std.specs.Prelude.{◌≡◌, ◌++◌, true, false, IfOk, OnOk, MatchOption, string_bytes};
+ghost use Rattle.serde_json.specs.Written.{compact_text};
+ghost use Rattle.ts_reply.specs.Appending.{AppendsData};
 ghost use Rattle.ts_reply.specs.Replies.{integer_data, ratio_text, value_data, is_valid_time, IsTextOrCount, IsTimeData};
 
 use crate::clock::time_text;
 use crate::epoch::Epoch;
+use crate::text::push_quoted;
 use itoa::Buffer;
-use serde_json::Value;
 use std::alloc::{AllocError, Global};
 use ts_core::{Frac, Time};
 
-/// A whole number: within signed 64 bits as a number, and else as the text of its digits.
-fn integer_json(alloc: Global, number: &i128) -> Result<Value, AllocError>
-    ensures { IfOk result (λ v. view v ≡ integer_data number.now) }
+/// Appends a whole number: within signed 64 bits as a number, and else as the text of its digits.
+fn push_integer(alloc: Global, text: &mut String, number: &i128) -> Result<(), AllocError>
+    ensures { OnOk result (string_bytes text.new ≡ string_bytes text.old ++ compact_text (integer_data number.now)) }
 {
     match i64::try_from(*number) {
-        Ok(number) => Ok(Value::from(number)),
-        Err(_) => Value::try_from_str(alloc, Buffer::new().format(*number)),
+        Ok(number) => text.push_str(Buffer::new().format(number)),
+        Err(_) => push_quoted(alloc, text, Buffer::new().format(*number)),
     }
 }
 
@@ -30,14 +31,21 @@ fn ratio_text(alloc: Global, ratio: &Frac) -> Result<String, AllocError>
     Ok(text)
 }
 
-/// What stands in a column of a row.
-pub(crate) fn value_json(alloc: Global, value: &ts_core::Value) -> Result<Value, AllocError>
-    ensures { IfOk result (λ v. view v ≡ value_data value.now) }
+/// Appends what stands in a column of a row.
+pub(crate) fn push_cell(
+    alloc: Global,
+    text: &mut String,
+    value: &ts_core::Value,
+) -> Result<(), AllocError>
+    ensures { OnOk result (string_bytes text.new ≡ string_bytes text.old ++ compact_text (value_data value.now)) }
 {
     match value {
-        ts_core::Value::Null => Ok(Value::Null),
-        ts_core::Value::Number(number) => integer_json(alloc, number),
-        ts_core::Value::Fraction(ratio) => Ok(Value::from(ratio_text(alloc, ratio)?)),
+        ts_core::Value::Null => text.push_str("null"),
+        ts_core::Value::Number(number) => push_integer(alloc, text, number),
+        ts_core::Value::Fraction(ratio) => {
+            let words = ratio_text(alloc, ratio)?;
+            push_quoted(alloc, text, words.as_str())
+        }
     }
 }
 
@@ -51,25 +59,33 @@ fn valid_time(nanos: &i128) -> Option<Time>
     }
 }
 
-/// A time by its text.
-fn text_json(alloc: Global, nanos: &i128) -> Result<Value, AllocError>
-    ensures { IfOk result (λ v. IsTextOrCount (is_valid_time nanos.now) nanos.now (view v)) }
+/// Appends a time by its text.
+fn push_time_text(alloc: Global, text: &mut String, nanos: &i128) -> Result<(), AllocError>
+    ensures { OnOk result (AppendsData (IsTextOrCount (is_valid_time nanos.now) nanos.now) (string_bytes text.old) (string_bytes text.new)) }
 {
     match valid_time(nanos) {
-        Some(time) => Ok(Value::from(time_text(alloc, time)?)),
-        None => integer_json(alloc, nanos),
+        Some(time) => {
+            let words = time_text(alloc, time)?;
+            push_quoted(alloc, text, words.as_str())
+        }
+        None => push_integer(alloc, text, nanos),
     }
 }
 
-/// A time, in nanoseconds of the Unix epoch, as a reply writes it.
-pub(crate) fn time_json(alloc: Global, epoch: Epoch, nanos: &i128) -> Result<Value, AllocError>
-    ensures { IfOk result (λ v. IsTimeData epoch nanos.now (view v)) }
+/// Appends a time, in nanoseconds of the Unix epoch, as a reply writes it.
+pub(crate) fn push_time(
+    alloc: Global,
+    text: &mut String,
+    epoch: Epoch,
+    nanos: &i128,
+) -> Result<(), AllocError>
+    ensures { OnOk result (AppendsData (IsTimeData epoch nanos.now) (string_bytes text.old) (string_bytes text.new)) }
 {
     match epoch {
-        Epoch::Text => text_json(alloc, nanos),
+        Epoch::Text => push_time_text(alloc, text, nanos),
         Epoch::Units(unit) => {
             let units = nanos.div_euclid(i128::from(unit.nanoseconds()));
-            integer_json(alloc, &units)
+            push_integer(alloc, text, &units)
         }
     }
 }

@@ -1,11 +1,12 @@
 use Rattle.std.proofs.Common.{rules, ◌≡◌, ◌++◌, codes, string_bytes}
 use Rattle.std.proofs.lemmas.Result.{on_ok_weaker}
-use Rattle.ts_reply.proofs.Appended.{series_appended}
+use Rattle.ts_reply.specs.Replies.{IsSeriesData}
+use Rattle.ts_reply.proofs.Appended.{array_appended}
 use Rattle.ts_reply.proofs.reply.push_series.Goals as goal
 
 pub returns : goal.returns
 returns g c =
     let opened : string_bytes c.push_str.new.self ≡ string_bytes c.args.text.now ++ codes "[" = search rules in
     on_ok_weaker c.push_more_groups.result
-    (series_appended c.args.epoch c.args.query.now c.args.first c.args.others (string_bytes c.args.text.now) (string_bytes c.push_str.new.self) (string_bytes c.push_group.new.text) (string_bytes c.push_more_groups.new.text) opened c.in_ok-push_group.ensures)
+    (array_appended (IsSeriesData c.args.epoch c.args.query.now) c.args.first c.args.others (string_bytes c.args.text.now) (string_bytes c.push_str.new.self) (string_bytes c.push_group.new.text) (string_bytes c.push_more_groups.new.text) opened c.in_ok-push_group.ensures)
     c.push_more_groups.ensures
