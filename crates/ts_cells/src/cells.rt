@@ -1,4 +1,4 @@
-//! The cells of a rule.
+//! The cells of a rule: a row for each bucket that has some, in the order of buckets, with the lanes that all rows share.
 ghost use Rattle.std.specs.Bool.{OnTrue, OnFalse};
 ghost use Rattle.ts_core.specs.Cells.{Cell};
 ghost use Rattle.ts_cells.specs.Expiry.{HasEmptyFront, LosesOne, HasNoneBelow, Removes};

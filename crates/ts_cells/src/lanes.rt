@@ -1,4 +1,4 @@
-//! The lanes of a rule.
+//! The lanes of a rule, numbered in the order of making, and found by field and group.
 ghost use Rattle.std.specs.Prelude.{◌≡◌, ◌≤◌, [], length, IfSome, IfNone, IfOk, OnOk, OnErr, slice_get};
 ghost use Rattle.std.specs.declared.cmp.Ordering.{Ordering};
 ghost use Rattle.std.specs.List.Sorted.{IsPartitionPoint};

@@ -1,4 +1,4 @@
-//! The places of the cells of one bucket, by their lanes.
+//! Where the cell of a lane stands in its bucket: one number for each lane, of 32 bits.
 ghost use Rattle.std.specs.Prelude.{◌≡◌, ◌≤◌, ◌<◌, ◌+◌, ℕ, ◌==◌, [], length, max, OnOk, OnErr, if◌then◌else◌};
 ghost use Rattle.ts_cells.specs.Rows.{no_place, place_of, from_first};
 

@@ -1,4 +1,4 @@
-//! The cells of one bucket.
+//! The cells of one bucket: in the order of making, each found by the number of its lane.
 ghost use Rattle.std.specs.Prelude.{◌≡◌, ◌≤◌, ◌<◌, ◌+◌, ℕ, ◌==◌, int_lt, [], length, max, Some, None, OnOk, OnErr, IfOk, if◌then◌else◌, option_map};
 ghost use Rattle.std.specs.Ordering.{int_cmp};
 ghost use Rattle.ts_core.specs.Changes.{or_else, joined_within};

@@ -1,4 +1,4 @@
-//! A walk over cells.
+//! A walk over the cells of a range of buckets, in the order of bucket, field and group.
 ghost use Rattle.std.specs.Prelude.{◌≡◌, ℕ, ◌<◌, ◌≤◌, [], ◌∷◌, List, length, get_or, filter, int_lt, true, false, IfSome, IfNone};
 ghost use Rattle.std.specs.Iterator.{YieldsFirst, item_count};
 ghost use Rattle.std.specs.List.{AllByRecursion};

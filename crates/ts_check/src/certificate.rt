@@ -1,4 +1,4 @@
-//! Certificates.
+//! Certificates: lists of pieces, of which nothing says yet that they are valid.
 ghost use Rattle.std.specs.Prelude.{◌≡◌};
 
 use std::alloc::Allocator;

@@ -1,4 +1,4 @@
-//! The check of a plan.
+//! The check of a plan. Only `check` makes a `Checked`, and its invariant says that the pieces are valid.
 ghost use Rattle.std.specs.Prelude.{◌≡◌, length, IfOk};
 ghost use Rattle.ts_check.specs.Checks.{IsCheckOf};
 
@@ -76,7 +76,7 @@ fn copied<'a, A: Allocator>(alloc: A, pieces: &[Piece<'a>]) -> Result<Vec<Piece<
 
 /// Checks whether the pieces of a certificate may stand for all points that a query asks for, where a store
 /// has these settings and marks: a plan that holds copies of all four, or the first fault with its piece.
-/// A fault is found before memory is wanted.
+/// A fault is found before memory is taken.
 pub fn check<'a, A: Allocator + Copy>(
     alloc: A,
     settings: &Settings<A>,

@@ -1,4 +1,4 @@
-//! Reading a certificate.
+//! A certificate is read from its text, or the place of its first line that isn't of the form is found.
 ghost use Rattle.std.specs.Prelude.{◌≡◌, ◌+◌, ◌<◌, ◌≤◌, List, ◌∷◌, ◌++◌, codes, length, IfOk, IfErr, IfSome, IfNone, option_map};
 ghost use Rattle.std.specs.List.{list_all};
 ghost use Rattle.ts_core.specs.Pieces.{Piece as PieceValue};
@@ -151,7 +151,7 @@ fn checked(text: &str) -> Result<(), CertificateFault>
     }
 }
 
-/// Reads a certificate, and wants memory before a fault is found.
+/// Reads a certificate. Memory is taken before a fault is found.
 fn read_lines<A: Allocator + Copy>(
     alloc: A,
     text: &str,
@@ -175,7 +175,7 @@ fn read_lines<A: Allocator + Copy>(
     }
 }
 
-/// Reads a certificate, whose pieces lend their names from the text. A fault is found before memory is wanted.
+/// Reads a certificate, whose pieces lend their names from the text. A fault is found before memory is taken.
 /// (In a script `;` stands for a line feed: the text is handed in with line feeds, and places are the same.)
 pub fn read_certificate<A: Allocator + Copy>(
     alloc: A,

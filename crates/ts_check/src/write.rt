@@ -1,4 +1,4 @@
-//! Writing a certificate.
+//! A certificate is written as the text that `read_certificate` reads.
 ghost use Rattle.std.specs.Prelude.{◌≡◌, ◌++◌, codes, IfOk, OnOk, string_bytes};
 ghost use Rattle.std.specs.Fmt.{signed_decimal};
 ghost use Rattle.ts_check.specs.Certificates.{source_of};

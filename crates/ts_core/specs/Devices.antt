@@ -4,7 +4,7 @@ use Rattle.std.specs.Io.{ReadsAtMost, WritesAtMost}
 use Rattle.std.specs.Io.KnownBytes.{Appends, ReadConsumes, WriteAppends}
 
 -- a reader: the bytes that are left, where they are known; its reads; those that failed; those that gave no
--- byte into room, each of which told the end of the input
+-- byte into room, each of which answered the end of the input
 pub record Input : Type 0 where
   pub remaining : Option (List ℕ)
   pub turns : ℕ

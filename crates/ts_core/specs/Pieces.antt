@@ -69,7 +69,7 @@ IsInOneBucket q a b = bucket_of a q.interval q.offset ≡ bucket_of (b -ℤ pos 
 abbrev pub tags_of : Query → List Text
 tags_of q = q.group_tags ++ map (λ (c : Condition). c.tag) q.conditions
 
--- the rule's cells from a to b stand for the points that the query wants there
+-- the rule's cells from a to b stand for the points that the query asks for there
 pub record RuleServes (q : Query) (r : MarkedRule) (a b : ℤ) : Type 0 where
   pub measurement : r.rule.measurement ≡ q.measurement
   pub starts : IsBoundary r.rule a

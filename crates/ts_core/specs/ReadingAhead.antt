@@ -56,7 +56,7 @@ pub record IsConsumed (old : Ahead) (count : ℕ) (new : Ahead) : Type 0 where
 
 -- one turn of reading ahead, from one source to the next, where all that was read ahead is used. It answers whether there is more.
 pub record IsFilled (old : Ahead) (source : Input) (result : Result Bool ReadFault) (new : Ahead) (source' : Input) : Type 0 where
-  -- no byte is lost, and the end is told where it was read
+  -- no byte is lost, and the end is answered where it was read
   pub bytes : Keeps (pending old source) (pending new source')
   pub end : EndIsEnd new source'
   pub more : IfOk result (λ more. more ≡ not new.ended)

@@ -1,4 +1,4 @@
-//! Buckets of time.
+//! The index of a time's bucket, by floor, for negative times and offsets too.
 ghost use Rattle.std.specs.Prelude.{◌≡◌, ◌+◌, ◌^◌, ◌≤◌, pos, ◌≤ℤ◌, unsigned_abs};
 ghost use Rattle.ts_core.specs.Buckets.{IsBucketOf, bucket_of};
 ghost use Rattle.ts_core.specs.Marks.{index_of};

@@ -1,4 +1,4 @@
-//! Places in a text.
+//! Places in a text: the byte there, and the place after an ASCII character. Both readers of texts go by them.
 ghost use Rattle.std.specs.Prelude.{◌≡◌, ◌+◌, ◌<◌, length, slice_index};
 ghost use Rattle.std.specs.Str.{IsCharBoundary};
 

@@ -1,4 +1,4 @@
-//! Facts with texts of their own.
+//! A fact, which is a column, a time and a value, with texts of its own.
 ghost use Rattle.std.specs.Prelude.{◌≡◌};
 
 use crate::field_name::FieldName;

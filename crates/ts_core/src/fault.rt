@@ -1,4 +1,4 @@
-//! What is wrong with pieces.
+//! What may be wrong with a list of pieces: faults 82 to 89.
 ghost use Rattle.std.specs.Prelude.{◌≡◌};
 ghost use Rattle.ts_core.specs.Faults.{piece_fault_code, fault_number};
 

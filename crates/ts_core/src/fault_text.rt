@@ -41,7 +41,7 @@ impl FaultDetail<'static> {
     }
 }
 
-/// Appends words one behind another, or a beginning of them where memory is wanted. Where the room is there, none is.
+/// Appends words one behind another, or a beginning of them out of memory. Where the room is there, it takes none.
 pub fn append_words<A: Allocator>(text: &mut String<A>, words: &[&str]) -> Result<(), AllocError>
     ensures ok { OnOk result (string_bytes text.new ≡ string_bytes text.old ++ words_joined words.now) }
     ensures err { OnErr result (EndsEarly (words_joined words.now) (string_bytes text.old) (string_bytes text.new)) }
@@ -58,7 +58,7 @@ pub fn append_words<A: Allocator>(text: &mut String<A>, words: &[&str]) -> Resul
 }
 
 impl FaultCode {
-    /// Appends the fault's text, or a beginning of it where memory is wanted. Where the room is there, none is.
+    /// Appends the fault's text, or a beginning of it out of memory. Where the room is there, it takes none.
     pub fn text_to<A: Allocator>(
         self,
         detail: FaultDetail<'_>,

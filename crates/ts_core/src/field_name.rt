@@ -1,4 +1,4 @@
-//! Names of fields.
+//! The name of a field, in memory of its own.
 ghost use Rattle.std.specs.Prelude.{◌≡◌, IfOk};
 
 use std::alloc::{AllocError, Allocator};

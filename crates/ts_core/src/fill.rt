@@ -1,4 +1,4 @@
-//! Fills.
+//! What stands in a reply for a bucket without data.
 
 /// What stands for a bucket without data. (InfluxData 1.8: GROUP BY time intervals and fill().)
 #[derive(Clone, Copy, Debug, PartialEq, Eq)]

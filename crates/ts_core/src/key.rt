@@ -1,4 +1,4 @@
-//! Keys of series.
+//! The key of a series: its measurement, and its tags in byte order of their keys.
 ghost use Rattle.std.specs.Prelude.{◌≡◌, IfOk};
 ghost use Rattle.std.specs.Cmp.Lexicographic.{slice_cmp};
 ghost use Rattle.ts_core.specs.Facts.{tag_cmp, series_cmp};

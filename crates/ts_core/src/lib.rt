@@ -10,7 +10,7 @@
 //! ```
 //!
 //! To add an aggregate that the stored parts give (a spread): `Function` and its `value_of` in value.rt with specs/Fills.antt. One that
-//! needs a new part (a sum of squares): `Agg` in aggregate.rt with specs/Aggregates.antt too. To add a fault: `FaultCode` in
+//! needs a new part (a sum of squares): `Agg` in aggregate.rt with specs/Aggregates.antt and Remainders.antt too. To add a fault: `FaultCode` in
 //! fault_code.rt with specs/FaultCodes.antt. To add a unit of time: `TimeUnit` in time_unit.rt.
 #![tactic(auto)]
 

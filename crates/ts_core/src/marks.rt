@@ -1,4 +1,4 @@
-//! Marks.
+//! The raw mark, and the low index of each rule: from where on a store still knows everything.
 ghost use Rattle.std.specs.Prelude.{◌≡◌, ◌↔◌, ◌≤◌, ◌≤ℤ◌, ◌^◌, pos, unsigned_abs, IsTrue, IfOk};
 ghost use Rattle.std.specs.Int.{int_max};
 ghost use Rattle.std.specs.List.{AllByRecursion};

@@ -1,4 +1,4 @@
-//! Numbers in the order of making.
+//! Numbers of 32 bits, given in the order of making.
 ghost use Rattle.std.specs.Prelude.{◌≡◌, ◌≤◌, IfOk, OnErr};
 
 use std::alloc::AllocError;

@@ -1,4 +1,4 @@
-//! Reading ahead.
+//! A buffer of 64 KiB between a source and who reads it, with a limit on the number of reads.
 ghost use Rattle.std.specs.Prelude.{◌≡◌, ◌≤◌, [], length, IfOk, false};
 ghost use Rattle.ts_core.specs.ReadingAhead.{nothing_ahead, most_ahead, IsConsumed, IsFilled};
 

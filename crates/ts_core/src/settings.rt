@@ -1,4 +1,4 @@
-//! Settings of retention and rollups.
+//! Settings: how long raw points are kept, and the rollup rules. A value of them has no fault.
 ghost use Rattle.std.specs.Prelude.{◌≡◌, ◌≢◌, ◌↔◌, [], pos, ◌≤ℤ◌, map, string_bytes, unsigned_abs, Some, None, IsTrue, IfOk, IfErr, IsSome, IfSome};
 ghost use Rattle.std.specs.List.{AllByRecursion};
 ghost use Rattle.ts_core.specs.Settings.{IsRule, AreSettings, open_settings};

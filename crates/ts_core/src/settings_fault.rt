@@ -186,7 +186,7 @@ impl RuleFault {
 }
 
 impl SettingsFault {
-    /// Appends its text, or a beginning of it where memory is wanted. Where the room is there, none is.
+    /// Appends its text, or a beginning of it out of memory. Where the room is there, it takes none.
     pub fn text_to<A: Allocator>(&self, text: &mut String<A>) -> Result<(), AllocError>
         ensures ok { OnOk result (string_bytes text.new ≡ string_bytes text.old ++ settings_fault_text self.now) }
         ensures err { OnErr result (EndsEarly (settings_fault_text self.now) (string_bytes text.old) (string_bytes text.new)) }

@@ -1,4 +1,4 @@
-//! Texts of a list.
+//! Comparisons of lists of texts.
 ghost use Rattle.std.specs.Prelude.{◌≡◌, ◌↔◌, IsTrue, map, string_bytes};
 ghost use Rattle.std.specs.List.{list_any};
 ghost use Rattle.ts_core.specs.Facts.{same_text};

@@ -1,4 +1,4 @@
-//! Moments.
+//! Valid times: nanoseconds of the Unix epoch, but for the three numbers of 64 bits that no time has.
 ghost use Rattle.std.specs.Prelude.{◌≡◌, ◌↔◌, IsSome, IfSome};
 ghost use Rattle.ts_core.specs.Times.{IsTime, least_time};
 

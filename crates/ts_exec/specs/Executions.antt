@@ -22,7 +22,7 @@ pub record IsAnswer (seen : Seen) (p : Plan) (a : Answered) : Type 0 where
   pub exact : a.groups ≡ given seen p.select.query p.pieces
   pub answer : (opening : Settings) (h : History) → Shows opening h seen → a.groups ≡ answer_of (latest_of h) p.select.query
 
--- the answer; or that the plan is stale, just where the view has other settings or marks, which are told; or that memory ran out
+-- the answer; or that the plan is stale, just where the view has other settings or marks, which it answers; or that memory ran out
 abbrev pub IsExecutionOf : {A : Type 0} → Seen → Plan → Result Answered (ExecFault A) → Type 0
 IsExecutionOf seen p (Ok answered) = IsFresh seen p × IsAnswer seen p answered
 IsExecutionOf seen p (Err (errors.Stale settings marks)) = (settings.now ≡ seen.settings) × (marks.now ≡ seen.marks) × (IsFresh seen p → ⊥)

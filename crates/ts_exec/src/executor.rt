@@ -1,4 +1,4 @@
-//! A checked plan is executed.
+//! `execute`: a checked plan over a view gives the answer over all points ever accepted, or is stale.
 ghost use Rattle.std.specs.Prelude.{◌≡◌, [], int_lt, IsOk, IfOk};
 ghost use Rattle.std.specs.List.{AllByRecursion};
 ghost use Rattle.ts_core.specs.Queries.{IsQuery};
@@ -64,7 +64,7 @@ fn groups_given<'a, A: Allocator + Copy + 'a, V: View<A> + 'a>(
 
 /// Executes a checked plan over a view. Where the view shows a history, this gives the answer over all points
 /// ever accepted; a count past 2^62, which no history has, leaves out what would exceed it. That a plan is
-/// stale is found before memory is wanted.
+/// stale is found before memory is taken.
 pub fn execute<'a, A: Allocator + Copy + 'a, V: View<A> + 'a>(
     alloc: A,
     view: &'a V,

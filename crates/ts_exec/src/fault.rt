@@ -30,7 +30,7 @@ impl<'a, A: Allocator> fmt::Debug for ExecFault<'a, A> {
 }
 
 impl<'a, A: Allocator> ExecFault<'a, A> {
-    /// Appends its text, or a beginning of it where memory is wanted. Where the room is there, none is.
+    /// Appends its text, or a beginning of it out of memory. Where the room is there, it takes none.
     #[tactic(auto, unfolding(crate::specs::ExecTexts::exec_fault_text))]
     pub fn text_to<B: Allocator>(&self, text: &mut String<B>) -> Result<(), AllocError>
         ensures ok { OnOk result (string_bytes text.new ≡ string_bytes text.old ++ exec_fault_text self.now) }

@@ -1,4 +1,4 @@
-//! Buckets without data are filled.
+//! `fill`: the rows of an answer, with what stands for buckets without data.
 ghost use Rattle.std.specs.Prelude.{◌≡◌, ◌≤ℤ◌, pos};
 ghost use Rattle.std.specs.Iterator.{YieldsFirst, item_count};
 ghost use Rattle.ts_core.specs.Buckets.{bucket_of, bucket_start};

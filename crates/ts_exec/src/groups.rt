@@ -1,4 +1,4 @@
-//! Groups with their rows.
+//! The groups of an answer in byte order of their values, as parts and points are added to them.
 ghost use Rattle.std.specs.Prelude.{◌≡◌, true, [], length, Err, OnOk, IfOk};
 ghost use Rattle.std.specs.List.Sorted.{IsSearchInRange};
 ghost use Rattle.ts_exec.specs.Lent.{lent};
@@ -154,7 +154,7 @@ impl<'a, A: Allocator + Copy> Groups<'a, A> {
     pub(crate) fn expect(&mut self, values: &[&'a str]) -> Result<usize, AllocError>
         ensures { self.new ≡ self.old }
     {
-        // Groups that are told in their order come one behind another.
+        // Groups that are looked for in their order come one behind another.
         let guess = self.slots.len().saturating_sub(1);
         expect(&mut self.slots, guess, values)
     }

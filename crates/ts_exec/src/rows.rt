@@ -1,4 +1,4 @@
-//! The rows of a group.
+//! The rows of a group: points and parts are added to the rows of their buckets.
 ghost use Rattle.std.specs.Prelude.{◌≡◌, ◌∷◌, length, get_or, set};
 ghost use Rattle.ts_core.specs.Aggregates.{empty_aggregate};
 ghost use Rattle.ts_exec.specs.RowParts.{added, with_part, with_point_parts};

@@ -1,4 +1,4 @@
-//! Answers.
+//! The answer to a query: its groups, each with a row for every bucket that meets the range.
 ghost use Rattle.std.specs.Prelude.{◌≡◌, map};
 ghost use Rattle.std.specs.List.{AllByRecursion};
 ghost use Rattle.ts_core.specs.Answers.{bucket_in};

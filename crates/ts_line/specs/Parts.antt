@@ -1,4 +1,4 @@
--- The parts of a line, and the facts that they tell.
+-- The parts of a line, and the facts that they are.
 -- (InfluxData 1.8, line protocol reference, syntax: measurement, tag set, field set, timestamp.)
 use Rattle.std.specs.Prelude.{ℕ, ℤ, ◌≤◌, List, map, length}
 use Rattle.std.specs.FinMap as finmap

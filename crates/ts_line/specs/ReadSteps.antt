@@ -10,12 +10,12 @@ abbrev pub ◌>>=◌ : {A B : Type 0} → Result A LineFault → (A → Result B
 (Ok x) >>= f = f x
 (Err e) >>= f = Err e
 
--- what a call found, unless it wanted memory
+-- what a call found, unless it ran out of memory
 abbrev pub FailsIfRoom : {Y : Type 0} → ReadLineError → Result Y LineFault → Type 0
 FailsIfRoom errors.OutOfMemory read = ⊤
 FailsIfRoom (errors.Fault f) read = read ≡ Err f
 
--- what a call returned, seen by `view`, unless it wanted memory
+-- what a call returned, seen by `view`, unless it ran out of memory
 abbrev pub GivesIfRoom : {X Y : Type 0} → (X → Y) → Result X ReadLineError → Result Y LineFault → Type 0
 GivesIfRoom view (Ok x) read = read ≡ Ok (view x)
 GivesIfRoom view (Err e) read = FailsIfRoom e read

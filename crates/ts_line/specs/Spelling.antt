@@ -82,7 +82,7 @@ pub record IsStamp (unit : ℤ) (stamp : Text) (time : ℤ) : Type 0 where
   pub counted : time ≡ signed_digits_value 10 number *ℤ unit
   pub valid : IsTime time
 
--- what follows the fields tells the time, and nothing stands for the moment at hand
+-- what follows the fields is the time, and nothing stands for the moment at hand
 abbrev pub SaysTime : ℤ → ℤ → Text → ℤ → Type 0
 SaysTime unit now stamp time = ((stamp ≡ []) × (time ≡ now)) ⊎ IsStamp unit stamp time
 

@@ -75,7 +75,7 @@ impl LineFaultKind {
 }
 
 impl LineFault {
-    /// Appends its text, or a beginning of it where memory is wanted. Where the room is there, none is.
+    /// Appends its text, or a beginning of it out of memory. Where the room is there, it takes none.
     #[tactic(auto, using(crate::proofs::FaultLemmas::line_fault_text_short), unfolding(crate::specs::FaultText::line_fault_text))]
     pub fn text_to<A: Allocator>(&self, text: &mut String<A>) -> Result<(), AllocError>
         ensures ok { OnOk result (string_bytes text.new ≡ string_bytes text.old ++ line_fault_text self.now) }

@@ -1,4 +1,4 @@
-//! The fields of a line.
+//! The fields of a line are read: 1 to 256 names, each with the value that it has last.
 ghost use Rattle.std.specs.Prelude.{◌≡◌, ◌<◌, length, [], IfOk, IfSome, OnOk};
 ghost use Rattle.std.specs.Str.{IsCharBoundary};
 ghost use Rattle.ts_line.specs.ReadSteps.{GivesIfRoom};

@@ -1,4 +1,4 @@
-//! What a line says, part by part.
+//! What a line says, part by part, each with its span; and its tags in byte order of their keys.
 ghost use Rattle.std.specs.Prelude.{◌≡◌, ◌<◌, ◌≤◌, ◌+◌, [], length, map, MatchResult};
 ghost use Rattle.arrayvec.specs.ArrayVec.{array_vec_len};
 ghost use Rattle.std.specs.Cow.{cow_str_bytes};

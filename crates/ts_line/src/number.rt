@@ -1,4 +1,4 @@
-//! Numbers as text.
+//! Numbers as text, and the times that they stand for.
 ghost use Rattle.std.specs.Prelude.{◌≡◌, ◌≤ℤ◌, pos, true, Some};
 ghost use Rattle.std.specs.Char.{is_ascii_digit};
 ghost use Rattle.std.specs.List.{list_all};

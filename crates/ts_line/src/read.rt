@@ -1,4 +1,4 @@
-//! Reading a line.
+//! `read_line`: a line is read from left to right, up to its first fault.
 ghost use Rattle.std.specs.Prelude.{◌≡◌, ◌<◌, ◌≤◌, true, length, Ok, IfOk, Some, IfSome};
 ghost use Rattle.std.specs.Str.{IsCharBoundary};
 ghost use Rattle.ts_line.specs.Parts.{Parts};

@@ -1,4 +1,4 @@
-//! The tags of a line.
+//! The tags of a line are read: up to 64, no key twice.
 ghost use Rattle.std.specs.Prelude.{◌≡◌, ◌<◌, ◌≤◌, ◌++◌, ◌∷◌, length, [], IfOk, slice_index_or, true, false};
 ghost use Rattle.std.specs.Str.{IsCharBoundary};
 ghost use Rattle.ts_line.specs.ReadSteps.{GivesIfRoom};

@@ -1,4 +1,4 @@
-//! What is planned.
+//! What is planned: a query, beside the settings and marks of a store.
 ghost use Rattle.std.specs.Prelude.{◌≡◌, ◌≤◌, ◌≤ℤ◌, length, slice_get};
 ghost use Rattle.ts_core.specs.Pieces.{asked};
 ghost use Rattle.ts_core.specs.Faults.{is_in_one_bucket};

@@ -30,7 +30,7 @@ count_select measurement field a b = record {
 abbrev pub IsInterval : ℤ → Type 0
 IsInterval i = i ≤ℤ pos 9223372036854775807
 
--- that very query; or 74 exactly where the range is too long for an interval, found before memory is wanted
+-- that very query; or 74 exactly where the range is too long for an interval, found before memory is taken
 abbrev pub IsCountQuery : Text → Text → ℤ → ℤ → Result Select ParseError → Type 0
 IsCountQuery measurement field a b (Ok query) = (query ≡ count_select measurement field a b) × IsInterval (b -ℤ a)
 IsCountQuery measurement field a b (Err (errors.Fault fault)) = (as_fault fault ≡ OutOfRange 0) × (IsInterval (b -ℤ a) → ⊥)

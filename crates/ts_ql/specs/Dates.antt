@@ -1,4 +1,4 @@
--- Moments that texts in quotes tell, in UTC.
+-- Moments that texts in quotes stand for, in UTC.
 -- (InfluxData 1.8, InfluxQL reference, dates & times: YYYY-MM-DD, YYYY-MM-DD HH:MM:SS.nnnnnnnnn, RFC 3339. Own rule: Z or none.)
 use Rattle.std.specs.Prelude.{ℕ, ℤ, pos, ◌+◌, ◌-◌, ◌*◌, ◌+ℤ◌, ◌*ℤ◌, [], ◌∷◌, length, drop, take, slice_index, slice_range, Bool, ◌&&◌, ◌||◌, ◌==◌, nat_lt, nat_le, if◌then◌else◌, Option, Some, None, option_and_then, option_map}
 use Rattle.std.specs.Char.{is_ascii_digit}

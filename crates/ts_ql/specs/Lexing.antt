@@ -45,7 +45,7 @@ closing_quote quote text from = closing quote false from (drop from text)
 -- ---- durations
 
 -- the end of the last number with its unit, of which the last so far ends at `last`; these bytes stand from `at` on,
--- and `counting` tells that digits stand directly before them
+-- and `counting` says that digits stand directly before them
 abbrev pub parts_end : ℕ → Bool → ℕ → Text → ℕ
 parts_end last counting at [] = last
 parts_end last counting at (b ∷ bs) =

@@ -29,7 +29,7 @@ is_foreign_keyword text =
 abbrev pub is_keyword : Text → Bool
 is_keyword text = is_clause_word text || is_foreign_keyword text
 
--- other words that tell what the profile leaves out
+-- other words of what the profile leaves out
 unfoldable pub is_foreign_word : Text → Bool
 is_foreign_word text =
     is_word (codes "show") text || is_word (codes "create") text || is_word (codes "alter") text || is_word (codes "drop") text

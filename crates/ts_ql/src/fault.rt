@@ -110,7 +110,7 @@ impl<'a> QlFault<'a> {
         }
     }
 
-    /// Appends its text, or a beginning of it where memory is wanted. Where the room is there, none is.
+    /// Appends its text, or a beginning of it out of memory. Where the room is there, it takes none.
     pub fn text_to<A: Allocator>(&self, text: &mut String<A>) -> Result<(), AllocError>
         ensures ok { OnOk result (string_bytes text.new ≡ string_bytes text.old ++ query_fault_text (as_fault self.now)) }
         ensures err { OnErr result (EndsEarly (query_fault_text (as_fault self.now)) (string_bytes text.old) (string_bytes text.new)) }
@@ -121,7 +121,7 @@ impl<'a> QlFault<'a> {
 }
 
 impl<'a> ParseError<'a> {
-    /// Appends its text, or a beginning of it where memory is wanted. Where the room is there, none is.
+    /// Appends its text, or a beginning of it out of memory. Where the room is there, it takes none.
     pub fn text_to<A: Allocator>(&self, text: &mut String<A>) -> Result<(), AllocError>
         ensures ok { OnOk result (string_bytes text.new ≡ string_bytes text.old ++ error_text self.now) }
         ensures err { OnErr result (EndsEarly (error_text self.now) (string_bytes text.old) (string_bytes text.new)) }

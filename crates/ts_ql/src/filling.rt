@@ -1,4 +1,4 @@
-//! FILL.
+//! FILL, read token by token.
 ghost use Rattle.std.specs.Prelude.{◌≡◌};
 ghost use Rattle.ts_ql.specs.QueryFaults.{GivesWith};
 ghost use Rattle.ts_ql.specs.GroupSteps.{chosen, with_number, fill_step, no_fill};

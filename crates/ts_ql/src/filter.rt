@@ -1,4 +1,4 @@
-//! The conditions of WHERE.
+//! The conditions of WHERE on tags, read token by token.
 ghost use Rattle.std.specs.Prelude.{◌≡◌, IfOk, string_bytes};
 ghost use Rattle.ts_ql.specs.QueryFaults.{GivesWith};
 ghost use Rattle.ts_ql.specs.Tokens.{lexeme};

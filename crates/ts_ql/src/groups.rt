@@ -1,4 +1,4 @@
-//! GROUP BY.
+//! GROUP BY, read token by token: the interval with its offset, and tags.
 ghost use Rattle.std.specs.Prelude.{◌≡◌, IfOk, false};
 ghost use Rattle.ts_ql.specs.QueryFaults.{GivesWith};
 ghost use Rattle.ts_ql.specs.GroupSteps.{grouped, empty_groups, item_at, with_interval, with_offset, group_step};

@@ -1,4 +1,4 @@
-//! Moments and the range of time.
+//! Moments of WHERE, read token by token, and the range of time that their comparisons leave.
 ghost use Rattle.std.specs.Prelude.{◌≡◌, ◌+◌, ◌≤◌, ◌^◌, false, unsigned_abs};
 ghost use Rattle.ts_ql.specs.QueryFaults.{Gives, GivesWith};
 ghost use Rattle.ts_ql.specs.Literals.{literal};

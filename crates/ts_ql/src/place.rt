@@ -1,4 +1,4 @@
-//! Places in the grammar.
+//! The places of the machine in the grammar, each named by what may stand next.
 ghost use Rattle.std.specs.Prelude.{◌≡◌};
 ghost use Rattle.ts_ql.specs.Reading.{clause_of, late_clause_of};
 

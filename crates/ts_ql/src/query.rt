@@ -1,4 +1,4 @@
-//! Queries.
+//! A query that has been read: its columns, conditions, range, buckets, tags and fill.
 ghost use Rattle.std.specs.Prelude.{◌≡◌, string_bytes};
 
 use crate::filter::Filter;

@@ -1,4 +1,4 @@
-//! Texts of statements.
+//! `parse`: the machine that takes a text token by token, statement by statement.
 ghost use Rattle.std.specs.Prelude.{◌≡◌, ◌&&◌};
 ghost use Rattle.ts_ql.specs.QueryFaults.{Gives};
 ghost use Rattle.ts_ql.specs.Laws.{ReadsText, IsDecided, LiteralsCount};

@@ -1,4 +1,4 @@
-//! Tokens.
+//! A token of a text: its kind, its bytes and its place.
 ghost use Rattle.std.specs.Prelude.{◌≡◌, ◌≢◌, ◌<◌};
 ghost use Rattle.std.specs.Str.{IsCharBoundary};
 ghost use Rattle.ts_ql.specs.Lexing.{token_at};

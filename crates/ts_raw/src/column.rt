@@ -9,7 +9,7 @@ use std::alloc::AllocError;
 use ts_core::Time;
 
 /// Points of one series and one field, each time once. A point is put in by two calls: `prepare` may
-/// want memory, `commit` never does, so that many columns can take their points all or none.
+/// run out of memory, `commit` never does, so that many columns can take their points all or none.
 pub trait Column {
     // Its points: times with their values.
     ghost points: { Self → PointMap };

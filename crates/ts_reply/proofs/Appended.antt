@@ -64,7 +64,7 @@ all_told {X} Is all old new newer t e = record {
   appended = e ∙ ap (λ (y : Text). y ++ codes "]") t.appended ∙ append_assoc old (behind_commas t.told) (codes "]") ∙ ap (λ (y : Text). old ++ y) (sym (items_closed t.told));
 }
 
-bracket_regrouped : (o c t : Text) → ((o ++ codes "[") ++ c) ++ t ≡ o ++ (91 ∷ (c ++ t))
+pub bracket_regrouped : (o c t : Text) → ((o ++ codes "[") ++ c) ++ t ≡ o ++ (91 ∷ (c ++ t))
 bracket_regrouped o c t = simp append_assoc
 
 pub array_appended : {X : Type 0} (Is : X → Data → Type 0) (x : X) (xs : List X) (old a b new : Text)

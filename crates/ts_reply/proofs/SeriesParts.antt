@@ -10,11 +10,11 @@ use Rattle.ts_ql.specs.Selects.{Select}
 use Rattle.ts_reply.specs.Appending.{AppendsData, IsArray}
 use Rattle.ts_reply.specs.declared.epoch.Epoch.{Epoch}
 use Rattle.ts_reply.specs.Replies.{AreEach, columns_data, series_by, series_data, IsRowData, IsSeriesData}
-use Rattle.ts_reply.specs.SeriesTexts.{series_head, tags_text}
+use Rattle.ts_reply.specs.SeriesTexts.{series_head, grouped_tags_text}
 
 series_text : (tags : List Text) (columns : Data) (name : Text) (values : List Text) (rows : Items)
     → compact_text (series_by tags columns name values rows)
-    ≡ (codes "{\"columns\":" ++ (compact_text columns ++ (codes ",\"name\":" ++ (quoted name ++ (tags_text tags values ++ (codes ",\"values\":" ++ (compact_text (array rows) ++ codes "}")))))))
+    ≡ (codes "{\"columns\":" ++ (compact_text columns ++ (codes ",\"name\":" ++ (quoted name ++ (grouped_tags_text tags values ++ (codes ",\"values\":" ++ (compact_text (array rows) ++ codes "}")))))))
 unfolding serde_json_on_literals
 series_text [] columns name values rows = refl
 series_text (tag ∷ tags) columns name values rows = refl
@@ -23,11 +23,11 @@ parts_regrouped : (o h c n q t v r e : Text) → ((((o ++ (h ++ (c ++ (n ++ q)))
 parts_regrouped o h c n q t v r e = simp append_assoc
 
 pub group_appended : (epoch : Epoch) (s : Select) (group : FilledGroup) (old a b c d new : Text)
-    → a ≡ old ++ series_head s → b ≡ a ++ tags_text s.query.group_tags group.values → c ≡ b ++ codes ",\"values\":"
+    → a ≡ old ++ series_head s → b ≡ a ++ grouped_tags_text s.query.group_tags group.values → c ≡ b ++ codes ",\"values\":"
     → AppendsData (IsArray (AreEach (IsRowData epoch) group.rows)) c d → new ≡ d ++ codes "}" → AppendsData (IsSeriesData epoch s group) old new
 group_appended epoch s group old a b c d new ea eb ec rows e =
     let rs : Items = rows.is.items in
-    let tags : Text = tags_text s.query.group_tags group.values in
+    let tags : Text = grouped_tags_text s.query.group_tags group.values in
     record {
       told = series_data s group.values rs;
       is = (rs, rows.is.are, refl);

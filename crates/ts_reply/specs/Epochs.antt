@@ -1,4 +1,4 @@
--- How a reply tells times, and the names of it.
+-- How a reply writes times, and the names of each way.
 -- (InfluxData 1.8, API reference: /query, the parameter `epoch`: ns, u or µ, ms, s, m, h. Own rules: also `n`, as with a precision, and
 -- `text` for RFC 3339.)
 use Rattle.std.specs.Prelude.{[], ◌∷◌, Option, Some, option_map, bytes_eq, codes, if◌then◌else◌}
@@ -19,6 +19,6 @@ epoch_names =
 unfoldable pub epoch_unit_of : Text → Option TimeUnit
 epoch_unit_of = unit_called epoch_names
 
--- how times are told
+-- how times are written
 unfoldable pub epoch_of : Text → Option Epoch
 epoch_of name = if bytes_eq name (codes "text") then Some AsText else option_map Units (epoch_unit_of name)

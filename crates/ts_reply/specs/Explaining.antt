@@ -1,5 +1,5 @@
 -- What is explained of a text of queries: of each the certificate of its plan, after a history.
--- (Own rules: a plan is told as the text of its certificate, which may be handed in with the query; a query without a plan has its fault.)
+-- (Own rules: a plan is answered as the text of its certificate, which may be handed in with the query; a query without a plan has its fault.)
 use Rattle.std.specs.Prelude.{ℤ, Bool, true, false, List, Ok, Err}
 use Rattle.ts_core.specs.Facts.{Text}
 use Rattle.ts_core.specs.History.{History, settings_of}
@@ -27,7 +27,7 @@ pub data IsExplained (opening : Settings) (h : History) (s : Select) : Outcome �
 
 -- The explanation of a text at a moment, after a history: whether it is good, and its body.
 pub data IsExplanation (opening : Settings) (h : History) (now : ℤ) (text : Text) : Bool → Text → Type 0 where
-  -- what is explained of the queries that the text says; no time is told, so any epoch would do
+  -- what is explained of the queries that the text says; no time is written, so any epoch would do
   good : (body : Text) (queries : List Select) (outcomes : List Outcome) → TextSays now text queries → AreOutcomes (IsExplained opening h) queries outcomes → TellsOutcomes AsText outcomes body → IsExplanation opening h now text true body
   -- the first fault of the text
   bad : (fault : queries.Fault) → TextFault now text fault → IsExplanation opening h now text false (refusal_text (query_fault_text fault))

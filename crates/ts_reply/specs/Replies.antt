@@ -42,12 +42,12 @@ value_data (Fraction f) = string (ratio_text f)
 abbrev pub is_valid_time : ℤ → Bool
 is_valid_time t = int_le least_time t && int_le t greatest_time
 
--- the text of a valid time; the first bucket of a query that no text says may start before all of them, and is told by its nanoseconds
+-- the text of a valid time; the first bucket of a query that no text says may start before all of them, and is written by its nanoseconds
 abbrev pub IsTextOrCount : Bool → ℤ → Data → Type 0
 IsTextOrCount true t d = (text : Text) × IsTimeText t text × (d ≡ string text)
 IsTextOrCount false t d = d ≡ integer_data t
 
--- how a time is told: by its text, or by the whole units up to it, counted by floor
+-- how a time is written: by its text, or by the whole units up to it, counted by floor
 abbrev pub IsTimeData : Epoch → ℤ → Data → Type 0
 IsTimeData AsText t d = IsTextOrCount (is_valid_time t) t d
 IsTimeData (Units unit) t d = d ≡ integer_data (int_div_euclid t (nanoseconds_of unit))
@@ -106,7 +106,7 @@ statement_id n = member (codes "statement_id") (number (unsigned n)) no_members
 abbrev pub result_of : Text → Data → ℕ → Data
 result_of key d n = object (member key d (statement_id n))
 
--- what is told of a statement
+-- what is answered to a statement
 abbrev pub IsResultData : Epoch → ℕ → Outcome → Data → Type 0
 IsResultData epoch n (Rows s []) d = d ≡ object (statement_id n)
 IsResultData epoch n (Rows s (group ∷ groups)) d =
@@ -114,7 +114,7 @@ IsResultData epoch n (Rows s (group ∷ groups)) d =
 IsResultData epoch n (Certificate text) d = d ≡ result_of (codes "cert") (string text) n
 IsResultData epoch n (Fault text) d = d ≡ result_of (codes "error") (string text) n
 
--- what is told of statements, numbered from n on
+-- what is answered to statements, numbered from n on
 abbrev pub AreResults : Epoch → ℕ → List Outcome → Items → Type 0
 AreResults epoch n [] no_items = ⊤
 AreResults epoch n [] (item d ds) = ⊥
@@ -124,7 +124,7 @@ AreResults epoch n (o ∷ os) (item d ds) = IsResultData epoch n o d × AreResul
 abbrev pub results_data : Items → Data
 results_data results = object (member (codes "results") (array results) no_members)
 
--- the text tells what became of a query's statements
+-- the text is the answer to a text's statements, by what became of them
 abbrev pub TellsOutcomes : Epoch → List Outcome → Text → Type 0
 TellsOutcomes epoch outcomes text = (results : Items) × AreResults epoch 0 outcomes results × (text ≡ compact_text (results_data results))
 

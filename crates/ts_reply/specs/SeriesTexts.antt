@@ -12,6 +12,6 @@ abbrev pub series_head : Select → Text
 series_head s = codes "{\"columns\":" ++ (compact_text (columns_data s) ++ (codes ",\"name\":" ++ quoted s.query.measurement))
 
 -- the tags of a group, where some tag is grouped
-abbrev pub tags_text : List Text → List Text → Text
-tags_text [] values = []
-tags_text (tag ∷ tags) values = codes ",\"tags\":" ++ compact_text (object (tags_among no_members (tag ∷ tags) values))
+abbrev pub grouped_tags_text : List Text → List Text → Text
+grouped_tags_text [] values = []
+grouped_tags_text (tag ∷ tags) values = codes ",\"tags\":" ++ compact_text (object (tags_among no_members (tag ∷ tags) values))

@@ -1,4 +1,4 @@
-//! Times by text.
+//! A time as RFC 3339 text in UTC.
 ghost use Rattle.std.specs.Prelude.{◌≡◌, IfOk, string_bytes};
 ghost use Rattle.jiff.specs.Words.{civil_nanos};
 ghost use Rattle.ts_core.specs.Facts.{Text};

@@ -7,7 +7,7 @@ ghost use Rattle.ts_exec.specs.Lent.{lent};
 ghost use Rattle.ts_ql.specs.Selects.{texts};
 ghost use Rattle.ts_reply.specs.Appending.{AppendsData};
 ghost use Rattle.ts_reply.specs.Replies.{column_data, tags_among, IsSeriesData};
-ghost use Rattle.ts_reply.specs.SeriesTexts.{series_head, tags_text};
+ghost use Rattle.ts_reply.specs.SeriesTexts.{series_head, grouped_tags_text};
 
 use crate::epoch::Epoch;
 use crate::rows::push_group_rows;
@@ -102,7 +102,7 @@ fn push_tags<A: Allocator>(
     tags: &[String<A>],
     values: &[&str],
 ) -> Result<(), AllocError>
-    ensures { OnOk result (string_bytes text.new ≡ string_bytes text.old ++ tags_text (texts tags.now) (lent values.now)) }
+    ensures { OnOk result (string_bytes text.new ≡ string_bytes text.old ++ grouped_tags_text (texts tags.now) (lent values.now)) }
 {
     if tags.is_empty() {
         return Ok(());

@@ -25,7 +25,7 @@ pub enum WriteFault {
 }
 
 impl WriteFault {
-    /// Appends its text, or a beginning of it where memory is wanted. Where the room is there, none is.
+    /// Appends its text, or a beginning of it out of memory. Where the room is there, it takes none.
     #[tactic(auto, using(crate::proofs::StoreFaultLemmas::below_mark_short), unfolding(crate::specs::StoreFaultTexts::write_fault_text))]
     pub fn text_to<A: Allocator>(&self, text: &mut String<A>) -> Result<(), AllocError>
         ensures ok { OnOk result (string_bytes text.new ≡ string_bytes text.old ++ write_fault_text self.now) }
@@ -62,7 +62,7 @@ impl From<AllocError> for WriteFault {
 pub struct RunInProgress;
 
 impl RunInProgress {
-    /// Appends its text, or a beginning of it where memory is wanted. Where the room is there, none is.
+    /// Appends its text, or a beginning of it out of memory. Where the room is there, it takes none.
     pub fn text_to<A: Allocator>(&self, text: &mut String<A>) -> Result<(), AllocError>
         ensures ok { OnOk result (string_bytes text.new ≡ string_bytes text.old ++ run_in_progress_text) }
         ensures err { OnErr result (EndsEarly run_in_progress_text (string_bytes text.old) (string_bytes text.new)) }

@@ -1,4 +1,4 @@
-//! What is kept for a rollup rule.
+//! What is kept for a rollup rule: its cells, the lane of each column, and the columns of each lane.
 ghost use Rattle.std.specs.Prelude.{◌≡◌, ◌≢◌, ◌≤◌, ◌<◌, ◌≤ℤ◌, ℕ, None, [], length, get_or, replicate, map, IsSome, is_some, IfOk, OnOk, OnErr};
 ghost use Rattle.std.specs.FinMap as finmap;
 ghost use Rattle.std.specs.List.{AllByRecursion};

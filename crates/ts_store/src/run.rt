@@ -1,4 +1,4 @@
-//! An open run of retention.
+//! An open run of retention: which column it moves next, and how many columns there were when it began.
 use std::marker::Model;
 
 /// An open run: which column it moves next, and how many columns there were when it began. Those made since then count

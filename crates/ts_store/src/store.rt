@@ -1,4 +1,4 @@
-//! The store.
+//! The store: what it is made of, its writes, and how a query sees it. Runs of retention: store/retention.rt.
 ghost use Rattle.std.specs.Prelude.{◌≡◌, pos, ◌≤ℤ◌, ◌⊎◌, ◌+◌, ◌*◌, ◌<◌, ◌≤◌, [], length, map, OnOk, IfOk, IfSome, IsNone, Ok, Err};
 ghost use Rattle.std.specs.Bool.{OnFalse};
 ghost use Rattle.std.specs.List.{AllByRecursion};

@@ -1,4 +1,4 @@
--- What a command line is told, by the words behind the program's name: the kinds that clap's error may have, and none where
+-- What a command line is answered, by the words behind the program's name: the kinds that clap's error may have, and none where
 -- the words ask for a replay. (Own rule: `replay` is the one subcommand. Flags, `help` and `--` are clap's own.)
 use Rattle.std.specs.Prelude.{ℕ, codes, List, [], ◌∷◌, Bool, true, false, ◌&&◌, ◌==◌, if◌then◌else◌, Option, Some, None, is_some, slice_get}
 use Rattle.std.specs.Option.{option_map_or}
@@ -37,7 +37,7 @@ long_told in_front name value =
     else if in_front && bytes_eq (codes "version") name then flag_told kind.DisplayVersion value
     else kind.UnknownArgument ∷ []
 
--- `-h` (104), and in front of `replay` also `-V` (86); of several letters the first one is told, and bytes that spell none are stray
+-- `-h` (104), and in front of `replay` also `-V` (86); of several letters the first one is answered, and bytes that spell none are stray
 abbrev pub letter_told : Bool → Option ℕ → Kinds
 letter_told in_front None = stray_told in_front
 letter_told in_front (Some letter) =
@@ -54,7 +54,7 @@ abbrev pub word_told : Bool → Text → Kinds
 word_told in_front word =
     option_map_or (λ p. long_told in_front p.0 p.1) (long_of word) (letters_told in_front (short_of word))
 
--- behind `--` no word is taken; `alone` is told where there is none
+-- behind `--` no word is taken; `alone` is answered where there is none
 abbrev pub after_dashes : Kinds → Bool → List Text → Kinds
 after_dashes alone in_front [] = alone
 after_dashes alone in_front (word ∷ rest) = stray_told in_front
@@ -66,7 +66,7 @@ behind_told (word ∷ rest) =
     if bytes_eq word (codes "--") then after_dashes [] false rest
     else word_told false word
 
--- The words behind the program's name. Of `help` it is left open whether a command's name stands behind it: where none does, it may be told as no command.
+-- The words behind the program's name. Of `help` it is left open whether a command's name stands behind it: where none does, it may be answered as no command.
 abbrev pub told : List Text → Kinds
 told [] = usage_told
 told (word ∷ rest) =

@@ -16,7 +16,7 @@ pub data Command : Type 0 where
   At : ℤ → Command
   -- timestamps count units of this precision
   SetPrecision : TimeUnit → Command
-  -- replies tell times so
+  -- replies write times so
   SetEpoch : Epoch → Command
   -- a line to be written
   Write : Text → Command

@@ -1,4 +1,4 @@
--- What the code tells of a query that counts. (Own rule.)
+-- What the code answers to a query that counts. (Own rule.)
 use Rattle.std.specs.Prelude.{◌≡◌, ℕ, List, [], ◌∷◌, Result, Ok, Err, ⊤}
 use Rattle.ts_core.specs.Answers.{Row, Group, answer_of}
 use Rattle.ts_core.specs.History.{History, settings_of}

@@ -92,7 +92,7 @@ pub record IsReadOn (old : HeldLine) (source : Input) (result : Result Bool Read
 abbrev pub IsNext : HeldLine → Input → Next → HeldLine → Input → Type 0
 IsNext old source next new source' = IfSome (to_come old source) (λ bytes. NextOf bytes next new.line (to_come new source'))
 
--- the end is told where it was read, and a line uses something up
+-- the end is answered where it was read, and a line uses something up
 pub record UsesUp (old : Ahead) (next : Next) (new : Ahead) : Type 0 where
   pub over : next ≡ End → new.ended ≡ true
   pub less : next ≢ End → weight new < weight old

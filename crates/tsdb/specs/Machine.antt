@@ -43,7 +43,7 @@ use Rattle.ts_store.specs.StoreFaultTexts.{write_fault_text}
 use Rattle.tsdb.specs.ScriptReplies.{line, unknown_text, bad_range_text}
 
 pub record State : Type 0 where
-  -- the moment that the script has set, in nanoseconds, the precision of its timestamps, and how replies tell times
+  -- the moment that the script has set, in nanoseconds, the precision of its timestamps, and how replies write times
   pub moment : ℤ
   pub precision : TimeUnit
   pub epoch : Epoch
@@ -131,7 +131,7 @@ pub data Counts (opening : Settings) (h : History) (measurement field : Text) (a
   counted : (plan : List Piece) → CountIsPlanned opening h measurement field a b (Ok plan) → Counts opening h measurement field a b (line (decimal (count_of h measurement field a b)))
   has_no_plan : (fault : PlanFault) → CountIsPlanned opening h measurement field a b (Err (errors.Fault fault)) → Counts opening h measurement field a b (line (plan_fault_text fault))
   is_too_long : (IsInterval (b -ℤ a) → ⊥) → Counts opening h measurement field a b (line bad_range_text)
-  -- to plan and to execute may want memory that isn't there
+  -- to plan and to execute may run out of memory
   counts_no_memory : IsInterval (b -ℤ a) → Counts opening h measurement field a b (line memory_text)
 
 -- From `old` a command may print this and leave that.
@@ -147,10 +147,10 @@ pub data Does (old : State) : Command → Text → State → Type 0 where
   -- a comment or a blank line
   passes_over : (text : Text) → line_in old text ≡ Ok None → Does old (Write text) (line (codes "none")) old
   refuses : (text : Text) (fault : LineFault) → line_in old text ≡ Err fault → Does old (Write text) (line (line_fault_text fault)) old
-  -- to read a line may want memory that isn't there
+  -- to read a line may run out of memory
   reads_no_memory : (text : Text) → Does old (Write text) (line memory_text) old
   shows : (e : Epoch) → Does old (SetEpoch e) [] (in_epoch e old)
-  -- retention runs at the moment, and the marks that it leaves are told
+  -- retention runs at the moment, and the marks that it leaves are printed
   retains : (steps : ℕ) → Does old Retain (line (marks_told (with_run steps old))) (with_run steps old)
   retains_no_memory : Does old Retain (line memory_text) old
   -- a certificate waits for the next query, in place of an earlier one

@@ -1,4 +1,4 @@
--- Marks as a script tells them. (Own rule.)
+-- Marks as a script prints them. (Own rule.)
 use Rattle.std.specs.Prelude.{ℤ, List, [], ◌∷◌, ◌++◌, codes}
 use Rattle.std.specs.Fmt.{signed_decimal}
 use Rattle.ts_core.specs.Facts.{Text}

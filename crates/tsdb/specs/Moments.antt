@@ -7,7 +7,7 @@ use Rattle.ts_core.specs.TimeUnits.{nanoseconds_of, moment_unit_of}
 use Rattle.ts_line.specs.Numbers.{is_number}
 use Rattle.ts_line.specs.Lines.{time_of}
 
--- the moment that a number of units of so many nanoseconds tells, where it is a valid time
+-- the moment that a number of units of so many nanoseconds is, where it is a valid time
 unfoldable pub moment_in : ℤ → Text → Option ℤ
 moment_in unit number = if is_number number then time_of unit number else None
 
@@ -15,6 +15,6 @@ moment_in unit number = if is_number number then time_of unit number else None
 unfoldable pub number_len : Text → ℕ
 number_len text = position_or_len (λ b. not (b == 45 || is_ascii_digit b)) text
 
--- the moment that a number with its unit tells
+-- the moment that a number with its unit is
 unfoldable pub moment_of : Text → Option ℤ
 moment_of text = option_and_then (λ unit. moment_in (nanoseconds_of unit) (take (number_len text) text)) (moment_unit_of (drop (number_len text) text))

@@ -1,4 +1,4 @@
--- The faults of a run: their texts, and the device that each tells of. (Own rule.)
+-- The faults of a run: their texts, and the device that each is of. (Own rule.)
 use Rattle.std.specs.Prelude.{ℕ, Result, Ok, Err}
 use Rattle.ts_core.specs.Facts.{Text}
 use Rattle.ts_core.specs.FaultTexts.{fault_text, memory_text}

@@ -40,9 +40,9 @@ pub record IsReplay {T : Type 0} (source : Input) (sink : Output) (result : Resu
   -- all lines are answered, or a beginning of the answers went out
   pub answered : OnOk result (AnswersAll source.remaining sink.contents sink'.contents)
   pub begun : OnErr result (AnswersSome source.remaining sink.contents sink'.contents)
-  -- memory is wanted before anything is read or written, and not later
+  -- memory runs out before anything is read or written, and not later
   pub memory : result ≡ Err OutOfMemory → (source' ≡ source) × (sink' ≡ sink)
-  -- a device's fault is told, and only then
+  -- a device's fault is answered, and only then
   pub reader : source'.failures ≡ source.failures + one_if_reader result
   pub writer : sink'.failures ≡ sink.failures + one_if_writer result
   -- the end was read, or so many turns were taken

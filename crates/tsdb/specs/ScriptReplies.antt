@@ -1,4 +1,4 @@
--- The answers to commands, by their texts. (Own rule; a fault is told by its number.)
+-- The answers to commands, by their texts. (Own rule: a fault is answered by its number.)
 use Rattle.std.specs.Prelude.{[], ◌∷◌, ◌++◌, codes, string_bytes}
 use Rattle.std.specs.Fmt.{decimal}
 use Rattle.ts_core.specs.Facts.{Text}

@@ -53,7 +53,7 @@ Took parts s answer m = (s' : State) × Takes s parts answer s' × IsIn s' m
 abbrev pub Did : Command → State → Text → Serving → Type 0
 Did command s answer m = (s' : State) × Does s command answer s' × IsIn s' m
 
--- a line that can't be read was told as no command
+-- a line that can't be read was answered as no command
 abbrev pub Refused : State → Text → Serving → Type 0
 Refused s answer m = (answer ≡ line unknown_text) × IsIn (no_longer_fresh s) m
 

@@ -1,4 +1,4 @@
-//! The machine that a script runs.
+//! The machine that a script runs: each line that is a command takes one step of it, and has one reply.
 ghost use Rattle.std.specs.Prelude.{◌≡◌, ◌≤◌, length, IfOk, option_map, string_bytes, string_len, string_capacity};
 ghost use Rattle.ts_reply.specs.Told.{handed_in};
 ghost use Rattle.tsdb.specs.CommandParts.{command_view};

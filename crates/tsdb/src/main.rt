@@ -7,7 +7,7 @@
 //! ```
 //!
 //! A script's bytes are cut into lines (line_reader.rt), a line is read as a command (command.rt), the machine takes one step
-//! (machine.rt), and its reply is sent (reply.rt). To add a command: `Command` with specs/Commands.antt, its step in machine.rt with
+//! (machine.rt), and its reply is sent (reply.rt). To add a command: `Command` with specs/Commands.antt and CommandParts.antt, its step in machine.rt with
 //! specs/Machine.antt, and the help in command_line.rt.
 #![tactic(auto)]
 

@@ -12,7 +12,7 @@ use ts_core::{Marks, Rule, Settings, append_words};
 /// How much room the text of marks takes at most, with its LF: 32 rules with names of 32 bytes, and 40 for a number.
 pub(crate) const MARKS_ROOM: usize = 2_415;
 
-/// Appends a rule's name and its low index. Where the room is there, no memory is wanted.
+/// Appends a rule's name and its low index. Where the room is there, no memory is taken.
 fn low_to<A: Allocator>(text: &mut String<A>, name: &str, low: i128) -> Result<(), AllocError>
     ensures ok { OnOk result (string_bytes text.new ≡ string_bytes text.old ++ low_text name.now low) }
     ensures room { string_len text.old + (length name.now + 42) ≤ string_capacity text.old → IsOk result }
@@ -22,7 +22,7 @@ fn low_to<A: Allocator>(text: &mut String<A>, name: &str, low: i128) -> Result<(
     append_words(text, &[" ", name, "=", Buffer::new().format(low)])
 }
 
-/// Appends the name and the low index of each rule. Where the room is there, no memory is wanted.
+/// Appends the name and the low index of each rule. Where the room is there, no memory is taken.
 fn lows_to<A: Allocator, B: Allocator>(
     text: &mut String<B>,
     rules: &[Rule<A>],
@@ -43,7 +43,7 @@ fn lows_to<A: Allocator, B: Allocator>(
     }
 }
 
-/// Appends the raw mark. Where the room is there, no memory is wanted.
+/// Appends the raw mark. Where the room is there, no memory is taken.
 fn raw_to<A: Allocator>(text: &mut String<A>, mark: i64) -> Result<(), AllocError>
     ensures ok { OnOk result (string_bytes text.new ≡ string_bytes text.old ++ raw_text mark) }
     ensures room { string_len text.old + 46 ≤ string_capacity text.old → IsOk result }
@@ -53,7 +53,7 @@ fn raw_to<A: Allocator>(text: &mut String<A>, mark: i64) -> Result<(), AllocErro
     append_words(text, &["marks ", Buffer::new().format(mark)])
 }
 
-/// Appends the raw mark and the low index of each rule. Where the room is there, no memory is wanted.
+/// Appends the raw mark and the low index of each rule. Where the room is there, no memory is taken.
 fn marks_to<A: Allocator, B: Allocator>(
     text: &mut String<B>,
     settings: &Settings<A>,
@@ -68,7 +68,7 @@ fn marks_to<A: Allocator, B: Allocator>(
     lows_to(text, settings.rules(), marks.lows())
 }
 
-/// Makes an empty text that of marks, with an LF. The room is there, so no memory is wanted.
+/// Makes an empty text that of marks, with an LF. The room is there, so no memory is taken.
 pub(crate) fn marks_line<A: Allocator, B: Allocator>(
     mut text: String<B>,
     settings: &Settings<A>,

@@ -50,7 +50,7 @@ pub const TEXT_ROOM: usize = 35;
 
 impl Reply {
     /// Puts it behind the answers before it, with its LF. The text is where a fault's is made: its room is there before, so that no
-    /// memory is wanted.
+    /// memory is taken.
     pub fn send<W: Write, A: Allocator>(
         self,
         text: &mut String<A>,

@@ -167,7 +167,7 @@ const WHOLE: [Whole; 22] = [
 
 /// Behind `THREE`: commands, and the last that they print.
 const BEHIND_THREE: [(&str, &str); 10] = [
-    // cells and raw points are put together, and the plan tells how
+    // cells and raw points are put together, and the plan says how
     (
         "query SELECT COUNT(v),SUM(v) FROM cpu WHERE time >= 0 AND time < 180s GROUP BY time(1m)",
         "{\"results\":[{\"series\":[{\"columns\":[\"time\",\"count\",\"sum\"],\"name\":\"cpu\",\"values\":[[\"1970-01-01T00:00:00Z\",1,5],[\"1970-01-01T00:01:00Z\",2,8],[\"1970-01-01T00:02:00Z\",0,null]]}],\"statement_id\":0}]}\n",

@@ -1,4 +1,4 @@
-//! Texts of queries that are refused, and what `explain` tells of their ranges.
+//! Texts of queries that are refused, and what `explain` answers to their ranges.
 use crate::query_tests::joined;
 use crate::script_tests::prints;
 use std::alloc::Global;

@@ -1,4 +1,4 @@
-//! Runs of retention.
+//! Runs of retention: a begin, steps that each move a column or remove cells, and the one that ends it.
 ghost use Rattle.std.specs.Prelude.{◌≡◌, ◌↔◌, ◌+◌, true, false, IsTrue, IfOk, OnOk, OnErr, IsErr};
 ghost use Rattle.ts_core.specs.History.{Step as StepEvent};
 ghost use Rattle.ts_core.specs.Runs.{steps_left};

@@ -3,7 +3,7 @@ use Rattle.std.proofs.lemmas.Result.{on_ok_weaker}
 use Rattle.ts_core.specs.Fills.{FilledGroup}
 use Rattle.ts_reply.specs.Appending.{AppendsData, IsArray}
 use Rattle.ts_reply.specs.Replies.{AreEach, IsRowData}
-use Rattle.ts_reply.specs.SeriesTexts.{series_head, tags_text}
+use Rattle.ts_reply.specs.SeriesTexts.{series_head, grouped_tags_text}
 use Rattle.ts_reply.proofs.Appended.{if_pushed}
 use Rattle.ts_reply.proofs.SeriesParts.{group_appended}
 use Rattle.ts_reply.proofs.series.push_group.Goals as goal
@@ -18,7 +18,7 @@ returns g c =
     let opened = string_bytes c.push_str-2.new.self in
     let told = string_bytes c.push_group_rows.new.text in
     let head : headed ≡ old ++ series_head s = first_of (search rules, cc) in
-    let tags : tagged ≡ headed ++ tags_text s.query.group_tags group.values = first_of (search rules, cc) in
+    let tags : tagged ≡ headed ++ grouped_tags_text s.query.group_tags group.values = first_of (search rules, cc) in
     let values : opened ≡ tagged ++ codes ",\"values\":" = search rules in
     let rows : AppendsData (IsArray (AreEach (IsRowData c.args.epoch) group.rows)) opened told = search rules in
     on_ok_weaker c.push_str-3.result (group_appended c.args.epoch s group old headed tagged opened told (string_bytes c.push_str-3.new.self) head tags values rows) (if_pushed c.push_str-3.result _ _ _ c.push_str-3.ensures.bytes)
