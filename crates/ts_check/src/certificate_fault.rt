@@ -10,7 +10,7 @@ use ts_core::{FaultCode, FaultDetail};
 
 /// A text that is no certificate (number 81).
 #[derive(Clone, Copy, Debug, PartialEq, Eq, Error)]
-#[error("no certificate goes on so, at byte {at}")]
+#[error("a syntax error in a certificate, at byte {at}")]
 pub struct CertificateFault {
     /// The place of the first line that isn't of the form, or of the end where whole lines end before the
     /// last one of a certificate, in bytes from 0.

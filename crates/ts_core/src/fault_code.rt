@@ -69,7 +69,7 @@ pub enum FaultCode {
     ImageDevice,
     /// The image didn't end within 2^32 reads (number 66).
     EndlessImage,
-    /// No query goes on so (number 71).
+    /// A syntax error in a query (number 71).
     Syntax,
     /// InfluxQL has this, but it isn't supported here (number 72).
     OutOfProfile,
@@ -103,7 +103,7 @@ pub enum FaultCode {
     Straddles,
     /// The rule doesn't keep a tag that the query names (number 89).
     TagNotKept,
-    /// What the query asks for is no longer there (number 91).
+    /// The query needs points that are dropped, and no cells fit it (number 91).
     NoPlan,
     /// More than 1,000,000 buckets of rules would be searched for a plan (number 92).
     TooManyRuleBuckets,
@@ -322,7 +322,7 @@ impl FaultCode {
             FaultCode::ContradictoryImage => "parts of the image contradict each other",
             FaultCode::ImageDevice => "reading or writing the image failed",
             FaultCode::EndlessImage => "the image didn't end within 2^32 reads",
-            FaultCode::Syntax => "no query goes on so",
+            FaultCode::Syntax => "a syntax error in a query",
             FaultCode::OutOfProfile => "InfluxQL has this, but it isn't supported here",
             FaultCode::NoLowerBound => "the query has no lower bound of time",
             FaultCode::OutOfRange => "a number, a duration or a time is out of its range",
@@ -339,7 +339,7 @@ impl FaultCode {
             FaultCode::BelowLow => "the piece starts below the rule's low index",
             FaultCode::Straddles => "the rule's buckets don't fit the query's",
             FaultCode::TagNotKept => "the rule doesn't keep a tag that the query names",
-            FaultCode::NoPlan => "what the query asks for is no longer there",
+            FaultCode::NoPlan => "the query needs points that are dropped, and no cells fit it",
             FaultCode::TooManyRuleBuckets =>
                 "more than 1,000,000 buckets of rules would be searched for a plan",
             FaultCode::StalePlan =>

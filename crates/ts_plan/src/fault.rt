@@ -12,7 +12,7 @@ use ts_core::{FaultCode, FaultDetail};
 #[derive(Clone, Copy, Debug, PartialEq, Eq, Error)]
 pub enum PlanFault {
     /// No list of pieces may stand for all points that it asks for (number 91).
-    #[error("no plan: what the query asks for is no longer there")]
+    #[error("no plan: the query needs points that are dropped, and no cells fit it")]
     NoPlan,
     /// More than 1,000,000 buckets of rules would be searched (number 92).
     #[error("too many buckets to search for a plan")]

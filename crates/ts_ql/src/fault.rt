@@ -12,8 +12,8 @@ use ts_core::{FaultCode, FaultDetail, append_words};
 /// What is wrong with a text of queries.
 #[derive(Clone, Copy, Debug, PartialEq, Eq, Error)]
 pub enum QlFaultKind<'a> {
-    /// No text of the profile goes on so (number 71).
-    #[error("no query goes on so")]
+    /// A syntax error: no query goes on like that (number 71).
+    #[error("a syntax error")]
     Syntax,
     /// What the profile leaves out, as it is written (number 72).
     #[error("`{0}` isn't supported")]
