@@ -33,6 +33,7 @@ use Rattle.tsdb.specs.MarksTexts.{marks_text}
 use Rattle.tsdb.specs.Opening.{IsEmptyWith}
 use Rattle.ts_store.specs.declared.fault.WriteFault.{WriteFault}
 use Rattle.ts_store.specs.declared.fault.WriteFault.TheVariants as write
+use Rattle.ts_store.specs.StoreFaultTexts.{write_fault_text}
 use Rattle.tsdb.specs.ScriptReplies.{line, text_of, unknown_text, bad_range_text}
 use Rattle.tsdb.specs.declared.reply.Reply.{Reply}
 use Rattle.tsdb.specs.declared.reply.Reply.TheVariants as reply
@@ -78,7 +79,8 @@ took_whole parts s m k i none a = (
   record { moment = i.moment; precision = i.precision; epoch = i.epoch; fresh = i.fresh; certificate = i.certificate; stands = a.history s.opening s.history i.stands; series = refl; idle = i.idle },
 )
 
-took_nothing : (parts : Parts) (s : State) (m : Serving) (k : StoreData) → IsIn s m → refusal_in s parts ≡ None → Leaves m.kept k parts → Took parts s (line memory_text) (keeping k m)
+took_nothing : (parts : Parts) (s : State) (m : Serving) (k : StoreData) → IsIn s m → refusal_in s parts ≡ None → Leaves m.kept k parts → Took parts s (line (write_fault_text write.OutOfMemory)) (keeping k m)
+unfolding write_fault_text
 took_nothing parts s m k i none l = (
   with_series k.series s,
   found_no_memory k.series none (subst (λ (xs : List Series). MayGain xs k.series (series_of parts)) i.series l.series),
