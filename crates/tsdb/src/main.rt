@@ -54,6 +54,8 @@ mod script_tests;
 #[cfg(test)]
 mod settings_tests;
 #[cfg(test)]
+mod stale_tests;
+#[cfg(test)]
 mod store_tests;
 #[cfg(test)]
 mod text_tests;
