@@ -1,6 +1,6 @@
 //! Why pieces are no plan of a query.
-ghost use Rattle.std.specs.Prelude.{◌≡◌, ◌+◌, ◌≤◌, ◌++◌, length, IsOk, OnOk, OnErr, string_bytes, string_len, string_capacity};
-ghost use Rattle.ts_core.specs.FaultTexts.{EndsEarly};
+ghost use Rattle.std.specs.Prelude.{◌≡◌, ◌≤◌, length};
+ghost use Rattle.ts_core.specs.FaultTexts.{IsAppended};
 ghost use Rattle.ts_check.specs.CheckTexts.{check_fault_text};
 ghost use Rattle.ts_check.specs.declared.fault.CheckError.TheVariants as errors;
 
@@ -22,11 +22,8 @@ impl CheckFault {
     /// Appends its text, or a beginning of it out of memory. Where the room is there, it takes none.
     #[tactic(auto, using(crate::proofs::FaultLemmas::check_fault_text_short), unfolding(crate::specs::CheckTexts::check_fault_text))]
     pub fn text_to<A: Allocator>(&self, text: &mut String<A>) -> Result<(), AllocError>
-        ensures ok { OnOk result (string_bytes text.new ≡ string_bytes text.old ++ check_fault_text self.now) }
-        ensures err { OnErr result (EndsEarly (check_fault_text self.now) (string_bytes text.old) (string_bytes text.new)) }
-        ensures room { string_len text.old + length (check_fault_text self.now) ≤ string_capacity text.old → IsOk result }
+        ensures appended { IsAppended (check_fault_text self.now) text.old text.new result }
         ensures short { length (check_fault_text self.now) ≤ 35 }
-        ensures capacity { string_capacity text.old ≤ string_capacity text.new }
     {
         self.kind
             .code()

@@ -1,6 +1,6 @@
 -- The text of a fault: its number, and what stands behind it. (Own rules.)
 use Rattle.std.specs.Borrow.{Bor}
-use Rattle.std.specs.Prelude.{◌≡◌, ℕ, List, [], ◌∷◌, ◌++◌, codes}
+use Rattle.std.specs.Prelude.{◌≡◌, ◌≤◌, ◌+◌, ℕ, List, [], ◌∷◌, ◌++◌, length, codes, Result, IsOk, OnOk, OnErr, String, string_bytes, string_len, string_capacity}
 use Rattle.std.specs.Fmt.{decimal, signed_decimal}
 use Rattle.ts_core.specs.Facts.{Text}
 use Rattle.ts_core.specs.declared.fault_code.FaultCode.{FaultCode}
@@ -46,3 +46,11 @@ pub record EndsEarly (text old new : Text) : Type 0 where
   pub missing : Text
   pub stands : new ≡ old ++ written
   pub whole : text ≡ written ++ missing
+
+-- a call that appends a text: behind what there was stands the whole of it, or out of memory a beginning. Where there is room for it,
+-- no memory is wanted
+pub record IsAppended {A T E : Type 0} (text : Text) (old new : String A) (result : Result T E) : Type 0 where
+  pub ok : OnOk result (string_bytes new ≡ string_bytes old ++ text)
+  pub err : OnErr result (EndsEarly text (string_bytes old) (string_bytes new))
+  pub room : string_len old + length text ≤ string_capacity old → IsOk result
+  pub capacity : string_capacity old ≤ string_capacity new

@@ -1,6 +1,6 @@
 //! Texts of faults: `fault`, the number, and what stands behind it.
-ghost use Rattle.std.specs.Prelude.{◌≡◌, ◌+◌, ◌≤◌, ◌<◌, ◌^◌, ◌++◌, length, IsOk, OnOk, OnErr, string_bytes, string_len, string_capacity};
-ghost use Rattle.ts_core.specs.FaultTexts.{fault_text, words_joined, EndsEarly};
+ghost use Rattle.std.specs.Prelude.{◌≡◌, ◌<◌, ◌^◌};
+ghost use Rattle.ts_core.specs.FaultTexts.{fault_text, words_joined, IsAppended};
 
 use crate::fault_code::FaultCode;
 use itoa::Buffer;
@@ -43,10 +43,7 @@ impl FaultDetail<'static> {
 
 /// Appends words one behind another, or a beginning of them out of memory. Where the room is there, it takes none.
 pub fn append_words<A: Allocator>(text: &mut String<A>, words: &[&str]) -> Result<(), AllocError>
-    ensures ok { OnOk result (string_bytes text.new ≡ string_bytes text.old ++ words_joined words.now) }
-    ensures err { OnErr result (EndsEarly (words_joined words.now) (string_bytes text.old) (string_bytes text.new)) }
-    ensures room { string_len text.old + length (words_joined words.now) ≤ string_capacity text.old → IsOk result }
-    ensures capacity { string_capacity text.old ≤ string_capacity text.new }
+    ensures { IsAppended (words_joined words.now) text.old text.new result }
 {
     match words.split_first() {
         None => Ok(()),
@@ -64,10 +61,7 @@ impl FaultCode {
         detail: FaultDetail<'_>,
         text: &mut String<A>,
     ) -> Result<(), AllocError>
-        ensures ok { OnOk result (string_bytes text.new ≡ string_bytes text.old ++ fault_text self detail.entry) }
-        ensures err { OnErr result (EndsEarly (fault_text self detail.entry) (string_bytes text.old) (string_bytes text.new)) }
-        ensures room { string_len text.old + length (fault_text self detail.entry) ≤ string_capacity text.old → IsOk result }
-        ensures capacity { string_capacity text.old ≤ string_capacity text.new }
+        ensures { IsAppended (fault_text self detail.entry) text.old text.new result }
     {
         let mut number = Buffer::new();
         let mut place = Buffer::new();

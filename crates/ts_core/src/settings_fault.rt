@@ -1,7 +1,7 @@
 //! What is wrong with settings.
-ghost use Rattle.std.specs.Prelude.{◌≡◌, ◌+◌, ◌≤◌, ◌++◌, map, [], length, IsOk, OnOk, OnErr, string_bytes, string_len, string_capacity};
+ghost use Rattle.std.specs.Prelude.{◌≡◌, map, [], string_bytes};
 ghost use Rattle.std.specs.List.{list_all};
-ghost use Rattle.ts_core.specs.FaultTexts.{EndsEarly};
+ghost use Rattle.ts_core.specs.FaultTexts.{IsAppended};
 ghost use Rattle.ts_core.specs.SettingsFaults.{is_name_byte, is_rule_name, is_named, is_interval, are_distinct, are_kept_tags, outlasts, fault_of_rule, rules_fault, settings_fault, rule_fault_code, settings_fault_text};
 ghost use Rattle.ts_core.specs.declared.settings_fault.SettingsError.TheVariants as errors;
 
@@ -188,9 +188,7 @@ impl RuleFault {
 impl SettingsFault {
     /// Appends its text, or a beginning of it out of memory. Where the room is there, it takes none.
     pub fn text_to<A: Allocator>(&self, text: &mut String<A>) -> Result<(), AllocError>
-        ensures ok { OnOk result (string_bytes text.new ≡ string_bytes text.old ++ settings_fault_text self.now) }
-        ensures err { OnErr result (EndsEarly (settings_fault_text self.now) (string_bytes text.old) (string_bytes text.new)) }
-        ensures room { string_len text.old + length (settings_fault_text self.now) ≤ string_capacity text.old → IsOk result }
+        ensures { IsAppended (settings_fault_text self.now) text.old text.new result }
     {
         match *self {
             SettingsFault::Form => FaultCode::BadSettingsText.text_to(FaultDetail::Alone, text),

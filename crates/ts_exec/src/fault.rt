@@ -1,6 +1,6 @@
 //! Why a plan wasn't executed.
-ghost use Rattle.std.specs.Prelude.{◌≡◌, ◌+◌, ◌≤◌, ◌++◌, length, IsOk, OnOk, OnErr, string_bytes, string_len, string_capacity};
-ghost use Rattle.ts_core.specs.FaultTexts.{EndsEarly};
+ghost use Rattle.std.specs.Prelude.{◌≡◌};
+ghost use Rattle.ts_core.specs.FaultTexts.{IsAppended};
 ghost use Rattle.ts_exec.specs.ExecTexts.{exec_fault_text};
 ghost use Rattle.ts_exec.specs.declared.fault.ExecFault.TheVariants as errors;
 
@@ -33,10 +33,7 @@ impl<'a, A: Allocator> ExecFault<'a, A> {
     /// Appends its text, or a beginning of it out of memory. Where the room is there, it takes none.
     #[tactic(auto, unfolding(crate::specs::ExecTexts::exec_fault_text))]
     pub fn text_to<B: Allocator>(&self, text: &mut String<B>) -> Result<(), AllocError>
-        ensures ok { OnOk result (string_bytes text.new ≡ string_bytes text.old ++ exec_fault_text self.now) }
-        ensures err { OnErr result (EndsEarly (exec_fault_text self.now) (string_bytes text.old) (string_bytes text.new)) }
-        ensures room { string_len text.old + length (exec_fault_text self.now) ≤ string_capacity text.old → IsOk result }
-        ensures capacity { string_capacity text.old ≤ string_capacity text.new }
+        ensures { IsAppended (exec_fault_text self.now) text.old text.new result }
     {
         match self {
             ExecFault::Stale(_, _) => FaultCode::StalePlan.text_to(FaultDetail::Alone, text),

@@ -1,6 +1,6 @@
 //! Why a line is refused.
-ghost use Rattle.std.specs.Prelude.{◌≡◌, ◌+◌, ◌≤◌, ◌++◌, length, IsOk, OnOk, OnErr, string_bytes, string_len, string_capacity};
-ghost use Rattle.ts_core.specs.FaultTexts.{EndsEarly};
+ghost use Rattle.std.specs.Prelude.{◌≡◌, ◌≤◌, length};
+ghost use Rattle.ts_core.specs.FaultTexts.{IsAppended};
 ghost use Rattle.ts_line.specs.FaultText.{fault_at, line_fault_code, line_fault_text};
 ghost use Rattle.ts_line.specs.declared.fault.ReadLineError.TheVariants as errors;
 
@@ -78,11 +78,8 @@ impl LineFault {
     /// Appends its text, or a beginning of it out of memory. Where the room is there, it takes none.
     #[tactic(auto, using(crate::proofs::FaultLemmas::line_fault_text_short), unfolding(crate::specs::FaultText::line_fault_text))]
     pub fn text_to<A: Allocator>(&self, text: &mut String<A>) -> Result<(), AllocError>
-        ensures ok { OnOk result (string_bytes text.new ≡ string_bytes text.old ++ line_fault_text self.now) }
-        ensures err { OnErr result (EndsEarly (line_fault_text self.now) (string_bytes text.old) (string_bytes text.new)) }
-        ensures room { string_len text.old + length (line_fault_text self.now) ≤ string_capacity text.old → IsOk result }
+        ensures appended { IsAppended (line_fault_text self.now) text.old text.new result }
         ensures short { length (line_fault_text self.now) ≤ 32 }
-        ensures capacity { string_capacity text.old ≤ string_capacity text.new }
     {
         self.kind.code().text_to(FaultDetail::at(self.at), text)
     }

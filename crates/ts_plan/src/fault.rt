@@ -1,6 +1,6 @@
 //! Why a query has no plan.
-ghost use Rattle.std.specs.Prelude.{◌≡◌, ◌+◌, ◌≤◌, ◌++◌, length, IsOk, OnOk, OnErr, string_bytes, string_len, string_capacity};
-ghost use Rattle.ts_core.specs.FaultTexts.{EndsEarly};
+ghost use Rattle.std.specs.Prelude.{◌≡◌};
+ghost use Rattle.ts_core.specs.FaultTexts.{IsAppended};
 ghost use Rattle.ts_plan.specs.PlanTexts.{plan_fault_code, plan_fault_text};
 ghost use Rattle.ts_plan.specs.declared.fault.PlanError.TheVariants as errors;
 
@@ -33,10 +33,7 @@ impl PlanFault {
     /// Appends its text, or a beginning of it out of memory. Where the room is there, it takes none.
     #[tactic(auto, unfolding(crate::specs::PlanTexts::plan_fault_text))]
     pub fn text_to<A: Allocator>(&self, text: &mut String<A>) -> Result<(), AllocError>
-        ensures ok { OnOk result (string_bytes text.new ≡ string_bytes text.old ++ plan_fault_text self.now) }
-        ensures err { OnErr result (EndsEarly (plan_fault_text self.now) (string_bytes text.old) (string_bytes text.new)) }
-        ensures room { string_len text.old + length (plan_fault_text self.now) ≤ string_capacity text.old → IsOk result }
-        ensures capacity { string_capacity text.old ≤ string_capacity text.new }
+        ensures { IsAppended (plan_fault_text self.now) text.old text.new result }
     {
         self.code().text_to(FaultDetail::Alone, text)
     }

@@ -1,7 +1,7 @@
 //! Why a text says no queries.
-ghost use Rattle.std.specs.Prelude.{◌≡◌, ◌+◌, ◌≤◌, ◌++◌, length, IsOk, OnOk, OnErr, string_bytes, string_len, string_capacity};
+ghost use Rattle.std.specs.Prelude.{◌≡◌};
 ghost use Rattle.ts_ql.specs.QueryFaults.{as_fault, fault_of_kind};
-ghost use Rattle.ts_core.specs.FaultTexts.{detail_text, EndsEarly};
+ghost use Rattle.ts_core.specs.FaultTexts.{detail_text, IsAppended};
 ghost use Rattle.ts_ql.specs.QueryFaultText.{query_fault_code, query_fault_detail, query_fault_text, error_text};
 ghost use Rattle.ts_ql.specs.declared.fault.ParseError.TheVariants as errors;
 
@@ -112,9 +112,7 @@ impl<'a> QlFault<'a> {
 
     /// Appends its text, or a beginning of it out of memory. Where the room is there, it takes none.
     pub fn text_to<A: Allocator>(&self, text: &mut String<A>) -> Result<(), AllocError>
-        ensures ok { OnOk result (string_bytes text.new ≡ string_bytes text.old ++ query_fault_text (as_fault self.now)) }
-        ensures err { OnErr result (EndsEarly (query_fault_text (as_fault self.now)) (string_bytes text.old) (string_bytes text.new)) }
-        ensures room { string_len text.old + length (query_fault_text (as_fault self.now)) ≤ string_capacity text.old → IsOk result }
+        ensures { IsAppended (query_fault_text (as_fault self.now)) text.old text.new result }
     {
         self.code().text_to(self.detail(), text)
     }
@@ -123,9 +121,7 @@ impl<'a> QlFault<'a> {
 impl<'a> ParseError<'a> {
     /// Appends its text, or a beginning of it out of memory. Where the room is there, it takes none.
     pub fn text_to<A: Allocator>(&self, text: &mut String<A>) -> Result<(), AllocError>
-        ensures ok { OnOk result (string_bytes text.new ≡ string_bytes text.old ++ error_text self.now) }
-        ensures err { OnErr result (EndsEarly (error_text self.now) (string_bytes text.old) (string_bytes text.new)) }
-        ensures room { string_len text.old + length (error_text self.now) ≤ string_capacity text.old → IsOk result }
+        ensures { IsAppended (error_text self.now) text.old text.new result }
     {
         match self {
             ParseError::OutOfMemory => append_words(text, &["fault memory"]),

@@ -43,7 +43,8 @@ pub trait Column {
     /// The points of a bucket, in the order of time, of buckets of an interval with an offset (nanoseconds).
     fn bucket(&self, index: &i128, interval: i64, offset: i64) -> Points<'_>
         requires { pos 1 ≤ℤ interval }
-        ensures { result ≡ points_in_bucket (points self.now) index.now interval offset };
+        ensures points { result ≡ points_in_bucket (points self.now) index.now interval offset }
+        ensures timed { AreTimed result };
 
     /// Keeps the points at the mark and after it. None is aside afterwards.
     fn drop_below(&mut self, mark: Time)

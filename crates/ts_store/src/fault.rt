@@ -1,6 +1,6 @@
 //! Why a line was not written, and why a run didn't begin.
-ghost use Rattle.std.specs.Prelude.{◌≡◌, ◌+◌, ◌≤◌, ◌++◌, length, IsOk, OnOk, OnErr, string_bytes, string_len, string_capacity};
-ghost use Rattle.ts_core.specs.FaultTexts.{EndsEarly};
+ghost use Rattle.std.specs.Prelude.{◌≡◌, ◌≤◌, length};
+ghost use Rattle.ts_core.specs.FaultTexts.{IsAppended};
 ghost use Rattle.ts_store.specs.StoreFaultTexts.{write_fault_text, run_in_progress_text};
 
 use std::alloc::{AllocError, Allocator};
@@ -28,11 +28,8 @@ impl WriteFault {
     /// Appends its text, or a beginning of it out of memory. Where the room is there, it takes none.
     #[tactic(auto, using(crate::proofs::StoreFaultLemmas::below_mark_short), unfolding(crate::specs::StoreFaultTexts::write_fault_text))]
     pub fn text_to<A: Allocator>(&self, text: &mut String<A>) -> Result<(), AllocError>
-        ensures ok { OnOk result (string_bytes text.new ≡ string_bytes text.old ++ write_fault_text self.now) }
-        ensures err { OnErr result (EndsEarly (write_fault_text self.now) (string_bytes text.old) (string_bytes text.new)) }
-        ensures room { string_len text.old + length (write_fault_text self.now) ≤ string_capacity text.old → IsOk result }
+        ensures appended { IsAppended (write_fault_text self.now) text.old text.new result }
         ensures short { length (write_fault_text self.now) ≤ 34 }
-        ensures capacity { string_capacity text.old ≤ string_capacity text.new }
     {
         match self {
             WriteFault::BelowRawMark(mark) => {
@@ -64,10 +61,7 @@ pub struct RunInProgress;
 impl RunInProgress {
     /// Appends its text, or a beginning of it out of memory. Where the room is there, it takes none.
     pub fn text_to<A: Allocator>(&self, text: &mut String<A>) -> Result<(), AllocError>
-        ensures ok { OnOk result (string_bytes text.new ≡ string_bytes text.old ++ run_in_progress_text) }
-        ensures err { OnErr result (EndsEarly run_in_progress_text (string_bytes text.old) (string_bytes text.new)) }
-        ensures room { string_len text.old + length run_in_progress_text ≤ string_capacity text.old → IsOk result }
-        ensures capacity { string_capacity text.old ≤ string_capacity text.new }
+        ensures { IsAppended run_in_progress_text text.old text.new result }
     {
         FaultCode::RunInProgress.text_to(FaultDetail::Alone, text)
     }
