@@ -2,6 +2,7 @@
 pub mod Columns
 pub mod Indexed
 pub mod Registering
+pub mod IndexFaultTexts
 -- what only models and proofs of the code need
 pub mod PlainColumns
 pub mod PointsLeft

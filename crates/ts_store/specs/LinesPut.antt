@@ -1,17 +1,34 @@
 -- What a write leaves: the line's facts are put, or there was no memory. (Own rules.)
-use Rattle.std.specs.Prelude.{◌≡◌, List, [], map}
+use Rattle.std.specs.Prelude.{◌≡◌, ◌⊎◌, ℕ, List, [], map, Result, Ok, Err, OnOk, IfSome, IsNone}
+use Rattle.std.specs.List.{AllByRecursion}
 use Rattle.ts_core.specs.Settings.{Rule}
-use Rattle.ts_core.specs.History.{Line}
+use Rattle.ts_core.specs.Times.{least_time}
+use Rattle.ts_core.specs.History.{Line, MayBeTaken}
 use Rattle.ts_core.specs.StoreStates.{column_of}
 use Rattle.ts_core.specs.StoreData.{StoreData, GoesOn, StaysFor}
 use Rattle.ts_core.specs.StoreMoves.{PutsFacts, HaveRoom}
 use Rattle.ts_line.specs.Parts.{Parts, series_of, line_facts}
 use Rattle.ts_core.specs.Numbered.{Gains}
-use Rattle.ts_store.specs.ColumnsKept.{Held}
+use Rattle.ts_raw.specs.Columns.{ColumnState}
+use Rattle.ts_raw.specs.Indexed.{Indexed}
+use Rattle.ts_store.specs.declared.fault.WriteFault.{WriteFault}
+use Rattle.ts_store.specs.declared.fault.WriteFault.TheVariants.{OutOfMemory}
+use Rattle.ts_store.specs.ColumnsKept.{Held, IsHeld, AreAside, columns_in}
+use Rattle.ts_store.specs.Refusals.{write_fault}
 use Rattle.ts_store.specs.Rollups.{AreRollups, cells_of}
-use Rattle.ts_store.specs.Registered.{MayGain, MakesFirst, new_columns, with_columns}
+use Rattle.ts_store.specs.Registered.{MayGain, MakesAll, MakesFirst, new_columns, with_columns}
 
 -- ---- in columns
+
+-- what is left by a call that sets a line's points aside, each in its column, and answers the numbers of these: columns that weren't
+-- there are made, in the order in which fields first stand, and without memory the first of them
+pub record SetsAside {E : Type 0} (p : Parts) (before : Indexed) (states : List ColumnState) (after : Indexed) (states' : List ColumnState) (numbers : List ℕ) (result : Result (Unit {0}) E) : Type 0 where
+  pub aside : OnOk result (AreAside after.columns states' numbers (line_facts p))
+  pub taken : OnOk result (AllByRecursion (MayBeTaken least_time) (line_facts p))
+  pub all : OnOk result (MakesAll (columns_in before states) (columns_in after states') (line_facts p))
+  pub made : MakesFirst (columns_in before states) (columns_in after states') (line_facts p)
+  pub held : IsHeld after states'
+  pub series : after.series ≡ before.series
 
 -- under these rules the line's series is registered, its new columns are made, there is room for its facts in cells, and they are put
 pub record PutsLine (rules : List Rule) (old new : Held) (p : Parts) : Type 0 where
@@ -40,3 +57,9 @@ pub record Leaves (old new : StoreData) (p : Parts) : Type 0 where
   pub history : StaysFor old new
   pub series : MayGain old.series new.series (series_of p)
   pub columns : MakesFirst old.columns new.columns (line_facts p)
+
+-- a write: the line is accepted; or it is refused by its fault, and nothing changes; or it has none, and there was no memory
+pub record WritesLine (old new : StoreData) (p : Parts) (result : Result (Unit {0}) WriteFault) : Type 0 where
+  pub ok : OnOk result (Accepts old new p)
+  pub refused : IfSome (write_fault old.marks.raw old.series old.accepted p) (λ fault. (result ≡ Err fault) × (new ≡ old))
+  pub taken : IsNone (write_fault old.marks.raw old.series old.accepted p) → (result ≡ Ok tt) ⊎ ((result ≡ Err OutOfMemory) × Leaves old new p)

@@ -1,6 +1,6 @@
 -- What is kept for a rollup rule: its cells, and the lane of each column. A lane is a field with a group, whose cells stand under
 -- one number. (Own rules.)
-use Rattle.std.specs.Prelude.{◌≡◌, ◌==◌, nat_lt, Vec, vec_len, vec_capacity, ℕ, ℤ, Bool, true, false, get_or, List, [], ◌∷◌, ◌++◌, length, map, Option, Some, None, refl}
+use Rattle.std.specs.Prelude.{◌≡◌, ◌==◌, nat_lt, Vec, vec_len, vec_capacity, ℕ, ℤ, Bool, true, false, get_or, List, [], ◌∷◌, ◌++◌, length, map, Option, Some, None, Result, IfOk, refl}
 use Rattle.std.specs.FinMap as finmap
 use Rattle.std.specs.Coded.{Coded, code_by, coded×, coded_ℕ, coded_list, coded_option}
 use Rattle.ts_core.specs.Members.{AllDistinct}
@@ -12,6 +12,7 @@ use Rattle.ts_core.specs.Changes.{changed}
 use Rattle.ts_core.specs.StoreMoves.{frozen_with}
 use Rattle.ts_core.specs.StoreCodes.{coded_aggregate}
 use Rattle.ts_core.specs.StoreData.{FrozenCells}
+use Rattle.ts_raw.specs.Lists.{lists_of}
 use Rattle.ts_cells.specs.CellChanges.{roomy}
 use Rattle.ts_cells.specs.Grids.{Lane, Grid, cell_in, coded_grid}
 use Rattle.ts_core.specs.Numbered.{IsAt, numbers_where}
@@ -93,6 +94,17 @@ pub record IsRollup (lanes : List Lane) (of_columns : List (Option ℕ)) (member
 -- more lanes behind the others
 abbrev pub Extends : List Lane → List Lane → Type 0
 Extends before after = (more : List Lane) × (after ≡ before ++ more)
+
+-- what is left by a call that asks for the number of a lane, and makes the lane where it isn't there: among the lists of columns, one
+-- for each lane, that of this lane has room for one column more; no list changes, and no cell
+pub record IsLaneFor {A E : Type 0} (lane : Lane) (before : Grid Aggregate) (lists : List (Vec ℕ A)) (after : Grid Aggregate) (lists' : List (Vec ℕ A)) (result : Result ℕ E) : Type 0 where
+  pub number : IfOk result (λ n. IsAt after.lanes n lane)
+  pub room : IfOk result (λ n. HasSpareAt lists' n)
+  pub each : length lists' ≡ length after.lanes
+  pub made : Extends before.lanes after.lanes
+  pub once : AllDistinct before.lanes → AllDistinct after.lanes
+  pub columns : (n : ℕ) → get_or (lists_of lists') n [] ≡ get_or (lists_of lists) n []
+  pub cells : after.cells ≡ before.cells
 
 -- the lanes of columns and the cells stay; lanes may have been made
 pub record KeepsCells (before after : RollupState) : Type 0 where

@@ -1,5 +1,5 @@
 -- A whole run of retention: it begins, moves its columns and removes its cells step by step, and the last step ends it. (Own rules.)
-use Rattle.std.specs.Prelude.{◌≡◌, ℕ, ℤ, zero, suc, false, true, ◌∷◌}
+use Rattle.std.specs.Prelude.{◌≡◌, ◌↔◌, ℕ, ℤ, zero, suc, false, true, IsTrue, ◌∷◌, Result, IfOk, OnOk, OnErr, IsErr}
 use Rattle.ts_core.specs.History.{History, Begin, Step}
 use Rattle.ts_core.specs.StoreStates.{StandsFor}
 use Rattle.ts_core.specs.StoreData.{StoreData, state_of, OfEachHistory}
@@ -24,3 +24,10 @@ pub record Retains (now : ℤ) (old new : StoreData) : Type 0 where
   -- no cells are left below low indices
   pub above : AreAbove new.marks.lows new.cells
   pub series : new.series ≡ old.series
+
+-- what a call does that begins a run: where none is open it is done, and the raw mark answered; else it is refused, and nothing changes
+pub record RunsWhereIdle {E : Type 0} (done : Type 0) (old new : StoreData) (result : Result ℤ E) : Type 0 where
+  pub ok : OnOk result done
+  pub raw : IfOk result (λ raw. raw ≡ new.marks.raw)
+  pub refused : OnErr result (new ≡ old)
+  pub running : IsErr result ↔ IsTrue old.running

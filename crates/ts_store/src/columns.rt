@@ -1,13 +1,11 @@
 //! What a line writes to columns that are found through an index: each of its columns is looked up once.
 ghost use Rattle.std.specs.Prelude.{◌≡◌, ◌<◌, [], length, map, IsSome, OnOk, set, get_or};
 ghost use Rattle.std.specs.List.{AllByRecursion};
-ghost use Rattle.ts_core.specs.Times.{least_time};
-ghost use Rattle.ts_core.specs.History.{MayBeTaken};
-ghost use Rattle.ts_line.specs.Parts.{series_of, line_facts};
+ghost use Rattle.ts_line.specs.Parts.{series_of};
 ghost use Rattle.ts_raw.specs.Indexed.{column_in};
 ghost use Rattle.ts_core.specs.Numbered.{IsAt};
-ghost use Rattle.ts_store.specs.ColumnsKept.{no_column, point_maps, columns_in, with_point_aside, all_committed, AreReady, AreAside, IsColumnFor, IsHeld};
-ghost use Rattle.ts_store.specs.Registered.{MakesFirst, MakesAll};
+ghost use Rattle.ts_store.specs.ColumnsKept.{no_column, point_maps, with_point_aside, all_committed, AreReady, IsColumnFor, IsHeld};
+ghost use Rattle.ts_store.specs.LinesPut.{SetsAside};
 ghost use Rattle.ts_store.specs.Rollups.{AreRollups, KeepCells, HaveNext, with_next, cells_of};
 ghost use Rattle.ts_core.specs.Members.{Among};
 
@@ -143,12 +141,7 @@ pub(crate) fn prepare_line<A: Allocator + Copy>(
     requires rollups { AreRollups rules.now index.old.columns rollups.old }
     requires series { IsAt index.old.series series (series_of line.now) }
     requires none { touched.old.items ≡ [] }
-    ensures aside { OnOk result (AreAside index.new.columns columns.new.items touched.new.items (line_facts line.now)) }
-    ensures taken { OnOk result (AllByRecursion (MayBeTaken least_time) (line_facts line.now)) }
-    ensures all { OnOk result (MakesAll (columns_in index.old columns.old.items) (columns_in index.new columns.new.items) (line_facts line.now)) }
-    ensures made { MakesFirst (columns_in index.old columns.old.items) (columns_in index.new columns.new.items) (line_facts line.now) }
-    ensures held { IsHeld index.new columns.new.items }
-    ensures series { index.new.series ≡ index.old.series }
+    ensures line { SetsAside line.now index.old columns.old.items index.new columns.new.items touched.new.items result }
     ensures rollups { AreRollups rules.now index.new.columns rollups.new }
     ensures cells { cells_of rollups.new ≡ cells_of rollups.old }
 {

@@ -1,5 +1,5 @@
 //! What is kept for a rollup rule: its cells, the lane of each column, and the columns of each lane.
-ghost use Rattle.std.specs.Prelude.{◌≡◌, ◌≢◌, ◌≤◌, ◌<◌, ◌≤ℤ◌, ℕ, None, [], length, get_or, replicate, map, IsSome, is_some, IfOk, OnOk, OnErr};
+ghost use Rattle.std.specs.Prelude.{◌≡◌, ◌≢◌, ◌≤◌, ◌<◌, ◌≤ℤ◌, None, length, replicate, map, IsSome, is_some, IfOk, OnOk, OnErr};
 ghost use Rattle.std.specs.FinMap as finmap;
 ghost use Rattle.std.specs.List.{AllByRecursion};
 ghost use Rattle.ts_core.specs.Cells.{Cell};
@@ -10,7 +10,7 @@ ghost use Rattle.ts_core.specs.Numbered.{IsAt};
 ghost use Rattle.ts_cells.specs.Grids.{lane_of, lane_named, lent_texts};
 ghost use Rattle.ts_cells.specs.Walks.{entry_of, entries_within};
 ghost use Rattle.ts_raw.specs.Lists.{lists_of};
-ghost use Rattle.ts_store.specs.Rollups.{new_rollup, HasSpareAt, Extends, KeepsCells, HasNext, with_next, with_frozen, roomed_in, frozen_in, lane_at, columns_of_lane};
+ghost use Rattle.ts_store.specs.Rollups.{new_rollup, IsLaneFor, KeepsCells, HasNext, with_next, with_frozen, roomed_in, frozen_in, lane_at, columns_of_lane};
 
 use std::alloc::{AllocError, Allocator};
 use std::marker::Model;
@@ -83,13 +83,7 @@ fn lane_for<A: Allocator + Copy>(
     group: &[&str],
 ) -> Result<LaneId, AllocError>
     requires each { length columns.old.items ≡ length cells.old.lanes }
-    ensures lane { IfOk result (λ lane. IsAt cells.new.lanes lane (lane_named field.now group.now)) }
-    ensures room { IfOk result (λ lane. HasSpareAt columns.new.items lane) }
-    ensures each { length columns.new.items ≡ length cells.new.lanes }
-    ensures made { Extends cells.old.lanes cells.new.lanes }
-    ensures once { AllDistinct cells.old.lanes → AllDistinct cells.new.lanes }
-    ensures columns { (lane : ℕ) → get_or (lists_of columns.new.items) lane [] ≡ get_or (lists_of columns.old.items) lane [] }
-    ensures cells { cells.new.cells ≡ cells.old.cells }
+    ensures { IsLaneFor (lane_named field.now group.now) cells.old columns.old.items cells.new columns.new.items result }
 {
     columns.reserve(1)?;
     let lane = cells.lane(field, group)?;

@@ -1,5 +1,5 @@
 //! The store: what it is made of, its writes, and how a query sees it. Runs of retention: store/retention.rt.
-ghost use Rattle.std.specs.Prelude.{◌≡◌, pos, ◌≤ℤ◌, ◌⊎◌, ◌+◌, ◌*◌, ◌<◌, ◌≤◌, [], length, map, OnOk, IfOk, IfSome, IsNone, Ok, Err};
+ghost use Rattle.std.specs.Prelude.{◌≡◌, pos, ◌≤ℤ◌, ◌+◌, ◌*◌, ◌<◌, ◌≤◌, [], length, map, IfOk};
 ghost use Rattle.std.specs.Bool.{OnFalse};
 ghost use Rattle.std.specs.List.{AllByRecursion};
 ghost use Rattle.ts_core.specs.Times.{least_time};
@@ -17,7 +17,7 @@ ghost use Rattle.ts_raw.specs.PlainColumns.{IsRising};
 ghost use Rattle.ts_store.specs.PointsRead.{AreLatestOf};
 ghost use Rattle.ts_store.specs.Seats.{points_at};
 ghost use Rattle.ts_store.specs.Refusals.{write_fault};
-ghost use Rattle.ts_store.specs.LinesPut.{Accepts, Leaves};
+ghost use Rattle.ts_store.specs.LinesPut.{WritesLine};
 
 use crate::cell_walk::CellWalk;
 use crate::column_facts::ColumnFacts;
@@ -98,9 +98,7 @@ impl<A: Allocator + Copy> Store<A> {
     /// stood for; the line's series may be registered, and the first of its new columns made. Columns keep their numbers. A
     /// line below the raw mark is refused with that mark.
     pub fn write(&mut self, line: &Line<'_, A>) -> Result<(), WriteFault>
-        ensures ok { OnOk result (Accepts self.old self.new line.now) }
-        ensures refused { IfSome (write_fault self.old.marks.raw self.old.series self.old.accepted line.now) (λ fault. (result ≡ Err fault) × (self.new ≡ self.old)) }
-        ensures taken { IsNone (write_fault self.old.marks.raw self.old.series self.old.accepted line.now) → (result ≡ Ok tt) ⊎ ((result ≡ Err WriteFault.OutOfMemory) × Leaves self.old self.new line.now) }
+        ensures { WritesLine self.old self.new line.now result }
     {
         if line.tags().len() > FEW_TAGS {
             return self.write_many_tags(line);
@@ -113,9 +111,7 @@ impl<A: Allocator + Copy> Store<A> {
     #[cold]
     fn write_many_tags(&mut self, line: &Line<'_, A>) -> Result<(), WriteFault>
         requires { length line.now.tags ≤ 64 }
-        ensures ok { OnOk result (Accepts self.old self.new line.now) }
-        ensures refused { IfSome (write_fault self.old.marks.raw self.old.series self.old.accepted line.now) (λ fault. (result ≡ Err fault) × (self.new ≡ self.old)) }
-        ensures taken { IsNone (write_fault self.old.marks.raw self.old.series self.old.accepted line.now) → (result ≡ Ok tt) ⊎ ((result ≡ Err WriteFault.OutOfMemory) × Leaves self.old self.new line.now) }
+        ensures { WritesLine self.old self.new line.now result }
     {
         let tags = line.tags_by_key::<64>();
         self.write_tagged(line, &tags)
@@ -125,9 +121,7 @@ impl<A: Allocator + Copy> Store<A> {
     fn write_tagged(&mut self, line: &Line<'_, A>, tags: &[(&str, &str)]) -> Result<(), WriteFault>
         requires set { IsTagSet (lent_pairs tags.now) }
         requires tags { lent_pairs tags.now ≡ (series_of line.now).tags }
-        ensures ok { OnOk result (Accepts self.old self.new line.now) }
-        ensures refused { IfSome (write_fault self.old.marks.raw self.old.series self.old.accepted line.now) (λ fault. (result ≡ Err fault) × (self.new ≡ self.old)) }
-        ensures taken { IsNone (write_fault self.old.marks.raw self.old.series self.old.accepted line.now) → (result ≡ Ok tt) ⊎ ((result ≡ Err WriteFault.OutOfMemory) × Leaves self.old self.new line.now) }
+        ensures { WritesLine self.old self.new line.now result }
     {
         let key = KeyRef::new(line.measurement().text(), tags);
         if let Some(fault) = self.refusal(line, &key) {

@@ -1,11 +1,8 @@
 //! Runs of retention: a begin, steps that each move a column or remove cells, and the one that ends it.
-ghost use Rattle.std.specs.Prelude.{◌≡◌, ◌↔◌, ◌+◌, true, false, IsTrue, IfOk, OnOk, OnErr, IsErr};
-ghost use Rattle.ts_core.specs.History.{Step as StepEvent};
-ghost use Rattle.ts_core.specs.Runs.{steps_left};
-ghost use Rattle.ts_core.specs.StoreData.{state_of, GoesOn};
+ghost use Rattle.std.specs.Prelude.{◌≡◌};
 ghost use Rattle.ts_core.specs.StoreMoves.{run_begun};
-ghost use Rattle.ts_store.specs.RollupSteps.{AreAbove};
-ghost use Rattle.ts_store.specs.WholeRuns.{Retains};
+ghost use Rattle.ts_store.specs.OpenRuns.{TakesStep};
+ghost use Rattle.ts_store.specs.WholeRuns.{Retains, RunsWhereIdle};
 
 use crate::fault::RunInProgress;
 use crate::run::Run;
@@ -25,10 +22,7 @@ pub(crate) enum StepAnswer {
 impl<A: Allocator + Copy> Store<A> {
     /// Begins a run at a moment: the marks rise, and each column waits. It answers the raw mark, and takes no memory.
     pub(crate) fn begin(&mut self, now: Time) -> Result<Time, RunInProgress>
-        ensures ok { OnOk result (self.new ≡ run_begun now self.old) }
-        ensures raw { IfOk result (λ raw. raw ≡ self.new.marks.raw) }
-        ensures refused { OnErr result (self.new ≡ self.old) }
-        ensures open { IsErr result ↔ IsTrue self.old.running }
+        ensures { RunsWhereIdle (self.new ≡ run_begun now self.old) self.old self.new result }
     {
         if self.run.is_some() {
             return Err(RunInProgress);
@@ -44,12 +38,7 @@ impl<A: Allocator + Copy> Store<A> {
     /// Takes a step of the open run: it moves a column, else removes cells of a rule, else ends the run. Without an open
     /// run it changes nothing. It takes no memory.
     pub(crate) fn step(&mut self) -> StepAnswer
-        ensures moved { (result ≡ StepAnswer.Moved) → GoesOn self.old (StepEvent false) self.new × (steps_left (state_of self.old) ≡ steps_left (state_of self.new) + 1) }
-        ensures done { (result ≡ StepAnswer.Done) → GoesOn self.old (StepEvent true) self.new × (self.new.running ≡ false) }
-        ensures open { (result ≡ StepAnswer.Moved) → self.new.running ≡ true }
-        ensures above { (result ≡ StepAnswer.Done) → (self.old.running ≡ true) → AreAbove self.new.marks.lows self.new.cells }
-        ensures marks { self.new.marks ≡ self.old.marks }
-        ensures series { self.new.series ≡ self.old.series }
+        ensures { TakesStep self.old self.new result }
     {
         let Some(run) = self.run else {
             return StepAnswer::Done;
@@ -74,10 +63,7 @@ impl<A: Allocator + Copy> Store<A> {
     /// A whole run of retention at a moment: the marks rise, points below the raw mark are frozen into the cells of their
     /// rules and dropped, and cells below low indices are removed. It answers the raw mark, and takes no memory.
     pub fn retain(&mut self, now: Time) -> Result<Time, RunInProgress>
-        ensures ok { OnOk result (Retains now self.old self.new) }
-        ensures raw { IfOk result (λ raw. raw ≡ self.new.marks.raw) }
-        ensures refused { OnErr result (self.new ≡ self.old) }
-        ensures open { IsErr result ↔ IsTrue self.old.running }
+        ensures { RunsWhereIdle (Retains now self.old self.new) self.old self.new result }
     {
         let raw = self.begin(now)?;
         while self.step() == StepAnswer::Moved {}

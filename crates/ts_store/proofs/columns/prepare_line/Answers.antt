@@ -1,6 +1,8 @@
-use Rattle.std.proofs.Common.{◌≡◌, ◌∙◌, ◌<◌, ◌++◌, ◌∷◌, [], List, ℕ, ℤ, ap, sym, subst, map, take, length, arith, set, get_or, ◌+◌, Some, rules, SFits, w64, to_z, of_z, to_z-of_z}
+use Rattle.std.proofs.Common.{Result, Err, OnOk, ◌≡◌, ◌∙◌, ◌<◌, ◌++◌, ◌∷◌, [], List, ℕ, ℤ, ap, sym, subst, map, take, length, arith, set, get_or, ◌+◌, Some, rules, SFits, w64, to_z, of_z, to_z-of_z}
+use Rattle.std.proofs.lemmas.Grind.{common_steps}
 use Rattle.std.specs.List.{slice_get, AllByRecursion}
 use Rattle.std.proofs.lemmas.Option.{slice_get_within}
+use Rattle.std.proofs.lemmas.Result.{err_from_is_err_and}
 use Rattle.ts_core.specs.Facts.{Series, Column, Fact}
 use Rattle.ts_core.specs.History.{MayBeTaken}
 use Rattle.ts_core.specs.Times.{IsTime, least_time}
@@ -13,22 +15,27 @@ use Rattle.ts_store.proofs.ColumnsAside.{grown_aside, made_next, first_made, nex
 use Rattle.ts_store.proofs.Stands.{taken_more}
 use Rattle.ts_store.proofs.columns.prepare_line.Goals as goal
 
+no_ok : {T E : Type 0} (P : Type 0) (r : Result T E) (e : E) → r ≡ Err e → OnOk r P
+no_ok P r e is = rw is tt
+
 pub column_for-requires-clause-series : goal.column_for-requires-clause-series
 column_for-requires-clause-series g c =
     let w = slice_get_within c.args.index.now.series c.args.series (series_of c.args.line.now) c.requires.series in
     rw c.loop-field.invariant.series w
 
-pub returns-in_err-column-clause-made : goal.returns-in_err-column-clause-made
-returns-in_err-column-clause-made g c =
+pub returns-in_err-column-clause-line : goal.returns-in_err-column-clause-line
+returns-in_err-column-clause-line g c =
     let i = c.loop-field.invariant in
     let same = c.in_err-column.ensures.column.kept in
-    first_made c.args.line.now _ _ c.fields-field-items.result.now c.loop-field.field-index c.fields-field-items.ensures.value ((λ j. with_points (same.0 j) (point_maps (same.1 j))) ∙ i.made)
-
-pub returns-in_err-column-clause-held : goal.returns-in_err-column-clause-held
-returns-in_err-column-clause-held g c =
-    let i = c.loop-field.invariant in
-    let same = c.in_err-column.ensures.column.kept in
-    record { sound = c.column_for.ensures.column.sound i.held.sound; each = ap length same.1 ∙ i.held.each ∙ sym (ap length same.0) }
+    let p = err_from_is_err_and c.from_residual.result c.from_residual.ensures.1 in
+    record {
+      aside = no_ok _ c.from_residual.result _ p.1;
+      taken = no_ok _ c.from_residual.result _ p.1;
+      all = no_ok _ c.from_residual.result _ p.1;
+      made = first_made c.args.line.now _ _ c.fields-field-items.result.now c.loop-field.field-index c.fields-field-items.ensures.value ((λ j. with_points (same.0 j) (point_maps (same.1 j))) ∙ i.made);
+      held = record { sound = c.column_for.ensures.column.sound i.held.sound; each = ap length same.1 ∙ i.held.each ∙ sym (ap length same.0) };
+      series = c.column_for.ensures.column.series ∙ i.series;
+    }
 
 pub prepare_at-requires : goal.prepare_at-requires
 prepare_at-requires g c =
@@ -37,36 +44,42 @@ prepare_at-requires g c =
     let w = slice_get_within c.column_for.new.index.columns c.in_ok-column.column _ c.in_ok-column.ensures.column.number in
     omega (arith, w, len, c.number.ensures)
 
-pub returns-in_err-prepare_at-clause-made : goal.returns-in_err-prepare_at-clause-made
-returns-in_err-prepare_at-clause-made g c =
+pub returns-in_err-prepare_at-clause-line : goal.returns-in_err-prepare_at-clause-line
+returns-in_err-prepare_at-clause-line g c =
     let i = c.loop-field.invariant in
     let more = made_next c.args.line.now c.loop-field.index c.args.series c.text-name.result.now _ c.column_for.new.index.columns c.loop-field.columns.items c.column_for.new.columns.items c.fields-field-items.result.now c.loop-field.field-index
     c.field-item.result c.in_ok-column.ensures.column.grown (ap (λ (xs : List Series). slice_get xs c.args.series) i.series ∙ c.requires.series) (c.text-name.ensures ∙ ap (λ (q : LinePart). q.text) c.name.ensures)
     c.fields-field-items.ensures.value c.fields-field-items.ensures.once c.loop-field-test.true c.field-item.is i.held.each i.made in
-    first_made c.args.line.now _ _ c.fields-field-items.result.now (c.loop-field.field-index + 1) c.fields-field-items.ensures.value (ap (with_points c.column_for.new.index.columns) c.prepare_at.ensures.unchanged ∙ more)
-
-pub returns-in_err-prepare_at-clause-held : goal.returns-in_err-prepare_at-clause-held
-returns-in_err-prepare_at-clause-held g c =
-    let i = c.loop-field.invariant in
+    let p = err_from_is_err_and c.from_residual-in_err-prepare_at.result c.from_residual-in_err-prepare_at.ensures.1 in
     record {
-      sound = c.column_for.ensures.column.sound i.held.sound;
-      each = c.prepare_at.ensures.len ∙ (grown_aside _ c.loop-field.index.columns c.column_for.new.index.columns c.loop-field.columns.items c.column_for.new.columns.items c.loop-field.touched.items _ i.held.each c.in_ok-column.ensures.column.grown i.aside).1;
+      aside = no_ok _ c.from_residual-in_err-prepare_at.result _ p.1;
+      taken = no_ok _ c.from_residual-in_err-prepare_at.result _ p.1;
+      all = no_ok _ c.from_residual-in_err-prepare_at.result _ p.1;
+      made = first_made c.args.line.now _ _ c.fields-field-items.result.now (c.loop-field.field-index + 1) c.fields-field-items.ensures.value (ap (with_points c.column_for.new.index.columns) c.prepare_at.ensures.unchanged ∙ more);
+      held = record {
+        sound = c.column_for.ensures.column.sound i.held.sound;
+        each = c.prepare_at.ensures.len ∙ (grown_aside _ c.loop-field.index.columns c.column_for.new.index.columns c.loop-field.columns.items c.column_for.new.columns.items c.loop-field.touched.items _ i.held.each c.in_ok-column.ensures.column.grown i.aside).1;
+      };
+      series = c.column_for.ensures.column.series ∙ i.series;
     }
 
-pub returns-in_err-push-clause-made : goal.returns-in_err-push-clause-made
-returns-in_err-push-clause-made g c =
+pub returns-in_err-push-clause-line : goal.returns-in_err-push-clause-line
+returns-in_err-push-clause-line g c =
     let i = c.loop-field.invariant in
     let more = made_next c.args.line.now c.loop-field.index c.args.series c.text-name.result.now _ c.column_for.new.index.columns c.loop-field.columns.items c.column_for.new.columns.items c.fields-field-items.result.now c.loop-field.field-index
     c.field-item.result c.in_ok-column.ensures.column.grown (ap (λ (xs : List Series). slice_get xs c.args.series) i.series ∙ c.requires.series) (c.text-name.ensures ∙ ap (λ (q : LinePart). q.text) c.name.ensures)
     c.fields-field-items.ensures.value c.fields-field-items.ensures.once c.loop-field-test.true c.field-item.is i.held.each i.made in
-    first_made c.args.line.now _ _ c.fields-field-items.result.now (c.loop-field.field-index + 1) c.fields-field-items.ensures.value (ap (with_points c.column_for.new.index.columns) c.prepare_at.ensures.unchanged ∙ more)
-
-pub returns-in_err-push-clause-held : goal.returns-in_err-push-clause-held
-returns-in_err-push-clause-held g c =
-    let i = c.loop-field.invariant in
+    let p = err_from_is_err_and c.from_residual-in_err-push.result c.from_residual-in_err-push.ensures.1 in
     record {
-      sound = c.column_for.ensures.column.sound i.held.sound;
-      each = c.prepare_at.ensures.len ∙ (grown_aside _ c.loop-field.index.columns c.column_for.new.index.columns c.loop-field.columns.items c.column_for.new.columns.items c.loop-field.touched.items _ i.held.each c.in_ok-column.ensures.column.grown i.aside).1;
+      aside = no_ok _ c.from_residual-in_err-push.result _ p.1;
+      taken = no_ok _ c.from_residual-in_err-push.result _ p.1;
+      all = no_ok _ c.from_residual-in_err-push.result _ p.1;
+      made = first_made c.args.line.now _ _ c.fields-field-items.result.now (c.loop-field.field-index + 1) c.fields-field-items.ensures.value (ap (with_points c.column_for.new.index.columns) c.prepare_at.ensures.unchanged ∙ more);
+      held = record {
+        sound = c.column_for.ensures.column.sound i.held.sound;
+        each = c.prepare_at.ensures.len ∙ (grown_aside _ c.loop-field.index.columns c.column_for.new.index.columns c.loop-field.columns.items c.column_for.new.columns.items c.loop-field.touched.items _ i.held.each c.in_ok-column.ensures.column.grown i.aside).1;
+      };
+      series = c.column_for.ensures.column.series ∙ i.series;
     }
 
 pub loop-field-preserved : goal.loop-field-preserved
@@ -111,5 +124,14 @@ loop-field-preserved g c =
       series = c.column_for.ensures.column.series ∙ i.series;
     }
 
-pub returns-clause-made : goal.returns-clause-made
-returns-clause-made g c = first_made c.args.line.now _ _ c.fields-field-items.result.now c.loop-field.field-index c.fields-field-items.ensures.value c.loop-field.invariant.made
+pub returns-clause-line : goal.returns-clause-line
+returns-clause-line g c =
+    let i = c.loop-field.invariant in
+    record {
+      aside = grind (arith, common_steps);
+      taken = grind (arith, common_steps);
+      all = grind (arith, common_steps);
+      made = first_made c.args.line.now _ _ c.fields-field-items.result.now c.loop-field.field-index c.fields-field-items.ensures.value i.made;
+      held = i.held;
+      series = i.series;
+    }

@@ -1,4 +1,4 @@
-use Rattle.std.proofs.Common.{◌≡◌, ◌∙◌, ℕ, ap, sym, subst, refl, Option, Some, None, false, true≢false}
+use Rattle.std.proofs.Common.{rules, ◌≡◌, ◌∙◌, ℕ, ap, sym, subst, refl, Option, Some, None, false, true≢false}
 use Rattle.std.specs.Option.{is_some}
 use Rattle.ts_core.specs.Marks.{Marks}
 use Rattle.ts_core.specs.StoreMoves.{run_begun}
@@ -23,8 +23,8 @@ invariant_of-self g c =
     let kept : IsKept (kept_data settings marks n held None) held None = subst (λ (r : Option Run). IsKept (kept_data settings marks n held r) held r) none c.self.invariant in
     subst (λ (m : Marks). IsKept (kept_data settings m n held (Some (run_of 0 end))) held (Some (run_of 0 end))) (sym c.raise.ensures) (begun-kept settings marks n held c.args.now end c.column_count.ensures kept)
 
-pub returns-clause-ok : goal.returns-clause-ok
-returns-clause-ok g c =
+pub returns : goal.returns
+returns g c =
     let settings : Settings = c.self.inside.settings in
     let marks : Marks = c.self.inside.marks in
     let n : ℕ = c.self.inside.accepted in
@@ -32,6 +32,12 @@ returns-clause-ok g c =
     let end : ℕ = c.column_count.result in
     let none : c.self.inside.run ≡ None = is_none c.self.inside.run c.if-is_some.ensures in
     let kept : IsKept (kept_data settings marks n held None) held None = subst (λ (r : Option Run). IsKept (kept_data settings marks n held r) held r) none c.self.invariant in
-    ap (λ (m : Marks). kept_data settings m n held (Some (run_of 0 end))) c.raise.ensures
-    ∙ is_begun settings marks n held c.args.now end c.column_count.ensures kept
-    ∙ ap (run_begun c.args.now) (ap (kept_data settings marks n held) (sym none) ∙ c.self.view_is)
+    record {
+      ok =
+          ap (λ (m : Marks). kept_data settings m n held (Some (run_of 0 end))) c.raise.ensures
+          ∙ is_begun settings marks n held c.args.now end c.column_count.ensures kept
+          ∙ ap (run_begun c.args.now) (ap (kept_data settings marks n held) (sym none) ∙ c.self.view_is);
+      raw = search rules;
+      refused = search rules;
+      running = search rules;
+    }

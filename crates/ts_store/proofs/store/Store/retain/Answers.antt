@@ -15,7 +15,7 @@ not_open false n = refl
 pub loop-init : goal.loop-init
 loop-init g c =
     let begun : c.begin.new.self ≡ run_begun c.args.now c.args.self.now = c.in_ok-raw.ensures.ok in
-    let idle : c.args.self.now.running ≡ false = not_open c.args.self.now.running c.in_ok-raw.ensures.open.1 in
+    let idle : c.args.self.now.running ≡ false = not_open c.args.self.now.running c.in_ok-raw.ensures.running.1 in
     record {
       marks = ap (λ (k : StoreData). k.marks) begun;
       running = ap (λ (k : StoreData). k.running) begun;
@@ -28,7 +28,7 @@ loop-preserved g c =
     let moved : c.step.result ≡ Moved = search rules in
     record {
       marks = c.step.ensures.marks ∙ c.loop.invariant.marks;
-      running = c.step.ensures.open moved;
+      running = c.step.ensures.running moved;
       series = c.step.ensures.series ∙ c.loop.invariant.series;
       history = (
         suc c.loop.invariant.history.0,

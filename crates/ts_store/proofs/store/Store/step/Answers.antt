@@ -1,4 +1,4 @@
-use Rattle.std.proofs.Common.{◌≡◌, ◌∙◌, ◌+◌, ℕ, ℤ, List, ap, sym, subst, refl, Option, Some, None, true, false}
+use Rattle.std.proofs.Common.{rules, ◌≡◌, ◌∙◌, ◌+◌, ℕ, ℤ, List, ap, sym, subst, refl, Option, Some, None, true, false}
 use Rattle.std.specs.Option.{is_some}
 use Rattle.ts_core.specs.History.{Step}
 use Rattle.ts_core.specs.Marks.{Marks}
@@ -45,8 +45,8 @@ invariant_of-self g c =
     subst (λ (rs : List Rule). Moves rs marks.raw next held after) c.rules.ensures.value (subst (λ (m : ℤ). Moves c.rules.result.now m next held after) c.raw-mark.ensures c.move_column.ensures) in
     (move_steps settings marks n held after next end c.if-run.true (kept_by settings marks n held c.self.inside.run next end run c.self.invariant) moves).kept
 
-pub returns-then-run-clause-moved : goal.returns-then-run-clause-moved
-returns-then-run-clause-moved g c = λ moved.
+pub returns-then-run : goal.returns-then-run
+returns-then-run g c =
     let settings : Settings = c.self.inside.settings in
     let marks : Marks = c.self.inside.marks in
     let n : ℕ = c.self.inside.accepted in
@@ -57,23 +57,17 @@ returns-then-run-clause-moved g c = λ moved.
     let run : c.self.inside.run ≡ Some (run_of next end) = c.in-Some.is ∙ ap Some (sym c.run.view_is) in
     let moves : Moves settings.rules marks.raw next held after =
     subst (λ (rs : List Rule). Moves rs marks.raw next held after) c.rules.ensures.value (subst (λ (m : ℤ). Moves c.rules.result.now m next held after) c.raw-mark.ensures c.move_column.ensures) in
-    told (kept_data settings marks n held (Some (run_of next end))) c.args.self.now (kept_data settings marks n after (Some (run_of (next + 1) end))) after (Some (run_of (next + 1) end))
-    (as_before c.args.self.now settings marks n held c.self.inside.run (Some (run_of next end)) run c.self.view_is)
-    (move_steps settings marks n held after next end c.if-run.true (kept_by settings marks n held c.self.inside.run next end run c.self.invariant) moves)
-
-pub returns-then-run-clause-series : goal.returns-then-run-clause-series
-returns-then-run-clause-series g c =
-    let settings : Settings = c.self.inside.settings in
-    let marks : Marks = c.self.inside.marks in
-    let n : ℕ = c.self.inside.accepted in
-    let held : Held = c.self.inside.facts in
-    let after : Held = c.move_column.new.self in
-    let next : ℕ = c.run.inside.next in
-    let end : ℕ = c.run.inside.end in
-    let run : c.self.inside.run ≡ Some (run_of next end) = c.in-Some.is ∙ ap Some (sym c.run.view_is) in
-    let moves : Moves settings.rules marks.raw next held after =
-    subst (λ (rs : List Rule). Moves rs marks.raw next held after) c.rules.ensures.value (subst (λ (m : ℤ). Moves c.rules.result.now m next held after) c.raw-mark.ensures c.move_column.ensures) in
-    (move_steps settings marks n held after next end c.if-run.true (kept_by settings marks n held c.self.inside.run next end run c.self.invariant) moves).series ∙ ap (λ (k : StoreData). k.series) c.self.view_is
+    record {
+      moved = λ moved.
+        told (kept_data settings marks n held (Some (run_of next end))) c.args.self.now (kept_data settings marks n after (Some (run_of (next + 1) end))) after (Some (run_of (next + 1) end))
+        (as_before c.args.self.now settings marks n held c.self.inside.run (Some (run_of next end)) run c.self.view_is)
+        (move_steps settings marks n held after next end c.if-run.true (kept_by settings marks n held c.self.inside.run next end run c.self.invariant) moves);
+      done = search rules;
+      running = search rules;
+      above = search rules;
+      marks = search rules;
+      series = (move_steps settings marks n held after next end c.if-run.true (kept_by settings marks n held c.self.inside.run next end run c.self.invariant) moves).series ∙ ap (λ (k : StoreData). k.series) c.self.view_is;
+    }
 
 pub invariant_of-self-then-expire : goal.invariant_of-self-then-expire
 invariant_of-self-then-expire g c =
@@ -88,8 +82,8 @@ invariant_of-self-then-expire g c =
     subst (λ (r : Option Run). IsKept (kept_data settings marks n after r) after r) (sym is)
     (removal_steps settings marks n held after run (kept_by settings marks n held c.self.inside.run c.run.inside.next c.run.inside.end is c.self.invariant) c.expire.ensures.lanes loses).kept
 
-pub returns-then-expire-clause-moved : goal.returns-then-expire-clause-moved
-returns-then-expire-clause-moved g c = λ moved.
+pub returns-then-expire : goal.returns-then-expire
+returns-then-expire g c =
     let settings : Settings = c.self.inside.settings in
     let marks : Marks = c.self.inside.marks in
     let n : ℕ = c.self.inside.accepted in
@@ -98,9 +92,17 @@ returns-then-expire-clause-moved g c = λ moved.
     let run : Run = run_of c.run.inside.next c.run.inside.end in
     let is : c.self.inside.run ≡ Some run = c.in-Some.is ∙ ap Some (sym c.run.view_is) in
     let loses : FirstLoses marks.lows (cells_of held.rollups) (cells_of after.rollups) = subst (λ (lows : List ℤ). FirstLoses lows (cells_of held.rollups) (cells_of after.rollups)) c.lows.ensures c.if-expire.ensures.some in
-    subst (λ (r : Option Run). GoesOn c.args.self.now (Step false) (kept_data settings marks n after r) × (steps_left (state_of c.args.self.now) ≡ steps_left (state_of (kept_data settings marks n after r)) + 1)) (sym is)
-    (told (kept_data settings marks n held (Some run)) c.args.self.now (kept_data settings marks n after (Some run)) after (Some run) (as_before c.args.self.now settings marks n held c.self.inside.run (Some run) is c.self.view_is)
-    (removal_steps settings marks n held after run (kept_by settings marks n held c.self.inside.run c.run.inside.next c.run.inside.end is c.self.invariant) c.expire.ensures.lanes loses))
+    record {
+      moved = λ moved.
+        subst (λ (r : Option Run). GoesOn c.args.self.now (Step false) (kept_data settings marks n after r) × (steps_left (state_of c.args.self.now) ≡ steps_left (state_of (kept_data settings marks n after r)) + 1)) (sym is)
+        (told (kept_data settings marks n held (Some run)) c.args.self.now (kept_data settings marks n after (Some run)) after (Some run) (as_before c.args.self.now settings marks n held c.self.inside.run (Some run) is c.self.view_is)
+        (removal_steps settings marks n held after run (kept_by settings marks n held c.self.inside.run c.run.inside.next c.run.inside.end is c.self.invariant) c.expire.ensures.lanes loses));
+      done = search rules;
+      running = λ moved. ap is_some c.in-Some.is;
+      above = search rules;
+      marks = search rules;
+      series = search rules;
+    }
 
 pub invariant_of-self-2 : goal.invariant_of-self-2
 invariant_of-self-2 g c =
@@ -114,8 +116,8 @@ invariant_of-self-2 g c =
     subst (λ (h : Held). IsKept (kept_data settings marks n h None) h None) (sym c.if-expire.ensures.none.0)
     (ended-kept settings marks n held next end c.if-run.false (kept_by settings marks n held c.self.inside.run next end run c.self.invariant))
 
-pub returns-clause-done : goal.returns-clause-done
-returns-clause-done g c = λ done.
+pub returns : goal.returns
+returns g c =
     let settings : Settings = c.self.inside.settings in
     let marks : Marks = c.self.inside.marks in
     let n : ℕ = c.self.inside.accepted in
@@ -124,16 +126,18 @@ returns-clause-done g c = λ done.
     let end : ℕ = c.run.inside.end in
     let run : c.self.inside.run ≡ Some (run_of next end) = c.in-Some.is ∙ ap Some (sym c.run.view_is) in
     let ends : GoesOn (kept_data settings marks n held (Some (run_of next end))) (Step true) (kept_data settings marks n held None) =
-    ended-stands settings marks n held next end c.if-run.false (kept_by settings marks n held c.self.inside.run next end run c.self.invariant) in (
-      subst (λ (k : StoreData). GoesOn k (Step true) (kept_data settings marks n c.expire.new.self None)) (as_before c.args.self.now settings marks n held c.self.inside.run (Some (run_of next end)) run c.self.view_is)
-          (subst (λ (h : Held). GoesOn (kept_data settings marks n held (Some (run_of next end))) (Step true) (kept_data settings marks n h None)) (sym c.if-expire.ensures.none.0) ends),
-      refl,
-    )
-
-pub returns-clause-above : goal.returns-clause-above
-returns-clause-above g c = λ done running.
+    ended-stands settings marks n held next end c.if-run.false (kept_by settings marks n held c.self.inside.run next end run c.self.invariant) in
     let none = c.if-expire.ensures.none in
-    subst (λ (h : Held). AreAbove c.self.inside.marks.lows (cells_of h.rollups)) (sym none.0) (subst (λ (lows : List ℤ). AreAbove lows (cells_of c.self.inside.facts.rollups)) c.lows.ensures none.1)
-
-pub returns-then-expire-clause-open : goal.returns-then-expire-clause-open
-returns-then-expire-clause-open g c = λ moved. ap is_some c.in-Some.is
+    record {
+      moved = search rules;
+      done = λ done. (
+        subst (λ (k : StoreData). GoesOn k (Step true) (kept_data settings marks n c.expire.new.self None)) (as_before c.args.self.now settings marks n held c.self.inside.run (Some (run_of next end)) run c.self.view_is)
+            (subst (λ (h : Held). GoesOn (kept_data settings marks n held (Some (run_of next end))) (Step true) (kept_data settings marks n h None)) (sym c.if-expire.ensures.none.0) ends),
+        refl,
+      );
+      running = search rules;
+      above = λ done running.
+        subst (λ (h : Held). AreAbove c.self.inside.marks.lows (cells_of h.rollups)) (sym none.0) (subst (λ (lows : List ℤ). AreAbove lows (cells_of c.self.inside.facts.rollups)) c.lows.ensures none.1);
+      marks = search rules;
+      series = search rules;
+    }

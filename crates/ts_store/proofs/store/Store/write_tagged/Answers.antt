@@ -43,17 +43,22 @@ invariant_of-self g c =
     let grows : GrowsForLine before.settings.rules before.facts c.put_line.new.self line = subst (λ (rs : List Rule). GrowsForLine rs before.facts c.put_line.new.self line) c.rules.ensures.value c.in_err-put_line.ensures.err in
     kept_left before.settings before.marks before.accepted before.facts c.put_line.new.self before.run line c.self.invariant grows c.put_line.ensures.known
 
-pub returns-in_err-put_line-clause-taken : goal.returns-in_err-put_line-clause-taken
-returns-in_err-put_line-clause-taken g c = λ none.
+pub returns-in_err-put_line : goal.returns-in_err-put_line
+returns-in_err-put_line g c =
     let before = c.self.inside in
     let line : Parts = c.args.line.now in
     let grows : GrowsForLine before.settings.rules before.facts c.put_line.new.self line = subst (λ (rs : List Rule). GrowsForLine rs before.facts c.put_line.new.self line) c.rules.ensures.value c.in_err-put_line.ensures.err in
     let p = err_from_is_err_and c.from_residual.result c.from_residual.ensures.1 in
-    inr (
-      p.1 ∙ ap Err p.2,
-      subst (λ (k : StoreData). Leaves k (kept_data before.settings before.marks before.accepted c.put_line.new.self before.run) line) c.self.view_is
-          (left_by before.settings before.marks before.accepted before.facts c.put_line.new.self before.run line c.self.invariant grows c.put_line.ensures.known),
-    )
+    record {
+      ok = search rules;
+      refused = search rules;
+      taken = λ none.
+          inr (
+        p.1 ∙ ap Err p.2,
+        subst (λ (k : StoreData). Leaves k (kept_data before.settings before.marks before.accepted c.put_line.new.self before.run) line) c.self.view_is
+            (left_by before.settings before.marks before.accepted before.facts c.put_line.new.self before.run line c.self.invariant grows c.put_line.ensures.known),
+      );
+    }
 
 pub overflow_add-self : goal.overflow_add-self
 overflow_add-self g c =
@@ -78,8 +83,8 @@ invariant_of-self-2 g c =
     subst (λ (n : ℕ). IsKept (kept_data before.settings before.marks (before.accepted + n) c.put_line.new.self before.run) c.put_line.new.self before.run) (sym many)
     (kept_accepted before.settings before.marks before.accepted before.facts c.put_line.new.self before.run line c.self.invariant put c.put_line.ensures.known taken welcome.few)
 
-pub returns-clause-ok : goal.returns-clause-ok
-returns-clause-ok g c =
+pub returns : goal.returns
+returns g c =
     let before = c.self.inside in
     let line : Parts = c.args.line.now in
     let none : write_fault before.marks.raw before.facts.series before.accepted line ≡ None = ap (λ (k : StoreData). write_fault k.marks.raw k.series k.accepted line) c.self.view_is ∙ sym c.refusal.ensures ∙ c.in_default.is in
@@ -87,6 +92,11 @@ returns-clause-ok g c =
     let many : length c.fields.result.now ≡ length (line_facts line) = ap (λ (l : List (LinePart × ℤ)). length l) c.fields.ensures.value ∙ sym (length-map line.fields (fact_of line)) in
     let put : PutsLine before.settings.rules before.facts c.put_line.new.self line = subst (λ (rs : List Rule). PutsLine rs before.facts c.put_line.new.self line) c.rules.ensures.value c.in_ok-put_line.ensures.ok in
     let taken = taken_from before.marks.raw line welcome.late c.in_ok-put_line.ensures.taken in
-    subst (λ (n : ℕ). Accepts c.args.self.now (kept_data before.settings before.marks (before.accepted + n) c.put_line.new.self before.run) line) (sym many)
-    (subst (λ (k : StoreData). Accepts k (kept_data before.settings before.marks (before.accepted + length (line_facts line)) c.put_line.new.self before.run) line) c.self.view_is
-    (accepted_by before.settings before.marks before.accepted before.facts c.put_line.new.self before.run line c.self.invariant put c.put_line.ensures.known taken welcome.few))
+    record {
+      ok =
+          subst (λ (n : ℕ). Accepts c.args.self.now (kept_data before.settings before.marks (before.accepted + n) c.put_line.new.self before.run) line) (sym many)
+          (subst (λ (k : StoreData). Accepts k (kept_data before.settings before.marks (before.accepted + length (line_facts line)) c.put_line.new.self before.run) line) c.self.view_is
+          (accepted_by before.settings before.marks before.accepted before.facts c.put_line.new.self before.run line c.self.invariant put c.put_line.ensures.known taken welcome.few));
+      refused = search rules;
+      taken = search rules;
+    }

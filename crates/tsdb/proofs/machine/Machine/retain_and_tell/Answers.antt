@@ -10,7 +10,7 @@ returns-then-is_err g c = λ s i.
     let m : Serving = serving c.self.inside.moment c.self.inside.precision c.self.inside.epoch c.self.inside.fresh (option_map string_bytes c.self.inside.certificate) c.self.inside.store in
     let before = subst (λ (k : Serving). IsIn s k) (sym c.self.view_is) i in
     let refused : is_err c.retain.result ≡ true = sym c.is_err.ensures.value ∙ c.if-is_err.true in
-    absurd (never_open s m before (c.retain.ensures.open.0 refused))
+    absurd (never_open s m before (c.retain.ensures.running.0 refused))
 
 pub returns : goal.returns
 returns g c = λ s i.
