@@ -1,5 +1,6 @@
-use Rattle.std.proofs.Common.{◌≡◌, ◌∙◌, ◌<◌, ◌++◌, ◌∷◌, [], List, ℕ, ℤ, ap, sym, subst, map, take, length, arith, set, get_or, ◌+◌, Some, rules, SFits, w64, to_z, of_z, to_z-of_z}
+use Rattle.std.proofs.Common.{◌≡◌, ◌∙◌, ◌<◌, ◌++◌, ◌∷◌, [], List, ℕ, ℤ, ap, refl, sym, subst, map, take, length, arith, set, get_or, ◌+◌, Some, rules, SFits, w64, to_z, of_z, to_z-of_z}
 use Rattle.std.specs.List.{slice_get, AllByRecursion}
+use Rattle.std.proofs.lemmas.List.{append-nil, take_all}
 use Rattle.std.proofs.lemmas.Option.{slice_get_within}
 use Rattle.ts_core.specs.Facts.{Series, Column, Fact}
 use Rattle.ts_core.specs.History.{MayBeTaken}
@@ -8,7 +9,8 @@ use Rattle.ts_core.specs.Members.{AllDistinct}
 use Rattle.ts_line.specs.Parts.{LinePart, Parts, field_text, fact_of, series_of}
 use Rattle.ts_raw.specs.Columns.{ColumnState}
 use Rattle.ts_raw.specs.Indexed.{column_in}
-use Rattle.ts_store.specs.ColumnsKept.{no_column, point_maps, with_points, with_point_aside, AreAside, MayGrow}
+use Rattle.ts_store.specs.ColumnsKept.{no_column, point_maps, columns_in, with_points, with_point_aside, AreAside, MayGrow}
+use Rattle.ts_store.specs.Registered.{MakesAll}
 use Rattle.ts_store.proofs.ColumnsAside.{grown_aside, made_next, first_made, next_aside, facts_next, column_is}
 use Rattle.ts_store.proofs.Stands.{taken_more}
 use Rattle.ts_store.proofs.columns.prepare_line.Goals as goal
@@ -113,3 +115,29 @@ loop-field-preserved g c =
 
 pub returns-clause-made : goal.returns-clause-made
 returns-clause-made g c = first_made c.args.line.now _ _ c.fields-field-items.result.now c.loop-field.field-index c.fields-field-items.ensures.value c.loop-field.invariant.made
+
+pub loop-field-init : goal.loop-field-init
+loop-field-init g c = record {
+  aside = subst (λ ns. AreAside c.args.index.now.columns c.args.columns.now.items ns []) (sym c.requires.none) tt;
+  taken = tt;
+  made = sym (append-nil (columns_in c.args.index.now c.args.columns.now.items));
+  held = c.requires.held;
+  rollups = c.requires.rollups;
+  cells = refl;
+  series = refl;
+}
+
+pub returns-clause-aside : goal.returns-clause-aside
+returns-clause-aside g c =
+    let all = take_all c.loop-field.field-index c.fields-field-items.result.now c.loop-field-test.false in
+    subst (λ (fs : List (LinePart × ℤ)). AreAside c.loop-field.index.columns c.loop-field.columns.items c.loop-field.touched.items (map (fact_of c.args.line.now) fs)) (all ∙ c.fields-field-items.ensures.value) c.loop-field.invariant.aside
+
+pub returns-clause-taken : goal.returns-clause-taken
+returns-clause-taken g c =
+    let all = take_all c.loop-field.field-index c.fields-field-items.result.now c.loop-field-test.false in
+    subst (λ (fs : List (LinePart × ℤ)). AllByRecursion (MayBeTaken least_time) (map (fact_of c.args.line.now) fs)) (all ∙ c.fields-field-items.ensures.value) c.loop-field.invariant.taken
+
+pub returns-clause-all : goal.returns-clause-all
+returns-clause-all g c =
+    let all = take_all c.loop-field.field-index c.fields-field-items.result.now c.loop-field-test.false in
+    subst (λ (fs : List (LinePart × ℤ)). MakesAll (columns_in c.args.index.now c.args.columns.now.items) (columns_in c.loop-field.index c.loop-field.columns.items) (map (fact_of c.args.line.now) fs)) (all ∙ c.fields-field-items.ensures.value) c.loop-field.invariant.made
