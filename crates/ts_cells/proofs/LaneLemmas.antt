@@ -1,4 +1,4 @@
--- One more lane leaves the cells as they are.
+-- One more lane leaves the cells as they are; one more text, owned or hashed.
 use Rattle.std.proofs.Common.{◌≡◌, ℕ, ℤ, ◌<◌, ◌≤◌, ◌+◌, List, [], ◌∷◌, ◌++◌, length, length-append, get_or, take, map, String, string_bytes, Bor, refl, sym, ◌∙◌, ap, ap₂, subst, Option, Some, None, inl, inr, arith}
 use Rattle.std.specs.List.{AllByRecursion}
 use Rattle.std.proofs.Common.{Result, Ok, Err, OnOk}
@@ -8,6 +8,9 @@ use Rattle.std.proofs.lemmas.List.{take_more}
 use Rattle.ts_core.specs.Facts.{Text}
 use Rattle.ts_core.specs.Numbered.{Gains}
 use Rattle.ts_core.proofs.ListSteps.{map-push}
+use Rattle.std.specs.Hash.FoldHasher.{write}
+use Rattle.std.specs.declared.hash.FoldHasher.{FoldHasher}
+use Rattle.ts_cells.specs.Lanes.{hash_of_texts}
 use Rattle.ts_cells.specs.Grids.{lent_texts, Lane, RowOf, row_entries, entries_of, IsGrid}
 
 module _ {P : Type 0} where
@@ -51,3 +54,11 @@ pub texts_more : {A : Type 0} (xs : List (String A)) (x : String A) (ts : List (
     → map string_bytes xs ≡ lent_texts (take i ts) → map string_bytes (xs ++ x ∷ []) ≡ lent_texts (take (i + 1) ts)
 texts_more xs x ts i d l e ih =
     map-push string_bytes xs x ∙ ap (λ zs. zs ++ string_bytes x ∷ []) ih ∙ ap (λ k. lent_texts (take i ts) ++ k ∷ []) e ∙ sym (map-push (λ (t : Bor Text). t.now) (take i ts) (get_or ts i d)) ∙ ap lent_texts (sym (take_more ts i d l))
+
+-- one more text is hashed
+hashed_push : (h : FoldHasher) (xs : List (Bor Text)) (t : Bor Text) → hash_of_texts h (lent_texts (xs ++ t ∷ [])) ≡ write (hash_of_texts h (lent_texts xs)) t.now
+hashed_push h [] t = refl
+hashed_push h (x ∷ xs) t = hashed_push (write h x.now) xs t
+
+pub texts_hashed_more : (h : FoldHasher) (ts : List (Bor Text)) (i : ℕ) (d : Bor Text) → i < length ts → hash_of_texts h (lent_texts (take (i + 1) ts)) ≡ write (hash_of_texts h (lent_texts (take i ts))) (get_or ts i d).now
+texts_hashed_more h ts i d l = ap (λ xs. hash_of_texts h (lent_texts xs)) (take_more ts i d l) ∙ hashed_push h (take i ts) (get_or ts i d)

@@ -1,10 +1,10 @@
--- The numbers of lanes in the lanes' order: what a search finds, and one more.
-use Rattle.std.proofs.Common.{◌≡◌, ℕ, zero, suc, ◌<◌, ◌≤◌, true, false, cond, T, List, [], ◌∷◌, ◌++◌, length, length-append, get_or, insert, refl, sym, ◌∙◌, ap, ap₂, subst, Some, None, ⊎_elim, is_eq, arith, Less, Equal, Greater, HoldsAt}
+-- The numbers of lanes in the lanes' order: where one more goes.
+use Rattle.std.proofs.Common.{◌≡◌, ◌↔◌, IsTrue, Bool, Ordering, is_lt, true≢false, ℕ, zero, suc, ◌<◌, ◌≤◌, true, false, cond, T, List, [], ◌∷◌, ◌++◌, length, length-append, get_or, insert, refl, sym, ◌∙◌, ap, ap₂, subst, Some, ⊎_elim, is_eq, arith, Less, Equal, Greater}
 use Rattle.std.specs.Ordering.{ordering_index, eq_by_cmp}
 use Rattle.std.specs.Cmp.{IsTotalOrder}
 use Rattle.std.specs.Cmp.Lexicographic.{slice_cmp}
 use Rattle.std.specs.List.{slice_get}
-use Rattle.std.specs.List.Sorted.{IsPartitionPoint, IsNonDecreasingBy}
+use Rattle.std.specs.List.Sorted.{IsPartitionPoint, IsPartitionedBy, IsNonDecreasingBy}
 use Rattle.std.specs.FinMap.{find, put, is_sorted, slice_cmp-IsAntisymmetric}
 use Rattle.std.specs.FinMap.Entries.{is_sorted-put, find-put}
 use Rattle.std.proofs.lemmas.Cmp.{on_total, then_total, lists_total, nat_list_cmp_total, tied_itself}
@@ -17,11 +17,9 @@ use Rattle.ts_core.specs.Members.{Among}
 use Rattle.ts_core.specs.Facts.{Text, text_cmp}
 use Rattle.ts_core.proofs.Ids.{equal_of}
 use Rattle.ts_core.proofs.Places.{rises, put_between}
-use Rattle.ts_core.specs.Numbered.{IsAt}
 use Rattle.ts_cells.specs.Grids.{Lane, no_lane}
 use Rattle.ts_cells.specs.Lanes.{lane_cmp, found_cmp, lanes_numbered, AreInside, IsOrdered}
-use Rattle.ts_cells.proofs.Searches.{missing}
-use Rattle.ts_cells.proofs.GridLemmas.{get_among, has_lane}
+use Rattle.ts_cells.proofs.GridLemmas.{get_among}
 use Rattle.ts_cells.proofs.GridMoves.{all_at, all_insert}
 
 pub lanes_total : IsTotalOrder lane_cmp
@@ -41,6 +39,32 @@ entry_at ls [] i d e h = absurd (omega arith)
 entry_at ls (n ∷ ns) zero d e h = refl
 entry_at ls (n ∷ ns) (suc i) d e h = entry_at ls ns i d e (omega arith)
 
+lt_below : (a b : Ordering) → ordering_index a ≤ ordering_index b → is_lt b ≡ true → is_lt a ≡ true
+lt_below Less b h e = refl
+lt_below Equal Less h e = absurd (omega arith)
+lt_below Greater Less h e = absurd (omega arith)
+lt_below Equal Equal h e = e
+lt_below Equal Greater h e = e
+lt_below Greater Equal h e = e
+lt_below Greater Greater h e = e
+
+less_of : (o : Ordering) → is_lt o ≡ true → o ≡ Less
+less_of Less e = refl
+less_of Equal e = absurd (true≢false (sym e))
+less_of Greater e = absurd (true≢false (sym e))
+
+greater_of : (o : Ordering) → is_lt o ≡ false → (o ≡ Equal → ⊥) → o ≡ Greater
+greater_of Less e n = absurd (true≢false e)
+greater_of Equal e n = absurd (n refl)
+greater_of Greater e n = refl
+
+-- lanes are the same where they compare as equal
+pub same_lane : (a b : Lane) (r : Bool) → r ≡ is_eq (lane_cmp a b) → IsTrue r ↔ (a ≡ b)
+same_lane a b r e = (
+  λ t. exact_lanes a b (equal_of (lane_cmp a b) (sym e ∙ t)),
+  λ s. e ∙ ap is_eq (ap (lane_cmp a) (sym s) ∙ tied_itself lanes_total a),
+)
+
 length-numbered : (ls : List Lane) (order : List ℕ) → length (lanes_numbered ls order) ≡ length order
 length-numbered ls [] = refl
 length-numbered ls (n ∷ ns) = ap suc (length-numbered ls ns)
@@ -59,12 +83,24 @@ module _ (ls : List Lane) (order : List ℕ) (is : IsOrdered ls order) (l : Lane
       subst (λ x. ordering_index x ≤ ordering_index (found_cmp (slice_get ls (get_or order j d)) l)) (sym (compared i d e (omega arith)))
       (subst (λ x. ordering_index (lane_cmp (get_or (lanes_numbered ls order) i e).0 l) ≤ ordering_index x) (sym (compared j d e b)) up)
 
-  pub order_found : (at : ℕ) → at < length order → HoldsAt (λ n. found_cmp (slice_get ls n) l ≡ Equal) order at → (d : ℕ) → IsAt ls (get_or order at d) l
-  order_found at h e d =
-      let n : ℕ = get_or order at d in
-      let within : n < length ls = all_at (λ n. n < length ls) order at d h is.inside in
-      let same : get_or ls n no_lane ≡ l = exact_lanes (get_or ls n no_lane) l (sym (found_inside ls n l within) ∙ e d) in
-      slice_get-get_or ls n no_lane within ∙ ap Some same
+  -- a lane that compares as equal is the one
+  equal_among : (k d : ℕ) → k < length order → found_cmp (slice_get ls (get_or order k d)) l ≡ Equal → Among l ls
+  equal_among k d h e =
+      let n : ℕ = get_or order k d in
+      let within : n < length ls = all_at (λ n. n < length ls) order k d h is.inside in
+      let same : get_or ls n no_lane ≡ l = exact_lanes (get_or ls n no_lane) l (sym (found_inside ls n l within) ∙ e) in
+      subst (λ (x : Lane). Among x ls) same (get_among ls n within)
+
+  pub order_parts : IsPartitionedBy (λ n. is_lt (found_cmp (slice_get ls n) l)) order
+  order_parts i j d a b e = lt_below (found_cmp (slice_get ls (get_or order i d)) l) (found_cmp (slice_get ls (get_or order j d)) l) (order_rises i j d a b) e
+
+  -- of a lane that isn't there none is equal
+  pub order_place : (at : ℕ) → (Among l ls → ⊥) → IsPartitionPoint (λ n. is_lt (found_cmp (slice_get ls n) l) ≡ true) (λ n. is_lt (found_cmp (slice_get ls n) l) ≡ false) order at
+      → IsPartitionPoint (λ n. found_cmp (slice_get ls n) l ≡ Less) (λ n. found_cmp (slice_get ls n) l ≡ Greater) order at
+  order_place at absent p = (
+    λ k d a b. less_of (found_cmp (slice_get ls (get_or order k d)) l) (p.0 k d a b),
+    λ k d a b. greater_of (found_cmp (slice_get ls (get_or order k d)) l) (p.1 k d a b) (λ e. absent (equal_among k d b e)),
+  )
 
   -- where it would stand between others
   between : (at : ℕ) → at ≤ length order → IsPartitionPoint (λ n. found_cmp (slice_get ls n) l ≡ Less) (λ n. found_cmp (slice_get ls n) l ≡ Greater) order at
@@ -73,15 +109,6 @@ module _ (ls : List Lane) (order : List ℕ) (is : IsOrdered ls order) (l : Lane
     λ k e a b. sym (compared k 0 e (omega arith)) ∙ p.0 k 0 a b,
     λ k e a b. let n = length-numbered ls order in let m : k < length order = omega arith in sym (compared k 0 e m) ∙ p.1 k 0 a m,
   )
-
-  pub order_absent : (at : ℕ) → at ≤ length order → IsPartitionPoint (λ n. found_cmp (slice_get ls n) l ≡ Less) (λ n. found_cmp (slice_get ls n) l ≡ Greater) order at → Among l ls → ⊥
-  order_absent at h p a =
-      ⊎_elim {C = ⊥}
-      (λ q.
-      let none : find lane_cmp l (lanes_numbered ls order) ≡ None = missing lanes_total (lanes_numbered ls order) l at (let n = length-numbered ls order in omega arith) (between at h p) in
-      let some : find lane_cmp l (lanes_numbered ls order) ≡ Some q.0 = subst (λ (x : Lane). find lane_cmp x (lanes_numbered ls order) ≡ Some q.0) q.2 (is.all q.0 q.1) in
-      let both : None ≡ Some q.0 = sym none ∙ some in cc)
-      (λ n. n a) (has_lane l ls)
 
 -- ---- one more lane
 
@@ -105,14 +132,13 @@ other_lane a b n =
       | false ↦ λ e. refl
     ] refl
 
-pub order_more : (ls : List Lane) (order : List ℕ) (l : Lane) (at : ℕ) → IsOrdered ls order → at ≤ length order
+pub order_more : (ls : List Lane) (order : List ℕ) (l : Lane) (at : ℕ) → IsOrdered ls order → (Among l ls → ⊥) → at ≤ length order
     → IsPartitionPoint (λ n. found_cmp (slice_get ls n) l ≡ Less) (λ n. found_cmp (slice_get ls n) l ≡ Greater) order at → IsOrdered (ls ++ l ∷ []) (insert order at (length ls))
-order_more ls order l at is h p =
+order_more ls order l at is absent h p =
     let es : List (Lane × ℕ) = lanes_numbered ls order in
     let n : ℕ = length ls in
     let here : at ≤ length es = let k = length-numbered ls order in omega arith in
     let after : lanes_numbered (ls ++ l ∷ []) (insert order at n) ≡ put lane_cmp l n es = numbered_more ls l order at h is.inside ∙ sym (put_between lanes_total es l n at here (between ls order is l at h p)) in
-    let absent : Among l ls → ⊥ = order_absent ls order is l at h p in
     record {
       rising = subst (λ xs. T (is_sorted lane_cmp xs)) (sym after) (is_sorted-put lane_cmp lanes_total l n es is.rising);
       inside = all_insert (λ k. k < length (ls ++ l ∷ [])) order at n h (inside_wider ls l order is.inside) (let m = length-append ls (l ∷ []) in omega arith);

@@ -1,12 +1,15 @@
--- The lanes of a rule, numbered in the order of making, and in order of their texts. (Own rules.)
-use Rattle.std.specs.Prelude.{◌≡◌, ℕ, ◌<◌, T, List, map, length, get_or, Option, Some, None}
+-- The lanes of a rule, numbered in the order of making, found by their hashes, and in order of their texts. (Own rules.)
+use Rattle.std.specs.Prelude.{◌≡◌, ℕ, ◌<◌, T, List, [], ◌∷◌, map, length, get_or, Option, Some, None}
+use Rattle.std.specs.Hash.FoldHasher.{initial, write, finish}
+use Rattle.std.specs.declared.hash.FoldHasher.{FoldHasher}
 use Rattle.std.specs.declared.cmp.Ordering.{Ordering}
 use Rattle.std.specs.declared.cmp.Ordering.TheVariants.{Less}
 use Rattle.std.specs.Ordering.{ordering_then}
 use Rattle.std.specs.Cmp.Lexicographic.{slice_cmp}
 use Rattle.std.specs.List.{AllByRecursion}
 use Rattle.std.specs.FinMap.{is_sorted, find}
-use Rattle.ts_core.specs.Facts.{text_cmp}
+use Rattle.ts_core.specs.Facts.{Text, text_cmp}
+use Rattle.ts_core.specs.Tables.{IsTable}
 use Rattle.ts_cells.specs.Grids.{Lane, no_lane}
 
 -- lanes stand in order of field, group
@@ -31,3 +34,17 @@ pub record IsOrdered (lanes : List Lane) (order : List ℕ) : Type 0 where
   pub rising : T (is_sorted lane_cmp (lanes_numbered lanes order))
   pub inside : AreInside lanes order
   pub all : (j : ℕ) → j < length lanes → find lane_cmp (get_or lanes j no_lane) (lanes_numbered lanes order) ≡ Some j
+
+-- ---- by what lanes are found; which numbers these are means nothing
+
+abbrev pub hash_of_texts : FoldHasher → List Text → FoldHasher
+hash_of_texts h [] = h
+hash_of_texts h (t ∷ ts) = hash_of_texts (write h t) ts
+
+unfoldable pub hash_of_lane : Lane → ℕ
+hash_of_lane l = finish (hash_of_texts (write initial l.field) l.group)
+
+-- lanes with their hashes and their order
+pub record AreFound (lanes : List Lane) (hashes order : List ℕ) : Type 0 where
+  pub table : IsTable hash_of_lane lanes hashes
+  pub ordered : IsOrdered lanes order

@@ -1,12 +1,13 @@
 //! What the cells of one field and one group share.
-ghost use Rattle.std.specs.Prelude.{◌≡◌, IfOk, map, string_bytes};
+ghost use Rattle.std.specs.Prelude.{◌≡◌, ◌↔◌, IsTrue, IfOk, map, string_bytes};
 ghost use Rattle.std.specs.Cmp.Lexicographic.{slice_cmp};
 ghost use Rattle.ts_core.specs.Facts.{text_cmp};
 ghost use Rattle.ts_cells.specs.Grids.{lent_texts, lane_named};
-ghost use Rattle.ts_cells.specs.Lanes.{lane_cmp};
+ghost use Rattle.ts_cells.specs.Lanes.{lane_cmp, hash_of_lane};
 
 use std::alloc::{AllocError, Allocator};
 use std::cmp::Ordering;
+use std::hash::{FoldHasher, Hasher};
 use std::marker::Model;
 
 /// A lane, by its number: the first made has 0.
@@ -69,6 +70,18 @@ fn owned<A: Allocator + Copy>(alloc: A, texts: &[&str]) -> Result<Vec<String<A>,
     Ok(all)
 }
 
+/// The hash of the lane of a field and a group.
+pub(crate) fn hash_lane(field: &str, group: &[&str]) -> u64
+    ensures { result ≡ hash_of_lane (lane_named field.now group.now) }
+{
+    let mut hasher = FoldHasher::default();
+    hasher.write(field.as_bytes());
+    for text in group {
+        hasher.write(text.as_bytes());
+    }
+    hasher.finish()
+}
+
 /// The order of texts, each by its bytes.
 fn compare_texts<A: Allocator>(texts: &[String<A>], others: &[&str]) -> Ordering
     ensures { result ≡ slice_cmp text_cmp (map string_bytes texts.now) (lent_texts others.now) }
@@ -116,5 +129,11 @@ impl<A: Allocator + Copy> Lane<A> {
             Ordering::Equal => compare_texts(self.group.as_slice(), group),
             order => order,
         }
+    }
+    /// Whether this is the lane of a field and a group.
+    pub(crate) fn is(&self, field: &str, group: &[&str]) -> bool
+        ensures { IsTrue result ↔ (self.now ≡ lane_named field.now group.now) }
+    {
+        self.compare(field, group).is_eq()
     }
 }

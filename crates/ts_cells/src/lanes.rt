@@ -1,23 +1,26 @@
 //! The lanes of a rule, numbered in the order of making, and found by field and group.
-ghost use Rattle.std.specs.Prelude.{◌≡◌, [], length, MatchResult, IfOk, OnOk, OnErr, slice_get};
+ghost use Rattle.std.specs.Prelude.{◌≡◌, ◌≤◌, [], length, IfSome, IfNone, IfOk, OnOk, OnErr, slice_get};
 ghost use Rattle.std.specs.declared.cmp.Ordering.{Ordering};
-ghost use Rattle.std.specs.List.{HoldsAt};
-ghost use Rattle.std.specs.List.Sorted.{IsPartitionPoint, IsSearchInRange};
+ghost use Rattle.std.specs.List.Sorted.{IsPartitionPoint};
+ghost use Rattle.ts_core.specs.Members.{Among};
 ghost use Rattle.ts_core.specs.Numbered.{IsAt, Gains};
 ghost use Rattle.ts_cells.specs.Grids.{lane_named};
 ghost use Rattle.ts_cells.specs.Lanes.{found_cmp, IsOrdered};
 
-use crate::lane::Lane;
+use crate::lane::{Lane, hash_lane};
+use crate::room::reserve_eighth;
 use std::alloc::{AllocError, Allocator};
 use std::cmp::Ordering;
 use std::marker::Model;
-use ts_core::next_number;
+use ts_core::{Chains, next_number};
 
 /// Lanes, numbered in the order of making.
 #[derive(Drop)]
 pub(crate) struct Lanes<A: Allocator> {
     lanes: Vec<Lane<A>, A>,
-    /// The numbers of all lanes, in order of field and group.
+    /// The hashes of the lanes: a lane is found by its own.
+    chains: Chains<A>,
+    /// The numbers of all lanes, in order of field and group: walks go along it.
     order: Vec<u32, A>,
 }
 
@@ -25,7 +28,7 @@ impl<A: Allocator> Model for Lanes<A> {
     ghost use Rattle.std.specs.Prelude.{List};
     ghost use Rattle.std.specs.Coded.{coded_list};
     ghost use Rattle.ts_cells.specs.Grids.{Lane as LaneValue, coded_lane};
-    ghost use Rattle.ts_cells.specs.Lanes.{IsOrdered};
+    ghost use Rattle.ts_cells.specs.Lanes.{AreFound};
 
     ghost Value = { List LaneValue };
 
@@ -33,7 +36,7 @@ impl<A: Allocator> Model for Lanes<A> {
 
     ghost view = { λ s. s.lanes.items };
 
-    ghost invariant = { λ s. IsOrdered s.lanes.items s.order.items };
+    ghost invariant = { λ s. AreFound s.lanes.items s.chains s.order.items };
 }
 
 /// The order of the lane of a number and the one of a field and a group. One that isn't there comes first.
@@ -51,18 +54,19 @@ fn compare_at<A: Allocator + Copy>(
     }
 }
 
-/// Where the number of a lane stands in the order of fields and groups, or where it would go.
+/// Where the number of a lane that isn't there goes in the order of fields and groups.
 fn place_in_order<A: Allocator + Copy>(
     lanes: &[Lane<A>],
     order: &[u32],
     field: &str,
     group: &[&str],
-) -> Result<usize, usize>
-    requires { IsOrdered lanes.now order.now }
-    ensures bound { IsSearchInRange result (length order.now) }
-    ensures place { MatchResult result (HoldsAt (λ n. found_cmp (slice_get lanes.now n) (lane_named field.now group.now) ≡ Ordering.Equal) order.now) (IsPartitionPoint (λ n. found_cmp (slice_get lanes.now n) (lane_named field.now group.now) ≡ Ordering.Less) (λ n. found_cmp (slice_get lanes.now n) (lane_named field.now group.now) ≡ Ordering.Greater) order.now) }
+) -> usize
+    requires ordered { IsOrdered lanes.now order.now }
+    requires absent { Among (lane_named field.now group.now) lanes.now → ⊥ }
+    ensures bound { result ≤ length order.now }
+    ensures place { IsPartitionPoint (λ n. found_cmp (slice_get lanes.now n) (lane_named field.now group.now) ≡ Ordering.Less) (λ n. found_cmp (slice_get lanes.now n) (lane_named field.now group.now) ≡ Ordering.Greater) order.now result }
 {
-    order.binary_search_by(|number| compare_at(lanes, *number, field, group))
+    order.partition_point(|number| compare_at(lanes, *number, field, group).is_lt())
 }
 
 impl<A: Allocator + Copy> Lanes<A> {
@@ -72,6 +76,7 @@ impl<A: Allocator + Copy> Lanes<A> {
     {
         Lanes {
             lanes: Vec::new(alloc),
+            chains: Chains::new(alloc),
             order: Vec::new(alloc),
         }
     }
@@ -90,22 +95,39 @@ impl<A: Allocator + Copy> Lanes<A> {
         self.order.as_slice()
     }
 
+    /// The number of the lane of a field and a group.
+    fn lookup(&self, field: &str, group: &[&str]) -> Option<u32>
+        ensures found { IfSome result (λ n. IsAt self.now n (lane_named field.now group.now)) }
+        ensures absent { IfNone result (Among (lane_named field.now group.now) self.now → ⊥) }
+    {
+        let mut next = self.chains.newest(hash_lane(field, group));
+        while let Some(at) = next {
+            let lane = &self.lanes[at as usize];
+            if lane.is(field, group) {
+                return Some(at);
+            }
+            next = self.chains.older(at);
+        }
+        None
+    }
+
     /// The number of the lane of a field and a group, which is made where there is none.
     pub(crate) fn register(&mut self, field: &str, group: &[&str]) -> Result<u32, AllocError>
         ensures number { IfOk result (λ n. IsAt self.new n (lane_named field.now group.now)) }
         ensures ok { OnOk result (Gains self.old self.new (lane_named field.now group.now)) }
         ensures err { OnErr result (self.new ≡ self.old) }
     {
-        match place_in_order(self.lanes.as_slice(), self.order.as_slice(), field, group) {
-            Ok(at) => Ok(self.order[at]),
-            Err(at) => {
-                let number = next_number(self.lanes.len())?;
-                let lane = Lane::new(*self.lanes.allocator(), field, group)?;
-                self.order.reserve(1)?;
-                self.lanes.push(lane)?;
-                self.order.insert(at, number).unwrap();
-                Ok(number)
-            }
+        if let Some(number) = self.lookup(field, group) {
+            return Ok(number);
         }
+        let number = next_number(self.lanes.len())?;
+        let lane = Lane::new(*self.lanes.allocator(), field, group)?;
+        reserve_eighth(&mut self.lanes, 1)?;
+        reserve_eighth(&mut self.order, 1)?;
+        let at = place_in_order(self.lanes.as_slice(), self.order.as_slice(), field, group);
+        self.chains.push(hash_lane(field, group))?;
+        self.lanes.push(lane).unwrap();
+        self.order.insert(at, number).unwrap();
+        Ok(number)
     }
 }

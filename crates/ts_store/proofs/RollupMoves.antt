@@ -114,6 +114,10 @@ lanes_within (r ∷ rs) cs [] n a l = tt
 lanes_within (r ∷ rs) cs (s ∷ ss) n a l = (let e = lanes-length r s.grid.lanes cs s.lanes a.0 in omega arith, lanes_within rs cs ss n a.1 l)
 
 -- without rules
+pub none_frozen : (ms : List FrozenCells) (ss : List RollupState) → length ss ≡ 0 → ss ≡ with_frozen_all ms ss
+none_frozen ms [] e = refl
+none_frozen ms (s ∷ ss) e = absurd (omega arith)
+
 pub all_frozen-none : (rs : List Rule) (cs : List Column) (ss : List RollupState) (c : Column) (ps : List (ℤ × ℤ)) → length rs ≡ 0 → AreRollups rs cs ss → ss ≡ with_frozen_all (frozen_all rs c ps (cells_of ss)) ss
 all_frozen-none [] cs ss c ps e a = same_lanes ss
 all_frozen-none (r ∷ rs) cs ss c ps e a = absurd (let n : ⊥ = omega arith in n)

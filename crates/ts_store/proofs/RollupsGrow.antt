@@ -1,5 +1,5 @@
 -- What is kept for rules, when a column is made.
-use Rattle.std.proofs.Common.{◌≡◌, ◌<◌, ℕ, zero, suc, List, [], ◌∷◌, ◌++◌, length, map, Option, Some, None, IsSome, refl, sym, ◌∙◌, ap, subst, inl, inr, ⊎_elim}
+use Rattle.std.proofs.Common.{◌≡◌, ◌<◌, ℕ, zero, suc, List, [], ◌∷◌, ◌++◌, length, map, Option, Some, None, IsSome, refl, sym, ◌∙◌, ap, subst, inl, inr, ⊎_elim, arith}
 use Rattle.std.specs.List.{AllByRecursion, slice_get}
 use Rattle.std.proofs.lemmas.List.{append-nil}
 use Rattle.ts_core.specs.Facts.{Column}
@@ -10,6 +10,11 @@ use Rattle.ts_core.specs.Members.{Among}
 use Rattle.ts_core.specs.Numbered.{IsAt, Gains}
 use Rattle.std.proofs.lemmas.Option.{none-some, same_Some}
 use Rattle.ts_store.proofs.ColumnsAside.{slice_get_left}
+
+pub none_next : (rs : List Rule) (c : Column) (ss : List RollupState) → length rs ≡ 0 → length ss ≡ length rs → HaveNext rs c ss
+none_next [] c [] e h = tt
+none_next [] c (s ∷ ss) e h = absurd (omega arith)
+none_next (r ∷ rs) c ss e h = absurd (omega arith)
 
 pub keep_same : (ss : List RollupState) → KeepCells ss ss
 keep_same [] = tt

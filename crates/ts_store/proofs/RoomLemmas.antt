@@ -1,5 +1,5 @@
 -- Room for the cells of facts, made column after column.
-use Rattle.std.proofs.Common.{◌≡◌, Result, Ok, Err, OnErr, ℕ, zero, suc, ℤ, true, false, cond, List, [], ◌∷◌, get_or, Option, Some, None, refl, sym, ◌∙◌, ap, subst, inl, ⊎_elim, true≢false}
+use Rattle.std.proofs.Common.{◌≡◌, Result, Ok, Err, OnErr, ℕ, zero, suc, ℤ, true, false, cond, List, [], ◌∷◌, length, get_or, Option, Some, None, refl, sym, ◌∙◌, ap, subst, inl, ⊎_elim, true≢false, arith}
 use Rattle.std.specs.FinMap as finmap
 use Rattle.std.specs.List.{slice_get}
 use Rattle.std.proofs.lemmas.Option.{get_or_from_slice_get, none-some, same_Some}
@@ -116,6 +116,16 @@ rooms_made [] cs time ns fs [] h a = tt
 rooms_made [] cs time ns fs (s ∷ ss) h a = absurd h
 rooms_made (r ∷ rs) cs time ns fs [] h a = absurd h
 rooms_made (r ∷ rs) cs time ns fs (s ∷ ss) h a = (all_roomed r cs time ns fs s h.0 a, rooms_made rs cs time ns fs ss h.1 a)
+
+-- without rules, and without what is kept for them, nothing changes
+pub no_rules : (rs : List Rule) (time : ℤ) (ns : List ℕ) (ss : List RollupState) → length rs ≡ 0 → ss ≡ roomed_under rs time ns ss
+no_rules [] time ns ss e = refl
+no_rules (r ∷ rs) time ns ss e = absurd (omega arith)
+
+pub no_rollups : (rs : List Rule) (time : ℤ) (ns : List ℕ) (ss : List RollupState) → length ss ≡ 0 → ss ≡ roomed_under rs time ns ss
+no_rollups [] time ns ss e = refl
+no_rollups (r ∷ rs) time ns [] e = refl
+no_rollups (r ∷ rs) time ns (s ∷ ss) e = absurd (omega arith)
 
 pub lanes_same : (ss : List RollupState) → KeepLanes ss ss
 lanes_same [] = tt

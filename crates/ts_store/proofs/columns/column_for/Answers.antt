@@ -1,5 +1,6 @@
 use Rattle.std.proofs.Common.{◌≡◌, ap, inl, refl, rules, subst, sym}
 use Rattle.ts_core.specs.Facts.{Column}
+use Rattle.ts_core.specs.Members.{Among}
 use Rattle.ts_core.proofs.NumberedLemmas.{at_among}
 use Rattle.ts_raw.specs.Indexed.{Indexed, IsSoundIndex, column_in}
 use Rattle.ts_store.proofs.columns.column_for.Goals as goal
@@ -15,3 +16,7 @@ returns-in-Some-clause-column g c =
       series = ap (λ (i : Indexed). i.series) c.find_column.ensures.unchanged;
       sound = λ sound. subst IsSoundIndex (sym c.find_column.ensures.unchanged) sound;
     }
+
+pub make_column-requires-clause-absent : goal.make_column-requires-clause-absent
+make_column-requires-clause-absent g c =
+    subst (λ (i : Indexed). Among (column_in i c.args.series c.args.field.now) i.columns → ⊥) (sym c.find_column.ensures.unchanged) c.in-None.ensures.absent

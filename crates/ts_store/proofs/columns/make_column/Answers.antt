@@ -1,9 +1,10 @@
-use Rattle.std.proofs.Common.{◌≡◌, ◌∙◌, List, [], ◌∷◌, ◌++◌, map, ap, sym, subst, inr, cond, is_ok, rules}
+use Rattle.std.proofs.Common.{◌≡◌, ◌∙◌, ℕ, Result, Ok, Err, List, [], ◌∷◌, ◌++◌, map, ap, sym, subst, inr, cond, is_ok, refl, true≢false, rules}
+use Rattle.std.specs.Result.{IsErr}
 use Rattle.std.proofs.lemmas.Option.{get_or_from_slice_get}
 use Rattle.ts_core.specs.Facts.{Column}
 use Rattle.ts_raw.specs.Columns.{ColumnState}
-use Rattle.ts_raw.specs.Indexed.{no_series, column_in}
-use Rattle.ts_store.specs.ColumnsKept.{no_column}
+use Rattle.ts_raw.specs.Indexed.{Indexed, IsSoundIndex, no_series, column_in}
+use Rattle.ts_store.specs.ColumnsKept.{no_column, IsColumnFor}
 use Rattle.ts_store.specs.Rollups.{RollupState, AreRollups, HaveNext, with_next, cells_of}
 use Rattle.ts_store.proofs.RollupsGrow.{rollups-length, rollups_kept, cells_kept, rollups_made, cells_made, ready_to_make, made_behind}
 use Rattle.ts_store.proofs.columns.make_column.Goals as goal
@@ -67,3 +68,24 @@ returns-clause-rollups g c =
 pub returns-clause-cells : goal.returns-clause-cells
 returns-clause-cells g c =
     ap cells_of c.commit_rollups.ensures ∙ cells_made c.prepare_rollups.new.rollups ∙ cells_kept c.args.rollups.now c.prepare_rollups.new.rollups c.prepare_rollups.ensures.kept
+
+-- a refusal that changed no column
+refused : {E : Type 0} (c : Column) (before : Indexed) (states : List ColumnState) (after : Indexed) (states' : List ColumnState) (r : Result ℕ E) → IsErr r → (after.columns ≡ before.columns) × (states' ≡ states) → after.series ≡ before.series
+    → (IsSoundIndex before → IsSoundIndex after) → IsColumnFor c before states after states' r
+refused c before states after states' (Ok n) e kept series sound = absurd (true≢false (sym e))
+refused c before states after states' (Err x) e kept series sound = record { number = tt; grown = tt; kept = kept; series = series; sound = sound }
+
+pub returns-in_err-reserve-clause-column : goal.returns-in_err-reserve-clause-column
+returns-in_err-reserve-clause-column g c =
+    refused (column_in c.args.index.now c.args.series c.args.field.now) c.args.index.now c.args.columns.now.items c.args.index.now c.reserve.new.self.items c.from_residual.result c.from_residual.ensures.0
+    (refl, c.in_err-reserve.ensures.items) refl (λ sound. sound)
+
+pub returns-in_err-prepare_rollups-clause-column : goal.returns-in_err-prepare_rollups-clause-column
+returns-in_err-prepare_rollups-clause-column g c =
+    refused (column_in c.args.index.now c.args.series c.args.field.now) c.args.index.now c.args.columns.now.items c.args.index.now c.reserve.new.self.items c.from_residual-in_err-prepare_rollups.result c.from_residual-in_err-prepare_rollups.ensures.0
+    (refl, c.in_ok-reserve.ensures.items) refl (λ sound. sound)
+
+pub returns-in_err-column-clause-column : goal.returns-in_err-column-clause-column
+returns-in_err-column-clause-column g c =
+    refused (column_in c.args.index.now c.args.series c.args.field.now) c.args.index.now c.args.columns.now.items c.add_column.new.self c.reserve.new.self.items c.from_residual-in_err-column.result c.from_residual-in_err-column.ensures.0
+    (c.in_err-column.ensures.registered.kept, c.in_ok-reserve.ensures.items) c.add_column.ensures.series (λ sound. c.add_column.ensures.sound)

@@ -1,6 +1,6 @@
-use Rattle.std.proofs.Common.{Result, Err, OnOk, ◌≡◌, ◌∙◌, ◌<◌, ◌++◌, ◌∷◌, [], List, ℕ, ℤ, ap, sym, subst, map, take, length, arith, set, get_or, ◌+◌, Some, rules, SFits, w64, to_z, of_z, to_z-of_z}
-use Rattle.std.proofs.lemmas.Grind.{common_steps}
+use Rattle.std.proofs.Common.{Result, Err, OnOk, ◌≡◌, ◌∙◌, ◌<◌, ◌++◌, ◌∷◌, [], List, ℕ, ℤ, ap, refl, sym, subst, map, take, length, arith, set, get_or, ◌+◌, Some, rules, SFits, w64, to_z, of_z, to_z-of_z}
 use Rattle.std.specs.List.{slice_get, AllByRecursion}
+use Rattle.std.proofs.lemmas.List.{append-nil, take_all}
 use Rattle.std.proofs.lemmas.Option.{slice_get_within}
 use Rattle.std.proofs.lemmas.Result.{err_from_is_err_and}
 use Rattle.ts_core.specs.Facts.{Series, Column, Fact}
@@ -10,7 +10,8 @@ use Rattle.ts_core.specs.Members.{AllDistinct}
 use Rattle.ts_line.specs.Parts.{LinePart, Parts, field_text, fact_of, series_of}
 use Rattle.ts_raw.specs.Columns.{ColumnState}
 use Rattle.ts_raw.specs.Indexed.{column_in}
-use Rattle.ts_store.specs.ColumnsKept.{no_column, point_maps, with_points, with_point_aside, AreAside, MayGrow}
+use Rattle.ts_store.specs.ColumnsKept.{no_column, point_maps, columns_in, with_points, with_point_aside, AreAside, MayGrow}
+use Rattle.ts_store.specs.Registered.{MakesAll}
 use Rattle.ts_store.proofs.ColumnsAside.{grown_aside, made_next, first_made, next_aside, facts_next, column_is}
 use Rattle.ts_store.proofs.Stands.{taken_more}
 use Rattle.ts_store.proofs.columns.prepare_line.Goals as goal
@@ -124,13 +125,25 @@ loop-field-preserved g c =
       series = c.column_for.ensures.column.series ∙ i.series;
     }
 
+pub loop-field-init : goal.loop-field-init
+loop-field-init g c = record {
+  aside = subst (λ ns. AreAside c.args.index.now.columns c.args.columns.now.items ns []) (sym c.requires.none) tt;
+  taken = tt;
+  made = sym (append-nil (columns_in c.args.index.now c.args.columns.now.items));
+  held = c.requires.held;
+  rollups = c.requires.rollups;
+  cells = refl;
+  series = refl;
+}
+
 pub returns-clause-line : goal.returns-clause-line
 returns-clause-line g c =
     let i = c.loop-field.invariant in
+    let all = take_all c.loop-field.field-index c.fields-field-items.result.now c.loop-field-test.false ∙ c.fields-field-items.ensures.value in
     record {
-      aside = grind (arith, common_steps);
-      taken = grind (arith, common_steps);
-      all = grind (arith, common_steps);
+      aside = subst (λ (fs : List (LinePart × ℤ)). AreAside c.loop-field.index.columns c.loop-field.columns.items c.loop-field.touched.items (map (fact_of c.args.line.now) fs)) all i.aside;
+      taken = subst (λ (fs : List (LinePart × ℤ)). AllByRecursion (MayBeTaken least_time) (map (fact_of c.args.line.now) fs)) all i.taken;
+      all = subst (λ (fs : List (LinePart × ℤ)). MakesAll (columns_in c.args.index.now c.args.columns.now.items) (columns_in c.loop-field.index c.loop-field.columns.items) (map (fact_of c.args.line.now) fs)) all i.made;
       made = first_made c.args.line.now _ _ c.fields-field-items.result.now c.loop-field.field-index c.fields-field-items.ensures.value i.made;
       held = i.held;
       series = i.series;

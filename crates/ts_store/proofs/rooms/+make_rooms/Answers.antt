@@ -1,8 +1,10 @@
-use Rattle.std.proofs.Common.{◌∷◌, List, sym, subst}
+use Rattle.std.proofs.Common.{◌≡◌, ◌<◌, ◌≤ℤ◌, suc, pos, ◌∷◌, List, length, ap, sym, subst, arith}
+use Rattle.std.specs.List.{AllByRecursion}
+use Rattle.ts_core.specs.Settings.{Rule}
 use Rattle.ts_core.proofs.Results.{on_any_err}
 use Rattle.ts_store.specs.Rollups.{RollupState}
 use Rattle.ts_store.specs.Rooms.{KeepLanes}
-use Rattle.ts_store.proofs.RoomLemmas.{lanes_same, room_begins, room_stays}
+use Rattle.ts_store.proofs.RoomLemmas.{lanes_same, no_rules, no_rollups, room_begins, room_stays}
 use Rattle.ts_store.proofs.rooms.+make_rooms.Goals as goal
 
 pub returns-in_err-make_rooms_of-in-Some-split_first_mut-clause-lanes : goal.returns-in_err-make_rooms_of-in-Some-split_first_mut-clause-lanes
@@ -21,3 +23,19 @@ pub returns-in_ok-make_rooms_of-in-Some-split_first_mut-clause-err : goal.return
 returns-in_ok-make_rooms_of-in-Some-split_first_mut-clause-err g t c =
     room_stays c.make_rooms.result c.in-Some.rule.now c.in-Some.rules.now c.args.rules.now c.args.time c.args.touched.now c.in-Some-split_first_mut.rollup.now c.make_rooms_of.new.rollup
     c.in-Some-split_first_mut.rollups.now c.args.rollups.now c.make_rooms.new.rollups c.in-Some.ensures.cases.0 c.in-Some-split_first_mut.ensures.cases.0 c.in_ok-make_rooms_of-in-Some-split_first_mut.ensures.ok c.make_rooms.ensures.err
+
+pub make_rooms-requires : goal.make_rooms-requires
+make_rooms-requires g t c κs within =
+    let longer : length c.args.rules.now ≡ suc (length c.in-Some.rules.now) = ap length c.in-Some.ensures.cases.0 in
+    let intervals = subst (AllByRecursion (λ (r : Rule). pos 1 ≤ℤ r.interval)) c.in-Some.ensures.cases.0 c.requires.intervals in
+    let inside = subst (AllByRecursion (λ (s : RollupState). AllByRecursion (λ n. n < length s.lanes) c.args.touched.now)) c.in-Some-split_first_mut.ensures.cases.0 c.requires.inside in
+    (omega arith, (within, (intervals.1, inside.1)))
+
+pub returns-in-None-clause-ok : goal.returns-in-None-clause-ok
+returns-in-None-clause-ok g t c = no_rules c.args.rules.now c.args.time c.args.touched.now c.args.rollups.now c.in-None.ensures.cases
+
+pub returns-in-None-split_first_mut-clause-lanes : goal.returns-in-None-split_first_mut-clause-lanes
+returns-in-None-split_first_mut-clause-lanes g t c = lanes_same c.args.rollups.now
+
+pub returns-in-None-split_first_mut-clause-ok : goal.returns-in-None-split_first_mut-clause-ok
+returns-in-None-split_first_mut-clause-ok g t c = no_rollups c.args.rules.now c.args.time c.args.touched.now c.args.rollups.now c.in-None-split_first_mut.ensures.cases
