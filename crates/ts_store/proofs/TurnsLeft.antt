@@ -4,14 +4,14 @@ use Rattle.std.specs.FinMap as finmap
 use Rattle.std.specs.FinMap.{get-remove}
 use Rattle.std.proofs.Math.Nat.{eq-or-lt_of_le}
 use Rattle.ts_core.specs.Members.{Among}
-use Rattle.ts_core.specs.Facts.{Column, same_text}
+use Rattle.ts_core.specs.Facts.{Column}
 use Rattle.ts_core.specs.Settings.{Rule}
 use Rattle.ts_core.specs.Aggregates.{empty_aggregate}
 use Rattle.ts_core.specs.Cells.{Cell, same_cell}
 use Rattle.ts_core.specs.Changes.{or_else}
 use Rattle.ts_core.specs.StoreStates.{ColumnPoints}
 use Rattle.ts_core.specs.StoreData.{FrozenCells, rules_of}
-use Rattle.ts_core.specs.StoreMoves.{Expired, frozen_points, frozen_column, frozen_all}
+use Rattle.ts_core.specs.StoreMoves.{Expired, frozen_all}
 use Rattle.ts_core.specs.Runs.{turns_of, turns_left}
 use Rattle.ts_core.proofs.Folds.{length-same}
 use Rattle.ts_core.proofs.StepStands.{keys_column}
