@@ -74,7 +74,7 @@ turn_taken : (low : ℤ) (m n : FrozenCells) → LosesCells low m n → turns_of
 turn_taken low m n l =
     let fewer : below_count low m ≡ l.count + below_count low n = so_many_fewer low l.count m n l.below.removed in
     let some = l.some in
-    ⊎_elim {C = turns_of (below_count low m) ≡ turns_of (below_count low n) + 1} (λ e. omega (arith, e, fewer)) (λ h. let none : below_count low n ≡ 0 = none_below low n (l.below.all h) in omega (arith, h, fewer, none)) (eq-or-lt_of_le l.few)
+    ⊎_elim {C = turns_of (below_count low m) ≡ turns_of (below_count low n) + 1} (λ e. omega (arith, e, fewer)) (λ h. let none : below_count low n ≡ 0 = none_below low n (l.below.all h) in omega (arith, h, fewer, none)) (eq-or-lt_of_le l.below.few)
 
 pub turns_left-loses : (cs : List ColumnPoints) (rs : List Rule) (lows : List ℤ) (ms ns : List FrozenCells) → length ms ≡ length rs → FirstLoses lows ms ns → turns_left (rules_of cs rs lows ms) ≡ turns_left (rules_of cs rs lows ns) + 1
 turns_left-loses cs rs [] ms ns e l = absurd l
