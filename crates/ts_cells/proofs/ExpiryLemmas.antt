@@ -21,7 +21,8 @@ use Rattle.ts_core.proofs.Places.{both_of, less_of}
 use Rattle.ts_core.specs.Changes.{or_else}
 use Rattle.std.specs.Bool.{OnTrue, OnFalse}
 use Rattle.ts_cells.specs.Grids.{Lane, lane_of, cell_at, RowOf, held, cell_in, entries_of, RowsRise, cells_of_bucket, HasLost}
-use Rattle.ts_cells.specs.Expiry.{HasEmptyFront, LosesOne, RemovesOne}
+use Rattle.ts_cells.specs.Expiry.{HasEmptyFront, LosesOne, RemovesOne, IsAbove}
+use Rattle.ts_cells.specs.RowChanges.{NoWider}
 use Rattle.ts_cells.proofs.Searches.{find_below}
 use Rattle.ts_cells.proofs.GridLemmas.{get_at, get_none, same_grid, has_lane}
 use Rattle.ts_cells.proofs.GridMoves.{RowPut, same_in, false_none, row_set, cells_here, all_at, all_set}
@@ -80,7 +81,7 @@ module _ {P : Type 0} where
   no_front rows = record { bound = omega arith; empty = λ k d a b. absurd (omega arith) }
 
   -- the row behind the empty ones changes
-  front_stays : (n : ℕ) (rows : List (RowOf P)) (r : RowOf P) → HasEmptyFront n rows → HasEmptyFront n (set rows n r)
+  pub front_stays : (n : ℕ) (rows : List (RowOf P)) (r : RowOf P) → HasEmptyFront n rows → HasEmptyFront n (set rows n r)
   front_stays n rows r f = record {
     bound = let l = f.bound in omega (arith, length-set rows n r);
     empty = λ k d a b j. ap (λ (x : RowOf P). held x.1 j) (get_or-set_other rows n k r d (λ e. absurd (omega arith))) ∙ f.empty k d a b j;
@@ -125,10 +126,6 @@ module _ {P : Type 0} where
 -- a row that is looked at, and left as it is
 pub unchanged : {X : Type 0} (xs : List X) (n : ℕ) (x : X) → x ≡ get_or xs n x → set xs n x ≡ xs
 unchanged xs n x e = ap (set xs n) e ∙ set-get_or xs n x
-
--- no row grew
-abbrev pub NoWider : {P : Type 0} → List (RowOf P) → List (RowOf P) → Type 0
-NoWider {P} rows after = (n : ℕ) → AllByRecursion (λ (r : RowOf P). length r.1 ≤ n) rows → AllByRecursion (λ (r : RowOf P). length r.1 ≤ n) after
 
 -- a row in place of one of the same bucket
 module _ {P : Type 0} (rows : List (RowOf P)) (n : ℕ) (d r : RowOf P) (s : RowsRise rows) (h : n < length rows) (e : d ≡ get_or rows n d) where
@@ -197,7 +194,7 @@ pub on_false : {A B : Type 0} (b : Bool) → (A → B) → OnFalse b A → OnFal
 on_false true f a = tt
 on_false false f a = f a
 
-pub above_all : {P : Type 0} (low : ℤ) (ls : List Lane) (rows : List (RowOf P)) → AllDistinct ls → RowsRise rows → ((i : ℤ) (j : ℕ) → held (cells_of_bucket rows i) j ≢ None → low ≤ℤ i) → (k : Cell) → finmap.get (from_entries {R = cell_cmp} (entries_of ls rows)) k ≢ None → low ≤ℤ k.index
+pub above_all : {P : Type 0} (low : ℤ) (ls : List Lane) (rows : List (RowOf P)) → AllDistinct ls → RowsRise rows → ((i : ℤ) (j : ℕ) → held (cells_of_bucket rows i) j ≢ None → low ≤ℤ i) → IsAbove low (from_entries {R = cell_cmp} (entries_of ls rows))
 above_all low ls rows d s h k n =
     ⊎_elim {C = low ≤ℤ k.index}
     (λ p. h k.index p.0 (λ e. n (ap (λ (l : Lane). finmap.get (from_entries {R = cell_cmp} (entries_of ls rows)) (cell_at k.index l)) (sym p.2) ∙ get_at ls rows k.index p.0 d s p.1 ∙ e)))

@@ -1,9 +1,10 @@
 -- Expiry on its way: cells are removed one by one, and the rows that are emptied go together.
-use Rattle.std.proofs.Common.{◌≡◌, ◌≤◌, ◌+◌, ℕ, ℤ, List, length, drop, sym, subst, add-one, refl, arith}
+use Rattle.std.proofs.Common.{◌≡◌, ◌≢◌, ◌<◌, ◌≤◌, ◌≤ℤ◌, ◌+◌, ℕ, ℤ, List, length, drop, sym, ◌∙◌, subst, add-one, refl, None, arith}
 use Rattle.ts_cells.specs.Grids.{Lane, RowOf, held, cells_of_bucket, RowsRise, IsGrid, grid_of}
-use Rattle.ts_cells.specs.Expiry.{HasEmptyFront, LosesOne, Removes}
+use Rattle.ts_cells.specs.Expiry.{HasEmptyFront, LosesOne, Removes, LosesBelow}
+use Rattle.ts_cells.specs.RowChanges.{NoWider, IsSweptTo}
 use Rattle.ts_cells.proofs.GridMoves.{grid_kept}
-use Rattle.ts_cells.proofs.ExpiryLemmas.{removes, inside_of, no_front, NoWider, rising_drop, all_drop, cells_drop}
+use Rattle.ts_cells.proofs.ExpiryLemmas.{removes, inside_of, no_front, rising_drop, all_drop, cells_drop, above_all}
 
 -- so many cells were removed, and so many rows at the front are empty
 pub record IsSwept {P : Type 0} (low : ℤ) (before : List (RowOf P)) (removed emptied : ℕ) (rows : List (RowOf P)) : Type 0 where
@@ -22,28 +23,28 @@ module _ {P : Type 0} (low : ℤ) (before rows after : List (RowOf P)) where
   grid_after t w ls g = record { once = g.once; rising = t; narrow = w (length ls) g.narrow }
 
   -- one cell more
-  pub swept_more : (n e f : ℕ) → n + 1 ≤ 256 → IsSwept low before n e rows → RowsRise after → HasEmptyFront f after → NoWider rows after → LosesOne low rows after → IsSwept low before (n + 1) f after
-  swept_more n e f few s t front w l = record {
-    rising = t;
-    front = front;
+  pub swept_more : (n e f : ℕ) → n + 1 ≤ 256 → IsSwept low before n e rows → IsSweptTo f rows after → LosesOne low rows after → IsSwept low before (n + 1) f after
+  swept_more n e f few s t l = record {
+    rising = t.rising;
+    front = t.front;
     few = few;
-    grid = λ ls g. grid_after t w ls (s.grid ls g);
+    grid = λ ls g. grid_after t.rising t.narrow ls (s.grid ls g);
     cells = λ ls g.
         let h : IsGrid ls rows = s.grid ls g in
         subst (λ m. Removes low m (grid_of ls before).cells (grid_of ls after).cells) (sym (add-one n))
-        ((grid_of ls rows).cells, s.cells ls g, removes low ls rows after h.once s.rising t (inside_of (length ls) rows h.narrow) l);
+        ((grid_of ls rows).cells, s.cells ls g, removes low ls rows after h.once s.rising t.rising (inside_of (length ls) rows h.narrow) l);
   }
 
   -- the same cells
-  pub swept_same : (n e f : ℕ) → IsSwept low before n e rows → RowsRise after → HasEmptyFront f after → NoWider rows after → ((i : ℤ) (j : ℕ) → held (cells_of_bucket after i) j ≡ held (cells_of_bucket rows i) j) → IsSwept low before n f after
-  swept_same n e f s t front w same = record {
-    rising = t;
-    front = front;
+  pub swept_same : (n e f : ℕ) → IsSwept low before n e rows → IsSweptTo f rows after → ((i : ℤ) (j : ℕ) → held (cells_of_bucket after i) j ≡ held (cells_of_bucket rows i) j) → IsSwept low before n f after
+  swept_same n e f s t same = record {
+    rising = t.rising;
+    front = t.front;
     few = s.few;
-    grid = λ ls g. grid_after t w ls (s.grid ls g);
+    grid = λ ls g. grid_after t.rising t.narrow ls (s.grid ls g);
     cells = λ ls g.
         let h : IsGrid ls rows = s.grid ls g in
-        subst (Removes low n (grid_of ls before).cells) (sym (grid_kept ls rows after h.once s.rising t same)) (s.cells ls g);
+        subst (Removes low n (grid_of ls before).cells) (sym (grid_kept ls rows after h.once s.rising t.rising same)) (s.cells ls g);
   }
 
 module _ {P : Type 0} (low : ℤ) (before rows : List (RowOf P)) (n e : ℕ) (s : IsSwept low before n e rows) where
@@ -52,7 +53,15 @@ module _ {P : Type 0} (low : ℤ) (before rows : List (RowOf P)) (n e : ℕ) (s 
   swept_grid ls g =
       let h : IsGrid ls rows = s.grid ls g in record { once = h.once; rising = rising_drop e rows s.rising; narrow = all_drop (λ (r : RowOf P). length r.1 ≤ length ls) e rows h.narrow }
 
-  pub swept_cells : (ls : List Lane) → IsGrid ls before → Removes low n (grid_of ls before).cells (grid_of ls (drop e rows)).cells
+  swept_cells : (ls : List Lane) → IsGrid ls before → Removes low n (grid_of ls before).cells (grid_of ls (drop e rows)).cells
   swept_cells ls g =
       let h : IsGrid ls rows = s.grid ls g in
       subst (Removes low n (grid_of ls before).cells) (sym (grid_kept ls rows (drop e rows) h.once s.rising (rising_drop e rows s.rising) (cells_drop e rows s.rising s.front))) (s.cells ls g)
+
+  pub swept_out : (n < 256 → (i : ℤ) (j : ℕ) → held (cells_of_bucket rows i) j ≢ None → low ≤ℤ i) → (ls : List Lane) → IsGrid ls before → LosesBelow low n (grid_of ls before).cells (grid_of ls (drop e rows)).cells
+  swept_out above ls g =
+      let h : IsGrid ls rows = s.grid ls g in record {
+        few = s.few;
+        removed = swept_cells ls g;
+        all = λ few. above_all low ls (drop e rows) h.once (rising_drop e rows s.rising) (λ i j some. above few i j (λ none. some (cells_drop e rows s.rising s.front i j ∙ none)));
+      }

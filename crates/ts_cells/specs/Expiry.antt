@@ -1,5 +1,5 @@
 -- Cells below an index are removed. (Own rules.)
-use Rattle.std.specs.Prelude.{◌≡◌, ◌≢◌, ℕ, zero, suc, ℤ, ◌≤◌, ◌<ℤ◌, ◌≤ℤ◌, ◌==◌, ◌&&◌, List, length, None, if◌then◌else◌}
+use Rattle.std.specs.Prelude.{◌≡◌, ◌≢◌, ℕ, zero, suc, ℤ, ◌<◌, ◌≤◌, ◌<ℤ◌, ◌≤ℤ◌, ◌==◌, ◌&&◌, List, length, None, if◌then◌else◌}
 use Rattle.std.specs.Ordering.{int_cmp, eq_by_cmp}
 use Rattle.std.specs.List.{AllWithin}
 use Rattle.std.specs.FinMap as finmap
@@ -33,3 +33,13 @@ RemovesOne low m n = (k : Cell) × (k.index <ℤ low) × (finmap.get m k ≢ Non
 abbrev pub Removes : {P : Type 0} → ℤ → ℕ → FinMap cell_cmp P → FinMap cell_cmp P → Type 0
 Removes low zero m n = n ≡ m
 Removes {P} low (suc count) m n = (between : FinMap cell_cmp P) × Removes low count m between × RemovesOne low between n
+
+-- no cell is below an index
+abbrev pub IsAbove : {P : Type 0} → ℤ → FinMap cell_cmp P → Type 0
+IsAbove low m = (k : Cell) → finmap.get m k ≢ None → low ≤ℤ k.index
+
+-- so many cells below an index are removed: 256, or all where there are fewer
+pub record LosesBelow {P : Type 0} (low : ℤ) (count : ℕ) (before after : FinMap cell_cmp P) : Type 0 where
+  pub few : count ≤ 256
+  pub removed : Removes low count before after
+  pub all : count < 256 → IsAbove low after

@@ -6,3 +6,4 @@ pub mod Walks
 -- what only models and proofs of the code need
 pub mod Lanes
 pub mod Rows
+pub mod RowChanges

@@ -1,8 +1,8 @@
 //! The cells of a rule: a row for each bucket that has some, in the order of buckets, with the lanes that all rows share.
 ghost use Rattle.std.specs.Bool.{OnTrue, OnFalse};
-ghost use Rattle.ts_core.specs.Cells.{Cell};
-ghost use Rattle.ts_cells.specs.Expiry.{HasEmptyFront, LosesOne, HasNoneBelow, Removes};
-ghost use Rattle.std.specs.Prelude.{◌≡◌, ◌≢◌, ◌≤ℤ◌, None, vec_len, drop, ℕ, ◌<◌, ◌≤◌, ◌++◌, ℤ, List, [], ◌∷◌, length, get_or, OnOk, OnErr, IfOk, MatchResult, map};
+ghost use Rattle.ts_cells.specs.Expiry.{HasEmptyFront, LosesOne, HasNoneBelow, LosesBelow};
+ghost use Rattle.ts_cells.specs.RowChanges.{KeepsBuckets, IsRowAt, IsSweptTo};
+ghost use Rattle.std.specs.Prelude.{◌≡◌, vec_len, drop, ◌<◌, ◌≤◌, List, [], length, OnOk, OnErr, IfOk, MatchResult, map};
 ghost use Rattle.std.specs.declared.cmp.Ordering.{Ordering};
 ghost use Rattle.std.specs.Ordering.{int_cmp};
 ghost use Rattle.std.specs.List.{HoldsAt, AllByRecursion};
@@ -11,7 +11,7 @@ ghost use Rattle.std.specs.FinMap as finmap;
 ghost use Rattle.ts_core.specs.Changes.{changed, joined_within};
 ghost use Rattle.ts_core.specs.Numbered.{IsAt, Gains};
 ghost use Rattle.ts_cells.specs.CellChanges.{roomy};
-ghost use Rattle.ts_cells.specs.Grids.{Lane, RowsRise, IsGrid, grid_of, held, cells_of_bucket, cell_in, lane_named, lane_of};
+ghost use Rattle.ts_cells.specs.Grids.{Lane, RowsRise, IsGrid, grid_of, cell_in, lane_named, lane_of};
 ghost use Rattle.ts_cells.specs.Walks.{entry_of, entries_within};
 
 use crate::lane::LaneId;
@@ -89,11 +89,8 @@ fn row_for<P: Partial + Drop, A: Allocator + Copy>(
     index: &i128,
 ) -> Result<usize, AllocError>
     requires { RowsRise rows.old.items }
-    ensures rising { RowsRise rows.new.items }
-    ensures inside { IfOk result (λ at. at < length rows.new.items) }
-    ensures place { IfOk result (λ at. HoldsAt (λ r. int_cmp r.0 index.now ≡ Ordering.Equal) rows.new.items at) }
-    ensures cells { (i : ℤ) → cells_of_bucket rows.new.items i ≡ cells_of_bucket rows.old.items i }
-    ensures narrow { (n : ℕ) → AllByRecursion (λ r. length r.1 ≤ n) rows.old.items → AllByRecursion (λ r. length r.1 ≤ n) rows.new.items }
+    ensures rows { KeepsBuckets rows.old.items rows.new.items }
+    ensures place { IfOk result (IsRowAt index.now rows.new.items) }
 {
     match place_of(rows.as_slice(), index) {
         Ok(at) => Ok(at),
@@ -124,9 +121,7 @@ fn remove_one<P: Partial + Drop, A: Allocator + Copy>(
 ) -> bool
     requires rising { RowsRise rows.old.items }
     requires front { HasEmptyFront emptied.old rows.old.items }
-    ensures rising { RowsRise rows.new.items }
-    ensures front { HasEmptyFront emptied.new rows.new.items }
-    ensures narrow { (n : ℕ) → AllByRecursion (λ r. length r.1 ≤ n) rows.old.items → AllByRecursion (λ r. length r.1 ≤ n) rows.new.items }
+    ensures rows { IsSweptTo emptied.new rows.old.items rows.new.items }
     ensures removed { OnTrue result (LosesOne low.now rows.old.items rows.new.items) }
     ensures none { OnFalse result (HasNoneBelow low.now rows.old.items rows.new.items) }
 {
@@ -151,9 +146,7 @@ fn remove_below<P: Partial + Drop, A: Allocator + Copy>(
 ) -> usize
     requires { RowsRise rows.old.items }
     ensures rows { (ls : List Lane) → IsGrid ls rows.old.items → IsGrid ls rows.new.items }
-    ensures few { result ≤ 256 }
-    ensures removed { (ls : List Lane) → IsGrid ls rows.old.items → Removes low.now result (grid_of ls rows.old.items).cells (grid_of ls rows.new.items).cells }
-    ensures all { result < 256 → (i : ℤ) (j : ℕ) → held (cells_of_bucket rows.new.items i) j ≢ None → low.now ≤ℤ i }
+    ensures below { (ls : List Lane) → IsGrid ls rows.old.items → LosesBelow low.now result (grid_of ls rows.old.items).cells (grid_of ls rows.new.items).cells }
 {
     let mut emptied = 0;
     let mut removed = 0;
@@ -240,9 +233,7 @@ impl<P: Partial + Drop, A: Allocator + Copy> Cells<P, A> {
     /// Removes cells below an index: 256, or all where there are fewer. It answers how many.
     pub fn expire(&mut self, low: &i128) -> usize
         ensures lanes { self.new.lanes ≡ self.old.lanes }
-        ensures few { result ≤ 256 }
-        ensures removed { Removes low.now result self.old.cells self.new.cells }
-        ensures all { result < 256 → (k : Cell) → finmap.get self.new.cells k ≢ None → low.now ≤ℤ k.index }
+        ensures below { LosesBelow low.now result self.old.cells self.new.cells }
     {
         remove_below(&mut self.rows, low)
     }

@@ -6,7 +6,7 @@ use Rattle.std.proofs.lemmas.List.{length-append}
 use Rattle.ts_core.specs.Members.{Among, AllDistinct}
 use Rattle.ts_core.specs.Facts.{Fact}
 use Rattle.ts_core.specs.Settings.{Rule, Settings}
-use Rattle.ts_core.specs.History.{History, Line, Begin, Step, accepted, IsLawful}
+use Rattle.ts_core.specs.History.{History}
 use Rattle.ts_core.specs.Latest.{latest_of}
 use Rattle.ts_core.specs.Aggregates.{empty_aggregate}
 use Rattle.ts_core.specs.Cells.{cell_cmp, is_in_cell}

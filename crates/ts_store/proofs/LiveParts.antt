@@ -11,7 +11,7 @@ use Rattle.ts_core.specs.Settings.{Rule}
 use Rattle.ts_core.specs.Marks.{index_of}
 use Rattle.ts_core.specs.Aggregates.{Aggregate, empty_aggregate, merged, aggregate_of_one, aggregate_of_points, points_of as points_of_facts}
 use Rattle.ts_core.specs.MergeLaws.{aggregate_laws}
-use Rattle.ts_core.proofs.Folds.{fold-append, fold-count}
+use Rattle.ts_core.proofs.Folds.{fold-append}
 use Rattle.ts_core.specs.Cells.{Cell, same_cell, cell_of, is_in_cell, total_of}
 use Rattle.ts_core.specs.StoreStates.{fact_at, facts_at, facts_of}
 use Rattle.ts_core.proofs.Comparisons.{same_bool}

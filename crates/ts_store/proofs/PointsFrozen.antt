@@ -1,6 +1,5 @@
 -- Points of a bucket that are folded first and frozen at once: as if each were frozen by itself.
 use Rattle.std.proofs.Common.{◌≡◌, ℕ, ℤ, ◌+◌, ◌≤◌, ◌^◌, Bool, true, false, cond, ◌&&◌, List, ◌∷◌, length, filter, refl, sym, ◌∙◌, ap, subst, arith, Option, Some, None, option_map, nat_lt, get_or}
-use Rattle.std.proofs.lemmas.Bool.{le-ltb}
 use Rattle.std.proofs.lemmas.Option.{get_or_from_slice_get}
 use Rattle.std.specs.FinMap as finmap
 use Rattle.std.specs.FinMap.{same_map}

@@ -4,14 +4,14 @@ use Rattle.std.specs.FinMap as finmap
 use Rattle.std.specs.FinMap.{get-remove}
 use Rattle.std.proofs.Math.Nat.{eq-or-lt_of_le}
 use Rattle.ts_core.specs.Members.{Among}
-use Rattle.ts_core.specs.Facts.{Column, same_text}
+use Rattle.ts_core.specs.Facts.{Column}
 use Rattle.ts_core.specs.Settings.{Rule}
 use Rattle.ts_core.specs.Aggregates.{empty_aggregate}
 use Rattle.ts_core.specs.Cells.{Cell, same_cell}
 use Rattle.ts_core.specs.Changes.{or_else}
 use Rattle.ts_core.specs.StoreStates.{ColumnPoints}
 use Rattle.ts_core.specs.StoreData.{FrozenCells, rules_of}
-use Rattle.ts_core.specs.StoreMoves.{Expired, frozen_points, frozen_column, frozen_all}
+use Rattle.ts_core.specs.StoreMoves.{Expired, frozen_all}
 use Rattle.ts_core.specs.Runs.{turns_of, turns_left}
 use Rattle.ts_core.proofs.Folds.{length-same}
 use Rattle.ts_core.proofs.StepStands.{keys_column}
@@ -20,9 +20,9 @@ use Rattle.ts_core.proofs.MovesStand.{keys_once, key_there, key_not}
 use Rattle.ts_core.proofs.PieceCells.{cells_total, same_cell-eq, same_cell-refl}
 use Rattle.ts_core.proofs.Comparisons.{lt_from, lt_true}
 use Rattle.std.proofs.lemmas.Int.{ints}
-use Rattle.ts_cells.specs.Expiry.{Removes, RemovesOne}
+use Rattle.ts_cells.specs.Expiry.{Removes, RemovesOne, IsAbove}
 use Rattle.ts_store.specs.CellCounts.{frozen_count, HoldFew}
-use Rattle.ts_store.specs.RollupSteps.{IsAbove, LosesCells, FirstLoses}
+use Rattle.ts_store.specs.RollupSteps.{LosesCells, FirstLoses}
 
 -- ---- cells below an index
 
@@ -72,9 +72,9 @@ none_below low m above =
 -- a turn takes 256, or all
 turn_taken : (low : ℤ) (m n : FrozenCells) → LosesCells low m n → turns_of (below_count low m) ≡ turns_of (below_count low n) + 1
 turn_taken low m n l =
-    let fewer : below_count low m ≡ l.count + below_count low n = so_many_fewer low l.count m n l.removed in
+    let fewer : below_count low m ≡ l.count + below_count low n = so_many_fewer low l.count m n l.below.removed in
     let some = l.some in
-    ⊎_elim {C = turns_of (below_count low m) ≡ turns_of (below_count low n) + 1} (λ e. omega (arith, e, fewer)) (λ h. let none : below_count low n ≡ 0 = none_below low n (l.all h) in omega (arith, h, fewer, none)) (eq-or-lt_of_le l.few)
+    ⊎_elim {C = turns_of (below_count low m) ≡ turns_of (below_count low n) + 1} (λ e. omega (arith, e, fewer)) (λ h. let none : below_count low n ≡ 0 = none_below low n (l.below.all h) in omega (arith, h, fewer, none)) (eq-or-lt_of_le l.below.few)
 
 pub turns_left-loses : (cs : List ColumnPoints) (rs : List Rule) (lows : List ℤ) (ms ns : List FrozenCells) → length ms ≡ length rs → FirstLoses lows ms ns → turns_left (rules_of cs rs lows ms) ≡ turns_left (rules_of cs rs lows ns) + 1
 turns_left-loses cs rs [] ms ns e l = absurd l
@@ -108,7 +108,7 @@ expired-loses [] ms ns l = absurd l
 expired-loses (low ∷ lows) [] ns l = absurd l
 expired-loses (low ∷ lows) (m ∷ ms) [] l = absurd l
 expired-loses (low ∷ lows) (m ∷ ms) (n ∷ ns) l =
-    ⊎_elim {C = Expired (low ∷ lows) (m ∷ ms) (n ∷ ns)} (λ p. (removes_above low p.0.count m n p.0.removed, subst (λ (xs : List FrozenCells). Expired lows ms xs) (sym p.1) (expired-same lows ms)))
+    ⊎_elim {C = Expired (low ∷ lows) (m ∷ ms) (n ∷ ns)} (λ p. (removes_above low p.0.count m n p.0.below.removed, subst (λ (xs : List FrozenCells). Expired lows ms xs) (sym p.1) (expired-same lows ms)))
     (λ p. (λ k a. ap (λ (x : FrozenCells). finmap.get x k) p.1, expired-loses lows ms ns p.2)) l
 
 -- ---- cells hold no more after a removal
@@ -129,7 +129,7 @@ counts-removed n cs rs (low ∷ lows) [] ns l few = absurd l
 counts-removed n cs rs (low ∷ lows) (m ∷ ms) [] l few = absurd l
 counts-removed n cs [] (low ∷ lows) (m ∷ ms) (x ∷ xs) l few = tt
 counts-removed n cs (r ∷ rs) (low ∷ lows) (m ∷ ms) (x ∷ xs) l few =
-    ⊎_elim {C = HoldFew n cs (r ∷ rs) (x ∷ xs)} (λ p. (λ k. let most = all_hold low p.0.count m x k p.0.removed in let all = few.0 k in omega arith, subst (λ (ys : List FrozenCells). HoldFew n cs rs ys) (sym p.1) few.1))
+    ⊎_elim {C = HoldFew n cs (r ∷ rs) (x ∷ xs)} (λ p. (λ k. let most = all_hold low p.0.count m x k p.0.below.removed in let all = few.0 k in omega arith, subst (λ (ys : List FrozenCells). HoldFew n cs rs ys) (sym p.1) few.1))
     (λ p. (λ k. let same : frozen_count x k ≡ frozen_count m k = ap (λ (y : FrozenCells). frozen_count y k) p.1 in let all = few.0 k in omega arith, counts-removed n cs rs lows ms xs p.2 few.1)) l
 
 -- ---- after points were frozen

@@ -1,13 +1,12 @@
 -- What a step of a run does to the cells of rules: points of a column are frozen, or cells below low indices are removed. (Own rules.)
-use Rattle.std.specs.Prelude.{◌≡◌, ◌≢◌, ◌⊎◌, ℕ, ℤ, ◌+◌, ◌^◌, ◌<◌, ◌≤◌, ◌≤ℤ◌, None, List, [], ◌∷◌, filter, length, map}
-use Rattle.std.specs.FinMap as finmap
+use Rattle.std.specs.Prelude.{◌≡◌, ◌⊎◌, ℕ, ℤ, ◌+◌, ◌^◌, ◌<◌, ◌≤◌, List, [], ◌∷◌, filter, length, map}
 use Rattle.ts_core.specs.Facts.{Column}
 use Rattle.ts_core.specs.Settings.{Rule}
 use Rattle.ts_core.specs.Cells.{Cell, is_in_cell}
 use Rattle.ts_core.specs.StoreStates.{ColumnPoints, fact_at}
 use Rattle.ts_core.specs.StoreData.{FrozenCells}
 use Rattle.ts_core.specs.StoreMoves.{frozen_all, points_below, kept_points}
-use Rattle.ts_cells.specs.Expiry.{Removes}
+use Rattle.ts_cells.specs.Expiry.{IsAbove, LosesBelow}
 use Rattle.ts_store.specs.CellCounts.{frozen_count}
 use Rattle.ts_store.specs.ColumnsKept.{Held}
 use Rattle.ts_store.specs.Rollups.{RollupState, with_frozen, cells_of}
@@ -47,22 +46,17 @@ held_moved rs s mark held = record {
 
 -- ---- cells are removed
 
-abbrev pub IsAbove : ℤ → FrozenCells → Type 0
-IsAbove low m = (k : Cell) → finmap.get m k ≢ None → low ≤ℤ k.index
-
 -- no rule has cells below its low index
 abbrev pub AreAbove : List ℤ → List FrozenCells → Type 0
 AreAbove [] ms = Unit {0}
 AreAbove (low ∷ lows) [] = Unit {0}
 AreAbove (low ∷ lows) (m ∷ ms) = IsAbove low m × AreAbove lows ms
 
--- cells below an index are removed: 256, or all where there are fewer
+-- some cells below an index are removed
 pub record LosesCells (low : ℤ) (before after : FrozenCells) : Type 0 where
   pub count : ℕ
   pub some : 0 < count
-  pub few : count ≤ 256
-  pub removed : Removes low count before after
-  pub all : count < 256 → IsAbove low after
+  pub below : LosesBelow low count before after
 
 -- the first rule that has cells below its low index loses some
 abbrev pub FirstLoses : List ℤ → List FrozenCells → List FrozenCells → Type 0

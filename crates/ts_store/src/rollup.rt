@@ -1,11 +1,10 @@
 //! What is kept for a rollup rule: its cells, the lane of each column, and the columns of each lane.
-ghost use Rattle.std.specs.Prelude.{◌≡◌, ◌≢◌, ◌≤◌, ◌<◌, ◌≤ℤ◌, None, length, replicate, map, IsSome, is_some, IfOk, OnOk, OnErr};
+ghost use Rattle.std.specs.Prelude.{◌≡◌, ◌<◌, length, replicate, map, IsSome, is_some, IfOk, OnOk, OnErr};
 ghost use Rattle.std.specs.FinMap as finmap;
 ghost use Rattle.std.specs.List.{AllByRecursion};
-ghost use Rattle.ts_core.specs.Cells.{Cell};
 ghost use Rattle.ts_core.specs.Members.{AllDistinct};
 ghost use Rattle.ts_core.specs.Tags.{tag_values};
-ghost use Rattle.ts_cells.specs.Expiry.{Removes};
+ghost use Rattle.ts_cells.specs.Expiry.{LosesBelow};
 ghost use Rattle.ts_core.specs.Numbered.{IsAt};
 ghost use Rattle.ts_cells.specs.Grids.{lane_of, lane_named, lent_texts};
 ghost use Rattle.ts_cells.specs.Walks.{entry_of, entries_within};
@@ -177,9 +176,7 @@ impl<A: Allocator + Copy> Rollup<A> {
     /// Removes cells below an index: 256, or all where there are fewer. It answers how many.
     pub(crate) fn expire(&mut self, low: &i128) -> usize
         ensures cells { self.new ≡ with_frozen self.new.grid.cells self.old }
-        ensures few { result ≤ 256 }
-        ensures removed { Removes low.now result self.old.grid.cells self.new.grid.cells }
-        ensures all { result < 256 → (k : Cell) → finmap.get self.new.grid.cells k ≢ None → low.now ≤ℤ k.index }
+        ensures below { LosesBelow low.now result self.old.grid.cells self.new.grid.cells }
     {
         self.cells.expire(low)
     }

@@ -1,8 +1,7 @@
-use Rattle.std.proofs.Common.{arith, ◌≢◌, ◌<◌, ◌≤ℤ◌, ℕ, ℤ, List, None, ◌∙◌}
+use Rattle.std.proofs.Common.{arith, ◌≢◌, ◌<◌, ◌≤ℤ◌, ℕ, ℤ, List, None}
 use Rattle.ts_cells.specs.Grids.{RowOf, held, cells_of_bucket}
 use Rattle.ts_cells.specs.Expiry.{HasNoneBelow}
-use Rattle.ts_cells.proofs.ExpiryLemmas.{cells_drop}
-use Rattle.ts_cells.proofs.Sweeps.{IsSwept, no_sweep, swept_more, swept_same, swept_grid, swept_cells}
+use Rattle.ts_cells.proofs.Sweeps.{IsSwept, no_sweep, swept_more, swept_same, swept_grid, swept_out}
 use Rattle.ts_cells.proofs.cells.remove_below.Given.{Over}
 use Rattle.ts_cells.proofs.cells.remove_below.Goals.{then-loop-removed-test+else-remove_one, else-loop-removed-test}
 use Rattle.ts_cells.proofs.cells.remove_below.Goals as goal
@@ -14,7 +13,7 @@ pub loop-removed-preserved : goal.loop-removed-preserved
 loop-removed-preserved g c =
     let t = c.loop-removed-test.true in
     swept_more c.args.low.now c.args.rows.now.items c.loop-removed.rows.items c.remove_one.new.rows.items c.loop-removed.removed c.loop-removed.emptied c.remove_one.new.emptied (omega arith)
-    c.loop-removed.invariant c.remove_one.ensures.rising c.remove_one.ensures.front c.remove_one.ensures.narrow c.if-remove_one.ensures.removed
+    c.loop-removed.invariant c.remove_one.ensures.rows c.if-remove_one.ensures.removed
 
 -- when the loop has ended
 swept : (g : Over) (c : goal.After-drop_front g) → IsSwept c.args.low.now c.args.rows.now.items c.loop-removed.removed c.loop-removed-test.emptied c.loop-removed-test.rows.items
@@ -22,7 +21,7 @@ swept g c = elim c.loop-removed-test.branch [
   | then-loop-removed-test+else-remove_one w ↦
       let above : HasNoneBelow c.args.low.now c.loop-removed.rows.items w.remove_one.new.rows.items = w.if-remove_one.ensures.none in
       rw (w.rows-is, w.emptied-is) (swept_same c.args.low.now c.args.rows.now.items c.loop-removed.rows.items w.remove_one.new.rows.items c.loop-removed.removed c.loop-removed.emptied w.remove_one.new.emptied
-      c.loop-removed.invariant w.remove_one.ensures.rising w.remove_one.ensures.front w.remove_one.ensures.narrow above.cells)
+      c.loop-removed.invariant w.remove_one.ensures.rows above.cells)
   | else-loop-removed-test w ↦ rw (w.rows-is, w.emptied-is) c.loop-removed.invariant
 ]
 
@@ -37,11 +36,8 @@ above g c few = elim c.loop-removed-test.branch [
 pub returns-clause-rows : goal.returns-clause-rows
 returns-clause-rows g c = rw c.drop_front.ensures (swept_grid c.args.low.now c.args.rows.now.items c.loop-removed-test.rows.items c.loop-removed.removed c.loop-removed-test.emptied (swept g c))
 
-pub returns-clause-removed : goal.returns-clause-removed
-returns-clause-removed g c = rw c.drop_front.ensures (swept_cells c.args.low.now c.args.rows.now.items c.loop-removed-test.rows.items c.loop-removed.removed c.loop-removed-test.emptied (swept g c))
-
-pub returns-clause-all : goal.returns-clause-all
-returns-clause-all g c = λ few i j some.
+pub returns-clause-below : goal.returns-clause-below
+returns-clause-below g c = λ ls grid.
     let rows : List (RowOf g.row.P.Denot) = c.loop-removed-test.rows.items in
     let s : IsSwept c.args.low.now c.args.rows.now.items c.loop-removed.removed c.loop-removed-test.emptied rows = swept g c in
-    above g c few i j (λ none. some (rw c.drop_front.ensures (cells_drop c.loop-removed-test.emptied rows s.rising s.front i j ∙ none)))
+    rw c.drop_front.ensures (swept_out c.args.low.now c.args.rows.now.items rows c.loop-removed.removed c.loop-removed-test.emptied s (above g c) ls grid)

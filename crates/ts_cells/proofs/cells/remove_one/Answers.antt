@@ -1,15 +1,17 @@
 use Rattle.std.proofs.Common.{rules, ◌≡◌, ◌<◌, ◌≤◌, ℕ, List, length, set, sym, ◌∙◌, ap, subst, true, false, int_lt}
-use Rattle.std.specs.List.{AllByRecursion}
 use Rattle.ts_cells.specs.Grids.{RowOf, held, cells_of_bucket, HasLost}
 use Rattle.ts_core.proofs.Comparisons.{lt_from}
 use Rattle.ts_cells.specs.Expiry.{HasNoneBelow}
+use Rattle.ts_cells.specs.RowChanges.{IsSweptTo}
 use Rattle.ts_cells.proofs.GridMoves.{RowPut, row_kept}
-use Rattle.ts_cells.proofs.ExpiryLemmas.{all_above, none_left, front_grows, loses, unchanged, put_here, was_here, no_wider}
+use Rattle.ts_cells.proofs.ExpiryLemmas.{all_above, none_left, front_grows, front_stays, loses, unchanged, put_here, was_here, no_wider}
 use Rattle.ts_cells.proofs.cells.remove_one.Goals as goal
 
-pub returns-then-not-is_below-clause-narrow : goal.returns-then-not-is_below-clause-narrow
-returns-then-not-is_below-clause-narrow g c = λ n a.
-    subst (AllByRecursion (λ (r : RowOf g.row.P.Denot). length r.1 ≤ n)) (sym (unchanged c.loop-emptied.rows.items c.loop-emptied.emptied c.index_mut-row.result.now c.index_mut-row.ensures.value)) (c.loop-emptied.invariant.narrow n a)
+pub returns-then-not-is_below-clause-rows : goal.returns-then-not-is_below-clause-rows
+returns-then-not-is_below-clause-rows g c =
+    let i = c.loop-emptied.invariant in
+    subst (IsSweptTo c.loop-emptied.emptied c.args.rows.now.items) (sym (unchanged c.loop-emptied.rows.items c.loop-emptied.emptied c.index_mut-row.result.now c.index_mut-row.ensures.value))
+    (record { rising = i.rising; front = i.front; narrow = i.narrow })
 
 pub returns-then-not-is_below-clause-none : goal.returns-then-not-is_below-clause-none
 returns-then-not-is_below-clause-none g c =
@@ -23,17 +25,19 @@ returns-then-not-is_below-clause-none g c =
       cells = c.loop-emptied.invariant.cells;
     })
 
-pub returns-then-remove_last-clause-rising : goal.returns-then-remove_last-clause-rising
-returns-then-remove_last-clause-rising g c =
+pub returns-then-remove_last-clause-rows : goal.returns-then-remove_last-clause-rows
+returns-then-remove_last-clause-rows g c =
+    let i = c.loop-emptied.invariant in
     let rows : List (RowOf g.row.P.Denot) = c.loop-emptied.rows.items in
-    let some : c.loop-emptied.emptied < length rows = search rules in
-    (put_here rows c.loop-emptied.emptied c.index_mut-row.result.now c.remove_last.new.self c.loop-emptied.invariant.rising some c.index_mut-row.ensures.value c.remove_last.ensures.index).rising
-
-pub returns-then-remove_last-clause-narrow : goal.returns-then-remove_last-clause-narrow
-returns-then-remove_last-clause-narrow g c = λ m a.
-    let rows : List (RowOf g.row.P.Denot) = c.loop-emptied.rows.items in
-    let some : c.loop-emptied.emptied < length rows = search rules in
-    no_wider rows c.loop-emptied.emptied c.index_mut-row.result.now c.remove_last.new.self c.loop-emptied.invariant.rising some c.index_mut-row.ensures.value c.remove_last.ensures.len m (c.loop-emptied.invariant.narrow m a)
+    let n : ℕ = c.loop-emptied.emptied in
+    let d : RowOf g.row.P.Denot = c.index_mut-row.result.now in
+    let r : RowOf g.row.P.Denot = c.remove_last.new.self in
+    let some : n < length rows = search rules in
+    record {
+      rising = (put_here rows n d r i.rising some c.index_mut-row.ensures.value c.remove_last.ensures.index).rising;
+      front = front_stays n rows r i.front;
+      narrow = λ m a. no_wider rows n d r i.rising some c.index_mut-row.ensures.value c.remove_last.ensures.len m (i.narrow m a);
+    }
 
 pub returns-then-remove_last-clause-removed : goal.returns-then-remove_last-clause-removed
 returns-then-remove_last-clause-removed g c =

@@ -16,15 +16,15 @@ use Rattle.ts_cells.proofs.cells.Cells.make_room.Goals as goal
 pub invariant_of-self : goal.invariant_of-self
 invariant_of-self g c = record {
   once = c.self.invariant.once;
-  rising = c.row_for.ensures.rising;
-  narrow = c.row_for.ensures.narrow (length c.self.inside.lanes) c.self.invariant.narrow;
+  rising = c.row_for.ensures.rows.rising;
+  narrow = c.row_for.ensures.rows.narrow (length c.self.inside.lanes) c.self.invariant.narrow;
 }
 
 -- the row that changed
 row : (g : Over) (c : goal.After-self-1 g) → RowPut c.row_for.new.rows.items (set c.row_for.new.rows.items c.in_ok-at.at c.make_room.new.self) c.args.index.now c.make_room.new.self.1
 row g c =
     let d : RowOf g.row.P.Denot = c.index_mut.result.now in
-    row_set c.row_for.new.rows.items c.args.index.now c.in_ok-at.at c.make_room.new.self d c.row_for.ensures.rising c.in_ok-at.ensures.inside (c.in_ok-at.ensures.place d)
+    row_set c.row_for.new.rows.items c.args.index.now c.in_ok-at.at c.make_room.new.self d c.row_for.ensures.rows.rising c.in_ok-at.ensures.place.inside (c.in_ok-at.ensures.place.place d)
     (c.make_room.ensures.index ∙ ap (λ (r : RowOf g.row.P.Denot). r.0) c.index_mut.ensures.value)
 
 within : (g : Over) (c : goal.After-self-1 g) → c.args.lane < length c.self.inside.lanes
@@ -35,14 +35,14 @@ old : (g : Over) (c : goal.After-self-1 g) → c.index_mut.result.now.1 ≡ cell
 old g c =
     let d : RowOf g.row.P.Denot = c.index_mut.result.now in
     ap (λ (r : RowOf g.row.P.Denot). r.1) c.index_mut.ensures.value
-    ∙ cells_here c.row_for.new.rows.items c.args.index.now c.in_ok-at.at d c.row_for.ensures.rising c.in_ok-at.ensures.inside (c.in_ok-at.ensures.place d)
-    ∙ c.row_for.ensures.cells c.args.index.now
+    ∙ cells_here c.row_for.new.rows.items c.args.index.now c.in_ok-at.at d c.row_for.ensures.rows.rising c.in_ok-at.ensures.place.inside (c.in_ok-at.ensures.place.place d)
+    ∙ c.row_for.ensures.rows.cells c.args.index.now
 
 -- from the rows that there were
 all_row : (g : Over) (c : goal.After-self-1 g) → RowPut c.self.inside.rows.items (set c.row_for.new.rows.items c.in_ok-at.at c.make_room.new.self) c.args.index.now c.make_room.new.self.1
 all_row g c = record {
   rising = (row g c).rising;
-  cells = λ q. (row g c).cells q ∙ ap (λ cs. cond (eq_by_cmp int_cmp q c.args.index.now) c.make_room.new.self.1 cs) (c.row_for.ensures.cells q);
+  cells = λ q. (row g c).cells q ∙ ap (λ cs. cond (eq_by_cmp int_cmp q c.args.index.now) c.make_room.new.self.1 cs) (c.row_for.ensures.rows.cells q);
 }
 
 pub invariant_of-self-2 : goal.invariant_of-self-2
@@ -50,8 +50,8 @@ invariant_of-self-2 g c =
     let n : ℕ = length c.self.inside.lanes in
     let Narrow : RowOf g.row.P.Denot → Type 0 = λ r. length r.1 ≤ n in
     let d : RowOf g.row.P.Denot = c.index_mut.result.now in
-    let all : AllByRecursion Narrow c.row_for.new.rows.items = c.row_for.ensures.narrow n c.self.invariant.narrow in
-    let before : length d.1 ≤ n = subst (λ (r : RowOf g.row.P.Denot). length r.1 ≤ n) (sym c.index_mut.ensures.value) (all_at Narrow c.row_for.new.rows.items c.in_ok-at.at d c.in_ok-at.ensures.inside all) in
+    let all : AllByRecursion Narrow c.row_for.new.rows.items = c.row_for.ensures.rows.narrow n c.self.invariant.narrow in
+    let before : length d.1 ≤ n = subst (λ (r : RowOf g.row.P.Denot). length r.1 ≤ n) (sym c.index_mut.ensures.value) (all_at Narrow c.row_for.new.rows.items c.in_ok-at.at d c.in_ok-at.ensures.place.inside all) in
     let few : length c.make_room.new.self.1 ≤ max (length d.1) (c.args.lane + 1) = subst (λ m. length c.make_room.new.self.1 ≤ max (length d.1) (m + 1)) c.number.ensures c.make_room.ensures.len in
     let w = within g c in
     record {
@@ -93,4 +93,4 @@ returns-in_err-at-clause-err g c =
     let ls : List Lane = c.self.inside.lanes in
     let rows : List (RowOf g.row.P.Denot) = c.self.inside.rows.items in
     on_any_err _ (subst (λ (s : Grid g.row.P.Denot). from_entries (entries_of ls c.row_for.new.rows.items) ≡ s.cells) c.self.view_is
-    (grid_same ls rows c.row_for.new.rows.items c.self.invariant.once c.self.invariant.rising c.row_for.ensures.rising c.row_for.ensures.cells))
+    (grid_same ls rows c.row_for.new.rows.items c.self.invariant.once c.self.invariant.rising c.row_for.ensures.rows.rising c.row_for.ensures.rows.cells))
