@@ -1,8 +1,8 @@
 //! Where the parts of a line end.
-ghost use Rattle.std.specs.Prelude.{◌≡◌, ◌≤◌, length, slice_range};
+ghost use Rattle.std.specs.Prelude.{◌≡◌, ◌≤◌, ◌||◌, false, length, slice_range};
 ghost use Rattle.std.specs.List.{list_any};
 ghost use Rattle.std.specs.Str.{IsCharBoundary};
-ghost use Rattle.ts_line.specs.Scan.{is_stop, ends, end_of, spaces_end};
+ghost use Rattle.ts_line.specs.Scan.{is_backslash, is_stop, ends, end_of, spaces_end};
 
 use ts_core::after;
 
@@ -37,6 +37,24 @@ pub fn is_stop(stops: Stops, byte: u8) -> bool
         Stops::Comma | Stops::Plain => byte == b' ' || byte == b',',
         Stops::Equals => byte == b' ' || byte == b',' || byte == b'=',
     }
+}
+
+/// A bit for each of a backslash, a space, a comma and an equals sign, by its rest by 64.
+const MARKS: u64 = 1 << 28 | 1 << 32 | 1 << 44 | 1 << 61;
+
+/// Whether a byte may be a backslash or end a part. A few others are let through; most bytes are passed over by this one test.
+fn may_be_mark(byte: u8) -> bool
+    ensures stops { (stops : Stops) → result ≡ false → is_stop stops byte ≡ false }
+    ensures backslash { result ≡ false → is_backslash byte ≡ false }
+{
+    MARKS >> (byte % 64) & 1 == 1
+}
+
+/// Whether a byte is a backslash or one of those that end a part.
+fn is_mark(stops: Stops, byte: u8) -> bool
+    ensures { result ≡ (is_backslash byte || is_stop stops byte) }
+{
+    may_be_mark(byte) && (byte == b'\\' || is_stop(stops, byte))
 }
 
 /// Whether a part ends at a byte, behind another.
@@ -87,7 +105,7 @@ pub fn end_at(line: &str, from: usize, stops: Stops) -> End
     let mut at = from;
     while at < bytes.len() {
         let byte = bytes[at];
-        if byte == b'\\' || is_stop(stops, byte) {
+        if is_mark(stops, byte) {
             break;
         }
         at += 1;

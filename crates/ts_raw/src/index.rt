@@ -130,6 +130,7 @@ impl<A: Allocator + Copy> Index<A> {
     }
 
     /// The column of a series and a field, where there is one. The guess isn't tried.
+    #[cold]
     fn column(&self, series: SeriesId, field: &str) -> Option<ColumnId>
         requires { series < length self.now.series }
         ensures found { IfSome result (λ id. IsAt self.now.columns id (column_in self.now series field.now)) }
@@ -202,6 +203,7 @@ impl<A: Allocator + Copy> Index<A> {
         }
     }
 
+    #[cold]
     fn make_column(&mut self, series: SeriesId, field: &str) -> Result<ColumnId, AllocError>
         requires series { series < length self.old.series }
         requires absent { Among (column_in self.old series field.now) self.old.columns → ⊥ }

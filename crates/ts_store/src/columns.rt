@@ -51,6 +51,7 @@ fn commit_rollups<A: Allocator + Copy>(rollups: &mut [Rollup<A>], column: Column
 }
 
 /// Makes the column of a series and a field, without points, and with its lane under each rule.
+#[cold]
 fn make_column<A: Allocator + Copy>(
     index: &mut Index<A>,
     columns: &mut Vec<PlainColumn<A>, A>,

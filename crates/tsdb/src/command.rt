@@ -154,11 +154,14 @@ fn count(text: &str) -> Command<'_>
 }
 
 impl<'a> Command<'a> {
-    /// What a line that isn't skipped asks for.
-    #[tactic(auto, unfolding(crate::specs::Commands::command_of))]
+    /// What a line that isn't skipped asks for. Most lines are to be written.
+    #[tactic(auto, using(crate::proofs::CommandLemmas::write_alone), unfolding(crate::specs::Commands::command_of))]
     pub fn of(line: &'a str) -> Command<'a>
         ensures { command_view result ≡ command_of line.entry.now }
     {
+        if let Some(rest) = rest_behind(line, "write ") {
+            return Command::Write(rest);
+        }
         if let Some(rest) = rest_behind(line, "settings ") {
             return Command::OpenWith(rest);
         }
@@ -170,9 +173,6 @@ impl<'a> Command<'a> {
         }
         if let Some(rest) = rest_behind(line, "epoch ") {
             return epoch(rest);
-        }
-        if let Some(rest) = rest_behind(line, "write ") {
-            return Command::Write(rest);
         }
         if line == "retain" {
             return Command::Retain;

@@ -1,6 +1,8 @@
 //! Series by their keys.
-ghost use Rattle.std.specs.Prelude.{◌≡◌, ◌≤◌, ◌<◌, ◌↔◌, [], length, IfSome, IfNone, Err};
+ghost use Rattle.std.specs.Prelude.{◌≡◌, ◌≤◌, ◌<◌, ◌↔◌, [], length, IfSome, IfNone, Err, IsTrue, string_bytes};
+ghost use Rattle.std.specs.Bool.{OnTrue};
 ghost use Rattle.ts_core.specs.Members.{Among, AllDistinct};
+ghost use Rattle.ts_core.specs.Texts.{owned_pairs, lent_pairs};
 ghost use Rattle.ts_raw.specs.Hashes.{hash_of_series};
 ghost use Rattle.ts_raw.specs.Registering.{IsRegistered};
 ghost use Rattle.ts_core.specs.Numbered.{IsAt};
@@ -34,6 +36,37 @@ impl<A: Allocator> Model for SeriesTable<A> {
     ghost view = { λ t. t.keys.items };
 
     ghost invariant = { λ t. IsTable hash_of_series t.keys.items t.chains };
+}
+
+/// Whether a tag has this key and this value.
+fn is_tag<A: Allocator>(tag: &(String<A>, String<A>), key: &str, value: &str) -> bool
+    ensures { IsTrue result ↔ ((string_bytes tag.now.0 ≡ key.now) × (string_bytes tag.now.1 ≡ value.now)) }
+{
+    tag.0.as_str() == key && tag.1.as_str() == value
+}
+
+/// Whether tags are those that are lent, in the same order.
+fn are_same<A: Allocator>(tags: &[(String<A>, String<A>)], others: &[(&str, &str)]) -> bool
+    ensures { OnTrue result (owned_pairs tags.now ≡ lent_pairs others.now) }
+{
+    match (tags.split_first(), others.split_first()) {
+        (None, None) => true,
+        (Some((tag, tags)), Some((other, others))) => {
+            if is_tag(tag, other.0, other.1) {
+                are_same(tags, others)
+            } else {
+                false
+            }
+        }
+        _ => false,
+    }
+}
+
+/// Whether a key is the one that is lent.
+fn is_same<A: Allocator + Copy>(key: &Key<A>, other: &KeyRef<'_>) -> bool
+    ensures { OnTrue result (key.now ≡ other.now) }
+{
+    key.measurement() == other.measurement() && are_same(key.tags(), other.tags())
 }
 
 impl<A: Allocator + Copy> SeriesTable<A> {
@@ -95,7 +128,7 @@ impl<A: Allocator + Copy> SeriesTable<A> {
     {
         let number = *self.followers.get(self.last as usize)?;
         let other = self.keys.get(number as usize)?;
-        if other.compare(key) == Ordering::Equal {
+        if is_same(other, key) {
             Some(SeriesId { number })
         } else {
             None

@@ -1,5 +1,5 @@
 use Rattle.std.proofs.Common.{◌≡◌, ◌+◌, ◌-◌, ◌<◌, false, [], length, drop, get_or, sym, ap, ◌∙◌, arith, slice_range, refl}
-use Rattle.std.proofs.lemmas.Bool.Decides.{nat_tests}
+use Rattle.std.proofs.lemmas.Bool.{or_parts}
 use Rattle.ts_core.specs.Facts.{Text}
 use Rattle.ts_line.specs.Scan.{is_stop, is_backslash, part_len, end_of}
 use Rattle.ts_line.proofs.ScanLemmas.{bare_step, any_step}
@@ -24,9 +24,9 @@ loop-at-preserved c =
     let line : Text = c.args.line.now in
     let at = c.loop-at.at in
     let same : bytes ≡ line = c.as_bytes-bytes.ensures.value in
-    let stop : is_stop c.args.stops (get_or bytes at 0) ≡ false = sym c.is_stop.ensures ∙ c.if-is_stop.false in
-    let other : get_or bytes at 0 ≡ 92 → ⊥ = c.if-byte-eq92.false in
-    let slash : is_backslash (get_or bytes at 0) ≡ false = grind (arith, nat_tests) in
+    let plain = or_parts (is_backslash (get_or bytes at 0)) (is_stop c.args.stops (get_or bytes at 0)) (sym c.is_mark.ensures ∙ c.if-is_mark.false) in
+    let slash : is_backslash (get_or bytes at 0) ≡ false = plain.0 in
+    let stop : is_stop c.args.stops (get_or bytes at 0) ≡ false = plain.1 in
     let step : part_len c.args.stops 0 (drop at bytes) ≡ part_len c.args.stops 0 (drop (at + 1) bytes) + 1 = bare_step c.args.stops bytes at c.loop-at-test.true stop slash in
     let within : at < length line = omega (arith, c.loop-at-test.true, c.as_bytes-bytes.ensures.len) in
     let here : is_stop c.args.stops (get_or line at 0) ≡ false = ap (λ (l : Text). is_stop c.args.stops (get_or l at 0)) (sym same) ∙ stop in
