@@ -56,7 +56,7 @@ with_points-total-requires g c =
     let offset : SFits w64 c.offset.result = search rules in
     let index = ap (λ (k : KeptCell Aggregate). k.cell.index) c.kept.view_is in
     let points : c.bucket-points.result ≡ points_in_bucket (get_or columns (get_or ns i 0) no_column).points c.args.kept.now.cell.index c.args.rule.now.interval c.args.rule.now.offset =
-    c.bucket-points.ensures ∙ (λ j. points_in_bucket (column j).points (index j) (to_z-of_z interval j) (to_z-of_z offset j))
+    c.bucket-points.ensures.points ∙ (λ j. points_in_bucket (column j).points (index j) (to_z-of_z interval j) (to_z-of_z offset j))
     ∙ (λ j. points_in_bucket (get_or columns (get_or ns i 0) no_column).points c.args.kept.now.cell.index (c.interval.ensures j) (c.offset.ensures j)) in
     let next = column_next c.args.rule.now columns c.args.kept.now.cell.index ns i c.loop-column.total c.bucket-points.result (walked_cell c.args.rule.now c.args.rollup.now columns c.args.kept.now).total (2 ^ 62)
     c.loop-column-test.true points c.loop-column.invariant.same c.loop-column.invariant.few in
@@ -77,7 +77,7 @@ loop-column-preserved g c =
     let offset : SFits w64 c.offset.result = search rules in
     let index = ap (λ (k : KeptCell Aggregate). k.cell.index) c.kept.view_is in
     let points : c.bucket-points.result ≡ points_in_bucket (get_or columns (get_or ns i 0) no_column).points c.args.kept.now.cell.index c.args.rule.now.interval c.args.rule.now.offset =
-    c.bucket-points.ensures ∙ (λ j. points_in_bucket (column j).points (index j) (to_z-of_z interval j) (to_z-of_z offset j))
+    c.bucket-points.ensures.points ∙ (λ j. points_in_bucket (column j).points (index j) (to_z-of_z interval j) (to_z-of_z offset j))
     ∙ (λ j. points_in_bucket (get_or columns (get_or ns i 0) no_column).points c.args.kept.now.cell.index (c.interval.ensures j) (c.offset.ensures j)) in
     let next = column_next c.args.rule.now columns c.args.kept.now.cell.index ns i c.loop-column.total c.bucket-points.result (walked_cell c.args.rule.now c.args.rollup.now columns c.args.kept.now).total (2 ^ 62)
     c.loop-column-test.true points c.loop-column.invariant.same c.loop-column.invariant.few in
