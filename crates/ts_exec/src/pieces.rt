@@ -60,6 +60,16 @@ fn read_values<'a, A: Allocator + Copy>(
     Ok(())
 }
 
+/// The first 16 bytes of a text as one number, with zeros behind a shorter text. Where two numbers differ, their texts
+/// stand in the same order.
+fn first_bytes(text: &str) -> u128 {
+    let mut bytes = [0u8; 16];
+    for (place, byte) in bytes.iter_mut().zip(text.bytes()) {
+        *place = byte;
+    }
+    u128::from_be_bytes(bytes)
+}
+
 /// Announces the groups of the columns that a query selects, in byte order, so that none is put before many others
 /// later. Where each is to come, by its column.
 fn expect_groups<'a, A: Allocator + Copy + 'a, V: View<A> + 'a>(
@@ -70,18 +80,20 @@ fn expect_groups<'a, A: Allocator + Copy + 'a, V: View<A> + 'a>(
 ) -> Result<Vec<usize, A>, AllocError>
     ensures { groups.new ≡ groups.old }
 {
-    let mut expected: Vec<(Vec<&'a str, A>, usize), A> = Vec::new(alloc);
+    // The first bytes lie at hand, and mostly tell two groups apart.
+    let mut expected: Vec<(u128, Vec<&'a str, A>, usize), A> = Vec::new(alloc);
     for column in view.columns_of(query.measurement(), query.field()) {
         if are_met(column.key, query.conditions()) {
             let mut values = Vec::new(alloc);
             read_values(&mut values, column.key, query.group_tags())?;
+            let first = values.first().copied().unwrap_or("");
             let number = expected.len();
-            expected.push((values, number))?;
+            expected.push((first_bytes(first), values, number))?;
         }
     }
     expected.sort()?;
     let mut places = Vec::from_elem(alloc, 0usize, expected.len())?;
-    for (values, number) in &expected {
+    for (_, values, number) in &expected {
         let at = groups.expect(values.as_slice())?;
         if let Some(place) = places.get_mut(*number) {
             *place = at;

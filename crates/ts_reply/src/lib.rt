@@ -21,6 +21,7 @@ mod explaining;
 mod faults;
 mod reply;
 mod results;
+mod row_times;
 mod rows;
 mod series;
 mod text;

@@ -9,6 +9,7 @@ ghost use Rattle.ts_reply.specs.SeriesTexts.{series_head};
 
 use crate::epoch::Epoch;
 use crate::results::{certificate_told, fault_told, nothing_told};
+use crate::row_times::Times;
 use crate::series::{push_group, series_head};
 use crate::text::push_value;
 use itoa::Buffer;
@@ -31,17 +32,17 @@ pub enum Outcome<'a, A: Allocator> {
 fn push_more_groups<A: Allocator>(
     alloc: Global,
     text: &mut String,
-    epoch: Epoch,
+    times: &mut Times,
     query: &Query<A>,
     head: &str,
     groups: FilledGroups<'_, '_, A>,
 ) -> Result<(), AllocError>
     requires { head.now ≡ series_head query.now }
-    ensures { OnOk result (AppendsItems (AreEach (IsSeriesData epoch query.now) groups.entry) true (string_bytes text.old) (string_bytes text.new)) }
+    ensures { OnOk result (AppendsItems (AreEach (IsSeriesData times.old query.now) groups.entry) true (string_bytes text.old) (string_bytes text.new)) }
 {
     for group in groups {
         text.push_str(",")?;
-        push_group(alloc, text, epoch, query, head, group)?;
+        push_group(alloc, text, times, query, head, group)?;
     }
     text.push_str("]")
 }
@@ -58,9 +59,10 @@ fn push_series<A: Allocator>(
     ensures { OnOk result (AppendsData (IsArray (AreEach (IsSeriesData epoch query.now) (first.entry ∷ others.entry))) (string_bytes text.old) (string_bytes text.new)) }
 {
     let head = series_head(alloc, query)?;
+    let mut times = Times::new(alloc, epoch);
     text.push_str("[")?;
-    push_group(alloc, text, epoch, query, head.as_str(), first)?;
-    push_more_groups(alloc, text, epoch, query, head.as_str(), others)
+    push_group(alloc, text, &mut times, query, head.as_str(), first)?;
+    push_more_groups(alloc, text, &mut times, query, head.as_str(), others)
 }
 
 /// Appends the rows of a statement, by its number from 0.

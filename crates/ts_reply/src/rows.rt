@@ -5,8 +5,8 @@ ghost use Rattle.serde_json.specs.Written.{items_text};
 ghost use Rattle.ts_reply.specs.Appending.{AppendsData, AppendsItems, IsArray};
 ghost use Rattle.ts_reply.specs.Replies.{value_data, AreEach, IsRowData};
 
-use crate::epoch::Epoch;
-use crate::value::{push_cell, push_time};
+use crate::row_times::Times;
+use crate::value::push_cell;
 use std::alloc::{AllocError, Allocator, Global};
 use ts_exec::{FilledRow, FilledRows, Values};
 
@@ -29,13 +29,14 @@ fn push_values<A: Allocator>(
 fn push_row<A: Allocator>(
     alloc: Global,
     text: &mut String,
-    epoch: Epoch,
+    times: &mut Times,
     row: &FilledRow<'_, A>,
 ) -> Result<(), AllocError>
-    ensures { OnOk result (AppendsData (IsRowData epoch row.now) (string_bytes text.old) (string_bytes text.new)) }
+    ensures value { OnOk result (AppendsData (IsRowData times.old row.now) (string_bytes text.old) (string_bytes text.new)) }
+    ensures same { times.new ≡ times.old }
 {
     text.push_str("[")?;
-    push_time(alloc, text, epoch, &row.start())?;
+    times.push(alloc, text, &row.start())?;
     push_values(alloc, text, row.values())
 }
 
@@ -43,14 +44,15 @@ fn push_row<A: Allocator>(
 fn push_more_rows<A: Allocator>(
     alloc: Global,
     text: &mut String,
-    epoch: Epoch,
+    times: &mut Times,
     rows: FilledRows<'_, A>,
 ) -> Result<(), AllocError>
-    ensures { OnOk result (AppendsItems (AreEach (IsRowData epoch) rows.entry) true (string_bytes text.old) (string_bytes text.new)) }
+    ensures value { OnOk result (AppendsItems (AreEach (IsRowData times.old) rows.entry) true (string_bytes text.old) (string_bytes text.new)) }
+    ensures same { times.new ≡ times.old }
 {
     for row in rows {
         text.push_str(",")?;
-        push_row(alloc, text, epoch, &row)?;
+        push_row(alloc, text, times, &row)?;
     }
     text.push_str("]")
 }
@@ -59,17 +61,18 @@ fn push_more_rows<A: Allocator>(
 pub(crate) fn push_group_rows<A: Allocator>(
     alloc: Global,
     text: &mut String,
-    epoch: Epoch,
+    times: &mut Times,
     mut rows: FilledRows<'_, A>,
 ) -> Result<(), AllocError>
-    ensures { OnOk result (AppendsData (IsArray (AreEach (IsRowData epoch) rows.entry)) (string_bytes text.old) (string_bytes text.new)) }
+    ensures value { OnOk result (AppendsData (IsArray (AreEach (IsRowData times.old) rows.entry)) (string_bytes text.old) (string_bytes text.new)) }
+    ensures same { times.new ≡ times.old }
 {
     match rows.next() {
         None => text.push_str("[]"),
         Some(first) => {
             text.push_str("[")?;
-            push_row(alloc, text, epoch, &first)?;
-            push_more_rows(alloc, text, epoch, rows)
+            push_row(alloc, text, times, &first)?;
+            push_more_rows(alloc, text, times, rows)
         }
     }
 }

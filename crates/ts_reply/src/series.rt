@@ -9,7 +9,7 @@ ghost use Rattle.ts_reply.specs.Appending.{AppendsData};
 ghost use Rattle.ts_reply.specs.Replies.{column_data, tags_among, IsSeriesData};
 ghost use Rattle.ts_reply.specs.SeriesTexts.{series_head, grouped_tags_text};
 
-use crate::epoch::Epoch;
+use crate::row_times::Times;
 use crate::rows::push_group_rows;
 use crate::text::{push_quoted, push_value};
 use serde_json::{Map, Value, put};
@@ -119,17 +119,18 @@ fn push_tags<A: Allocator>(
 pub(crate) fn push_group<A: Allocator>(
     alloc: Global,
     text: &mut String,
-    epoch: Epoch,
+    times: &mut Times,
     query: &Query<A>,
     head: &str,
     group: FilledGroup<'_, '_, A>,
 ) -> Result<(), AllocError>
     requires { head.now ≡ series_head query.now }
-    ensures { OnOk result (AppendsData (IsSeriesData epoch query.now group.entry) (string_bytes text.old) (string_bytes text.new)) }
+    ensures value { OnOk result (AppendsData (IsSeriesData times.old query.now group.entry) (string_bytes text.old) (string_bytes text.new)) }
+    ensures same { times.new ≡ times.old }
 {
     text.push_str(head)?;
     push_tags(alloc, text, query.group_tags(), group.values)?;
     text.push_str(",\"values\":")?;
-    push_group_rows(alloc, text, epoch, group.rows)?;
+    push_group_rows(alloc, text, times, group.rows)?;
     text.push_str("}")
 }

@@ -14,3 +14,4 @@ pub mod Rooms
 pub mod CellCounts
 pub mod OpenRuns
 pub mod LiveCells
+pub mod CellsLeft

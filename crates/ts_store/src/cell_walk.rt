@@ -34,17 +34,30 @@ impl<'a, A: Allocator> Model for CellSeen<'a, A> {
     ghost view = { λ c. record { cell = record { index = c.index; field = c.field.now; group = map string_bytes c.group.now }; total = c.total } };
 }
 
-/// Cells of a rule that are left to give, seen as the list of them. The live part of each is folded from the points of its own
+impl<'a, A: Allocator> CellSeen<'a, A> {
+    fn again(&self) -> CellSeen<'a, A>
+        ensures { result ≡ self.now }
+    {
+        CellSeen {
+            index: self.index,
+            field: self.field,
+            group: self.group,
+            total: self.total,
+        }
+    }
+}
+
+/// Cells of a rollup that are left to give, seen as the list of them. The live part of each is folded from the points of its own
 /// columns.
 #[derive(Drop)]
-pub struct CellWalk<'a, A: Allocator> {
+struct RollupCells<'a, A: Allocator> {
     rule: &'a Rule<A>,
     rollup: &'a Rollup<A>,
     columns: &'a [PlainColumn<A>],
     left: Walk<'a, Agg, A>,
 }
 
-impl<'a, A: Allocator> Model for CellWalk<'a, A> {
+impl<'a, A: Allocator> Model for RollupCells<'a, A> {
     ghost use Rattle.std.specs.Prelude.{List};
     ghost use Rattle.ts_store.specs.Seats.{CellTotal};
     ghost use Rattle.ts_store.specs.LiveCells.{walked_cells, AreWhole};
@@ -54,6 +67,44 @@ impl<'a, A: Allocator> Model for CellWalk<'a, A> {
     ghost view = { λ w. walked_cells w.rule.now w.rollup.now w.columns.now w.left };
 
     ghost invariant = { λ w. AreWhole w.rule.now w.rollup.now w.columns.now w.left };
+}
+
+/// Cells of a slice that are left to give, seen as the list of them.
+#[derive(Drop)]
+struct LentCells<'a, A: Allocator> {
+    cells: &'a [CellSeen<'a, A>],
+    given: usize,
+}
+
+impl<'a, A: Allocator> Model for LentCells<'a, A> {
+    ghost use Rattle.std.specs.Prelude.{List, drop};
+    ghost use Rattle.ts_store.specs.Seats.{CellTotal};
+
+    ghost Value = { List CellTotal };
+
+    ghost view = { λ c. drop c.given c.cells.now };
+}
+
+#[derive(Drop)]
+enum Left<'a, A: Allocator> {
+    Rollup(RollupCells<'a, A>),
+    Lent(LentCells<'a, A>),
+}
+
+/// Cells of a rule that are left to give, seen as the list of them.
+#[derive(Drop)]
+pub struct CellWalk<'a, A: Allocator> {
+    left: Left<'a, A>,
+}
+
+impl<'a, A: Allocator> Model for CellWalk<'a, A> {
+    ghost use Rattle.std.specs.Prelude.{List};
+    ghost use Rattle.ts_store.specs.Seats.{CellTotal};
+    ghost use Rattle.ts_store.specs.CellsLeft.{cells_left};
+
+    ghost Value = { List CellTotal };
+
+    ghost view = { λ w. cells_left w.left };
 }
 
 /// An aggregate with points merged in.
@@ -87,9 +138,18 @@ fn total_of<A: Allocator + Copy>(
     total
 }
 
-impl<'a, A: Allocator + Copy> CellWalk<'a, A> {
-    /// The cells of a walk, each with the points of its columns.
-    pub(crate) fn of(
+impl<'a, A: Allocator> CellWalk<'a, A> {
+    /// These cells, for a view of another kind than a store.
+    pub fn lent(cells: &'a [CellSeen<'a, A>]) -> CellWalk<'a, A>
+        ensures { result ≡ cells.now }
+    {
+        CellWalk {
+            left: Left::Lent(LentCells { cells, given: 0 }),
+        }
+    }
+
+    /// The cells of a rollup, each with the points of its columns.
+    fn of(
         rule: &'a Rule<A>,
         rollup: &'a Rollup<A>,
         columns: &'a [PlainColumn<A>],
@@ -99,10 +159,12 @@ impl<'a, A: Allocator + Copy> CellWalk<'a, A> {
         ensures { result ≡ walked_cells rule.now rollup.now columns.now left.entry }
     {
         CellWalk {
-            rule,
-            rollup,
-            columns,
-            left,
+            left: Left::Rollup(RollupCells {
+                rule,
+                rollup,
+                columns,
+                left,
+            }),
         }
     }
 }
@@ -126,7 +188,7 @@ impl<A: Allocator + Copy> ColumnFacts<A> {
     }
 }
 
-impl<'a, A: Allocator + Copy> Iterator for CellWalk<'a, A> {
+impl<'a, A: Allocator + Copy> Iterator for RollupCells<'a, A> {
     type Item = CellSeen<'a, A>;
 
     ghost next_gives = { YieldsFirst (λ w. w) };
@@ -142,5 +204,37 @@ impl<'a, A: Allocator + Copy> Iterator for CellWalk<'a, A> {
             group: kept.group,
             total,
         })
+    }
+}
+
+impl<'a, A: Allocator> Iterator for LentCells<'a, A> {
+    type Item = CellSeen<'a, A>;
+
+    ghost next_gives = { YieldsFirst (λ c. c) };
+
+    ghost remaining = { item_count (λ c. c) };
+
+    fn next(&mut self) -> Option<CellSeen<'a, A>> {
+        if self.given >= self.cells.len() {
+            return None;
+        }
+        let cell = &self.cells[self.given];
+        self.given += 1;
+        Some(cell.again())
+    }
+}
+
+impl<'a, A: Allocator + Copy> Iterator for CellWalk<'a, A> {
+    type Item = CellSeen<'a, A>;
+
+    ghost next_gives = { YieldsFirst (λ w. w) };
+
+    ghost remaining = { item_count (λ w. w) };
+
+    fn next(&mut self) -> Option<CellSeen<'a, A>> {
+        match &mut self.left {
+            Left::Rollup(cells) => cells.next(),
+            Left::Lent(cells) => cells.next(),
+        }
     }
 }

@@ -8,8 +8,8 @@ use Rattle.ts_reply.proofs.Appended.{if_pushed}
 use Rattle.ts_reply.proofs.SeriesParts.{group_appended}
 use Rattle.ts_reply.proofs.series.push_group.Goals as goal
 
-pub returns : goal.returns
-returns g c =
+pub returns-clause-value : goal.returns-clause-value
+returns-clause-value g c =
     let s = c.args.query.now in
     let group : FilledGroup = c.args.group in
     let old = string_bytes c.args.text.now in
@@ -20,5 +20,5 @@ returns g c =
     let head : headed ≡ old ++ series_head s = first_of (search rules, cc) in
     let tags : tagged ≡ headed ++ grouped_tags_text s.query.group_tags group.values = first_of (search rules, cc) in
     let values : opened ≡ tagged ++ codes ",\"values\":" = search rules in
-    let rows : AppendsData (IsArray (AreEach (IsRowData c.args.epoch) group.rows)) opened told = search rules in
-    on_ok_weaker c.push_str-3.result (group_appended c.args.epoch s group old headed tagged opened told (string_bytes c.push_str-3.new.self) head tags values rows) (if_pushed c.push_str-3.result _ _ _ c.push_str-3.ensures.bytes)
+    let rows : AppendsData (IsArray (AreEach (IsRowData c.args.times.now) group.rows)) opened told = search rules in
+    on_ok_weaker c.push_str-3.result (group_appended c.args.times.now s group old headed tagged opened told (string_bytes c.push_str-3.new.self) head tags values rows) (if_pushed c.push_str-3.result _ _ _ c.push_str-3.ensures.bytes)
