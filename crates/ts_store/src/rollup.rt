@@ -1,6 +1,5 @@
 //! What is kept for a rollup rule: its cells, the lane of each column, and the columns of each lane.
 ghost use Rattle.std.specs.Prelude.{◌≡◌, ◌<◌, length, replicate, map, IsSome, is_some, IfOk, OnOk, OnErr};
-ghost use Rattle.std.specs.FinMap as finmap;
 ghost use Rattle.std.specs.List.{AllByRecursion};
 ghost use Rattle.ts_core.specs.Members.{AllDistinct};
 ghost use Rattle.ts_core.specs.Tags.{tag_values};
@@ -8,7 +7,6 @@ ghost use Rattle.ts_cells.specs.Expiry.{LosesBelow};
 ghost use Rattle.ts_core.specs.Numbered.{IsAt};
 ghost use Rattle.ts_cells.specs.Grids.{lane_of, lane_named, lent_texts};
 ghost use Rattle.ts_cells.specs.Walks.{entry_of, entries_within};
-ghost use Rattle.ts_raw.specs.Lists.{lists_of};
 ghost use Rattle.ts_store.specs.Rollups.{new_rollup, IsLaneFor, KeepsCells, HasNext, with_next, with_frozen, roomed_in, frozen_in, lane_at, columns_of_lane};
 
 use std::alloc::{AllocError, Allocator};
