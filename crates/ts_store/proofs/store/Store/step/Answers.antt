@@ -59,9 +59,9 @@ returns-then-run g c =
     subst (λ (rs : List Rule). Moves rs marks.raw next held after) c.rules.ensures.value (subst (λ (m : ℤ). Moves c.rules.result.now m next held after) c.raw-mark.ensures c.move_column.ensures) in
     record {
       moved = λ moved.
-        told (kept_data settings marks n held (Some (run_of next end))) c.args.self.now (kept_data settings marks n after (Some (run_of (next + 1) end))) after (Some (run_of (next + 1) end))
-        (as_before c.args.self.now settings marks n held c.self.inside.run (Some (run_of next end)) run c.self.view_is)
-        (move_steps settings marks n held after next end c.if-run.true (kept_by settings marks n held c.self.inside.run next end run c.self.invariant) moves);
+          told (kept_data settings marks n held (Some (run_of next end))) c.args.self.now (kept_data settings marks n after (Some (run_of (next + 1) end))) after (Some (run_of (next + 1) end))
+          (as_before c.args.self.now settings marks n held c.self.inside.run (Some (run_of next end)) run c.self.view_is)
+          (move_steps settings marks n held after next end c.if-run.true (kept_by settings marks n held c.self.inside.run next end run c.self.invariant) moves);
       done = search rules;
       running = search rules;
       above = search rules;
@@ -94,9 +94,9 @@ returns-then-expire g c =
     let loses : FirstLoses marks.lows (cells_of held.rollups) (cells_of after.rollups) = subst (λ (lows : List ℤ). FirstLoses lows (cells_of held.rollups) (cells_of after.rollups)) c.lows.ensures c.if-expire.ensures.some in
     record {
       moved = λ moved.
-        subst (λ (r : Option Run). GoesOn c.args.self.now (Step false) (kept_data settings marks n after r) × (steps_left (state_of c.args.self.now) ≡ steps_left (state_of (kept_data settings marks n after r)) + 1)) (sym is)
-        (told (kept_data settings marks n held (Some run)) c.args.self.now (kept_data settings marks n after (Some run)) after (Some run) (as_before c.args.self.now settings marks n held c.self.inside.run (Some run) is c.self.view_is)
-        (removal_steps settings marks n held after run (kept_by settings marks n held c.self.inside.run c.run.inside.next c.run.inside.end is c.self.invariant) c.expire.ensures.lanes loses));
+          subst (λ (r : Option Run). GoesOn c.args.self.now (Step false) (kept_data settings marks n after r) × (steps_left (state_of c.args.self.now) ≡ steps_left (state_of (kept_data settings marks n after r)) + 1)) (sym is)
+          (told (kept_data settings marks n held (Some run)) c.args.self.now (kept_data settings marks n after (Some run)) after (Some run) (as_before c.args.self.now settings marks n held c.self.inside.run (Some run) is c.self.view_is)
+          (removal_steps settings marks n held after run (kept_by settings marks n held c.self.inside.run c.run.inside.next c.run.inside.end is c.self.invariant) c.expire.ensures.lanes loses));
       done = search rules;
       running = λ moved. ap is_some c.in-Some.is;
       above = search rules;
@@ -137,7 +137,7 @@ returns g c =
       );
       running = search rules;
       above = λ done running.
-        subst (λ (h : Held). AreAbove c.self.inside.marks.lows (cells_of h.rollups)) (sym none.0) (subst (λ (lows : List ℤ). AreAbove lows (cells_of c.self.inside.facts.rollups)) c.lows.ensures none.1);
+          subst (λ (h : Held). AreAbove c.self.inside.marks.lows (cells_of h.rollups)) (sym none.0) (subst (λ (lows : List ℤ). AreAbove lows (cells_of c.self.inside.facts.rollups)) c.lows.ensures none.1);
       marks = search rules;
       series = search rules;
     }

@@ -54,10 +54,10 @@ returns-in_err-put_line g c =
       refused = search rules;
       taken = λ none.
           inr (
-        p.1 ∙ ap Err p.2,
-        subst (λ (k : StoreData). Leaves k (kept_data before.settings before.marks before.accepted c.put_line.new.self before.run) line) c.self.view_is
-            (left_by before.settings before.marks before.accepted before.facts c.put_line.new.self before.run line c.self.invariant grows c.put_line.ensures.known),
-      );
+            p.1 ∙ ap Err p.2,
+            subst (λ (k : StoreData). Leaves k (kept_data before.settings before.marks before.accepted c.put_line.new.self before.run) line) c.self.view_is
+                (left_by before.settings before.marks before.accepted before.facts c.put_line.new.self before.run line c.self.invariant grows c.put_line.ensures.known),
+          );
     }
 
 pub overflow_add-self : goal.overflow_add-self
