@@ -1,5 +1,5 @@
 -- What removing cells below low indices leaves.
-use Rattle.std.proofs.Common.{◌≡◌, ℕ, ℤ, ◌<◌, ◌≤◌, List, [], ◌∷◌, refl, sym, ◌∙◌, ap, ap₂, subst, inl, inr, arith}
+use Rattle.std.proofs.Common.{◌≡◌, ℕ, ℤ, ◌<◌, List, [], ◌∷◌, refl, sym, ◌∙◌, ap, ap₂, subst, inl, inr, arith}
 use Rattle.ts_core.specs.StoreData.{FrozenCells}
 use Rattle.ts_cells.specs.Expiry.{Removes, IsAbove, LosesBelow}
 use Rattle.ts_store.specs.Rollups.{RollupState, with_frozen, cells_of}
