@@ -61,6 +61,8 @@ mod store_tests;
 mod text_tests;
 #[cfg(test)]
 mod time_tests;
+#[cfg(test)]
+mod view_tests;
 
 use clap::Error;
 use command_line::Told;

@@ -1,0 +1,180 @@
+//! Plans over a view that isn't a store: it shows a cell of its own beside a store's points, and so need not show a history.
+ghost use Rattle.std.specs.Prelude.{◌≡◌, ◌∷◌, [], map};
+ghost use Rattle.ts_core.specs.Facts.{is_within};
+ghost use Rattle.ts_core.specs.StoreData.{state_of};
+ghost use Rattle.ts_core.specs.Views.{seen_of};
+
+use std::alloc::Global;
+use std::slice;
+use std::test::Fail;
+use ts_check::{Certificate, Checked, Piece, PieceSource, check};
+use ts_core::{Agg, Marks, Partial, Settings, Time};
+use ts_exec::{Table, execute};
+use ts_line::{Precision, read_line};
+use ts_ql::count_query;
+use ts_raw::{ColumnId, Points};
+use ts_store::{CellSeen, CellWalk, Columns, Store, View};
+
+const SETTINGS: &str =
+    r#"{"raw":"2m","rules":[{"name":"m1","measurement":"cpu","interval":"1m","offset":"0s","keep":[],"duration":"INF"}]}"#;
+
+const MINUTE: i64 = 60_000_000_000;
+
+const TWO_MINUTES: i64 = 120_000_000_000;
+
+/// How many points an aggregate has at most: 2^62.
+const POINT_LIMIT: u64 = 4_611_686_018_427_387_904;
+
+/// Whether an index lies from one on and before another.
+fn is_within(from: &i128, to: &i128, index: &i128) -> bool
+    ensures { result ≡ is_within from.now to.now index.now }
+{
+    *from <= *index && *index < *to
+}
+
+/// The points of a store, with this cell alone under each of its rules.
+#[derive(Drop)]
+struct OneCell<'a> {
+    store: &'a Store<Global>,
+    cell: CellSeen<'a, Global>,
+}
+
+impl<'a> View<Global> for OneCell<'a> {
+    ghost seen = { λ v. record {
+      settings = v.store.now.settings;
+      marks = v.store.now.marks;
+      columns = v.store.now.columns;
+      rules = map (λ r. record { rule = r.rule; low = r.low; cells = v.cell.cell ∷ []; total = λ k. v.cell.total }) (seen_of (state_of v.store.now)).rules;
+    } };
+
+    fn settings(&self) -> &Settings<Global> {
+        self.store.settings()
+    }
+
+    fn marks(&self) -> &Marks<Global> {
+        self.store.marks()
+    }
+
+    fn columns_of(&self, measurement: &str, field: &str) -> Columns<'_, Global> {
+        self.store.columns_of(measurement, field)
+    }
+
+    fn raw_range(&self, column: ColumnId, from: i64, to: i64) -> Points<'_> {
+        self.store.raw_range(column, from, to)
+    }
+
+    fn cell_walk(&self, _rule: usize, from: &i128, to: &i128) -> CellWalk<'_, Global> {
+        if is_within(from, to, &self.cell.index) {
+            CellWalk::lent(slice::from_ref(&self.cell))
+        } else {
+            CellWalk::lent(&[])
+        }
+    }
+}
+
+/// A store with one point in the first minute, of value 5.
+fn store_of_a_point(alloc: Global) -> Result<Store<Global>, Fail> {
+    let settings = Settings::read(alloc, alloc, SETTINGS);
+    let mut store = Store::new(alloc, settings.ok().ok_or("settings")?)?;
+    let line = read_line(alloc, "cpu v=5i 7", Precision::Nanoseconds, Time::least())?;
+    store.write(&line.ok_or("a line")?)?;
+    Ok(store)
+}
+
+/// Both merged, where they have at most 2^62 points together.
+fn merged(a: Agg, b: Agg) -> Result<Agg, Fail> {
+    if a.count() + b.count() > POINT_LIMIT {
+        return Err("a count")?;
+    }
+    Ok(a.merge(b))
+}
+
+/// All points that there may be but one, each of value 1 and of this time.
+fn all_but_one(time: Time) -> Result<Agg, Fail> {
+    let one = Agg::single(time, 1);
+    let mut total = Agg::empty();
+    for _ in 0..62 {
+        total = merged(merged(total, total)?, one)?;
+    }
+    Ok(total)
+}
+
+/// A piece for the first minute by raw points, and one for the second by the rule's cells.
+fn two_pieces(alloc: Global) -> Result<Certificate<'static, Global>, Fail> {
+    let mut pieces = Vec::new(alloc);
+    pieces.push(Piece {
+        source: PieceSource::Raw,
+        from: 0,
+        to: MINUTE,
+    })?;
+    pieces.push(Piece {
+        source: PieceSource::Rollup("m1"),
+        from: MINUTE,
+        to: TWO_MINUTES,
+    })?;
+    Ok(Certificate::new(pieces))
+}
+
+/// The plan of these pieces, checked for a store.
+fn two_minutes(alloc: Global, store: &Store<Global>) -> Result<Checked<'static, Global>, Fail> {
+    let from = Time::new(0).ok_or("a time")?;
+    let to = Time::new(TWO_MINUTES).ok_or("a time")?;
+    let query = count_query(alloc, "cpu", "v", from, to)
+        .ok()
+        .ok_or("a query")?;
+    let plan = two_pieces(alloc)?;
+    let checked = check(alloc, store.settings(), store.marks(), &query, &plan);
+    Ok(checked.ok().ok_or("a plan")?)
+}
+
+/// Count and sum of a table's first row.
+fn first_row(table: &Table<'_, Global>) -> Option<(u64, i128)> {
+    let row = table.groups().first()?.rows().first()?;
+    Some((row.count(), row.sum()))
+}
+
+/// Count and sum of the first row that a plan gives.
+fn answered(alloc: Global, view: &OneCell<'_>, plan: &Checked<'_, Global>) -> Option<(u64, i128)> {
+    match execute(alloc, view, plan) {
+        Ok(table) => first_row(&table),
+        Err(_) => None,
+    }
+}
+
+/// Count and sum of the point in the first minute and of a cell with this total in the second.
+fn both(alloc: Global, total: Agg) -> Result<Option<(u64, i128)>, Fail> {
+    let store = store_of_a_point(alloc)?;
+    let plan = two_minutes(alloc, &store)?;
+    let cell = CellSeen {
+        index: 1,
+        field: "v",
+        group: &[],
+        total,
+    };
+    let view = OneCell {
+        store: &store,
+        cell,
+    };
+    Ok(answered(alloc, &view, &plan))
+}
+
+#[test]
+fn a_cell_and_a_point_are_added(rt: HostRuntime) -> Result<(), Fail> {
+    let alloc = rt.alloc();
+    let time = Time::new(MINUTE).ok_or("a time")?;
+    let total = merged(Agg::single(time, 7), Agg::single(time, -4))?;
+    assert_eq!(rt; both(alloc, total)?, Some((3, 8)));
+    Ok(())
+}
+
+#[test]
+fn a_cell_past_the_limit_is_left_out(rt: HostRuntime) -> Result<(), Fail> {
+    let alloc = rt.alloc();
+    let time = Time::new(MINUTE).ok_or("a time")?;
+    let most = all_but_one(time)?;
+    let sum = i128::from(POINT_LIMIT) + 4;
+    assert_eq!(rt; both(alloc, most)?, Some((POINT_LIMIT, sum)));
+    let all = merged(most, Agg::single(time, 1))?;
+    assert_eq!(rt; both(alloc, all)?, Some((1, 5)));
+    Ok(())
+}
