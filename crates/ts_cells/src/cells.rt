@@ -16,12 +16,11 @@ ghost use Rattle.ts_cells.specs.Walks.{entry_of, entries_within};
 
 use crate::lane::LaneId;
 use crate::lanes::Lanes;
-use crate::room::reserve_eighth;
 use crate::row::Row;
 use crate::walk::{Walk, rows_between};
 use std::alloc::{AllocError, Allocator};
 use std::marker::Model;
-use ts_core::Partial;
+use ts_core::{Partial, reserve_eighth};
 
 /// What is kept of each cell of a rule.
 #[derive(Drop)]

@@ -8,11 +8,10 @@ ghost use Rattle.ts_cells.specs.Grids.{lane_named};
 ghost use Rattle.ts_cells.specs.Lanes.{found_cmp, IsOrdered};
 
 use crate::lane::{Lane, hash_lane};
-use crate::room::reserve_eighth;
 use std::alloc::{AllocError, Allocator};
 use std::cmp::Ordering;
 use std::marker::Model;
-use ts_core::{Chains, next_number};
+use ts_core::{Chains, next_number, reserve_eighth};
 
 /// Lanes, numbered in the order of making.
 #[derive(Drop)]

@@ -16,7 +16,6 @@ mod cells;
 mod lane;
 mod lanes;
 mod places;
-mod room;
 mod row;
 mod walk;
 

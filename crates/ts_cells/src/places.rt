@@ -2,9 +2,9 @@
 ghost use Rattle.std.specs.Prelude.{◌≡◌, ◌≤◌, ◌<◌, ◌+◌, ℕ, ◌==◌, [], length, max, OnOk, OnErr, if◌then◌else◌};
 ghost use Rattle.ts_cells.specs.Rows.{no_place, place_of, from_first};
 
-use crate::room::reserve_eighth;
 use std::alloc::{AllocError, Allocator};
 use std::marker::Model;
+use ts_core::reserve_eighth;
 
 /// Stands in place of the place of a cell where a lane has none.
 pub(crate) const NO_CELL: u32 = u32::MAX;

@@ -7,11 +7,10 @@ ghost use Rattle.ts_cells.specs.Rows.{no_place};
 ghost use Rattle.std.specs.Bool.{OnTrue, OnFalse};
 
 use crate::places::{NO_CELL, Places};
-use crate::room::reserve_eighth;
 use std::alloc::{AllocError, Allocator};
 use std::cmp::Ordering;
 use std::marker::Model;
-use ts_core::Partial;
+use ts_core::{Partial, reserve_eighth};
 
 /// How many points the parts of a cell can have together.
 const MOST_POINTS: u64 = 4_611_686_018_427_387_904;

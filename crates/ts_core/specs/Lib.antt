@@ -51,6 +51,7 @@ pub mod Assembly
 pub mod Devices
 pub mod ReadingAhead
 pub mod Texts
+pub mod Cursors
 -- names under small numbers
 pub mod Numbered
 pub mod LastBelow

@@ -3,6 +3,7 @@ ghost use Rattle.std.specs.Prelude.{◌≡◌, ◌<◌, ◌++◌, [], ◌∷◌,
 ghost use Rattle.ts_core.specs.LastBelow.{newest_of};
 
 use crate::numbers::next_number;
+use crate::room::reserve_eighth;
 use std::alloc::{AllocError, Allocator};
 use std::collections::HashMap;
 use std::hash::{BuildHasherDefault, FoldHasher};
@@ -75,7 +76,7 @@ impl<A: Allocator + Copy> Chains<A> {
         ensures err { OnErr result (self.new ≡ self.old) }
     {
         let at = next_number(self.links.len())?;
-        self.links.reserve(1)?;
+        reserve_eighth(&mut self.links, 1)?;
         let older = self.newest.insert(hash, at)?;
         self.links.push(Link { hash, older }).unwrap();
         Ok(())

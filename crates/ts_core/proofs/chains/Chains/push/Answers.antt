@@ -12,8 +12,8 @@ invariant_of-self-2 g c =
     let place : c.in_ok-at.at ≡ length links = search rules in
     let link : Link = record { hash = c.args.hash; older = c.in_ok-older.older } in
     let pushed : c.push.new.self.items ≡ links ++ record { hash = c.args.hash; older = before c.args.hash } ∷ [] =
-    c.push.ensures.items ∙ ap (λ r. cond (is_ok r) (c.reserve.new.self.items ++ link ∷ []) c.reserve.new.self.items) c.unwrap.ensures
-    ∙ ap (λ (ls : List Link). ls ++ link ∷ []) c.in_ok-reserve.ensures.items
+    c.push.ensures.items ∙ ap (λ r. cond (is_ok r) (c.reserve_eighth.new.list.items ++ link ∷ []) c.reserve_eighth.new.list.items) c.unwrap.ensures
+    ∙ ap (λ (ls : List Link). ls ++ link ∷ []) c.in_ok-reserve_eighth.ensures.items
     ∙ ap (λ o. links ++ record { hash = c.args.hash; older = o } ∷ []) c.in_ok-older.ensures.old in
     subst (λ (ls : List Link). AreChained (get nat_eq c.insert.new.self) ls) (sym pushed)
     (chained_push before (get nat_eq c.insert.new.self) links c.args.hash c.self.invariant
