@@ -1,5 +1,5 @@
 //! Points in the order of time, of a column of any kind.
-ghost use Rattle.std.specs.Prelude.{◌≡◌};
+ghost use Rattle.std.specs.Prelude.{◌≡◌, length};
 ghost use Rattle.std.specs.Iterator.{YieldsFirst, item_count};
 
 use std::marker::Model;
@@ -32,6 +32,15 @@ impl<'a> Points<'a> {
     {
         Points {
             left: Left::Plain(points),
+        }
+    }
+
+    /// How many points are left. It doesn't walk over them.
+    pub fn len(&self) -> usize
+        ensures { result ≡ length self.now }
+    {
+        match &self.left {
+            Left::Plain(points) => points.len(),
         }
     }
 }
