@@ -17,7 +17,8 @@ pub mod Meanings
 pub mod Productions
 pub mod Laws
 pub mod Counting
--- What only the proofs of the code need: the machine that reads a text token by token.
+-- What only the proofs of the code need: where tokens end, and the machine that reads a text token by token.
+pub mod Shapes
 pub mod SelectSteps
 pub mod MomentSteps
 pub mod WhereSteps

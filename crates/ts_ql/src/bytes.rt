@@ -1,6 +1,7 @@
 //! Runs of bytes in a text.
 ghost use Rattle.std.specs.Prelude.{◌≡◌, ◌<◌, ◌≤◌, IfSome, true, length, slice_index};
 ghost use Rattle.std.specs.Str.{IsCharBoundary};
+ghost use Rattle.ts_core.specs.Cursors.{IsPlaceFrom};
 ghost use Rattle.ts_ql.specs.Lexing.{is_in, end_of_run, is_escape_byte, closing_quote};
 
 use ts_core::after;
@@ -30,9 +31,8 @@ pub(crate) fn is_in(class: Class, byte: u8) -> bool
 pub(crate) fn end_of_run(text: &str, from: usize, class: Class) -> usize
     requires { IsCharBoundary text.now from }
     ensures value { result ≡ end_of_run class text.now from }
-    ensures from { from ≤ result }
+    ensures place { IsPlaceFrom text.now from result }
     ensures past { from < length text.now → is_in class (slice_index text.now from) ≡ true → from < result }
-    ensures boundary { IsCharBoundary text.now result }
 {
     let bytes = text.as_bytes();
     let mut i = from;

@@ -1,6 +1,7 @@
 //! Where a duration in a text ends.
-ghost use Rattle.std.specs.Prelude.{◌≡◌, ◌+◌, ◌<◌, ◌≤◌, length, slice_index};
+ghost use Rattle.std.specs.Prelude.{◌≡◌, ◌+◌, ◌<◌, length, slice_index};
 ghost use Rattle.std.specs.Str.{IsCharBoundary};
+ghost use Rattle.ts_core.specs.Cursors.{IsPlaceFrom};
 ghost use Rattle.ts_ql.specs.Lexing.{duration_end};
 ghost use Rattle.ts_ql.specs.DurationUnits.{unit_len};
 
@@ -21,8 +22,7 @@ fn unit_end(text: &str, at: usize) -> usize
 pub(crate) fn duration_end(text: &str, from: usize) -> usize
     requires { IsCharBoundary text.now from }
     ensures value { result ≡ duration_end text.now from }
-    ensures from { from ≤ result }
-    ensures boundary { IsCharBoundary text.now result }
+    ensures place { IsPlaceFrom text.now from result }
 {
     let bytes = text.as_bytes();
     let mut last = from;

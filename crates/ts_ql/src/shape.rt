@@ -1,7 +1,9 @@
 //! Which token begins at a place, and where it ends.
-ghost use Rattle.std.specs.Prelude.{◌≡◌, ◌≢◌, ◌+◌, ◌-◌, ◌<◌, ◌≤◌, IsSome, IfSome, true, false, length, slice_index};
+ghost use Rattle.std.specs.Prelude.{◌≡◌, ◌≢◌, ◌<◌, IsSome, IfSome, true, false, length, slice_index};
 ghost use Rattle.std.specs.Str.{IsCharBoundary};
+ghost use Rattle.ts_core.specs.Cursors.{IsPlaceFrom};
 ghost use Rattle.ts_ql.specs.Lexing.{double, single, operator_at, number_at, quoted_at, shape_at, is_quoted, is_in};
+ghost use Rattle.ts_ql.specs.Shapes.{IsTokenFrom};
 ghost use Rattle.ts_ql.specs.declared.bytes.Class.TheVariants as classes;
 
 use crate::bytes::{Class, closing_quote, end_of_run, is_in};
@@ -52,8 +54,7 @@ fn single(byte: u8) -> Option<Kind>
 fn operator_at(text: &str, start: usize) -> (Kind, usize)
     requires { start < length text.now }
     ensures value { result ≡ operator_at text.now start }
-    ensures from { start < result.1 }
-    ensures boundary { IsCharBoundary text.now result.1 }
+    ensures token { IsTokenFrom text.now start result }
     ensures plain { is_quoted result.0 ≡ false }
 {
     let first = byte_at(text, start);
@@ -72,8 +73,7 @@ fn number_at(text: &str, start: usize) -> (Kind, usize)
     requires first { is_in classes.Digit (slice_index text.now start) ≡ true }
     requires boundary { IsCharBoundary text.now start }
     ensures value { result ≡ number_at text.now start }
-    ensures from { start < result.1 }
-    ensures boundary { IsCharBoundary text.now result.1 }
+    ensures token { IsTokenFrom text.now start result }
     ensures plain { is_quoted result.0 ≡ false }
 {
     let end = duration_end(text, start);
@@ -94,9 +94,7 @@ fn quoted_at(text: &str, start: usize) -> (Kind, usize)
     requires in_range { start < length text.now }
     requires ascii { slice_index text.now start < 128 }
     ensures value { result ≡ quoted_at text.now start }
-    ensures from { start < result.1 }
-    ensures boundary { IsCharBoundary text.now result.1 }
-    ensures inner { is_quoted result.0 ≡ true → (start + 2 ≤ result.1) × IsCharBoundary text.now (start + 1) × IsCharBoundary text.now (result.1 - 1) }
+    ensures token { IsTokenFrom text.now start result }
 {
     let quote = byte_at(text, start);
     let inner = after(text, start);
@@ -113,10 +111,8 @@ fn quoted_at(text: &str, start: usize) -> (Kind, usize)
 pub(crate) fn shape_at(text: &str, start: usize) -> (Kind, usize)
     requires { IsCharBoundary text.now start }
     ensures value { result ≡ shape_at text.now start }
-    ensures from { result.0 ≢ Kind.End → start < result.1 }
-    ensures order { start ≤ result.1 }
-    ensures boundary { IsCharBoundary text.now result.1 }
-    ensures inner { is_quoted result.0 ≡ true → (start + 2 ≤ result.1) × IsCharBoundary text.now (start + 1) × IsCharBoundary text.now (result.1 - 1) }
+    ensures place { IsPlaceFrom text.now start result.1 }
+    ensures token { result.0 ≢ Kind.End → IsTokenFrom text.now start result }
 {
     if text.len() == start {
         return (Kind::End, start);

@@ -1,0 +1,19 @@
+-- Where a token ends, and where its quotes stand.
+-- (Own rule.)
+use Rattle.std.specs.Prelude.{◌≡◌, ℕ, ◌+◌, ◌-◌, ◌≤◌, true}
+use Rattle.std.specs.Str.{IsCharBoundary}
+use Rattle.ts_core.specs.Cursors.{IsPlaceFrom}
+use Rattle.ts_core.specs.Facts.{Text}
+use Rattle.ts_ql.specs.declared.token.Kind.{Kind}
+use Rattle.ts_ql.specs.Lexing.{is_quoted}
+
+-- a byte stands at each end, and a text between the two
+pub record HasInnerText (text : Text) (start end : ℕ) : Type 0 where
+  pub long : start + 2 ≤ end
+  pub first : IsCharBoundary text (start + 1)
+  pub last : IsCharBoundary text (end - 1)
+
+-- a token that begins at a place goes forward, and one in quotes has its text between them
+pub record IsTokenFrom (text : Text) (start : ℕ) (shape : Kind × ℕ) : Type 0 where
+  pub end : IsPlaceFrom text (start + 1) shape.1
+  pub inner : is_quoted shape.0 ≡ true → HasInnerText text start shape.1
