@@ -116,3 +116,8 @@ IsReadAs ps (Err e) = e ≡ errors.OutOfMemory
 -- no certificate begins another one
 abbrev pub IsOneCertificate : Type 0
 IsOneCertificate = (ps qs : List Piece) (more : Text) → EachHasSpelling ps → EachHasSpelling qs → certificate_text ps ++ more ≡ certificate_text qs → (ps ≡ qs) × (more ≡ [])
+
+-- how plain the spelling is: each certificate has one reading, and each number one decimal
+pub record IsPlainSpelling : Type 0 where
+  pub certificates : IsOneCertificate
+  pub numbers : AreDecimals

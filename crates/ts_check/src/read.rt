@@ -4,7 +4,7 @@ ghost use Rattle.std.specs.List.{list_all};
 ghost use Rattle.ts_core.specs.Pieces.{Piece as PieceValue};
 ghost use Rattle.ts_core.specs.SettingsFaults.{is_name_byte, is_rule_name};
 ghost use Rattle.ts_check.specs.Certificates.{source_of};
-ghost use Rattle.ts_check.specs.CertificateTexts.{EachHasSpelling, IsCertificate, IsFirstBadLine, IsReadingOf, IsReadAs, IsOneCertificate, AreDecimals};
+ghost use Rattle.ts_check.specs.CertificateTexts.{EachHasSpelling, IsCertificate, IsFirstBadLine, IsReadingOf, IsReadAs, IsPlainSpelling};
 ghost use Rattle.ts_check.specs.CertificateLines.{TakesSpelled, Lacks, IsNumber, IsRange, IsSource, IsPiece, HasPiece, Stops, IsReadingIfRoom};
 
 use crate::certificate::{Certificate, Piece, PieceSource};
@@ -187,14 +187,12 @@ pub fn read_certificate<A: Allocator + Copy>(
     // what is spelled so is read
     ensures only { (ps : List PieceValue) → IsCertificate text.now ps → IsReadAs ps result }
 
-    // no certificate begins another one, and each has one reading
-    ensures one { IsOneCertificate }
-
     // so what is read can be written again as it was
     ensures spelled { IfOk result EachHasSpelling }
 
+    // no certificate begins another one, and each has one reading;
     // the decimal of a number is digits that don't begin with 0, or 0 alone
-    ensures numbers { AreDecimals }
+    ensures spelling { IsPlainSpelling }
 {
     checked(text)?;
     read_lines(alloc, text)
