@@ -7,7 +7,7 @@ use Rattle.ts_core.specs.Facts.{Text, same_text}
 use Rattle.ts_core.specs.Settings.{Rule}
 use Rattle.ts_core.specs.Marks.{index_of}
 use Rattle.ts_core.specs.Queries.{Query}
-use Rattle.ts_core.specs.Pieces.{Piece, MarkedRule, Asked, IsBoundary, tags_of, RuleServes}
+use Rattle.ts_core.specs.Pieces.{Piece, MarkedRule, Asked, IsBoundary, tags_of, RuleServes, IsValidPiece}
 use Rattle.ts_core.specs.Faults.{divides, is_in_one_bucket, keeps}
 use Rattle.ts_core.specs.Plans.{rollup_piece, raw_piece}
 use Rattle.ts_core.proofs.Intervals.{IsWide}
@@ -19,6 +19,12 @@ pub record IsPlannable (t : Asked) : Type 0 where
   pub named : AllDistinct (map (λ (r : MarkedRule). r.rule.name) t.rules)
 
 -- ---- steps
+
+-- the bucket of a rule that starts at p: a valid piece that ends in the range
+pub record IsBucketAt (t : Asked) (r : MarkedRule) (p : ℤ) (bucket : Piece) : Type 0 where
+  pub piece : bucket ≡ rollup_piece r.rule.name p (p +ℤ r.rule.interval)
+  pub valid : IsValidPiece t bucket
+  pub inside : bucket.to ≤ℤ t.query.to
 
 -- the rule is of the query's measurement, and keeps every tag that it names
 abbrev pub has_columns : Query → Rule → Bool

@@ -6,6 +6,7 @@ ghost use Rattle.ts_core.specs.Pieces.{IsValidPiece};
 ghost use Rattle.ts_core.proofs.Intervals.{IsWide};
 ghost use Rattle.ts_core.specs.Plans.{IsGood, raw_piece, rollup_piece, LeadsOn, NoneBefore, IsWalk, is_same_rule, is_faultless, drawn, joined_onto, joined};
 ghost use Rattle.ts_plan.specs.Planning.{IsPlanFor};
+ghost use Rattle.ts_plan.specs.Steps.{IsBucketAt};
 
 use crate::fault::{PlanError, PlanFault};
 use crate::too_many::is_too_many;
@@ -45,9 +46,7 @@ fn bucket_at<'a, A: Allocator>(
 ) -> Option<Piece<'a>>
     requires asked { IsWide asked.now }
     requires rule { pos 1 ≤ℤ marked.now.rule.interval }
-    ensures piece { IfSome result (λ p. p ≡ rollup_piece marked.now.rule.name from (from +ℤ marked.now.rule.interval)) }
-    ensures valid { IfSome result (IsValidPiece asked.now) }
-    ensures inside { IfSome result (λ p. p.to ≤ℤ asked.now.query.to) }
+    ensures some { IfSome result (IsBucketAt asked.now marked.now from) }
     ensures none { IfNone result (IsGood asked.now (from +ℤ marked.now.rule.interval) → IsValidPiece asked.now (rollup_piece marked.now.rule.name from (from +ℤ marked.now.rule.interval)) → ⊥) }
 {
     let Some(to) = bucket_end(marked.rule, from, asked.end()) else {

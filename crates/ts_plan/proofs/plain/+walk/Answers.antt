@@ -14,8 +14,8 @@ lead-walk-requires g t c κs within =
     let f : to_z w64 (of_z w64 c.args.from) ≡ c.args.from = search rules in
     let fits : SFits w64 c.bucket.inside.to = search rules in
     let end : to_z w64 (of_z w64 c.bucket.inside.to) ≡ c.in-Some-bucket_at.bucket.to = to_z-of_z fits ∙ ap (λ (p : Piece). p.to) c.bucket.view_is in
-    let next : c.in-Some-bucket_at.bucket.to ≡ c.args.from +ℤ m.rule.interval = ap (λ (p : Piece). p.to) c.in-Some-bucket_at.ensures.piece ∙ ap (λ x. x +ℤ m.rule.interval) f in
-    let falls = falls_on c.args.asked.now.query.to c.args.from (to_z w64 (of_z w64 c.bucket.inside.to)) m.rule.interval (end ∙ next) wide (subst (λ x. x ≤ℤ c.args.asked.now.query.to) (sym end) c.in-Some-bucket_at.ensures.inside) in
+    let next : c.in-Some-bucket_at.bucket.to ≡ c.args.from +ℤ m.rule.interval = ap (λ (p : Piece). p.to) c.in-Some-bucket_at.ensures.some.piece ∙ ap (λ x. x +ℤ m.rule.interval) f in
+    let falls = falls_on c.args.asked.now.query.to c.args.from (to_z w64 (of_z w64 c.bucket.inside.to)) m.rule.interval (end ∙ next) wide (subst (λ x. x ≤ℤ c.args.asked.now.query.to) (sym end) c.in-Some-bucket_at.ensures.some.inside) in
     (omega arith, (within, c.requires.asked))
 
 pub lead-returns : goal.lead-returns
@@ -25,10 +25,10 @@ lead-returns g t c = λ none.
     let pieces = c.in-Some-2.pieces.items in
     let f : to_z w64 (of_z w64 c.args.from) ≡ c.args.from = search rules in
     let fits : SFits w64 c.bucket.inside.to = search rules in
-    let bucket : c.in-Some-bucket_at.bucket ≡ rollup_piece m.rule.name c.args.from (c.args.from +ℤ m.rule.interval) = c.in-Some-bucket_at.ensures.piece ∙ ap (λ x. rollup_piece m.rule.name x (x +ℤ m.rule.interval)) f in
+    let bucket : c.in-Some-bucket_at.bucket ≡ rollup_piece m.rule.name c.args.from (c.args.from +ℤ m.rule.interval) = c.in-Some-bucket_at.ensures.some.piece ∙ ap (λ x. rollup_piece m.rule.name x (x +ℤ m.rule.interval)) f in
     let end : to_z w64 (of_z w64 c.bucket.inside.to) ≡ c.args.from +ℤ m.rule.interval = to_z-of_z fits ∙ ap (λ (p : Piece). p.to) (c.bucket.view_is ∙ bucket) in
     let rest : IsWalk asked (to_z w64 (of_z w64 c.bucket.inside.to)) pieces = rw c.in-Some-2.is at c.in_ok-pieces.ensures in
-    let valid = subst (IsValidPiece asked) bucket c.in-Some-bucket_at.ensures.valid in
+    let valid = subst (IsValidPiece asked) bucket c.in-Some-bucket_at.ensures.some.valid in
     let there = bucket_walk asked c.args.from c.args.number m pieces c.requires.asked c.requires.below c.requires.before (sym c.rule_at.ensures ∙ c.in-Some.is) valid (subst (λ x. IsWalk asked x pieces) end rest) none in
     rw c.in_ok-insert.ensures.items (subst (λ (p : Piece). IsWalk asked c.args.from (p ∷ pieces)) (sym bucket) there)
 

@@ -18,8 +18,8 @@ returns-in_default-clause-none g c = λ good valid.
     let e : to_z w64 (of_z w64 c.end.result) ≡ c.args.asked.now.query.to = search rules in
     omega (arith, ints)
 
-pub returns-in-None-clause-valid : goal.returns-in-None-clause-valid
-returns-in-None-clause-valid g c = no_fault-valid c.args.asked.now c.rollup_piece-bucket.result (sym c.in-None.ensures)
+pub returns-in-None-clause-some : goal.returns-in-None-clause-some
+returns-in-None-clause-some g c = record { piece = search rules; valid = no_fault-valid c.args.asked.now c.rollup_piece-bucket.result (sym c.in-None.ensures); inside = search rules }
 
 pub returns-in-Some-piece_fault-clause-none : goal.returns-in-Some-piece_fault-clause-none
 returns-in-Some-piece_fault-clause-none g c = λ good valid.
