@@ -45,7 +45,8 @@ use Rattle.ts_store.specs.Refusals.{is_registered, is_too_many, write_fault}
 use Rattle.ts_store.specs.OpenRuns.{Run, waiting_in, kept_data, IsKept}
 use Rattle.ts_store.specs.CellCounts.{HoldFew}
 use Rattle.ts_store.specs.Rollups.{new_rollup, AreRollups, cells_of}
-use Rattle.ts_store.specs.LinesPut.{PutsLine, GrowsForLine, Accepts, Leaves}
+use Rattle.ts_store.specs.LinesInColumns.{PutsLine, GrowsForLine}
+use Rattle.ts_store.specs.LinesPut.{Accepts, Leaves}
 use Rattle.ts_store.proofs.ColumnsAside.{names_with}
 use Rattle.ts_store.proofs.ColumnsLemmas.{in_column}
 use Rattle.ts_store.proofs.CountsKept.{counts-put, counts-grown, counts-new}
@@ -160,25 +161,25 @@ grown_stands opening h settings marks n before after run made facts e known room
     (λ c a. subst (λ (cs : List ColumnPoints). Among c (map column_of cs)) (sym e) (names_stay before.columns made c a)) known.registered (ap facts_of e ∙ same_facts before.columns made) room)
 
 -- after out of memory
-pub left_by : (settings : Settings) (marks : Marks) (n : ℕ) (before after : Held) (run : Option Run) (p : Parts) → IsKept (kept_data settings marks n before run) before run → GrowsForLine settings.rules before after p → AreKnown after
+pub left_by : (settings : Settings) (marks : Marks) (n : ℕ) (before after : Held) (run : Option Run) (p : Parts) → IsKept (kept_data settings marks n before run) before run → GrowsForLine settings.rules before after p
     → Leaves (kept_data settings marks n before run) (kept_data settings marks n after run) p
-left_by settings marks n before after run p kept g known = record {
-  history = λ opening h st. grown_stands opening h settings marks n before after run g.columns.made [] g.columns.columns known g.rooms kept.few st;
+left_by settings marks n before after run p kept g = record {
+  history = λ opening h st. grown_stands opening h settings marks n before after run g.columns.made [] g.columns.columns g.known g.rooms kept.few st;
   series = g.series;
   columns = g.columns;
 }
 
 -- the store is as it was between two calls
-pub kept_left : (settings : Settings) (marks : Marks) (n : ℕ) (before after : Held) (run : Option Run) (p : Parts) → IsKept (kept_data settings marks n before run) before run → GrowsForLine settings.rules before after p → AreKnown after
+pub kept_left : (settings : Settings) (marks : Marks) (n : ℕ) (before after : Held) (run : Option Run) (p : Parts) → IsKept (kept_data settings marks n before run) before run → GrowsForLine settings.rules before after p
     → IsKept (kept_data settings marks n after run) after run
-kept_left settings marks n before after run p kept g known =
+kept_left settings marks n before after run p kept g =
     let made : List Column = g.columns.made in
     let reached = kept.reached in
     record {
       rollups = g.rollups;
       few = within_more run before.columns after.columns made (ap (map column_of) g.columns.columns ∙ names_with before.columns made) kept.few;
       counts = counts-grown n before.columns after.columns (ap facts_of g.columns.columns ∙ same_facts before.columns made) [] settings.rules (cells_of before.rollups) (cells_of after.rollups) g.rooms kept.counts;
-      reached = record { opening = reached.opening; history = reached.history; stands = (left_by settings marks n before after run p kept g known).history reached.opening reached.history reached.stands };
+      reached = record { opening = reached.opening; history = reached.history; stands = (left_by settings marks n before after run p kept g).history reached.opening reached.history reached.stands };
     }
 
 -- ---- a line
@@ -225,16 +226,16 @@ line_names before after fs puts =
 abbrev made_for : Held → Held → List Fact → Held
 made_for before after fs = record { series = after.series; columns = with_columns before.columns (new_columns (map column_of before.columns) fs); rollups = after.rollups }
 
-write_stands : (opening : Settings) (h : History) (settings : Settings) (marks : Marks) (n : ℕ) (before after : Held) (run : Option Run) (p : Parts) → PutsLine settings.rules before after p → AreKnown after → AllByRecursion (MayBeTaken marks.raw) (line_facts p)
+write_stands : (opening : Settings) (h : History) (settings : Settings) (marks : Marks) (n : ℕ) (before after : Held) (run : Option Run) (p : Parts) → PutsLine settings.rules before after p → AllByRecursion (MayBeTaken marks.raw) (line_facts p)
     → n + length (line_facts p) ≤ 2 ^ 62 → IsWithin run before.columns → StandsFor opening h (state_of (kept_data settings marks n before run))
     → StandsFor opening (Line (line_facts p) ∷ h) (state_of (kept_data settings marks (n + length (line_facts p)) after run))
-write_stands opening h settings marks n before after run p put known taken few within st =
+write_stands opening h settings marks n before after run p put taken few within st =
     let fs : List Fact = line_facts p in
     let made : List Column = new_columns (map column_of before.columns) fs in
     let mid : Held = made_for before after fs in
     let names : map column_of after.columns ≡ map column_of mid.columns = puts_names mid.columns after.columns fs put.facts in
     let grown : StandsFor opening h (state_of (kept_data settings marks n mid run)) =
-    grown_stands opening h settings marks n before mid run made fs refl (record { once = subst AllDistinct names known.once; registered = λ c a. known.registered c (subst (Among c) (sym names) a) }) put.rooms within st in
+    grown_stands opening h settings marks n before mid run made fs refl (record { once = subst AllDistinct names put.known.once; registered = λ c a. put.known.registered c (subst (Among c) (sym names) a) }) put.rooms within st in
     let mark : marks.raw ≡ raw_mark opening h = ap (λ (m : Marks). m.raw) st.marks in
     let more = length_before fs (accepted h) in
     let none : NamesMore mid.columns after.columns [] = names ∙ sym (append-nil (map column_of mid.columns)) in
@@ -243,20 +244,20 @@ write_stands opening h settings marks n before after run p put known taken few w
     (line_put opening h (kept_data settings marks n mid run) after.columns fs (cells_of after.rollups) grown (room_there settings.rules fs (cells_of before.rollups) (cells_of after.rollups) put.rooms)
     (λ f a. column_new before.columns fs f a) put.facts (st.lawful, subst (λ (m : ℤ). AllByRecursion (MayBeTaken m) fs) mark taken, omega (arith, st.accepted, more, few)))
 
-pub accepted_by : (settings : Settings) (marks : Marks) (n : ℕ) (before after : Held) (run : Option Run) (p : Parts) → IsKept (kept_data settings marks n before run) before run → PutsLine settings.rules before after p → AreKnown after
+pub accepted_by : (settings : Settings) (marks : Marks) (n : ℕ) (before after : Held) (run : Option Run) (p : Parts) → IsKept (kept_data settings marks n before run) before run → PutsLine settings.rules before after p
     → AllByRecursion (MayBeTaken marks.raw) (line_facts p) → n + length (line_facts p) ≤ 2 ^ 62 → Accepts (kept_data settings marks n before run) (kept_data settings marks (n + length (line_facts p)) after run) p
-accepted_by settings marks n before after run p kept put known taken few =
+accepted_by settings marks n before after run p kept put taken few =
     let fs : List Fact = line_facts p in
     record {
-      history = λ opening h st. write_stands opening h settings marks n before after run p put known taken few kept.few st;
+      history = λ opening h st. write_stands opening h settings marks n before after run p put taken few kept.few st;
       series = put.series;
       columns = puts_names (with_columns before.columns (new_columns (map column_of before.columns) fs)) after.columns fs put.facts;
     }
 
 -- the store is again what it is between two calls
-pub kept_accepted : (settings : Settings) (marks : Marks) (n : ℕ) (before after : Held) (run : Option Run) (p : Parts) → IsKept (kept_data settings marks n before run) before run → PutsLine settings.rules before after p → AreKnown after
+pub kept_accepted : (settings : Settings) (marks : Marks) (n : ℕ) (before after : Held) (run : Option Run) (p : Parts) → IsKept (kept_data settings marks n before run) before run → PutsLine settings.rules before after p
     → AllByRecursion (MayBeTaken marks.raw) (line_facts p) → n + length (line_facts p) ≤ 2 ^ 62 → IsKept (kept_data settings marks (n + length (line_facts p)) after run) after run
-kept_accepted settings marks n before after run p kept put known taken few =
+kept_accepted settings marks n before after run p kept put taken few =
     let fs : List Fact = line_facts p in
     let made : List Column = new_columns (map column_of before.columns) fs in
     let reached = kept.reached in
@@ -265,7 +266,7 @@ kept_accepted settings marks n before after run p kept put known taken few =
       few = within_more run before.columns after.columns made (line_names before.columns after.columns fs put.facts) kept.few;
       counts = counts-put n (with_columns before.columns made) after.columns fs put.facts settings.rules (cells_of after.rollups)
           (counts-grown n before.columns (with_columns before.columns made) (same_facts before.columns made) fs settings.rules (cells_of before.rollups) (cells_of after.rollups) put.rooms kept.counts);
-      reached = record { opening = reached.opening; history = Line fs ∷ reached.history; stands = (accepted_by settings marks n before after run p kept put known taken few).history reached.opening reached.history reached.stands };
+      reached = record { opening = reached.opening; history = Line fs ∷ reached.history; stands = (accepted_by settings marks n before after run p kept put taken few).history reached.opening reached.history reached.stands };
     }
 
 -- ---- what is told

@@ -1,15 +1,16 @@
 -- what public contracts and laws cite
 pub mod PointsRead
 pub mod Seats
-pub mod Rollups
-pub mod ColumnsKept
 pub mod Registered
 pub mod Refusals
 pub mod StoreFaultTexts
 pub mod LinesPut
-pub mod RollupSteps
 pub mod WholeRuns
 -- what only models and proofs of the code need
+pub mod Rollups
+pub mod ColumnsKept
+pub mod LinesInColumns
+pub mod RollupSteps
 pub mod Rooms
 pub mod CellCounts
 pub mod OpenRuns

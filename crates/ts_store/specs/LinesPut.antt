@@ -1,50 +1,14 @@
--- What a write leaves: the line's facts are put, or there was no memory. (Own rules.)
-use Rattle.std.specs.Prelude.{◌≡◌, ◌⊎◌, ℕ, List, [], map, Result, Ok, Err, OnOk, IfSome, IsNone}
-use Rattle.std.specs.List.{AllByRecursion}
-use Rattle.ts_core.specs.Settings.{Rule}
-use Rattle.ts_core.specs.Times.{least_time}
-use Rattle.ts_core.specs.History.{Line, MayBeTaken}
+-- What a write leaves: the line is accepted, or it is refused, or there was no memory. (Own rules.)
+use Rattle.std.specs.Prelude.{◌≡◌, ◌⊎◌, map, Result, Ok, Err, OnOk, IfSome, IsNone}
+use Rattle.ts_core.specs.History.{Line}
 use Rattle.ts_core.specs.StoreStates.{column_of}
 use Rattle.ts_core.specs.StoreData.{StoreData, GoesOn, StaysFor}
-use Rattle.ts_core.specs.StoreMoves.{PutsFacts, HaveRoom}
 use Rattle.ts_line.specs.Parts.{Parts, series_of, line_facts}
 use Rattle.ts_core.specs.Numbered.{Gains}
-use Rattle.ts_raw.specs.Columns.{ColumnState}
-use Rattle.ts_raw.specs.Indexed.{Indexed}
 use Rattle.ts_store.specs.declared.fault.WriteFault.{WriteFault}
 use Rattle.ts_store.specs.declared.fault.WriteFault.TheVariants.{OutOfMemory}
-use Rattle.ts_store.specs.ColumnsKept.{Held, IsHeld, AreAside, columns_in}
 use Rattle.ts_store.specs.Refusals.{write_fault}
-use Rattle.ts_store.specs.Rollups.{AreRollups, cells_of}
-use Rattle.ts_store.specs.Registered.{MayGain, MakesAll, MakesFirst, new_columns, with_columns}
-
--- ---- in columns
-
--- what is left by a call that sets a line's points aside, each in its column, and answers the numbers of these: columns that weren't
--- there are made, in the order in which fields first stand, and without memory the first of them
-pub record SetsAside {E : Type 0} (p : Parts) (before : Indexed) (states : List ColumnState) (after : Indexed) (states' : List ColumnState) (numbers : List ℕ) (result : Result (Unit {0}) E) : Type 0 where
-  pub aside : OnOk result (AreAside after.columns states' numbers (line_facts p))
-  pub taken : OnOk result (AllByRecursion (MayBeTaken least_time) (line_facts p))
-  pub all : OnOk result (MakesAll (columns_in before states) (columns_in after states') (line_facts p))
-  pub made : MakesFirst (columns_in before states) (columns_in after states') (line_facts p)
-  pub held : IsHeld after states'
-  pub series : after.series ≡ before.series
-
--- under these rules the line's series is registered, its new columns are made, there is room for its facts in cells, and they are put
-pub record PutsLine (rules : List Rule) (old new : Held) (p : Parts) : Type 0 where
-  pub series : Gains old.series new.series (series_of p)
-  pub facts : PutsFacts (with_columns old.columns (new_columns (map column_of old.columns) (line_facts p))) new.columns (line_facts p)
-  pub rollups : AreRollups rules (map column_of new.columns) new.rollups
-  pub rooms : HaveRoom rules (line_facts p) (cells_of old.rollups) (cells_of new.rollups)
-
--- without memory the series may be registered, and the first of the new columns and cells made
-pub record GrowsForLine (rules : List Rule) (old new : Held) (p : Parts) : Type 0 where
-  pub series : MayGain old.series new.series (series_of p)
-  pub columns : MakesFirst old.columns new.columns (line_facts p)
-  pub rollups : AreRollups rules (map column_of new.columns) new.rollups
-  pub rooms : HaveRoom rules [] (cells_of old.rollups) (cells_of new.rollups)
-
--- ---- in a store
+use Rattle.ts_store.specs.Registered.{MayGain, MakesFirst, new_columns, with_columns}
 
 -- the line is accepted, and each of its new columns is made
 pub record Accepts (old new : StoreData) (p : Parts) : Type 0 where

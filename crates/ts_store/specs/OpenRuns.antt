@@ -13,7 +13,7 @@ use Rattle.ts_store.specs.declared.store.retention.StepAnswer.TheVariants.{Moved
 use Rattle.ts_store.specs.ColumnsKept.{Held}
 use Rattle.ts_store.specs.CellCounts.{HoldFew}
 use Rattle.ts_store.specs.Rollups.{AreRollups, cells_of}
-use Rattle.ts_store.specs.RollupSteps.{AreAbove}
+use Rattle.ts_store.specs.WholeRuns.{AreAbove}
 
 -- an open run: the number of the column that it moves next, and how many columns there were when it began
 pub record Run : Type 0 where

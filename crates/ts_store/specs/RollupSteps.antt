@@ -46,12 +46,6 @@ held_moved rs s mark held = record {
 
 -- ---- cells are removed
 
--- no rule has cells below its low index
-abbrev pub AreAbove : List ℤ → List FrozenCells → Type 0
-AreAbove [] ms = Unit {0}
-AreAbove (low ∷ lows) [] = Unit {0}
-AreAbove (low ∷ lows) (m ∷ ms) = IsAbove low m × AreAbove lows ms
-
 -- some cells below an index are removed
 pub record LosesCells (low : ℤ) (before after : FrozenCells) : Type 0 where
   pub count : ℕ

@@ -1,10 +1,10 @@
 -- A whole run of retention: it begins, moves its columns and removes its cells step by step, and the last step ends it. (Own rules.)
-use Rattle.std.specs.Prelude.{◌≡◌, ◌↔◌, ℕ, ℤ, zero, suc, false, true, IsTrue, ◌∷◌, Result, IfOk, OnOk, OnErr, IsErr}
+use Rattle.std.specs.Prelude.{◌≡◌, ◌↔◌, ℕ, ℤ, zero, suc, false, true, IsTrue, List, [], ◌∷◌, Result, IfOk, OnOk, OnErr, IsErr}
 use Rattle.ts_core.specs.History.{History, Begin, Step}
 use Rattle.ts_core.specs.StoreStates.{StandsFor}
-use Rattle.ts_core.specs.StoreData.{StoreData, state_of, OfEachHistory}
+use Rattle.ts_core.specs.StoreData.{FrozenCells, StoreData, state_of, OfEachHistory}
 use Rattle.ts_core.specs.StoreMoves.{run_begun}
-use Rattle.ts_store.specs.RollupSteps.{AreAbove}
+use Rattle.ts_cells.specs.Expiry.{IsAbove}
 
 -- steps that ended no run
 abbrev pub steps_taken : ℕ → History → History
@@ -15,13 +15,18 @@ steps_taken (suc n) h = Step false ∷ steps_taken n h
 abbrev pub whole_run : ℤ → ℕ → History → History
 whole_run now n h = Step true ∷ steps_taken n (Begin now ∷ h)
 
+-- no rule has cells below its low index
+abbrev pub AreAbove : List ℤ → List FrozenCells → Type 0
+AreAbove [] ms = Unit {0}
+AreAbove (low ∷ lows) [] = Unit {0}
+AreAbove (low ∷ lows) (m ∷ ms) = IsAbove low m × AreAbove lows ms
+
 -- a whole run goes by: what stood for a history stands for it with the run
 pub record Retains (now : ℤ) (old new : StoreData) : Type 0 where
   pub steps : ℕ
   pub history : OfEachHistory old (λ opening h. StandsFor opening (whole_run now steps h) (state_of new))
   pub marks : new.marks ≡ (run_begun now old).marks
   pub idle : new.running ≡ false
-  -- no cells are left below low indices
   pub above : AreAbove new.marks.lows new.cells
   pub series : new.series ≡ old.series
 

@@ -1,17 +1,14 @@
 //! Facts in columns that are found through an index.
 ghost use Rattle.std.specs.Prelude.{◌≡◌, ◌≤◌, ◌<◌, ◌+◌, ◌*◌, ◌^◌, [], false, length, map, pos, ◌≤ℤ◌, replicate, IfOk, OnOk, OnErr};
 ghost use Rattle.std.specs.List.{AllByRecursion};
-ghost use Rattle.ts_core.specs.Times.{least_time};
 ghost use Rattle.ts_core.specs.Facts.{is_of};
-ghost use Rattle.ts_core.specs.History.{MayBeTaken};
 ghost use Rattle.ts_core.specs.StoreStates.{facts_of as facts_in};
-ghost use Rattle.ts_line.specs.Parts.{series_of, line_facts};
+ghost use Rattle.ts_line.specs.Parts.{series_of};
 ghost use Rattle.ts_raw.specs.Columns.{AreTimed};
 ghost use Rattle.ts_raw.specs.PlainColumns.{IsRising};
-ghost use Rattle.ts_store.specs.ColumnsKept.{AreKnown};
 ghost use Rattle.ts_store.specs.Refusals.{is_too_many};
 ghost use Rattle.ts_store.specs.Seats.{seats_where, points_at};
-ghost use Rattle.ts_store.specs.LinesPut.{PutsLine, GrowsForLine};
+ghost use Rattle.ts_store.specs.LinesInColumns.{PutsLine, GrowsForLine};
 ghost use Rattle.ts_store.specs.Rollups.{new_rollup, AreRollups};
 ghost use Rattle.ts_core.specs.StoreStates.{column_of};
 
@@ -83,8 +80,6 @@ impl<A: Allocator + Copy> ColumnFacts<A> {
         requires intervals { AllByRecursion (λ r. pos 1 ≤ℤ r.interval) rules.now }
         ensures ok { OnOk result (PutsLine rules.now self.old self.new line.now) }
         ensures err { OnErr result (GrowsForLine rules.now self.old self.new line.now) }
-        ensures taken { OnOk result (AllByRecursion (MayBeTaken least_time) (line_facts line.now)) }
-        ensures known { AreKnown self.new }
     {
         let series = match self.index.register(key) {
             Ok(series) => series,

@@ -5,14 +5,14 @@ ghost use Rattle.ts_line.specs.Parts.{series_of};
 ghost use Rattle.ts_raw.specs.Indexed.{column_in};
 ghost use Rattle.ts_core.specs.Numbered.{IsAt};
 ghost use Rattle.ts_store.specs.ColumnsKept.{no_column, point_maps, with_point_aside, all_committed, AreReady, IsColumnFor, IsHeld};
-ghost use Rattle.ts_store.specs.LinesPut.{SetsAside};
+ghost use Rattle.ts_store.specs.LinesInColumns.{SetsAside};
 ghost use Rattle.ts_store.specs.Rollups.{AreRollups, KeepCells, HaveNext, with_next, cells_of};
 ghost use Rattle.ts_core.specs.Members.{Among};
 
 use crate::rollup::Rollup;
 use std::alloc::{AllocError, Allocator};
 use std::marker::Model;
-use ts_core::{Key, Rule, Time};
+use ts_core::{Key, Rule, Time, reserve_eighth};
 use ts_line::Line;
 use ts_raw::{Column, ColumnId, Index, PlainColumn, SeriesId};
 
@@ -68,7 +68,7 @@ fn make_column<A: Allocator + Copy>(
     ensures rollups { AreRollups rules.now index.new.columns rollups.new }
     ensures cells { cells_of rollups.new ≡ cells_of rollups.old }
 {
-    columns.reserve(1)?;
+    reserve_eighth(columns, 1)?;
     prepare_rollups(rules, rollups, index.key_of(series), field)?;
     let column = index.add_column(series, field)?;
     columns

@@ -12,7 +12,7 @@ ghost use Rattle.ts_store.specs.Rollups.{new_rollup, IsLaneFor, KeepsCells, HasN
 use std::alloc::{AllocError, Allocator};
 use std::marker::Model;
 use ts_cells::{Cells, LaneId, Walk};
-use ts_core::{Agg, Key, Rule};
+use ts_core::{Agg, Key, Rule, reserve_eighth};
 use ts_raw::ColumnId;
 
 /// The cells of a rule, with the lane of each column and the columns of each lane.
@@ -82,7 +82,7 @@ fn lane_for<A: Allocator + Copy>(
     requires each { length columns.old.items ≡ length cells.old.lanes }
     ensures { IsLaneFor (lane_named field.now group.now) cells.old columns.old.items cells.new columns.new.items result }
 {
-    columns.reserve(1)?;
+    reserve_eighth(columns, 1)?;
     let lane = cells.lane(field, group)?;
     if columns.len() < cells.lanes() {
         let none = Vec::new(*columns.allocator());
@@ -116,7 +116,7 @@ impl<A: Allocator + Copy> Rollup<A> {
         ensures next { OnOk result (HasNext rule.now (record { series = key.now; field = field.now }) self.new) }
     {
         self.next = None;
-        self.lanes.reserve(1)?;
+        reserve_eighth(&mut self.lanes, 1)?;
         let lane = if key.measurement() == rule.measurement() {
             let group = group_of(*self.lanes.allocator(), rule, key)?;
             Some(lane_for(&mut self.cells, &mut self.columns, field, group.as_slice())?)

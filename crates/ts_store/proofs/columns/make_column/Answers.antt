@@ -39,11 +39,11 @@ commit_rollups-requires g c =
 pub returns-clause-column : goal.returns-clause-column
 returns-clause-column g c =
     let column : Column = column_in c.args.index.now c.args.series c.args.field.now in
-    let before : List ColumnState = c.reserve.new.self.items in
+    let before : List ColumnState = c.reserve_eighth.new.list.items in
     let empty : c.new.result ≡ no_column = λ i. record { points = c.new.ensures.points i; aside = c.new.ensures.none_aside i } in
     let pushed : c.push.new.self.items ≡ c.args.columns.now.items ++ no_column ∷ [] =
     c.push.ensures.items ∙ ap (λ r. cond (is_ok r) (before ++ c.new.result ∷ []) before) c.unwrap.ensures
-    ∙ ap (λ (xs : List ColumnState). xs ++ c.new.result ∷ []) c.in_ok-reserve.ensures.items ∙ ap (λ (s : ColumnState). c.args.columns.now.items ++ s ∷ []) empty in
+    ∙ ap (λ (xs : List ColumnState). xs ++ c.new.result ∷ []) c.in_ok-reserve_eighth.ensures.items ∙ ap (λ (s : ColumnState). c.args.columns.now.items ++ s ∷ []) empty in
     let made = made_behind c.args.index.now.columns c.add_column.new.self.columns column c.in_ok-column.column c.requires.absent c.in_ok-column.ensures.registered.gains c.in_ok-column.ensures.registered.number in
     record {
       number = c.in_ok-column.ensures.registered.number;
@@ -75,17 +75,17 @@ refused : {E : Type 0} (c : Column) (before : Indexed) (states : List ColumnStat
 refused c before states after states' (Ok n) e kept series sound = absurd (true≢false (sym e))
 refused c before states after states' (Err x) e kept series sound = record { number = tt; grown = tt; kept = kept; series = series; sound = sound }
 
-pub returns-in_err-reserve-clause-column : goal.returns-in_err-reserve-clause-column
-returns-in_err-reserve-clause-column g c =
-    refused (column_in c.args.index.now c.args.series c.args.field.now) c.args.index.now c.args.columns.now.items c.args.index.now c.reserve.new.self.items c.from_residual.result c.from_residual.ensures.0
-    (refl, c.in_err-reserve.ensures.items) refl (λ sound. sound)
+pub returns-in_err-reserve_eighth-clause-column : goal.returns-in_err-reserve_eighth-clause-column
+returns-in_err-reserve_eighth-clause-column g c =
+    refused (column_in c.args.index.now c.args.series c.args.field.now) c.args.index.now c.args.columns.now.items c.args.index.now c.reserve_eighth.new.list.items c.from_residual.result c.from_residual.ensures.0
+    (refl, c.in_err-reserve_eighth.ensures.items) refl (λ sound. sound)
 
 pub returns-in_err-prepare_rollups-clause-column : goal.returns-in_err-prepare_rollups-clause-column
 returns-in_err-prepare_rollups-clause-column g c =
-    refused (column_in c.args.index.now c.args.series c.args.field.now) c.args.index.now c.args.columns.now.items c.args.index.now c.reserve.new.self.items c.from_residual-in_err-prepare_rollups.result c.from_residual-in_err-prepare_rollups.ensures.0
-    (refl, c.in_ok-reserve.ensures.items) refl (λ sound. sound)
+    refused (column_in c.args.index.now c.args.series c.args.field.now) c.args.index.now c.args.columns.now.items c.args.index.now c.reserve_eighth.new.list.items c.from_residual-in_err-prepare_rollups.result c.from_residual-in_err-prepare_rollups.ensures.0
+    (refl, c.in_ok-reserve_eighth.ensures.items) refl (λ sound. sound)
 
 pub returns-in_err-column-clause-column : goal.returns-in_err-column-clause-column
 returns-in_err-column-clause-column g c =
-    refused (column_in c.args.index.now c.args.series c.args.field.now) c.args.index.now c.args.columns.now.items c.add_column.new.self c.reserve.new.self.items c.from_residual-in_err-column.result c.from_residual-in_err-column.ensures.0
-    (c.in_err-column.ensures.registered.kept, c.in_ok-reserve.ensures.items) c.add_column.ensures.series (λ sound. c.add_column.ensures.sound)
+    refused (column_in c.args.index.now c.args.series c.args.field.now) c.args.index.now c.args.columns.now.items c.add_column.new.self c.reserve_eighth.new.list.items c.from_residual-in_err-column.result c.from_residual-in_err-column.ensures.0
+    (c.in_err-column.ensures.registered.kept, c.in_ok-reserve_eighth.ensures.items) c.add_column.ensures.series (λ sound. c.add_column.ensures.sound)

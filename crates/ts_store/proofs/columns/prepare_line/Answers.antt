@@ -1,4 +1,4 @@
-use Rattle.std.proofs.Common.{Result, Err, OnOk, ◌≡◌, ◌∙◌, ◌<◌, ◌++◌, ◌∷◌, [], List, ℕ, ℤ, ap, refl, sym, subst, map, take, length, arith, set, get_or, ◌+◌, Some, rules, SFits, w64, to_z, of_z, to_z-of_z}
+use Rattle.std.proofs.Common.{Result, Err, ◌≡◌, ◌∙◌, ◌<◌, ◌++◌, ◌∷◌, [], List, ℕ, ℤ, ap, refl, sym, subst, map, take, length, arith, set, get_or, ◌+◌, Some, rules, SFits, w64, to_z, of_z, to_z-of_z}
 use Rattle.std.specs.List.{slice_get, AllByRecursion}
 use Rattle.std.proofs.lemmas.List.{append-nil, take_all}
 use Rattle.std.proofs.lemmas.Option.{slice_get_within}
@@ -7,17 +7,21 @@ use Rattle.ts_core.specs.Facts.{Series, Column, Fact}
 use Rattle.ts_core.specs.History.{MayBeTaken}
 use Rattle.ts_core.specs.Times.{IsTime, least_time}
 use Rattle.ts_core.specs.Members.{AllDistinct}
-use Rattle.ts_line.specs.Parts.{LinePart, Parts, field_text, fact_of, series_of}
+use Rattle.ts_line.specs.Parts.{LinePart, Parts, field_text, fact_of, series_of, line_facts}
 use Rattle.ts_raw.specs.Columns.{ColumnState}
-use Rattle.ts_raw.specs.Indexed.{column_in}
-use Rattle.ts_store.specs.ColumnsKept.{no_column, point_maps, columns_in, with_points, with_point_aside, AreAside, MayGrow}
-use Rattle.ts_store.specs.Registered.{MakesAll}
+use Rattle.ts_raw.specs.Indexed.{Indexed, column_in}
+use Rattle.ts_store.specs.ColumnsKept.{no_column, point_maps, columns_in, with_points, with_point_aside, AreAside, MayGrow, IsHeld}
+use Rattle.ts_store.specs.LinesInColumns.{SetsAside}
+use Rattle.ts_store.specs.Registered.{MakesAll, MakesFirst}
 use Rattle.ts_store.proofs.ColumnsAside.{grown_aside, made_next, first_made, next_aside, facts_next, column_is}
 use Rattle.ts_store.proofs.Stands.{taken_more}
 use Rattle.ts_store.proofs.columns.prepare_line.Goals as goal
 
-no_ok : {T E : Type 0} (P : Type 0) (r : Result T E) (e : E) → r ≡ Err e → OnOk r P
-no_ok P r e is = rw is tt
+-- what a refusal leaves
+refused : {E : Type 0} (p : Parts) (before : Indexed) (states : List ColumnState) (after : Indexed) (states' : List ColumnState) (ns : List ℕ) (r : Result (Unit {0}) E) (e : E) → r ≡ Err e
+    → MakesFirst (columns_in before states) (columns_in after states') (line_facts p) → IsHeld after states' → after.series ≡ before.series → SetsAside p before states after states' ns r
+refused {E} p before states after states' ns r e is made held series =
+    subst (λ (q : Result (Unit {0}) E). SetsAside p before states after states' ns q) (sym is) (record { aside = tt; taken = tt; all = tt; made = made; held = held; series = series })
 
 pub column_for-requires-clause-series : goal.column_for-requires-clause-series
 column_for-requires-clause-series g c =
@@ -29,14 +33,9 @@ returns-in_err-column-clause-line g c =
     let i = c.loop-field.invariant in
     let same = c.in_err-column.ensures.column.kept in
     let p = err_from_is_err_and c.from_residual.result c.from_residual.ensures.1 in
-    record {
-      aside = no_ok _ c.from_residual.result _ p.1;
-      taken = no_ok _ c.from_residual.result _ p.1;
-      all = no_ok _ c.from_residual.result _ p.1;
-      made = first_made c.args.line.now _ _ c.fields-field-items.result.now c.loop-field.field-index c.fields-field-items.ensures.value ((λ j. with_points (same.0 j) (point_maps (same.1 j))) ∙ i.made);
-      held = record { sound = c.column_for.ensures.column.sound i.held.sound; each = ap length same.1 ∙ i.held.each ∙ sym (ap length same.0) };
-      series = c.column_for.ensures.column.series ∙ i.series;
-    }
+    refused _ _ _ _ _ _ _ _ p.1
+    (first_made c.args.line.now _ _ c.fields-field-items.result.now c.loop-field.field-index c.fields-field-items.ensures.value ((λ j. with_points (same.0 j) (point_maps (same.1 j))) ∙ i.made))
+    (record { sound = c.column_for.ensures.column.sound i.held.sound; each = ap length same.1 ∙ i.held.each ∙ sym (ap length same.0) }) (c.column_for.ensures.column.series ∙ i.series)
 
 pub prepare_at-requires : goal.prepare_at-requires
 prepare_at-requires g c =
@@ -52,17 +51,10 @@ returns-in_err-prepare_at-clause-line g c =
     c.field-item.result c.in_ok-column.ensures.column.grown (ap (λ (xs : List Series). slice_get xs c.args.series) i.series ∙ c.requires.series) (c.text-name.ensures ∙ ap (λ (q : LinePart). q.text) c.name.ensures)
     c.fields-field-items.ensures.value c.fields-field-items.ensures.once c.loop-field-test.true c.field-item.is i.held.each i.made in
     let p = err_from_is_err_and c.from_residual-in_err-prepare_at.result c.from_residual-in_err-prepare_at.ensures.1 in
-    record {
-      aside = no_ok _ c.from_residual-in_err-prepare_at.result _ p.1;
-      taken = no_ok _ c.from_residual-in_err-prepare_at.result _ p.1;
-      all = no_ok _ c.from_residual-in_err-prepare_at.result _ p.1;
-      made = first_made c.args.line.now _ _ c.fields-field-items.result.now (c.loop-field.field-index + 1) c.fields-field-items.ensures.value (ap (with_points c.column_for.new.index.columns) c.prepare_at.ensures.unchanged ∙ more);
-      held = record {
-        sound = c.column_for.ensures.column.sound i.held.sound;
-        each = c.prepare_at.ensures.len ∙ (grown_aside _ c.loop-field.index.columns c.column_for.new.index.columns c.loop-field.columns.items c.column_for.new.columns.items c.loop-field.touched.items _ i.held.each c.in_ok-column.ensures.column.grown i.aside).1;
-      };
-      series = c.column_for.ensures.column.series ∙ i.series;
-    }
+    refused _ _ _ _ _ _ _ _ p.1
+    (first_made c.args.line.now _ _ c.fields-field-items.result.now (c.loop-field.field-index + 1) c.fields-field-items.ensures.value (ap (with_points c.column_for.new.index.columns) c.prepare_at.ensures.unchanged ∙ more))
+    (record { sound = c.column_for.ensures.column.sound i.held.sound; each = c.prepare_at.ensures.len ∙ (grown_aside _ c.loop-field.index.columns c.column_for.new.index.columns c.loop-field.columns.items c.column_for.new.columns.items c.loop-field.touched.items _ i.held.each c.in_ok-column.ensures.column.grown i.aside).1 })
+    (c.column_for.ensures.column.series ∙ i.series)
 
 pub returns-in_err-push-clause-line : goal.returns-in_err-push-clause-line
 returns-in_err-push-clause-line g c =
@@ -71,17 +63,10 @@ returns-in_err-push-clause-line g c =
     c.field-item.result c.in_ok-column.ensures.column.grown (ap (λ (xs : List Series). slice_get xs c.args.series) i.series ∙ c.requires.series) (c.text-name.ensures ∙ ap (λ (q : LinePart). q.text) c.name.ensures)
     c.fields-field-items.ensures.value c.fields-field-items.ensures.once c.loop-field-test.true c.field-item.is i.held.each i.made in
     let p = err_from_is_err_and c.from_residual-in_err-push.result c.from_residual-in_err-push.ensures.1 in
-    record {
-      aside = no_ok _ c.from_residual-in_err-push.result _ p.1;
-      taken = no_ok _ c.from_residual-in_err-push.result _ p.1;
-      all = no_ok _ c.from_residual-in_err-push.result _ p.1;
-      made = first_made c.args.line.now _ _ c.fields-field-items.result.now (c.loop-field.field-index + 1) c.fields-field-items.ensures.value (ap (with_points c.column_for.new.index.columns) c.prepare_at.ensures.unchanged ∙ more);
-      held = record {
-        sound = c.column_for.ensures.column.sound i.held.sound;
-        each = c.prepare_at.ensures.len ∙ (grown_aside _ c.loop-field.index.columns c.column_for.new.index.columns c.loop-field.columns.items c.column_for.new.columns.items c.loop-field.touched.items _ i.held.each c.in_ok-column.ensures.column.grown i.aside).1;
-      };
-      series = c.column_for.ensures.column.series ∙ i.series;
-    }
+    refused _ _ _ _ _ _ _ _ p.1
+    (first_made c.args.line.now _ _ c.fields-field-items.result.now (c.loop-field.field-index + 1) c.fields-field-items.ensures.value (ap (with_points c.column_for.new.index.columns) c.prepare_at.ensures.unchanged ∙ more))
+    (record { sound = c.column_for.ensures.column.sound i.held.sound; each = c.prepare_at.ensures.len ∙ (grown_aside _ c.loop-field.index.columns c.column_for.new.index.columns c.loop-field.columns.items c.column_for.new.columns.items c.loop-field.touched.items _ i.held.each c.in_ok-column.ensures.column.grown i.aside).1 })
+    (c.column_for.ensures.column.series ∙ i.series)
 
 pub loop-field-preserved : goal.loop-field-preserved
 loop-field-preserved g c =

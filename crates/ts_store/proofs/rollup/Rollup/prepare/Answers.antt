@@ -12,11 +12,11 @@ returns-clause-kept g c = elim c.if-eq.branch [
       ap (λ s. s.cells.lanes) w.self-inside-is ∙ w.lane_for.ensures.made.1 ∙ ap (λ (s : RollupState). s.grid.lanes ++ w.lane_for.ensures.made.0) c.self.view_is,
     );
     cells = ap (λ s. s.cells.cells) w.self-inside-is ∙ w.lane_for.ensures.cells ∙ ap (λ (s : RollupState). s.grid.cells) c.self.view_is;
-    lanes = ap (λ s. s.lanes.items) w.self-inside-is ∙ c.reserve.ensures.items ∙ ap (λ (s : RollupState). s.lanes) c.self.view_is;
+    lanes = ap (λ s. s.lanes.items) w.self-inside-is ∙ c.reserve_eighth.ensures.items ∙ ap (λ (s : RollupState). s.lanes) c.self.view_is;
   }
   | else-eq w ↦ record {
     made = ([], ap (λ s. s.cells.lanes) w.self-inside-is ∙ ap (λ (s : RollupState). s.grid.lanes) c.self.view_is ∙ sym (append-nil c.args.self.now.grid.lanes));
     cells = ap (λ s. s.cells.cells) w.self-inside-is ∙ ap (λ (s : RollupState). s.grid.cells) c.self.view_is;
-    lanes = ap (λ s. s.lanes.items) w.self-inside-is ∙ c.reserve.ensures.items ∙ ap (λ (s : RollupState). s.lanes) c.self.view_is;
+    lanes = ap (λ s. s.lanes.items) w.self-inside-is ∙ c.reserve_eighth.ensures.items ∙ ap (λ (s : RollupState). s.lanes) c.self.view_is;
   }
 ]

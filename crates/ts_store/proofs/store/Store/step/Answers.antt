@@ -11,7 +11,8 @@ use Rattle.ts_core.specs.Numbered.{IsAt}
 use Rattle.ts_store.specs.ColumnsKept.{Held}
 use Rattle.ts_store.specs.OpenRuns.{Run, kept_data, IsKept}
 use Rattle.ts_store.specs.Rollups.{cells_of}
-use Rattle.ts_store.specs.RollupSteps.{FreezeFit, held_moved, AreAbove, FirstLoses}
+use Rattle.ts_store.specs.RollupSteps.{FreezeFit, held_moved, FirstLoses}
+use Rattle.ts_store.specs.WholeRuns.{AreAbove}
 use Rattle.ts_store.proofs.RunsGoOn.{run_of, few_facts, IsStep, move_steps, removal_steps, ended-stands, ended-kept}
 use Rattle.ts_store.proofs.store.Store.step.Goals as goal
 

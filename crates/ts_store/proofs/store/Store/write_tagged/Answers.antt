@@ -6,7 +6,8 @@ use Rattle.ts_core.specs.Texts.{lent_pairs}
 use Rattle.ts_core.specs.StoreStates.{column_of}
 use Rattle.ts_core.specs.StoreData.{StoreData}
 use Rattle.ts_line.specs.Parts.{LinePart, Parts, fact_of, line_facts}
-use Rattle.ts_store.specs.LinesPut.{PutsLine, GrowsForLine, Accepts, Leaves}
+use Rattle.ts_store.specs.LinesInColumns.{PutsLine, GrowsForLine}
+use Rattle.ts_store.specs.LinesPut.{Accepts, Leaves}
 use Rattle.ts_store.specs.OpenRuns.{IsKept, kept_data}
 use Rattle.ts_store.specs.Refusals.{write_fault}
 use Rattle.ts_store.specs.Rollups.{AreRollups}
@@ -41,7 +42,7 @@ invariant_of-self g c =
     let before = c.self.inside in
     let line : Parts = c.args.line.now in
     let grows : GrowsForLine before.settings.rules before.facts c.put_line.new.self line = subst (λ (rs : List Rule). GrowsForLine rs before.facts c.put_line.new.self line) c.rules.ensures.value c.in_err-put_line.ensures.err in
-    kept_left before.settings before.marks before.accepted before.facts c.put_line.new.self before.run line c.self.invariant grows c.put_line.ensures.known
+    kept_left before.settings before.marks before.accepted before.facts c.put_line.new.self before.run line c.self.invariant grows
 
 pub returns-in_err-put_line : goal.returns-in_err-put_line
 returns-in_err-put_line g c =
@@ -56,7 +57,7 @@ returns-in_err-put_line g c =
           inr (
             p.1 ∙ ap Err p.2,
             subst (λ (k : StoreData). Leaves k (kept_data before.settings before.marks before.accepted c.put_line.new.self before.run) line) c.self.view_is
-                (left_by before.settings before.marks before.accepted before.facts c.put_line.new.self before.run line c.self.invariant grows c.put_line.ensures.known),
+                (left_by before.settings before.marks before.accepted before.facts c.put_line.new.self before.run line c.self.invariant grows),
           );
     }
 
@@ -79,9 +80,9 @@ invariant_of-self-2 g c =
     let welcome = not_refused before.marks.raw before.facts.series before.accepted line none in
     let many : length c.fields.result.now ≡ length (line_facts line) = ap (λ (l : List (LinePart × ℤ)). length l) c.fields.ensures.value ∙ sym (length-map line.fields (fact_of line)) in
     let put : PutsLine before.settings.rules before.facts c.put_line.new.self line = subst (λ (rs : List Rule). PutsLine rs before.facts c.put_line.new.self line) c.rules.ensures.value c.in_ok-put_line.ensures.ok in
-    let taken = taken_from before.marks.raw line welcome.late c.in_ok-put_line.ensures.taken in
+    let taken = taken_from before.marks.raw line welcome.late put.taken in
     subst (λ (n : ℕ). IsKept (kept_data before.settings before.marks (before.accepted + n) c.put_line.new.self before.run) c.put_line.new.self before.run) (sym many)
-    (kept_accepted before.settings before.marks before.accepted before.facts c.put_line.new.self before.run line c.self.invariant put c.put_line.ensures.known taken welcome.few)
+    (kept_accepted before.settings before.marks before.accepted before.facts c.put_line.new.self before.run line c.self.invariant put taken welcome.few)
 
 pub returns : goal.returns
 returns g c =
@@ -91,12 +92,12 @@ returns g c =
     let welcome = not_refused before.marks.raw before.facts.series before.accepted line none in
     let many : length c.fields.result.now ≡ length (line_facts line) = ap (λ (l : List (LinePart × ℤ)). length l) c.fields.ensures.value ∙ sym (length-map line.fields (fact_of line)) in
     let put : PutsLine before.settings.rules before.facts c.put_line.new.self line = subst (λ (rs : List Rule). PutsLine rs before.facts c.put_line.new.self line) c.rules.ensures.value c.in_ok-put_line.ensures.ok in
-    let taken = taken_from before.marks.raw line welcome.late c.in_ok-put_line.ensures.taken in
+    let taken = taken_from before.marks.raw line welcome.late put.taken in
     record {
       ok =
           subst (λ (n : ℕ). Accepts c.args.self.now (kept_data before.settings before.marks (before.accepted + n) c.put_line.new.self before.run) line) (sym many)
           (subst (λ (k : StoreData). Accepts k (kept_data before.settings before.marks (before.accepted + length (line_facts line)) c.put_line.new.self before.run) line) c.self.view_is
-          (accepted_by before.settings before.marks before.accepted before.facts c.put_line.new.self before.run line c.self.invariant put c.put_line.ensures.known taken welcome.few));
+          (accepted_by before.settings before.marks before.accepted before.facts c.put_line.new.self before.run line c.self.invariant put taken welcome.few));
       refused = search rules;
       taken = search rules;
     }
