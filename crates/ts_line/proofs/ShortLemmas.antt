@@ -1,6 +1,6 @@
 -- Numbers of few digits.
 use Rattle.std.proofs.Common.{◌≡◌, ℕ, ◌+◌, ◌-◌, ◌*◌, ◌^◌, ◌-ℤ◌, to_z, of_z, ◌<◌, ◌≤◌, true, false, eqb, [], ◌∷◌, ◌++◌, length, get_or, drop, slice_range, slice_index, refl, sym, ap, ◌∙◌, arith, Ok, Some, None, Option, IfSome, ℤ, pos, neg_ℤ, FitsSigned, w64, length-take, length-drop}
-use Rattle.std.specs.Char.{is_ascii_digit, digit_value}
+use Rattle.std.specs.Char.{is_ascii_digit}
 use Rattle.std.specs.List.{list_all}
 use Rattle.std.specs.Str.Parse.{digits_value, signed_digits_value}
 use Rattle.std.proofs.lemmas.Bool.{and_parts, and_from, cond-true}
