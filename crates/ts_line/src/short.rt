@@ -22,11 +22,10 @@ fn digits_at(line: &str, from: usize) -> (u64, usize)
     let mut at = from;
     let mut number = 0;
     while at < last {
-        let byte = bytes[at];
-        if !byte.is_ascii_digit() {
+        let Some(digit) = char::from(bytes[at]).to_digit(10) else {
             break;
-        }
-        number = number * 10 + u64::from(byte - b'0');
+        };
+        number = number * 10 + u64::from(digit);
         at += 1;
     }
     (number, at)
