@@ -15,7 +15,6 @@ use Rattle.ts_line.specs.declared.scan.Stops.TheVariants.{Plain}
 use Rattle.ts_line.specs.Numbers.{is_number, are_digits, is_from_to, whole_of}
 use Rattle.ts_line.specs.Values.{value_begun_at, is_value_end}
 use Rattle.ts_line.proofs.NumberLemmas.{all_digits, digit_not_plus, fits_within}
-use Rattle.ts_core.proofs.DurationLaws.{value_is}
 use Rattle.ts_core.proofs.ListSteps.{slice_step}
 use Rattle.ts_line.proofs.Suffixes.{At, is_end}
 use Rattle.ts_line.proofs.FieldsSpelled.{value_read}
@@ -27,11 +26,9 @@ digits_step line from i le lt digit so_far =
     ap (list_all is_ascii_digit) (slice_step line from i le lt) ∙ list_all-append is_ascii_digit (slice_range line from i) (get_or line i 0 ∷ [])
     ∙ and_from (list_all is_ascii_digit (slice_range line from i)) (list_all is_ascii_digit (get_or line i 0 ∷ [])) so_far (rw digit refl)
 
-pub value_step : (line : Text) (from i : ℕ) → from ≤ i → i < length line → is_ascii_digit (get_or line i 0) ≡ true
-    → digits_value 10 (slice_range line from (i + 1)) ≡ digits_value 10 (slice_range line from i) * 10 + (get_or line i 0 - 48)
-value_step line from i le lt digit =
-    ap (digits_value 10) (slice_step line from i le lt) ∙ digits_value_push 10 (slice_range line from i) (get_or line i 0)
-    ∙ ap (λ n. digits_value 10 (slice_range line from i) * 10 + n) (value_is (get_or line i 0) digit)
+pub value_step : (line : Text) (from i : ℕ) → from ≤ i → i < length line
+    → digits_value 10 (slice_range line from (i + 1)) ≡ digits_value 10 (slice_range line from i) * 10 + digit_value (get_or line i 0)
+value_step line from i le lt = ap (digits_value 10) (slice_step line from i le lt) ∙ digits_value_push 10 (slice_range line from i) (get_or line i 0)
 
 short_by : (ds : Text) (k : ℕ) → list_all is_ascii_digit ds ≡ true → length ds ≤ k → digits_value 10 ds < 10 ^ k
 short_by ds k digits le =

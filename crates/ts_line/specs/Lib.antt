@@ -11,7 +11,9 @@ pub mod Fields
 pub mod Lines
 pub mod EscapeLaws
 pub mod Spelling
+pub mod Readings
 pub mod Spans
 -- what only models and proofs of the code need
 pub mod Sorting
 pub mod NameMarks
+pub mod Digits

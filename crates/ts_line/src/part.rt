@@ -1,8 +1,9 @@
 //! Parts with the texts that they spell.
-ghost use Rattle.std.specs.Prelude.{◌≡◌, ◌≤◌, ◌<◌, ◌+◌, ◌&&◌, length, IfOk, slice_index, slice_range, drop, string_bytes};
+ghost use Rattle.std.specs.Prelude.{◌≡◌, ◌<◌, ◌+◌, ◌&&◌, length, IfOk, slice_index, slice_range, drop, string_bytes};
 ghost use Rattle.std.specs.Cow.{cow_str_bytes};
 ghost use Rattle.std.specs.List.{list_any};
 ghost use Rattle.std.specs.Str.{IsCharBoundary};
+ghost use Rattle.ts_core.specs.Cursors.{IsPlaceFrom};
 ghost use Rattle.ts_line.specs.Scan.{is_backslash, is_stop};
 ghost use Rattle.ts_line.specs.PartTexts.{begins_escapable, unescaped, piece_at};
 
@@ -20,9 +21,8 @@ pub fn part_at<'a, A: Allocator>(
     end: End,
     stops: Stops,
 ) -> Result<Part<'a, A>, AllocError>
-    requires ordered { start ≤ end.at }
-    requires first { IsCharBoundary line.now start }
-    requires last { IsCharBoundary line.now end.at }
+    requires start { IsCharBoundary line.now start }
+    requires end { IsPlaceFrom line.now start end.at }
     requires escape { end.has_escape ≡ list_any (is_stop stops) (slice_range line.now start end.at) }
     ensures { IfOk result (λ p. p ≡ piece_at stops line.now start end.at) }
 {

@@ -1,10 +1,9 @@
 //! `read_line`: a line is read from left to right, up to its first fault.
-ghost use Rattle.std.specs.Prelude.{◌≡◌, ◌<◌, ◌≤◌, true, length, Ok, IfOk, Some, IfSome};
+ghost use Rattle.std.specs.Prelude.{◌≡◌, ◌<◌, ◌≤◌, true, length, IfOk, IfSome};
 ghost use Rattle.std.specs.Str.{IsCharBoundary};
-ghost use Rattle.ts_line.specs.Parts.{Parts};
 ghost use Rattle.ts_line.specs.EscapeLaws.{ReadsPairs};
 ghost use Rattle.ts_line.specs.Spans.{ArePlaced, pieces_of};
-ghost use Rattle.ts_line.specs.Spelling.{IsSpelling};
+ghost use Rattle.ts_line.specs.Readings.{IsReadAsSpelled};
 ghost use Rattle.ts_line.specs.ReadSteps.{GivesIfRoom};
 ghost use Rattle.ts_core.specs.TimeUnits.{nanoseconds_of};
 ghost use Rattle.ts_line.specs.Lines.{is_bare_space, trimmed, without_return, content, measurement_at, time_at, parts_at, line_of};
@@ -38,8 +37,7 @@ pub fn read_line<A: Allocator + Copy>(
     ensures value { GivesIfRoom (λ o. o) result (line_of (nanoseconds_of precision) now text.now) }
 
     // what is read is spelled so, and what is spelled so is read
-    ensures spelled { IfOk result (λ o. IfSome o (IsSpelling (nanoseconds_of precision) now text.now)) }
-    ensures only { (parts : Parts) → IsSpelling (nanoseconds_of precision) now text.now parts → GivesIfRoom (λ o. o) result (Ok (Some parts)) }
+    ensures spelled { IsReadAsSpelled (nanoseconds_of precision) now text.now result }
 
     // each part is the slice of the text at its span, one behind the other
     ensures spans { IfOk result (λ o. IfSome o (λ p. ArePlaced text.now 0 (pieces_of p))) }

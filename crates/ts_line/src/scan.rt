@@ -2,6 +2,7 @@
 ghost use Rattle.std.specs.Prelude.{◌≡◌, ◌≤◌, ◌||◌, false, length, slice_range};
 ghost use Rattle.std.specs.List.{list_any};
 ghost use Rattle.std.specs.Str.{IsCharBoundary};
+ghost use Rattle.ts_core.specs.Cursors.{IsPlaceFrom};
 ghost use Rattle.ts_line.specs.Scan.{is_backslash, is_stop, ends, end_of, spaces_end};
 
 use ts_core::after;
@@ -47,7 +48,7 @@ fn may_be_mark(byte: u8) -> bool
     ensures stops { (stops : Stops) → result ≡ false → is_stop stops byte ≡ false }
     ensures backslash { result ≡ false → is_backslash byte ≡ false }
 {
-    MARKS >> (byte % 64) & 1 == 1
+    (MARKS >> (byte % 64)) & 1 == 1
 }
 
 /// Whether a byte is a backslash or one of those that end a part.
@@ -70,9 +71,7 @@ fn is_end(stops: Stops, before: u8, byte: u8) -> bool
 fn escaped_end_at(line: &str, from: usize, stops: Stops) -> End
     requires { from ≤ length line.now }
     ensures value { result.at ≡ end_of stops line.now from }
-    ensures from { from ≤ result.at }
-    ensures within { result.at ≤ length line.now }
-    ensures boundary { IsCharBoundary line.now result.at }
+    ensures place { IsPlaceFrom line.now from result.at }
     ensures escape { result.has_escape ≡ list_any (is_stop stops) (slice_range line.now from result.at) }
 {
     let bytes = line.as_bytes();
@@ -96,9 +95,7 @@ fn escaped_end_at(line: &str, from: usize, stops: Stops) -> End
 pub fn end_at(line: &str, from: usize, stops: Stops) -> End
     requires { from ≤ length line.now }
     ensures value { result.at ≡ end_of stops line.now from }
-    ensures from { from ≤ result.at }
-    ensures within { result.at ≤ length line.now }
-    ensures boundary { IsCharBoundary line.now result.at }
+    ensures place { IsPlaceFrom line.now from result.at }
     ensures escape { result.has_escape ≡ list_any (is_stop stops) (slice_range line.now from result.at) }
 {
     let bytes = line.as_bytes();
@@ -124,8 +121,7 @@ pub fn end_at(line: &str, from: usize, stops: Stops) -> End
 pub fn after_spaces(line: &str, from: usize) -> usize
     requires { IsCharBoundary line.now from }
     ensures value { result ≡ spaces_end line.now from }
-    ensures from { from ≤ result }
-    ensures boundary { IsCharBoundary line.now result }
+    ensures place { IsPlaceFrom line.now from result }
 {
     let bytes = line.as_bytes();
     let mut at = from;

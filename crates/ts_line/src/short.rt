@@ -1,11 +1,9 @@
 //! Numbers of few digits, read in one pass.
-ghost use Rattle.std.specs.Prelude.{◌≡◌, ◌≤◌, ◌<◌, ◌+◌, length, slice_range, slice_index, drop, true, pos, Ok, Some, IfSome, ℕ};
-ghost use Rattle.std.specs.Char.{is_ascii_digit};
-ghost use Rattle.std.specs.List.{list_all};
-ghost use Rattle.std.specs.Str.{IsCharBoundary};
-ghost use Rattle.std.specs.Str.Parse.{digits_value};
+ghost use Rattle.std.specs.Prelude.{◌≡◌, ◌≤◌, ◌<◌, length, slice_range, true, Ok, Some, IfSome, ℕ};
+ghost use Rattle.ts_core.specs.Cursors.{IsPlaceFrom};
+ghost use Rattle.ts_line.specs.Digits.{AreDigits, IsShortInteger};
 ghost use Rattle.ts_line.specs.Numbers.{is_number, whole_of};
-ghost use Rattle.ts_line.specs.Values.{value_begun_at, is_value_end};
+ghost use Rattle.ts_line.specs.Values.{value_begun_at};
 
 use crate::value::is_value_end;
 use ts_core::{after, byte_at};
@@ -16,10 +14,7 @@ const DIGIT_LIMIT: usize = 19;
 /// The digits from `from` on, 19 at most: their number, and their end.
 fn digits_at(line: &str, from: usize) -> (u64, usize)
     requires { from ≤ length line.now }
-    ensures from { from ≤ result.1 }
-    ensures within { result.1 ≤ length line.now }
-    ensures digits { list_all is_ascii_digit (slice_range line.now from result.1) ≡ true }
-    ensures value { result.0 ≡ digits_value 10 (slice_range line.now from result.1) }
+    ensures digits { AreDigits line.now from result.1 result.0 }
     ensures short { result.0 < 10_000_000_000_000_000_000 }
 {
     let bytes = line.as_bytes();
@@ -27,11 +22,10 @@ fn digits_at(line: &str, from: usize) -> (u64, usize)
     let mut at = from;
     let mut number = 0;
     while at < last {
-        let byte = bytes[at];
-        if !byte.is_ascii_digit() {
+        let Some(digit) = char::from(bytes[at]).to_digit(10) else {
             break;
-        }
-        number = number * 10 + u64::from(byte - b'0');
+        };
+        number = number * 10 + u64::from(digit);
         at += 1;
     }
     (number, at)
@@ -41,13 +35,7 @@ fn digits_at(line: &str, from: usize) -> (u64, usize)
 /// the `i`. None where there are more than 19, or the number has more than 63 bits, or something else stands there.
 fn unsigned_integer(line: &str, first: usize) -> Option<(i64, usize)>
     requires { first ≤ length line.now }
-    ensures some { IfSome result (λ x. first < x.1) }
-    ensures within { IfSome result (λ x. x.1 < length line.now) }
-    ensures digits { IfSome result (λ x. list_all is_ascii_digit (slice_range line.now first x.1) ≡ true) }
-    ensures value { IfSome result (λ x. x.0 ≡ pos (digits_value 10 (slice_range line.now first x.1))) }
-    ensures short { IfSome result (λ x. digits_value 10 (slice_range line.now first x.1) < 9_223_372_036_854_775_808) }
-    ensures last { IfSome result (λ x. slice_index line.now x.1 ≡ 105) }
-    ensures rest { IfSome result (λ x. is_value_end (drop (x.1 + 1) line.now) ≡ true) }
+    ensures { IfSome result (λ x. IsShortInteger line.now first x.1 x.0) }
 {
     let (number, end) = digits_at(line, first);
     if end == first || byte_at(line, end) != b'i' {
@@ -65,8 +53,7 @@ fn unsigned_integer(line: &str, first: usize) -> Option<(i64, usize)>
 pub(crate) fn short_integer(line: &str, at: usize) -> Option<(i64, usize)>
     requires { at ≤ length line.now }
     ensures value { IfSome result (λ x. (start : ℕ) → value_begun_at start line.now at ≡ Ok x) }
-    ensures further { IfSome result (λ x. at ≤ x.1) }
-    ensures boundary { IfSome result (λ x. IsCharBoundary line.now x.1) }
+    ensures place { IfSome result (λ x. IsPlaceFrom line.now at x.1) }
 {
     if byte_at(line, at) == b'-' {
         let (number, end) = unsigned_integer(line, at + 1)?;

@@ -1,6 +1,7 @@
 //! The tags of a line are read: up to 64, no key twice.
-ghost use Rattle.std.specs.Prelude.{◌≡◌, ◌<◌, ◌≤◌, ◌++◌, ◌∷◌, length, [], IfOk, slice_index_or, true, false};
+ghost use Rattle.std.specs.Prelude.{◌≡◌, ◌<◌, ◌≤◌, ◌+◌, ◌++◌, ◌∷◌, length, [], IfOk, slice_index_or, true, false};
 ghost use Rattle.std.specs.Str.{IsCharBoundary};
+ghost use Rattle.ts_core.specs.Cursors.{IsPlaceFrom};
 ghost use Rattle.ts_line.specs.ReadSteps.{GivesIfRoom};
 ghost use Rattle.ts_line.specs.NameMarks.{slot_of, AreKeysMarked};
 ghost use Rattle.ts_line.specs.TagParts.{has_key, next_tag, tags_at};
@@ -50,8 +51,7 @@ fn next<'a, A: Allocator + Copy>(
     requires boundary { IsCharBoundary line.now start }
     requires marked { AreKeysMarked marks.old before.now }
     ensures value { GivesIfRoom (λ x. x) result (next_tag before.now line.now start) }
-    ensures further { IfOk result (λ x. start < x.1) }
-    ensures boundary { IfOk result (λ x. IsCharBoundary line.now x.1) }
+    ensures place { IfOk result (λ x. IsPlaceFrom line.now (start + 1) x.1) }
     ensures room { IfOk result (λ _. length before.now < 64) }
     ensures marked { IfOk result (λ x. AreKeysMarked marks.new (before.now ++ x.0 ∷ [])) }
 {

@@ -1,6 +1,7 @@
 //! The values of fields, recognized by their shape.
-ghost use Rattle.std.specs.Prelude.{◌≡◌, ◌≤◌, IfOk, option_map, if◌then◌else◌, false};
+ghost use Rattle.std.specs.Prelude.{◌≡◌, IfOk, option_map, if◌then◌else◌, false};
 ghost use Rattle.std.specs.Str.{IsCharBoundary};
+ghost use Rattle.ts_core.specs.Cursors.{IsPlaceFrom};
 ghost use Rattle.ts_line.specs.FaultText.{fault_at};
 ghost use Rattle.ts_line.specs.Numbers.{are_digits};
 ghost use Rattle.ts_line.specs.Values.{is_unsigned, is_boolean, is_float, behind_digits, behind_fraction, is_exponent, without_sign, behind_quotes, is_value_end, then_is, value_said, value_begun_at};
@@ -148,8 +149,7 @@ fn quoted(start: usize, text: &[u8]) -> LineFault
 fn any_value_at(start: usize, line: &str, at: usize) -> Result<(i64, usize), LineFault>
     requires { IsCharBoundary line.now at }
     ensures value { result ≡ value_begun_at start line.now at }
-    ensures further { IfOk result (λ x. at ≤ x.1) }
-    ensures boundary { IfOk result (λ x. IsCharBoundary line.now x.1) }
+    ensures place { IfOk result (λ x. IsPlaceFrom line.now at x.1) }
 {
     if byte_at(line, at) == b'"' {
         return Err(quoted(start, &line.as_bytes()[at + 1..]));
@@ -163,8 +163,7 @@ fn any_value_at(start: usize, line: &str, at: usize) -> Result<(i64, usize), Lin
 pub fn value_begun_at(start: usize, line: &str, at: usize) -> Result<(i64, usize), LineFault>
     requires { IsCharBoundary line.now at }
     ensures value { result ≡ value_begun_at start line.now at }
-    ensures further { IfOk result (λ x. at ≤ x.1) }
-    ensures boundary { IfOk result (λ x. IsCharBoundary line.now x.1) }
+    ensures place { IfOk result (λ x. IsPlaceFrom line.now at x.1) }
 {
     match short_integer(line, at) {
         Some(found) => Ok(found),

@@ -5,10 +5,10 @@ use Rattle.ts_line.proofs.SpansLemmas.{placed_by}
 use Rattle.ts_line.proofs.read.read_line.Goals as goal
 
 pub returns-clause-spelled : goal.returns-clause-spelled
-returns-clause-spelled g c = told_of (nanoseconds_of c.args.precision) c.args.now c.args.text.now c.whole_line.result c.whole_line.ensures
-
-pub returns-clause-only : goal.returns-clause-only
-returns-clause-only g c = read_of (nanoseconds_of c.args.precision) c.args.now c.args.text.now c.whole_line.result c.whole_line.ensures
+returns-clause-spelled g c = record {
+  told = told_of (nanoseconds_of c.args.precision) c.args.now c.args.text.now c.whole_line.result c.whole_line.ensures;
+  only = read_of (nanoseconds_of c.args.precision) c.args.now c.args.text.now c.whole_line.result c.whole_line.ensures;
+}
 
 pub returns-clause-pairs : goal.returns-clause-pairs
 returns-clause-pairs g c = reads_pairs

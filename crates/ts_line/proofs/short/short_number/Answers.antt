@@ -4,5 +4,5 @@ use Rattle.ts_line.proofs.short.short_number.Goals as goal
 
 pub returns-clause-number : goal.returns-clause-number
 returns-clause-number c =
-    let number = c.digits_at-number.ensures in
-    if_some c.ok.result (plain_number c.args.line.now c.args.start _ (omega (arith, number.from, c.if-end-start.false)) (c.if-end-line.false) number.digits)
+    let number = c.digits_at-number.ensures.digits in
+    if_some c.ok.result (plain_number c.args.line.now c.args.start _ (omega (arith, number.order, c.if-end-start.false)) (c.if-end-line.false) number.digits)

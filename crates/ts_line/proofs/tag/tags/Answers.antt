@@ -13,7 +13,7 @@ loop-alloc-preserved g c =
     let len : vec_len c.push.new.self ≡ vec_len c.loop-alloc.tags + 1 = c.in_ok-push.ensures.len in
     let room = rw c.deref.ensures.len at c.in_ok-tag.ensures.room in
     record {
-      boundary = c.in_ok-tag.ensures.boundary;
+      boundary = c.in_ok-tag.ensures.place.boundary;
       marked = rw (items, ← c.deref.ensures.value) c.in_ok-tag.ensures.marked;
       few = omega arith;
       value = rw (len, items) (tag_taken (vec_len c.loop-alloc.tags) c.loop-alloc.tags.items c.args.line.now c.loop-alloc.at c.in_ok-tag.tag c.in_ok-tag.end (tags_at 65 [] c.args.line.now c.args.start) c.loop-alloc.invariant.few comma read c.loop-alloc.invariant.value);
