@@ -42,10 +42,6 @@ behind_all slots s g last some is less = (
   λ j d a b. absurd (omega arith),
 )
 
--- where the last one is the group, it stands there
-pub last_holds : (slots : Slots) (g : List Text) (last : Slot) → 0 < length slots → get_or slots (length slots - 1) last ≡ last → group_cmp last.0 g ≡ Equal → IsPlaceOfGroup g slots (Ok (length slots - 1))
-last_holds slots g last some is same d = ap (λ (e : Slot). group_cmp e.0 g) (get_or_default slots (length slots - 1) d last (omega arith) ∙ is) ∙ same
-
 pub behind_none : (slots : Slots) (g : List Text) → length slots ≡ 0 → IsPlaceOfGroup g slots (Err (length slots))
 behind_none slots g none = (λ j d a b. absurd (omega arith), λ j d a b. absurd (omega arith))
 
