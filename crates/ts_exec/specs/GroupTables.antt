@@ -1,5 +1,5 @@
 -- Groups with their rows, in byte order of their values, and how they take points and cells one after another. (Own rules.)
-use Rattle.std.specs.Prelude.{ℕ, ℤ, pos, ◌+ℤ◌, ◌*ℤ◌, ◌==◌, Bool, not, ◌&&◌, T, List, [], ◌∷◌, map, length, replicate, Option, Some, None, if◌then◌else◌}
+use Rattle.std.specs.Prelude.{◌≡◌, ℕ, ℤ, pos, ◌+ℤ◌, ◌*ℤ◌, ◌==◌, Bool, not, ◌&&◌, T, List, [], ◌∷◌, map, length, replicate, Option, Some, None, if◌then◌else◌}
 use Rattle.std.specs.List.{list_all}
 use Rattle.std.specs.FinMap.{find, put, is_sorted}
 use Rattle.ts_core.specs.Facts.{Text, is_of, is_within}
@@ -47,6 +47,11 @@ with_column_parts grid n g (p ∷ ps) t = put group_cmp g (with_point_parts grid
 
 abbrev pub width : Query → ℕ
 width q = length (buckets_in q)
+
+-- how many buckets a query has, and how they are counted
+pub record AreBucketsOf (q : Query) (n : ℕ) (g : BucketGrid) : Type 0 where
+  pub width : n ≡ width q
+  pub grid : g ≡ bucket_grid q
 
 abbrev pub with_seat : Query → List ColumnPoints → ℤ → ℤ → Seat → Table → Table
 with_seat q cs a b s t =

@@ -1,44 +1,19 @@
 //! `execute`: a checked plan over a view gives the answer over all points ever accepted, or is stale.
-ghost use Rattle.std.specs.Prelude.{◌≡◌, [], int_lt, IsOk, IfOk};
+ghost use Rattle.std.specs.Prelude.{◌≡◌, [], IsOk, IfOk};
 ghost use Rattle.std.specs.List.{AllByRecursion};
 ghost use Rattle.ts_core.specs.Queries.{IsQuery};
 ghost use Rattle.ts_exec.specs.Answered.{HasRows};
 ghost use Rattle.ts_exec.specs.Executions.{IsExecutionOf};
 ghost use Rattle.ts_exec.specs.GroupTables.{with_pieces, width};
 
-use crate::buckets::{Buckets, distance};
 use crate::fault::ExecFault;
 use crate::groups::{GroupRows, Groups};
 use crate::pieces::{Scan, add_pieces};
 use crate::table::Table;
 use std::alloc::{AllocError, Allocator};
 use ts_check::{Checked, Piece};
-use ts_core::bucket_index;
 use ts_ql::Query;
 use ts_store::View;
-
-/// Whether there is a moment in the range of a query.
-fn has_moment<A: Allocator>(query: &Query<A>) -> bool
-    ensures { result ≡ int_lt query.now.query.from query.now.query.to }
-{
-    query.from() < query.to()
-}
-
-/// How many buckets meet the range of a query.
-fn width<A: Allocator>(query: &Query<A>) -> Result<usize, AllocError>
-    ensures { IfOk result (λ n. n ≡ width query.now.query) }
-{
-    if !has_moment(query) {
-        return Ok(0);
-    }
-    let first = bucket_index(i128::from(query.from()), query.interval(), query.offset());
-    let last = bucket_index(i128::from(query.to()) - 1, query.interval(), query.offset());
-    let others = distance(&last, &first);
-    if others == usize::MAX {
-        return Err(AllocError);
-    }
-    Ok(others + 1)
-}
 
 /// The groups that pieces give of a view, with their rows.
 fn groups_given<'a, A: Allocator + Copy + 'a, V: View<A> + 'a>(
@@ -52,12 +27,7 @@ fn groups_given<'a, A: Allocator + Copy + 'a, V: View<A> + 'a>(
     ensures query { IsOk result → IsQuery query.now.query }
 {
     let mut groups = Groups::new(alloc);
-    let mut scan = Scan {
-        query,
-        width: width(query)?,
-        buckets: Buckets::new(query.from(), query.interval(), query.offset()),
-        values: Vec::new(alloc),
-    };
+    let mut scan = Scan::new(alloc, query)?;
     add_pieces(&mut groups, &mut scan, view, pieces)?;
     groups.into_groups()
 }

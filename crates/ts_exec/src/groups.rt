@@ -1,5 +1,5 @@
 //! The groups of an answer in byte order of their values, as parts and points are added to them.
-ghost use Rattle.std.specs.Prelude.{◌≡◌, true, [], length, Err, OnOk, IfOk};
+ghost use Rattle.std.specs.Prelude.{◌≡◌, ◌≤◌, true, [], length, Err, OnOk, IfOk};
 ghost use Rattle.std.specs.List.Sorted.{IsSearchInRange};
 ghost use Rattle.ts_exec.specs.Lent.{lent};
 ghost use Rattle.ts_exec.specs.Searches.{IsPlaceOfGroup, HoldsGroup};
@@ -48,27 +48,21 @@ impl<'a, A: Allocator> GroupRows<'a, A> {
     }
 }
 
-/// Whether a group goes behind all others.
-fn is_behind<A: Allocator + Copy>(slots: &[Slot<'_, A>], values: &[&str]) -> bool
-    requires { AreSlots slots.now }
-    ensures { result ≡ true → IsPlaceOfGroup (lent values.now) slots.now (Err (length slots.now)) }
-{
-    match slots.last() {
-        Some(slot) => slot.compare(values) == Ordering::Less,
-        None => true,
-    }
-}
-
-/// Where a group is, or where it would go. Groups that are told in their order go behind all others.
+/// Where a group is, or where it would go. The last one is looked at first: groups that are told in their order are there, or
+/// go behind it.
 fn place_of<A: Allocator + Copy>(slots: &[Slot<'_, A>], values: &[&str]) -> Result<usize, usize>
     requires { AreSlots slots.now }
     ensures bound { IsSearchInRange result (length slots.now) }
     ensures place { IsPlaceOfGroup (lent values.now) slots.now result }
 {
-    if is_behind(slots, values) {
-        return Err(slots.len());
+    let Some(last) = slots.last() else {
+        return Err(0);
+    };
+    match last.compare(values) {
+        Ordering::Less => Err(slots.len()),
+        Ordering::Equal => Ok(slots.len() - 1),
+        Ordering::Greater => slots.binary_search_by(|slot| slot.compare(values)),
     }
-    slots.binary_search_by(|slot| slot.compare(values))
 }
 
 /// Whether the group of a place has these values.
@@ -79,6 +73,24 @@ fn is_at<A: Allocator + Copy>(slots: &[Slot<'_, A>], at: usize, values: &[&str])
         Some(slot) => slot.compare(values) == Ordering::Equal,
         None => false,
     }
+}
+
+/// Puts a group without data where it goes.
+fn put<'a, A: Allocator + Copy>(
+    slots: &mut Vec<Slot<'a, A>, A>,
+    at: usize,
+    values: Vec<&'a str, A>,
+) -> Result<(), AllocError>
+    requires slots { AreSlots slots.old.items }
+    requires bound { at ≤ length slots.old.items }
+    requires place { IsPlaceOfGroup (lent values.items) slots.old.items (Err at) }
+    ensures slots { AreSlots slots.new.items }
+    ensures made { made slots.new.items ≡ made slots.old.items }
+    ensures place { OnOk result (HoldsGroup (lent values.entry.items) slots.new.items at) }
+{
+    let slot = Slot::new(values);
+    slots.insert(at, slot)?;
+    Ok(())
 }
 
 /// Where a group is, from now on. The guess is looked at first; where the group isn't there, it is put in its
@@ -99,8 +111,8 @@ fn expect<'a, A: Allocator + Copy>(
     match place_of(slots.as_slice(), values) {
         Ok(at) => Ok(at),
         Err(at) => {
-            let slot = Slot::new(*slots.allocator(), values)?;
-            slots.insert(at, slot)?;
+            let values = Vec::from_slice(*slots.allocator(), values)?;
+            put(slots, at, values)?;
             Ok(at)
         }
     }
@@ -140,7 +152,7 @@ impl<'a, A: Allocator + Copy> Groups<'a, A> {
     pub(crate) fn into_groups(self) -> Result<Vec<GroupRows<'a, A>, A>, AllocError>
         ensures { IfOk result (λ v. v.items ≡ self.entry) }
     {
-        let mut groups = Vec::new(*self.slots.allocator());
+        let mut groups = Vec::with_capacity(*self.slots.allocator(), self.slots.len())?;
         for slot in self.slots {
             let Slot { values, rows } = slot;
             if let Some(rows) = rows {
@@ -151,12 +163,16 @@ impl<'a, A: Allocator + Copy> Groups<'a, A> {
     }
 
     /// Makes room for a group that may get data, and answers where.
-    pub(crate) fn expect(&mut self, values: &[&'a str]) -> Result<usize, AllocError>
+    pub(crate) fn expect(&mut self, values: Vec<&'a str, A>) -> Result<usize, AllocError>
         ensures { self.new ≡ self.old }
     {
-        // Groups that are looked for in their order come one behind another.
-        let guess = self.slots.len().saturating_sub(1);
-        expect(&mut self.slots, guess, values)
+        match place_of(self.slots.as_slice(), values.as_slice()) {
+            Ok(at) => Ok(at),
+            Err(at) => {
+                put(&mut self.slots, at, values)?;
+                Ok(at)
+            }
+        }
     }
 
     /// Adds a part to a bucket of a group.

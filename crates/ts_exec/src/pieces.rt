@@ -1,34 +1,61 @@
 //! The pieces of a plan, each added to the groups.
-ghost use Rattle.std.specs.Prelude.{◌≡◌, ◌+◌, ◌^◌, ◌<◌, pos, ◌≤ℤ◌, true, option_map, zip, length, map, string_bytes, OnOk};
+ghost use Rattle.std.specs.Prelude.{◌≡◌, ◌+◌, ◌^◌, ◌<◌, pos, ◌≤ℤ◌, true, option_map, zip, length, map, string_bytes, OnOk, IfOk};
 ghost use Rattle.std.specs.List.{list_all};
 ghost use Rattle.ts_core.specs.Assembly.{stand_in};
 ghost use Rattle.ts_core.specs.Facts.{is_within};
 ghost use Rattle.ts_core.specs.Marks.{index_of};
 ghost use Rattle.ts_core.specs.Pieces.{Raw, start_of};
-ghost use Rattle.ts_core.specs.Queries.{meets, is_selected};
+ghost use Rattle.ts_core.specs.Queries.{IsQuery, meets, is_selected};
 ghost use Rattle.ts_core.specs.Tags.{tag_values, value_among};
 ghost use Rattle.ts_ql.specs.Selects.{texts};
 ghost use Rattle.ts_store.specs.Seats.{cells_at};
 ghost use Rattle.ts_exec.specs.FirstOf.{rule_from};
 ghost use Rattle.ts_exec.specs.Lent.{lent};
-ghost use Rattle.ts_exec.specs.RowParts.{bucket_grid};
-ghost use Rattle.ts_exec.specs.GroupTables.{width, with_cell, with_cell_parts, with_source, with_pieces, is_cell_taken};
+ghost use Rattle.ts_exec.specs.GroupTables.{with_cell, with_cell_parts, with_source, with_pieces, is_cell_taken};
 
-use crate::buckets::Buckets;
+use crate::buckets::{Buckets, width};
 use crate::groups::Groups;
 use std::alloc::{AllocError, Allocator};
+use std::marker::Model;
 use ts_check::{Piece, PieceSource};
 use ts_core::{Key, Partial, Rule, bucket_index};
 use ts_ql::{Condition, Query};
 use ts_store::{CellSeen, View};
 
-/// What all pieces of a query share: the query, its buckets, and room for the values of one group.
+/// What all pieces of a query share, seen as the query: its buckets, and room for the values of one group.
 #[derive(Drop)]
 pub(crate) struct Scan<'a, 'q, A: Allocator> {
-    pub query: &'q Query<A>,
-    pub width: usize,
-    pub buckets: Buckets,
-    pub values: Vec<&'a str, A>,
+    query: &'q Query<A>,
+    width: usize,
+    buckets: Buckets,
+    values: Vec<&'a str, A>,
+}
+
+impl<'a, 'q, A: Allocator> Model for Scan<'a, 'q, A> {
+    ghost use Rattle.ts_core.specs.Queries.{Query as QueryValue};
+    ghost use Rattle.ts_exec.specs.GroupTables.{AreBucketsOf};
+
+    ghost Value = { QueryValue };
+
+    ghost view = { λ s. s.query.now.query };
+
+    ghost invariant = { λ s. AreBucketsOf s.query.now.query s.width s.buckets };
+}
+
+impl<'a, 'q, A: Allocator + Copy> Scan<'a, 'q, A> {
+    /// A scan for a query.
+    pub(crate) fn new(alloc: A, query: &'q Query<A>) -> Result<Scan<'a, 'q, A>, AllocError>
+        ensures value { IfOk result (λ s. s ≡ query.now.query) }
+        ensures query { IsQuery query.now.query }
+    {
+        let buckets = Buckets::new(query.from(), query.interval(), query.offset());
+        Ok(Scan {
+            query,
+            width: width(query)?,
+            buckets,
+            values: Vec::new(alloc),
+        })
+    }
 }
 
 fn is_met<A: Allocator + Copy>(key: &Key<A>, condition: &Condition<A>) -> bool
@@ -84,7 +111,7 @@ fn expect_groups<'a, A: Allocator + Copy + 'a, V: View<A> + 'a>(
     let mut expected: Vec<(u128, Vec<&'a str, A>, usize), A> = Vec::new(alloc);
     for column in view.columns_of(query.measurement(), query.field()) {
         if are_met(column.key, query.conditions()) {
-            let mut values = Vec::new(alloc);
+            let mut values = Vec::with_capacity(alloc, query.group_tags().len())?;
             read_values(&mut values, column.key, query.group_tags())?;
             let first = values.first().copied().unwrap_or("");
             let number = expected.len();
@@ -93,9 +120,9 @@ fn expect_groups<'a, A: Allocator + Copy + 'a, V: View<A> + 'a>(
     }
     expected.sort()?;
     let mut places = Vec::from_elem(alloc, 0usize, expected.len())?;
-    for (_, values, number) in &expected {
-        let at = groups.expect(values.as_slice())?;
-        if let Some(place) = places.get_mut(*number) {
+    for (_, values, number) in expected {
+        let at = groups.expect(values)?;
+        if let Some(place) = places.get_mut(number) {
             *place = at;
         }
     }
@@ -110,12 +137,8 @@ fn add_raw<'a, A: Allocator + Copy + 'a, V: View<A> + 'a>(
     from: i64,
     to: i64,
 ) -> Result<(), AllocError>
-    requires width { scan.old.width ≡ width scan.old.query.now.query }
-    requires grid { scan.old.buckets ≡ bucket_grid scan.old.query.now.query }
-    ensures value { OnOk result (groups.new ≡ with_source (V.seen view.now) scan.old.query.now.query Raw from to groups.old) }
-    ensures width { scan.new.width ≡ scan.old.width }
-    ensures grid { scan.new.buckets ≡ scan.old.buckets }
-    ensures query { scan.new.query ≡ scan.old.query }
+    ensures value { OnOk result (groups.new ≡ with_source (V.seen view.now) scan.old Raw from to groups.old) }
+    ensures same { scan.new ≡ scan.old }
 {
     let alloc = *scan.values.allocator();
     let places = expect_groups(groups, alloc, scan.query, view)?;
@@ -247,12 +270,8 @@ fn add_cell<'a, A: Allocator + Copy>(
 ) -> Result<(), AllocError>
     requires interval { pos 1 ≤ℤ rule.now.interval }
     requires within { is_within (index_of rule.now from) (index_of rule.now to) cell.cell.index ≡ true }
-    requires width { scan.old.width ≡ width scan.old.query.now.query }
-    requires grid { scan.old.buckets ≡ bucket_grid scan.old.query.now.query }
-    ensures value { OnOk result (groups.new ≡ with_cell scan.old.query.now.query rule.now from to cell.entry groups.old) }
-    ensures width { scan.new.width ≡ scan.old.width }
-    ensures grid { scan.new.buckets ≡ scan.old.buckets }
-    ensures query { scan.new.query ≡ scan.old.query }
+    ensures value { OnOk result (groups.new ≡ with_cell scan.old rule.now from to cell.entry groups.old) }
+    ensures same { scan.new ≡ scan.old }
 {
     let _interval = scan.query.interval();
     let start = bucket_start(rule, from, to, &cell.index);
@@ -281,12 +300,8 @@ fn add_cells<'a, A: Allocator + Copy + 'a, V: View<A> + 'a>(
 ) -> Result<(), AllocError>
     requires number { number < length (V.seen view.now).rules }
     requires interval { pos 1 ≤ℤ rule.now.interval }
-    requires width { scan.old.width ≡ width scan.old.query.now.query }
-    requires grid { scan.old.buckets ≡ bucket_grid scan.old.query.now.query }
-    ensures value { OnOk result (groups.new ≡ with_cell_parts scan.old.query.now.query rule.now from to (cells_at (V.seen view.now).rules number (index_of rule.now from) (index_of rule.now to)) groups.old) }
-    ensures width { scan.new.width ≡ scan.old.width }
-    ensures grid { scan.new.buckets ≡ scan.old.buckets }
-    ensures query { scan.new.query ≡ scan.old.query }
+    ensures value { OnOk result (groups.new ≡ with_cell_parts scan.old rule.now from to (cells_at (V.seen view.now).rules number (index_of rule.now from) (index_of rule.now to)) groups.old) }
+    ensures same { scan.new ≡ scan.old }
 {
     let first = bucket_index(i128::from(from), rule.interval(), rule.offset());
     let end = bucket_index(i128::from(to), rule.interval(), rule.offset());
@@ -320,12 +335,8 @@ fn add_piece<'a, A: Allocator + Copy + 'a, V: View<A> + 'a>(
     view: &'a V,
     piece: &Piece<'_>,
 ) -> Result<(), AllocError>
-    requires width { scan.old.width ≡ width scan.old.query.now.query }
-    requires grid { scan.old.buckets ≡ bucket_grid scan.old.query.now.query }
-    ensures value { OnOk result (groups.new ≡ with_source (V.seen view.now) scan.old.query.now.query piece.now.source piece.now.from piece.now.to groups.old) }
-    ensures width { scan.new.width ≡ scan.old.width }
-    ensures grid { scan.new.buckets ≡ scan.old.buckets }
-    ensures query { scan.new.query ≡ scan.old.query }
+    ensures value { OnOk result (groups.new ≡ with_source (V.seen view.now) scan.old piece.now.source piece.now.from piece.now.to groups.old) }
+    ensures same { scan.new ≡ scan.old }
 {
     match piece.source {
         PieceSource::Raw => add_raw(groups, scan, view, piece.from, piece.to),
@@ -345,9 +356,7 @@ pub(crate) fn add_pieces<'a, A: Allocator + Copy + 'a, V: View<A> + 'a>(
     view: &'a V,
     pieces: &[Piece<'_>],
 ) -> Result<(), AllocError>
-    requires width { scan.old.width ≡ width scan.old.query.now.query }
-    requires grid { scan.old.buckets ≡ bucket_grid scan.old.query.now.query }
-    ensures { OnOk result (groups.new ≡ with_pieces (V.seen view.now) scan.old.query.now.query pieces.now groups.old) }
+    ensures { OnOk result (groups.new ≡ with_pieces (V.seen view.now) scan.old pieces.now groups.old) }
 {
     for piece in pieces {
         add_piece(groups, scan, view, piece)?;

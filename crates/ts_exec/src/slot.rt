@@ -1,5 +1,5 @@
 //! A group that is expected, with its rows once it has data.
-ghost use Rattle.std.specs.Prelude.{◌≡◌, ◌∷◌, None, Some, IfOk, OnOk, OnErr, option_map};
+ghost use Rattle.std.specs.Prelude.{◌≡◌, ◌∷◌, None, Some, OnOk, OnErr, option_map};
 ghost use Rattle.ts_core.specs.Answers.{group_cmp};
 ghost use Rattle.ts_exec.specs.Lent.{lent};
 ghost use Rattle.ts_exec.specs.RowParts.{with_part, with_point_parts};
@@ -40,13 +40,10 @@ fn compare(values: &[&str], others: &[&str]) -> Ordering
 
 impl<'a, A: Allocator + Copy> Slot<'a, A> {
     /// A group without data.
-    pub(crate) fn new(alloc: A, values: &[&'a str]) -> Result<Slot<'a, A>, AllocError>
-        ensures { IfOk result (λ s. s ≡ (lent values.now, None)) }
+    pub(crate) fn new(values: Vec<&'a str, A>) -> Slot<'a, A>
+        ensures { result ≡ (lent values.entry.items, None) }
     {
-        Ok(Slot {
-            values: Vec::from_slice(alloc, values)?,
-            rows: None,
-        })
+        Slot { values, rows: None }
     }
 
     pub(crate) fn compare(&self, values: &[&str]) -> Ordering

@@ -1,13 +1,23 @@
-use Rattle.std.proofs.Common.{rules, List, Option}
+use Rattle.std.proofs.Common.{rules, ◌≡◌, ◌<◌, ◌-◌, length, get_or, Less, List, Option}
 use Rattle.std.proofs.lemmas.Fn.{always_returns_same}
 use Rattle.ts_core.specs.Facts.{Text}
 use Rattle.ts_core.specs.Aggregates.{Aggregate}
 use Rattle.ts_core.specs.Answers.{group_cmp}
 use Rattle.ts_exec.specs.Lent.{lent}
-use Rattle.ts_exec.proofs.Slotted.{found_place}
+use Rattle.ts_exec.specs.Slots.{Slots}
+use Rattle.ts_exec.proofs.Slotted.{behind_all, found_place}
 use Rattle.ts_exec.proofs.groups.place_of.Goals as goal
 
-pub returns-clause-place : goal.returns-clause-place
-returns-clause-place g c =
+pub returns-in-Less-clause-place : goal.returns-in-Less-clause-place
+returns-in-Less-clause-place g c =
+    let slots : Slots = c.args.slots.now in
+    let last : List Text × Option (List Aggregate) = c.in-Some.last.now in
+    let some : 0 < length slots = search rules in
+    let is : get_or slots (length slots - 1) last ≡ last = search rules in
+    let less : group_cmp last.0 (lent c.args.values.now) ≡ Less = search rules in
+    behind_all slots c.requires (lent c.args.values.now) last some is less
+
+pub returns-in-Greater-clause-place : goal.returns-in-Greater-clause-place
+returns-in-Greater-clause-place g c =
     found_place c.args.slots.now c.requires (lent c.args.values.now) c.binary_search_by.result
     (c.binary_search_by.ensures.position (λ (e : List Text × Option (List Aggregate)). group_cmp e.0 (lent c.args.values.now)) (always_returns_same _ _ _ (λ a r q called. search rules)))

@@ -18,7 +18,7 @@ use Rattle.ts_exec.proofs.pieces.add_cell.Goals as goal
 
 pub returns-then-not-is_taken-clause-value : goal.returns-then-not-is_taken-clause-value
 returns-then-not-is_taken-clause-value g c =
-    let q : Query = c.args.scan.now.query.now.query in
+    let q : Query = c.args.scan.now in
     let r : Rule = c.args.rule.now in
     let k : CellTotal = c.args.cell in
     let e : is_cell_taken q r c.args.from c.args.to k ≡ false = search rules in
@@ -26,7 +26,7 @@ returns-then-not-is_taken-clause-value g c =
 
 pub overflow_cast-start : goal.overflow_cast-start
 overflow_cast-start g c =
-    let q : Query = c.args.scan.now.query.now.query in
+    let q : Query = c.args.scan.now in
     let r : Rule = c.args.rule.now in
     let k : CellTotal = c.args.cell in
     let e : is_cell_taken q r c.args.from c.args.to k ≡ true = search rules in
@@ -35,7 +35,8 @@ overflow_cast-start g c =
 
 pub returns-clause-value : goal.returns-clause-value
 returns-clause-value g c =
-    let q : Query = c.args.scan.now.query.now.query in
+    let q : Query = c.args.scan.now in
+    let at : c.scan.inside.query.now.query ≡ q = c.scan.view_is in
     let r : Rule = c.args.rule.now in
     let k : CellTotal = c.args.cell in
     let t : ℤ = start_of r k.cell.index in
@@ -48,11 +49,11 @@ returns-clause-value g c =
     let fits : SFits w64 t = within_fits c.args.from c.args.to t c.ranges.from c.ranges.to (taken-within q r c.args.from c.args.to k e).1 in
     let cast : to_z w64 (of_z w64 (to_z w128 (of_z w128 c.bucket_start-start.result))) ≡ t = ap (λ x. to_z w64 (of_z w64 x)) start ∙ to_z-of_z fits in
     let s : c.place-place.result ≡ min (place_at (bucket_grid q) t) 18446744073709551615 =
-    c.place-place.ensures.value ∙ ap₂ (λ (b : BucketGrid) x. min (place_at b x) 18446744073709551615) c.requires.grid cast in
+    c.place-place.ensures.value ∙ ap₂ (λ (b : BucketGrid) x. min (place_at b x) 18446744073709551615) (c.scan.invariant.grid ∙ ap bucket_grid at) cast in
     let p : c.place-place.result ≡ place_at (bucket_grid q) t = omega arith in
     let kept : map string_bytes c.kept_tags.result.now ≡ r.kept_tags = c.kept_tags.ensures in
     let group : map string_bytes c.cell.inside.group.now ≡ k.cell.group = search rules in
-    let tags : texts c.group_tags.result.now ≡ q.group_tags = c.group_tags.ensures in
+    let tags : texts c.group_tags.result.now ≡ q.group_tags = c.group_tags.ensures ∙ ap (λ (x : Query). x.group_tags) at in
     let read : lent c.read_kept_values.new.values.items ≡ map (value_among (zip (map string_bytes c.kept_tags.result.now) (map string_bytes c.cell.inside.group.now))) (texts c.group_tags.result.now) = search rules in
     let v : lent c.deref.result.now ≡ group_of q (stand_in r k.cell) =
     ap lent c.deref.ensures.value ∙ read ∙ ap₂ (λ (ts : List (Text × Text)) (ks : List Text). map (value_among ts) ks) (ap₂ (λ (xs ys : List Text). zip xs ys) kept group) tags in

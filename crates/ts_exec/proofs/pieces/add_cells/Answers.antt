@@ -12,7 +12,7 @@ use Rattle.ts_exec.proofs.pieces.add_cells.Goals as goal
 
 pub loop-cell-init : goal.loop-cell-init
 loop-cell-init g c =
-    let q : Query = c.args.scan.now.query.now.query in
+    let q : Query = c.args.scan.now in
     let r : Rule = c.args.rule.now in
     let rs : List RuleTotals = (g.V.View.seen c.args.view.now).rules in
     let f : SFits w64 c.args.from = search rules in
@@ -23,8 +23,6 @@ loop-cell-init g c =
       tt,
       ap (λ (cs : List CellTotal). with_cell_parts q r c.args.from c.args.to cs c.args.groups.now) first,
       subst (AllByRecursion (λ (x : CellTotal). is_within (index_of r c.args.from) (index_of r c.args.to) x.cell.index ≡ true)) (sym first) (cells-within (get_or rs c.args.number no_rule) (index_of r c.args.from) (index_of r c.args.to)),
-      refl,
-      refl,
       refl,
     )
 

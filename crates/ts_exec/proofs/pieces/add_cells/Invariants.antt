@@ -8,10 +8,10 @@ use Rattle.ts_exec.proofs.pieces.add_cells.Given as goal
 
 abbrev pub invariant-loop-cell : goal.invariant-loop-cell
 invariant-loop-cell g l =
-    let q = l.fn.scan.query.now.query in
+    let q = l.fn.scan in
     let a = index_of l.rule l.from in
     let b = index_of l.rule l.to in
     (goal.iterator-loop-cell g).can_next l.cell-iterator × (goal.iterator-loop-cell g).is_finite l.cell-iterator
     × (with_cell_parts q l.rule l.from l.to l.cell-iterator l.groups ≡ with_cell_parts q l.rule l.from l.to (cells_at (g.V.View.seen l.view).rules l.number a b) l.fn.groups)
     × AllByRecursion (λ (c : CellTotal). is_within a b c.cell.index ≡ true) l.cell-iterator
-    × (l.scan.width ≡ l.fn.scan.width) × (l.scan.buckets ≡ l.fn.scan.buckets) × (l.scan.query ≡ l.fn.scan.query)
+    × (l.scan ≡ l.fn.scan)

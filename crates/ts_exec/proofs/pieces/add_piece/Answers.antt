@@ -22,7 +22,7 @@ add_cells-requires-clause-interval g c =
 pub returns-in-Some-clause-value : goal.returns-in-Some-clause-value
 returns-in-Some-clause-value g c =
     let seen : Seen = g.V.View.seen c.args.view.now in
-    let q : Query = c.args.scan.now.query.now.query in
+    let q : Query = c.args.scan.now in
     let e : rule_from c.in-Rollup.name.now 0 (map seen_rule seen.rules) ≡ Some (c.in-Some.number, c.in-Some.rule.now) = search rules in
     let source : c.args.piece.now.source ≡ Rollup c.in-Rollup.name.now = search rules in
     let s = found-shown c.in-Rollup.name.now seen.rules c.in-Some.number c.in-Some.rule.now e in
@@ -33,7 +33,7 @@ returns-in-Some-clause-value g c =
 pub returns-in-None-clause-value : goal.returns-in-None-clause-value
 returns-in-None-clause-value g c =
     let seen : Seen = g.V.View.seen c.args.view.now in
-    let q : Query = c.args.scan.now.query.now.query in
+    let q : Query = c.args.scan.now in
     let e : rule_from c.in-Rollup.name.now 0 (map seen_rule seen.rules) ≡ None = search rules in
     let source : c.args.piece.now.source ≡ Rollup c.in-Rollup.name.now = search rules in
     sym (ap (λ (z : Source). with_source seen q z c.args.piece.now.from c.args.piece.now.to c.args.groups.now) source

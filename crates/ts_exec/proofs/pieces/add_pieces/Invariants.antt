@@ -4,7 +4,7 @@ use Rattle.ts_exec.proofs.pieces.add_pieces.Given as goal
 
 abbrev pub invariant-loop-piece : goal.invariant-loop-piece
 invariant-loop-piece g l =
-    let q = l.fn.scan.query.now.query in
+    let q = l.fn.scan in
     let seen = g.V.View.seen l.view in
     (with_pieces seen q (drop l.piece-index l.pieces) l.groups ≡ with_pieces seen q l.pieces l.fn.groups)
-    × (l.scan.width ≡ l.fn.scan.width) × (l.scan.buckets ≡ l.fn.scan.buckets) × (l.scan.query ≡ l.fn.scan.query)
+    × (l.scan ≡ l.fn.scan)

@@ -2,14 +2,14 @@ use Rattle.std.proofs.Common.{◌≡◌, ◌<◌, length}
 use Rattle.std.specs.List.{AllByRecursion}
 use Rattle.ts_core.specs.Facts.{is_of}
 use Rattle.ts_store.specs.Seats.{Seat, seats_where}
-use Rattle.ts_exec.specs.GroupTables.{with_seats}
+use Rattle.ts_exec.specs.GroupTables.{AreBucketsOf, with_seats}
 use Rattle.ts_exec.proofs.pieces.add_raw.Given as goal
 
 abbrev pub invariant-loop-column : goal.invariant-loop-column
 invariant-loop-column g l =
-    let q = l.fn.scan.query.now.query in
+    let q = l.fn.scan in
     let cs = (g.V.View.seen l.view).columns in
     (goal.iterator-loop-column g).can_next l.column-iterator × (goal.iterator-loop-column g).is_finite l.column-iterator
     × (with_seats q cs l.from l.to l.column-iterator l.groups ≡ with_seats q cs l.from l.to (seats_where (is_of q.measurement q.field) cs) l.fn.groups)
     × AllByRecursion (λ (s : Seat). s.number < length cs) l.column-iterator
-    × (l.scan.width ≡ l.fn.scan.width) × (l.scan.buckets ≡ l.fn.scan.buckets) × (l.scan.query ≡ l.fn.scan.query)
+    × (l.scan-inside.query.now.query ≡ q) × AreBucketsOf l.scan-inside.query.now.query l.scan-inside.width l.scan-inside.buckets

@@ -4,7 +4,7 @@ use Rattle.ts_core.specs.Answers.{at_least_none, bucket_in}
 use Rattle.ts_core.proofs.Comparisons.{lt_from}
 use Rattle.ts_exec.proofs.Spans.{before-fits}
 use Rattle.ts_exec.proofs.Widths.{width-some}
-use Rattle.ts_exec.proofs.executor.width.Goals as goal
+use Rattle.ts_exec.proofs.buckets.width.Goals as goal
 
 pub returns : goal.returns
 returns g c =
