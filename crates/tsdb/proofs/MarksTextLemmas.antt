@@ -1,23 +1,14 @@
 -- The text of marks, and how long it is.
-use Rattle.std.proofs.Common.{◌≡◌, ◌∙◌, ◌+◌, ◌≤◌, ◌++◌, List, [], ◌∷◌, ℕ, ℤ, pos, negsuc, ◌≤ℤ◌, length, length-append, append_assoc, Result, Ok, Err, OnOk, Option, Some, None, Bool, true, false, ◌&&◌, nat_le, cond, arith, refl, ap, sym, subst}
-use Rattle.std.specs.Fmt.{decimal, signed_decimal}
+use Rattle.std.proofs.Common.{◌≡◌, ◌∙◌, ◌+◌, ◌≤◌, ◌++◌, List, [], ◌∷◌, ℕ, ℤ, length, append_assoc, Result, Ok, Err, OnOk, Option, Some, None, Bool, true, false, ◌&&◌, nat_le, cond, arith, refl, ap, sym, subst}
 use Rattle.std.specs.List.{AllByRecursion}
-use Rattle.std.proofs.lemmas.Fmt.{length-decimal-le, length_signed_le}
-use Rattle.std.proofs.lemmas.Int.{ints}
-use lib.Signed.{mag}
-use Rattle.ts_core.specs.FaultTexts.{fault_text}
-use Rattle.ts_core.specs.Times.{IsTime, least_time, greatest_time}
-use Rattle.ts_core.specs.declared.fault_code.FaultCode.TheVariants.{BelowRawMark}
-use Rattle.ts_core.specs.declared.fault_text.FaultDetail.TheVariants.{Mark}
 use Rattle.std.proofs.lemmas.Bool.{and_parts}
 use Rattle.std.proofs.lemmas.Bool.Decides.{nat_tests}
 use Rattle.ts_core.specs.Facts.{Text}
 use Rattle.ts_core.specs.Marks.{Marks}
 use Rattle.ts_core.specs.Settings.{Rule, Settings}
-use Rattle.ts_core.specs.SettingsFaults.{unless, is_rule_name, fault_of_rule, or_rule_fault, rules_fault, settings_fault}
+use Rattle.ts_core.specs.SettingsFaults.{unless, is_rule_name, fault_of_rule, rules_fault, settings_fault}
 use Rattle.ts_core.specs.declared.settings_fault.RuleFault.{RuleFault}
-use Rattle.ts_core.specs.declared.settings_fault.SettingsFault.{SettingsFault}
-use Rattle.ts_core.specs.declared.settings_fault.SettingsFault.TheVariants.{TooManyRules, OfRule}
+use Rattle.ts_core.specs.declared.settings_fault.SettingsFault.TheVariants.{TooManyRules}
 use Rattle.ts_core.proofs.SettingsLaws.{or_none}
 use Rattle.tsdb.specs.MarksTexts.{low_text, lows_text, raw_text, marks_text}
 

@@ -1,6 +1,6 @@
 -- What a command line is answered, by the words behind the program's name: the kinds that clap's error may have, and none where
 -- the words ask for a replay. (Own rule: `replay` is the one subcommand. Flags, `help` and `--` are clap's own.)
-use Rattle.std.specs.Prelude.{ℕ, codes, List, [], ◌∷◌, Bool, true, false, ◌&&◌, ◌==◌, if◌then◌else◌, Option, Some, None, is_some, slice_get}
+use Rattle.std.specs.Prelude.{◌≡◌, ◌⊎◌, ℕ, codes, List, [], ◌∷◌, Bool, true, false, ◌&&◌, ◌==◌, if◌then◌else◌, Option, Some, None, is_some, slice_get}
 use Rattle.std.specs.Option.{option_map_or}
 use Rattle.std.specs.Str.{bytes_eq, chars}
 use Rattle.clap.specs.Lexer.{long_of, short_of}
@@ -8,7 +8,7 @@ use Rattle.clap.specs.Words.{App, Kinds, Text, new_app, with_subcommand}
 use Rattle.clap.specs.declared.error.kind.ErrorKind.{ErrorKind}
 use Rattle.clap.specs.declared.error.kind.ErrorKind.TheVariants as kind
 use Rattle.tsdb.specs.declared.command_line.Told.{Told}
-use Rattle.tsdb.specs.declared.command_line.Told.TheVariants.{Done, Wrong, OutOfMemory}
+use Rattle.tsdb.specs.declared.command_line.Told.TheVariants.{Done, Device, Wrong, OutOfMemory}
 
 -- `tsdb` with its one subcommand
 abbrev pub program_app : App
@@ -81,3 +81,8 @@ told_of_kind kind.OutOfMemory = OutOfMemory
 told_of_kind kind.DisplayHelp = Done
 told_of_kind kind.DisplayVersion = Done
 told_of_kind _ = Wrong
+
+-- where an error's text is still to be printed, its device may fail; without memory none is printed
+abbrev pub IsToldAs : Told → Told → Type 0
+IsToldAs OutOfMemory told = told ≡ OutOfMemory
+IsToldAs said told = (told ≡ said) ⊎ (told ≡ Device)

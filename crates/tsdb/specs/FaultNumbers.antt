@@ -1,5 +1,5 @@
 -- The rows of the table of faults, number by number. (Own rule.)
-use Rattle.std.specs.Prelude.{ℕ, Bool, List, [], if◌then◌else◌}
+use Rattle.std.specs.Prelude.{ℕ, Bool, [], if◌then◌else◌}
 use Rattle.std.specs.Option.{option_map_or}
 use Rattle.ts_core.specs.Facts.{Text}
 use Rattle.ts_core.specs.FaultCodes.{code_of_number}

@@ -11,6 +11,7 @@ pub mod Script
 pub mod RunFaults
 pub mod CommandLines
 pub mod RunOutcomes
+pub mod Calls
 -- What the code inside promises itself; nobody needs them to know what a script prints.
 pub mod CommandParts
 pub mod Counted

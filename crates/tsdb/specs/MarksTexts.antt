@@ -1,5 +1,5 @@
 -- Marks as a script prints them. (Own rule.)
-use Rattle.std.specs.Prelude.{ℤ, List, [], ◌∷◌, ◌++◌, codes}
+use Rattle.std.specs.Prelude.{◌≡◌, ◌+◌, ◌≤◌, ℕ, ℤ, List, [], ◌∷◌, ◌++◌, codes, Result, IsOk, OnOk, String, string_bytes, string_len, string_capacity}
 use Rattle.std.specs.Fmt.{signed_decimal}
 use Rattle.ts_core.specs.Facts.{Text}
 use Rattle.ts_core.specs.Marks.{Marks}
@@ -20,3 +20,10 @@ raw_text mark = codes "marks " ++ signed_decimal mark
 -- the raw mark, and the low index of each rule
 abbrev pub marks_text : Settings → Marks → Text
 marks_text s m = raw_text m.raw ++ lows_text s.rules m.lows
+
+-- a call that appends a text, which takes so many bytes at most: where there is room for so many, no memory is wanted
+pub record IsAppendedWithin {A T E : Type 0} (most : ℕ) (text : Text) (old new : String A) (result : Result T E) : Type 0 where
+  pub ok : OnOk result (string_bytes new ≡ string_bytes old ++ text)
+  pub long : OnOk result (string_len new ≤ string_len old + most)
+  pub room : string_len old + most ≤ string_capacity old → IsOk result
+  pub capacity : string_capacity old ≤ string_capacity new

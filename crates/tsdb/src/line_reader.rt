@@ -24,10 +24,12 @@ pub enum Next {
     End,
 }
 
-/// Reads lines from a source that it is lent for each.
+/// Reads lines from a source that it is lent for each. `end` is where the first line ends of what was read ahead, so that each end is
+/// looked for once.
 #[derive(Drop)]
 pub struct LineReader<A: Allocator + Copy> {
     ahead: ReadAhead<A>,
+    end: usize,
     line: Vec<u8, A>,
     long: bool,
 }
@@ -35,13 +37,14 @@ pub struct LineReader<A: Allocator + Copy> {
 impl<A: Allocator + Copy> Model for LineReader<A> {
     ghost use Rattle.std.specs.Prelude.{◌≡◌, ◌≤◌, vec_len, vec_capacity};
     ghost use Rattle.tsdb.specs.ScriptLines.{script_line_limit, turn_limit};
+    ghost use Rattle.tsdb.specs.LineReading.{IsLineEnd};
     ghost use Rattle.tsdb.specs.HeldLine.{HeldLine};
 
     ghost Value = { HeldLine };
 
     ghost view = { λ r. record { ahead = r.ahead; line = r.line.items; long = r.long } };
 
-    ghost invariant = { λ r. (r.ahead.limit ≡ turn_limit) × (r.ahead.turns ≤ turn_limit) × (script_line_limit ≤ vec_capacity r.line) × (vec_len r.line ≤ script_line_limit) };
+    ghost invariant = { λ r. (r.ahead.limit ≡ turn_limit) × (r.ahead.turns ≤ turn_limit) × (script_line_limit ≤ vec_capacity r.line) × (vec_len r.line ≤ script_line_limit) × IsLineEnd r.ahead.buffered r.end };
 }
 
 impl<A: Allocator + Copy> LineReader<A> {
@@ -51,6 +54,7 @@ impl<A: Allocator + Copy> LineReader<A> {
     {
         Ok(LineReader {
             ahead: ReadAhead::new(alloc, TURN_LIMIT)?,
+            end: 0,
             line: Vec::with_capacity(alloc, LINE_LIMIT)?,
             long: false,
         })
@@ -68,8 +72,7 @@ impl<A: Allocator + Copy> LineReader<A> {
     pub fn holds_line(&self) -> bool
         ensures { result ≡ has_lf self.now.ahead.buffered }
     {
-        let rest = self.ahead.buffered();
-        line_end(rest) < rest.len()
+        self.end < self.ahead.buffered().len()
     }
 
     /// Forgets the line.
@@ -87,11 +90,12 @@ impl<A: Allocator + Copy> LineReader<A> {
         ensures line { IsLonger self.old self.new }
     {
         let rest = self.ahead.buffered();
-        let size = line_end(rest);
+        let size = self.end;
         let found = size < rest.len();
         self.long = extend_line(&mut self.line, self.long, &rest[..size]);
         let used = if found { size + 1 } else { size };
         self.ahead.consume(used);
+        self.end = line_end(self.ahead.buffered());
         found
     }
 
@@ -102,7 +106,9 @@ impl<A: Allocator + Copy> LineReader<A> {
         ensures read { IsReadOn self.old source.old result self.new source.new }
         ensures asked { IsAsked self.old.ahead source.old result self.new.ahead source.new }
     {
-        self.ahead.fill(source)
+        let more = self.ahead.fill(source);
+        self.end = line_end(self.ahead.buffered());
+        more
     }
 
     /// Reads the next line.

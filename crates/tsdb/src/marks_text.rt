@@ -1,8 +1,8 @@
 //! Marks as a script prints them.
-ghost use Rattle.std.specs.Prelude.{◌≡◌, ◌+◌, ◌*◌, ◌≤◌, ◌++◌, length, IsOk, OnOk, string_bytes, string_len, string_capacity};
+ghost use Rattle.std.specs.Prelude.{◌≡◌, ◌+◌, ◌*◌, ◌≤◌, length, string_bytes, string_len, string_capacity};
 ghost use Rattle.std.specs.List.{AllByRecursion};
 ghost use Rattle.ts_core.specs.Settings.{Rule as RuleValue};
-ghost use Rattle.tsdb.specs.MarksTexts.{low_text, lows_text, raw_text, marks_text};
+ghost use Rattle.tsdb.specs.MarksTexts.{low_text, lows_text, raw_text, marks_text, IsAppendedWithin};
 ghost use Rattle.tsdb.specs.ScriptReplies.{line};
 
 use itoa::Buffer;
@@ -14,10 +14,7 @@ pub(crate) const MARKS_ROOM: usize = 2_415;
 
 /// Appends a rule's name and its low index. Where the room is there, no memory is taken.
 fn low_to<A: Allocator>(text: &mut String<A>, name: &str, low: i128) -> Result<(), AllocError>
-    ensures ok { OnOk result (string_bytes text.new ≡ string_bytes text.old ++ low_text name.now low) }
-    ensures room { string_len text.old + (length name.now + 42) ≤ string_capacity text.old → IsOk result }
-    ensures long { OnOk result (string_len text.new ≤ string_len text.old + (length name.now + 42)) }
-    ensures capacity { string_capacity text.old ≤ string_capacity text.new }
+    ensures { IsAppendedWithin (length name.now + 42) (low_text name.now low) text.old text.new result }
 {
     append_words(text, &[" ", name, "=", Buffer::new().format(low)])
 }
@@ -29,10 +26,7 @@ fn lows_to<A: Allocator, B: Allocator>(
     lows: &[i128],
 ) -> Result<(), AllocError>
     requires { AllByRecursion (λ (r : RuleValue). length r.name ≤ 32) rules.now }
-    ensures ok { OnOk result (string_bytes text.new ≡ string_bytes text.old ++ lows_text rules.now lows.now) }
-    ensures room { string_len text.old + 74 * length rules.now ≤ string_capacity text.old → IsOk result }
-    ensures long { OnOk result (string_len text.new ≤ string_len text.old + 74 * length rules.now) }
-    ensures capacity { string_capacity text.old ≤ string_capacity text.new }
+    ensures { IsAppendedWithin (74 * length rules.now) (lows_text rules.now lows.now) text.old text.new result }
 {
     match (rules.split_first(), lows.split_first()) {
         (Some((rule, rules)), Some((low, lows))) => {
@@ -45,10 +39,7 @@ fn lows_to<A: Allocator, B: Allocator>(
 
 /// Appends the raw mark. Where the room is there, no memory is taken.
 fn raw_to<A: Allocator>(text: &mut String<A>, mark: i64) -> Result<(), AllocError>
-    ensures ok { OnOk result (string_bytes text.new ≡ string_bytes text.old ++ raw_text mark) }
-    ensures room { string_len text.old + 46 ≤ string_capacity text.old → IsOk result }
-    ensures long { OnOk result (string_len text.new ≤ string_len text.old + 46) }
-    ensures capacity { string_capacity text.old ≤ string_capacity text.new }
+    ensures { IsAppendedWithin 46 (raw_text mark) text.old text.new result }
 {
     append_words(text, &["marks ", Buffer::new().format(mark)])
 }
@@ -59,10 +50,7 @@ fn marks_to<A: Allocator, B: Allocator>(
     settings: &Settings<A>,
     marks: &Marks<A>,
 ) -> Result<(), AllocError>
-    ensures ok { OnOk result (string_bytes text.new ≡ string_bytes text.old ++ marks_text settings.now marks.now) }
-    ensures room { string_len text.old + 2414 ≤ string_capacity text.old → IsOk result }
-    ensures long { OnOk result (string_len text.new ≤ string_len text.old + 2414) }
-    ensures capacity { string_capacity text.old ≤ string_capacity text.new }
+    ensures { IsAppendedWithin 2414 (marks_text settings.now marks.now) text.old text.new result }
 {
     raw_to(text, marks.raw().nanos())?;
     lows_to(text, settings.rules(), marks.lows())

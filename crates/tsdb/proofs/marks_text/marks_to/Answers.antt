@@ -6,18 +6,17 @@ use Rattle.tsdb.proofs.marks_text.marks_to.Goals as goal
 pub lows_to-requires : goal.lows_to-requires
 lows_to-requires g c = rw c.rules.ensures.value (names_short c.args.settings.now c.rules.ensures.faultless)
 
-pub returns-clause-ok : goal.returns-clause-ok
-returns-clause-ok g c =
+pub returns : goal.returns
+returns g c =
+    let raw = c.in_ok-raw_to.ensures in
+    let lows = c.lows_to.ensures in
     let fits : SFits w64 c.nanos.result = search rules in
     let whole : to_z w64 (of_z w64 c.nanos.result) ≡ c.nanos.result = to_z-of_z fits in
-    marks_put c.lows_to.result (string_bytes c.args.text.now) (string_bytes c.raw_to.new.text) (string_bytes c.lows_to.new.text) (lows_text c.rules.result.now c.lows.result.now) c.nanos.result
-    c.args.settings.now c.args.marks.now (c.nanos.ensures.value ∙ c.raw.ensures) (ap₂ lows_text c.rules.ensures.value c.lows.ensures) (rw whole at c.in_ok-raw_to.ensures.ok) c.lows_to.ensures.ok
-
-pub returns-clause-room : goal.returns-clause-room
-returns-clause-room g c = λ enough.
-    c.lows_to.ensures.room (omega (arith, enough, c.rules.ensures.valid.few, ap length c.rules.ensures.value, c.in_ok-raw_to.ensures.long, c.in_ok-raw_to.ensures.capacity))
-
-pub returns-clause-long : goal.returns-clause-long
-returns-clause-long g c =
-    no_longer c.lows_to.result (string_len c.lows_to.new.text) (string_len c.raw_to.new.text + 74 * length c.rules.result.now) (string_len c.args.text.now + 2414)
-    (omega (arith, c.rules.ensures.valid.few, ap length c.rules.ensures.value, c.in_ok-raw_to.ensures.long)) c.lows_to.ensures.long
+    record {
+      ok = marks_put c.lows_to.result (string_bytes c.args.text.now) (string_bytes c.raw_to.new.text) (string_bytes c.lows_to.new.text) (lows_text c.rules.result.now c.lows.result.now) c.nanos.result
+          c.args.settings.now c.args.marks.now (c.nanos.ensures.value ∙ c.raw.ensures) (ap₂ lows_text c.rules.ensures.value c.lows.ensures) (rw whole at raw.ok) lows.ok;
+      long = no_longer c.lows_to.result (string_len c.lows_to.new.text) (string_len c.raw_to.new.text + 74 * length c.rules.result.now) (string_len c.args.text.now + 2414)
+          (omega (arith, c.rules.ensures.valid.few, ap length c.rules.ensures.value, raw.long)) lows.long;
+      room = λ enough. lows.room (omega (arith, enough, c.rules.ensures.valid.few, ap length c.rules.ensures.value, raw.long, raw.capacity));
+      capacity = omega (arith, raw.capacity, lows.capacity);
+    }
