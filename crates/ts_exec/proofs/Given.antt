@@ -87,7 +87,7 @@ module _ (opening : Settings) (h : History) (seen : Seen) (q : Query) (shows : S
       map_append [] ys = refl
       map_append (x ∷ xs) ys = ap (λ zs. x.group ∷ zs) (map_append xs ys)
 
-  all_shares_total : (g : List Text) (j : ℕ) (a : ℤ) (ps : List Piece) → q.from ≤ℤ a → Covers a q.to ps → AllByRecursion (IsValidPiece (asked seen.settings seen.marks q)) ps
+  pub all_shares_total : (g : List Text) (j : ℕ) (a : ℤ) (ps : List Piece) → q.from ≤ℤ a → Covers a q.to ps → AllByRecursion (IsValidPiece (asked seen.settings seen.marks q)) ps
       → total_at g j (pieces_shares seen q ps) ≡ assembled seen q ps g (bucket_in q q.from +ℤ pos j)
   all_shares_total g j a [] l c e = refl
   all_shares_total g j a (p ∷ ps) l c e =
@@ -145,7 +145,7 @@ module _ (seen : Seen) (q : Query) (ps : List Piece) where
   given-rows = subst (AllByRecursion (HasRows (width q))) (sym groups_put) (all_rows (all_groups (map group_in shares)))
 
 module _ (opening : Settings) (h : History) (seen : Seen) (q : Query) (shows : Shows opening h seen) (wide : IsWide (asked seen.settings seen.marks q)) (ps : List Piece) (valid : IsValid seen.settings seen.marks q ps) where
-  few : (g : List Text) (k : ℤ) → (assembled seen q ps g k).count ≤ 2 ^ 62
+  pub few : (g : List Text) (k : ℤ) → (assembled seen q ps g k).count ≤ 2 ^ 62
   few g k =
       let xs : List Fact = filter (is_in_row q g k) (latest_of h) in
       let e : (assembled seen q ps g k).count ≡ length xs = ap (λ (x : Aggregate). x.count) (assembled-row opening h seen q shows wide g k ps valid) ∙ fold-count aggregate_laws one_fact (λ x. refl) xs in

@@ -1,8 +1,12 @@
 -- Executions, Answered: what is given of a view is the answer over all points ever accepted
 mod Given
+mod Fresh
 mod Linked
 mod Shares
 mod Entries
+-- Executions, Shares: how many points are given of a view
+mod PointCounts
+mod CountSteps
 -- GroupTables, FirstOf: the cells and points of a piece
 mod Walked
 mod NamedRules

@@ -1,8 +1,9 @@
 -- What an execution of a checked plan answers. (Own rules.)
-use Rattle.std.specs.Prelude.{◌≡◌, Result, Ok, Err}
+use Rattle.std.specs.Prelude.{◌≡◌, ℕ, min, length, filter, Result, Ok, Err}
 use Rattle.ts_core.specs.Answers.{answer_of}
 use Rattle.ts_core.specs.History.{History}
 use Rattle.ts_core.specs.Latest.{latest_of}
+use Rattle.ts_core.specs.Queries.{matches}
 use Rattle.ts_core.specs.Settings.{Settings}
 use Rattle.ts_core.specs.Views.{Seen, Shows}
 use Rattle.ts_check.specs.Checks.{Plan}
@@ -10,6 +11,7 @@ use Rattle.ts_exec.specs.declared.fault.ExecFault.{ExecFault}
 use Rattle.ts_exec.specs.declared.fault.ExecFault.TheVariants as errors
 use Rattle.ts_exec.specs.Answered.{Answered}
 use Rattle.ts_exec.specs.GroupTables.{given}
+use Rattle.ts_exec.specs.Shares.{points_in, pieces_shares}
 
 -- a view has the settings and marks that a plan was checked for
 pub record IsFresh (seen : Seen) (p : Plan) : Type 0 where
@@ -22,8 +24,19 @@ pub record IsAnswer (seen : Seen) (p : Plan) (a : Answered) : Type 0 where
   pub exact : a.groups ≡ given seen p.select.query p.pieces
   pub answer : (opening : Settings) (h : History) → Shows opening h seen → a.groups ≡ answer_of (latest_of h) p.select.query
 
+-- how many points a plan gives of a view: of one that shows a history, just those of all points ever accepted that match the query
+pub record IsPointCount (seen : Seen) (p : Plan) (n : ℕ) : Type 0 where
+  pub exact : n ≡ min (points_in (pieces_shares seen p.select.query p.pieces)) 18446744073709551615
+  pub answer : (opening : Settings) (h : History) → Shows opening h seen → n ≡ length (filter (matches p.select.query) (latest_of h))
+
 -- the answer; or that the plan is stale, just where the view has other settings or marks, which it answers; or that memory ran out
 abbrev pub IsExecutionOf : {A : Type 0} → Seen → Plan → Result Answered (ExecFault A) → Type 0
 IsExecutionOf seen p (Ok answered) = IsFresh seen p × IsAnswer seen p answered
 IsExecutionOf seen p (Err (errors.Stale settings marks)) = (settings.now ≡ seen.settings) × (marks.now ≡ seen.marks) × (IsFresh seen p → ⊥)
 IsExecutionOf seen p (Err errors.OutOfMemory) = IsFresh seen p
+
+-- the same of a count, which takes no memory
+abbrev pub IsCountOf : {A : Type 0} → Seen → Plan → Result ℕ (ExecFault A) → Type 0
+IsCountOf seen p (Ok n) = IsFresh seen p × IsPointCount seen p n
+IsCountOf seen p (Err (errors.Stale settings marks)) = (settings.now ≡ seen.settings) × (marks.now ≡ seen.marks) × (IsFresh seen p → ⊥)
+IsCountOf seen p (Err errors.OutOfMemory) = ⊥

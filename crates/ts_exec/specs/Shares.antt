@@ -1,5 +1,5 @@
 -- What pieces give, share by share: a part for a bucket of a group. (Own rules.)
-use Rattle.std.specs.Prelude.{ℕ, ◌==◌, ℤ, Bool, ◌&&◌, List, [], ◌∷◌, ◌++◌, map, filter, Option, Some, None, if◌then◌else◌}
+use Rattle.std.specs.Prelude.{ℕ, ◌+◌, ◌==◌, ℤ, Bool, ◌&&◌, List, [], ◌∷◌, ◌++◌, map, filter, Option, Some, None, if◌then◌else◌}
 use Rattle.std.specs.List.{list_all}
 use Rattle.ts_core.specs.Facts.{Text, is_of}
 use Rattle.ts_core.specs.Partials.{fold_by}
@@ -35,6 +35,11 @@ is_share g j s = same_group g s.group && (s.place == j)
 -- what the shares of a bucket of a group add up to
 abbrev pub total_at : List Text → ℕ → List Share → Aggregate
 total_at g j ss = fold_by empty_aggregate merged (λ (s : Share). s.part) (filter (is_share g j) ss)
+
+-- how many points are in them
+abbrev pub points_in : List Share → ℕ
+points_in [] = 0
+points_in (s ∷ ss) = s.part.count + points_in ss
 
 -- ---- of points and cells
 

@@ -1,9 +1,9 @@
 //! `execute`: a checked plan over a view gives the answer over all points ever accepted, or is stale.
-ghost use Rattle.std.specs.Prelude.{◌≡◌, [], IsOk, IfOk};
+ghost use Rattle.std.specs.Prelude.{◌≡◌, ◌↔◌, [], IsTrue, IsOk, IfOk};
 ghost use Rattle.std.specs.List.{AllByRecursion};
 ghost use Rattle.ts_core.specs.Queries.{IsQuery};
 ghost use Rattle.ts_exec.specs.Answered.{HasRows};
-ghost use Rattle.ts_exec.specs.Executions.{IsExecutionOf};
+ghost use Rattle.ts_exec.specs.Executions.{IsFresh, IsExecutionOf};
 ghost use Rattle.ts_exec.specs.GroupTables.{with_pieces, width};
 
 use crate::fault::ExecFault;
@@ -32,6 +32,13 @@ fn groups_given<'a, A: Allocator + Copy + 'a, V: View<A> + 'a>(
     groups.into_groups()
 }
 
+/// Whether a view has the settings and marks that a plan was checked for.
+pub(crate) fn is_fresh<A: Allocator, V: View<A>>(view: &V, checked: &Checked<'_, A>) -> bool
+    ensures { IsTrue result ↔ IsFresh (V.seen view.now) checked.now }
+{
+    view.settings().is(checked.settings()) && view.marks().is(checked.marks())
+}
+
 /// Executes a checked plan over a view. Where the view shows a history, this gives the answer over all points
 /// ever accepted; a count past 2^62, which no history has, leaves out what would exceed it. That a plan is
 /// stale is found before memory is taken.
@@ -42,10 +49,8 @@ pub fn execute<'a, A: Allocator + Copy + 'a, V: View<A> + 'a>(
 ) -> Result<Table<'a, A>, ExecFault<'a, A>>
     ensures { IsExecutionOf (V.seen view.now) checked.now result }
 {
-    let settings = view.settings();
-    let marks = view.marks();
-    if !settings.is(checked.settings()) || !marks.is(checked.marks()) {
-        return Err(ExecFault::Stale(settings, marks));
+    if !is_fresh(view, checked) {
+        return Err(ExecFault::Stale(view.settings(), view.marks()));
     }
     let groups = groups_given(alloc, view, checked.query(), checked.pieces())?;
     let query = checked.query().copied(alloc)?;

@@ -22,6 +22,7 @@
 #![tactic(auto)]
 
 mod buckets;
+mod counting;
 mod executor;
 mod fault;
 mod filled;
@@ -32,6 +33,7 @@ mod rows;
 mod slot;
 mod table;
 
+pub use counting::count_points;
 pub use executor::execute;
 pub use fault::ExecFault;
 pub use filled::{FilledRow, FilledRows, Values};

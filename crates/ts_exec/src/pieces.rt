@@ -66,7 +66,7 @@ fn is_met<A: Allocator + Copy>(key: &Key<A>, condition: &Condition<A>) -> bool
 }
 
 /// Whether every condition holds of a series.
-fn are_met<A: Allocator + Copy>(key: &Key<A>, conditions: &[Condition<A>]) -> bool
+pub(crate) fn are_met<A: Allocator + Copy>(key: &Key<A>, conditions: &[Condition<A>]) -> bool
     ensures { result ≡ list_all (meets key.now) conditions.now }
 {
     conditions.iter().all(|condition| is_met(key, condition))
@@ -209,7 +209,7 @@ fn is_selected<A: Allocator>(rule: &Rule<A>, query: &Query<A>, cell: &CellSeen<'
 }
 
 /// Whether a cell that starts at a moment has data and is asked for.
-fn is_taken<A: Allocator>(
+pub(crate) fn is_taken<A: Allocator>(
     rule: &Rule<A>,
     query: &Query<A>,
     from: i64,
@@ -249,7 +249,7 @@ fn read_kept_values<'a, A: Allocator + Copy>(
 }
 
 /// Where the bucket of an index starts, of those that a walk from one moment on and before another gives.
-fn bucket_start<A: Allocator>(rule: &Rule<A>, from: i64, to: i64, index: &i128) -> i128
+pub(crate) fn bucket_start<A: Allocator>(rule: &Rule<A>, from: i64, to: i64, index: &i128) -> i128
     requires interval { pos 1 ≤ℤ rule.now.interval }
     requires within { is_within (index_of rule.now from) (index_of rule.now to) index.now ≡ true }
     ensures { result ≡ start_of rule.now index.now }
@@ -312,7 +312,7 @@ fn add_cells<'a, A: Allocator + Copy + 'a, V: View<A> + 'a>(
 }
 
 /// The first rule of a name, with its number, counted from one on.
-fn rule_from<'a, A: Allocator>(
+pub(crate) fn rule_from<'a, A: Allocator>(
     number: usize,
     rules: &'a [Rule<A>],
     name: &str,

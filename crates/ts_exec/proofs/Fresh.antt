@@ -1,0 +1,12 @@
+-- A plan that is fresh is valid for what is seen.
+use Rattle.std.proofs.Common.{sym, subst}
+use Rattle.ts_core.specs.Settings.{Settings}
+use Rattle.ts_core.specs.Marks.{Marks}
+use Rattle.ts_core.specs.Pieces.{IsValid}
+use Rattle.ts_core.specs.Views.{Seen}
+use Rattle.ts_check.specs.Checks.{Plan, IsValidPlan}
+use Rattle.ts_exec.specs.Executions.{IsFresh}
+
+pub fresh-valid : (seen : Seen) (p : Plan) → IsFresh seen p → IsValidPlan p → IsValid seen.settings seen.marks p.select.query p.pieces
+fresh-valid seen p fresh valid =
+    subst (λ (s : Settings). IsValid s seen.marks p.select.query p.pieces) (sym fresh.settings) (subst (λ (m : Marks). IsValid p.settings m p.select.query p.pieces) (sym fresh.marks) valid)

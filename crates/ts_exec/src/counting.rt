@@ -1,0 +1,130 @@
+//! How many points a checked plan asks for, which walks over cells and columns, but over no raw points.
+ghost use Rattle.std.specs.Prelude.{◌≡◌, ◌<◌, pos, ◌≤ℤ◌, true, length, min, map, filter, if◌then◌else◌};
+ghost use Rattle.ts_core.specs.Facts.{is_within};
+ghost use Rattle.ts_core.specs.Marks.{index_of};
+ghost use Rattle.ts_core.specs.Pieces.{Raw};
+ghost use Rattle.ts_store.specs.Seats.{cells_at};
+ghost use Rattle.ts_exec.specs.Executions.{IsCountOf};
+ghost use Rattle.ts_exec.specs.GroupTables.{is_cell_taken};
+ghost use Rattle.ts_exec.specs.Shares.{points_in, cell_share, source_shares, pieces_shares};
+
+use crate::executor::is_fresh;
+use crate::fault::ExecFault;
+use crate::pieces::{are_met, bucket_start, is_taken, rule_from};
+use std::alloc::Allocator;
+use ts_check::{Checked, Piece, PieceSource};
+use ts_core::{Partial, Rule, bucket_index};
+use ts_ql::Query;
+use ts_store::{CellSeen, View};
+
+/// How many raw points a query asks for from a time on and before another.
+fn raw_points<A: Allocator + Copy, V: View<A>>(
+    view: &V,
+    query: &Query<A>,
+    from: i64,
+    to: i64,
+) -> u64
+    ensures { result ≡ min (points_in (source_shares (V.seen view.now) query.now.query Raw from to)) 18446744073709551615 }
+{
+    let mut count: u64 = 0;
+    for column in view.columns_of(query.measurement(), query.field()) {
+        if are_met(column.key, query.conditions()) {
+            let points = view.raw_range(column.id, from, to);
+            count = count.saturating_add(points.len() as u64);
+        }
+    }
+    count
+}
+
+/// How many points a query asks for of a cell of a walk.
+fn cell_points<A: Allocator + Copy>(
+    rule: &Rule<A>,
+    query: &Query<A>,
+    from: i64,
+    to: i64,
+    cell: &CellSeen<'_, A>,
+) -> u64
+    requires interval { pos 1 ≤ℤ rule.now.interval }
+    requires within { is_within (index_of rule.now from) (index_of rule.now to) cell.now.cell.index ≡ true }
+    ensures { result ≡ (if is_cell_taken query.now.query rule.now from to cell.now then cell.now.total.count else 0) }
+{
+    let start = bucket_start(rule, from, to, &cell.index);
+    if is_taken(rule, query, from, to, &start, cell) {
+        cell.total.count()
+    } else {
+        0
+    }
+}
+
+/// How many points of a rule's cells a query asks for from a time on and before another.
+fn rollup_points<A: Allocator + Copy, V: View<A>>(
+    view: &V,
+    query: &Query<A>,
+    rule: &Rule<A>,
+    number: usize,
+    from: i64,
+    to: i64,
+) -> u64
+    requires number { number < length (V.seen view.now).rules }
+    requires interval { pos 1 ≤ℤ rule.now.interval }
+    ensures { result ≡ min (points_in (map (cell_share query.now.query rule.now) (filter (is_cell_taken query.now.query rule.now from to) (cells_at (V.seen view.now).rules number (index_of rule.now from) (index_of rule.now to))))) 18446744073709551615 }
+{
+    let first = bucket_index(i128::from(from), rule.interval(), rule.offset());
+    let end = bucket_index(i128::from(to), rule.interval(), rule.offset());
+    let mut count: u64 = 0;
+    for cell in view.cell_walk(number, &first, &end) {
+        count = count.saturating_add(cell_points(rule, query, from, to, &cell));
+    }
+    count
+}
+
+/// How many points of a piece a query asks for.
+fn piece_points<A: Allocator + Copy, V: View<A>>(
+    view: &V,
+    query: &Query<A>,
+    piece: &Piece<'_>,
+) -> u64
+    ensures { result ≡ min (points_in (source_shares (V.seen view.now) query.now.query piece.now.source piece.now.from piece.now.to)) 18446744073709551615 }
+{
+    match piece.source {
+        PieceSource::Raw => raw_points(view, query, piece.from, piece.to),
+        PieceSource::Rollup(name) => match rule_from(0, view.settings().rules(), name) {
+            Some((number, rule)) => {
+                rollup_points(view, query, rule, number, piece.from, piece.to)
+            }
+            None => 0,
+        },
+    }
+}
+
+/// How many points of pieces a query asks for.
+fn pieces_points<A: Allocator + Copy, V: View<A>>(
+    view: &V,
+    query: &Query<A>,
+    pieces: &[Piece<'_>],
+) -> u64
+    ensures { result ≡ min (points_in (pieces_shares (V.seen view.now) query.now.query pieces.now)) 18446744073709551615 }
+{
+    let mut count: u64 = 0;
+    for piece in pieces {
+        count = count.saturating_add(piece_points(view, query, piece));
+    }
+    count
+}
+
+/// How many points a checked plan's query asks for, in all groups and buckets together. Where the view shows a
+/// history, this counts all points ever accepted. It takes a search in each column for its raw points, however
+/// many they are, and a walk over the cells of rules.
+pub fn count_points<'a, A: Allocator + Copy + 'a, V: View<A> + 'a>(
+    view: &'a V,
+    checked: &Checked<'_, A>,
+) -> Result<u64, ExecFault<'a, A>>
+    ensures { IsCountOf (V.seen view.now) checked.now result }
+{
+    if !is_fresh(view, checked) {
+        return Err(ExecFault::Stale(view.settings(), view.marks()));
+    }
+    let query = checked.query();
+    let _from = query.from();
+    Ok(pieces_points(view, query, checked.pieces()))
+}
