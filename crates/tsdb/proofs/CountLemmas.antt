@@ -1,20 +1,18 @@
 -- What is counted, and what the machine prints of it.
-use Rattle.std.proofs.Common.{◌≡◌, ◌∙◌, ℕ, ℤ, ◌-ℤ◌, ◌<ℤ◌, List, sym, ap, subst, Result, Ok, Err}
+use Rattle.std.proofs.Common.{◌≡◌, ◌∙◌, ℕ, ℤ, ◌-ℤ◌, List, length, filter, sym, ap, subst, Result, Ok, Err}
 use Rattle.std.specs.Fmt.{decimal}
 use Rattle.ts_core.specs.Facts.{Text}
-use Rattle.ts_core.specs.Answers.{answer_of}
 use Rattle.ts_core.specs.History.{History, settings_of}
 use Rattle.ts_core.specs.Latest.{latest_of}
 use Rattle.ts_core.specs.Marks.{Marks, marks_of}
 use Rattle.ts_core.specs.Pieces.{Piece}
-use Rattle.ts_core.specs.Queries.{Query}
+use Rattle.ts_core.specs.Queries.{Query, matches}
 use Rattle.ts_core.specs.Settings.{Settings}
 use Rattle.ts_core.specs.StoreData.{StoreData, state_of, OfEachHistory, ShowsEach}
 use Rattle.ts_core.specs.Views.{seen_of}
 use Rattle.ts_core.specs.FaultTexts.{memory_text}
 use Rattle.ts_check.specs.Checks.{Plan}
-use Rattle.ts_exec.specs.Answered.{Answered}
-use Rattle.ts_exec.specs.Executions.{IsAnswer}
+use Rattle.ts_exec.specs.Executions.{IsPointCount}
 use Rattle.ts_plan.specs.Planning.{IsPlanFor}
 use Rattle.ts_plan.specs.PlanTexts.{plan_fault_text}
 use Rattle.ts_plan.specs.declared.fault.PlanFault.{PlanFault}
@@ -25,16 +23,16 @@ use Rattle.ts_ql.specs.declared.fault.QlFault.{QlFault}
 use Rattle.ts_ql.specs.declared.fault.ParseError.{ParseError}
 use Rattle.ts_ql.specs.declared.fault.ParseError.TheVariants as parse
 use Rattle.ts_ql.specs.Selects.{Select}
-use Rattle.tsdb.specs.Counted.{first_count, IsCounted}
+use Rattle.tsdb.specs.Counted.{IsCounted}
 use Rattle.tsdb.specs.Machine.{Counts, counted, has_no_plan, is_too_long, counts_no_memory}
 use Rattle.tsdb.specs.ScriptReplies.{line, bad_range_text}
-use Rattle.tsdb.proofs.CountAnswers.{first_count_is}
+use Rattle.tsdb.proofs.CountAnswers.{matching_asked}
 
 -- ---- what is printed
 
-pub count_printed : (opening : Settings) (h : History) (m f : Text) (a b : ℤ) (n : ℕ) → a <ℤ b → IsInterval (b -ℤ a) → IsCounted opening h (count_select m f a b).query (Ok n) → Counts opening h m f a b (line (decimal n))
-count_printed opening h m f a b n some fits c =
-    subst (λ (k : ℕ). Counts opening h m f a b (line (decimal k))) (sym (c.1 ∙ first_count_is m f a b (latest_of h) some)) (counted c.0.0 (fits, c.0.1))
+pub count_printed : (opening : Settings) (h : History) (m f : Text) (a b : ℤ) (n : ℕ) → IsInterval (b -ℤ a) → IsCounted opening h (count_select m f a b).query (Ok n) → Counts opening h m f a b (line (decimal n))
+count_printed opening h m f a b n fits c =
+    subst (λ (k : ℕ). Counts opening h m f a b (line (decimal k))) (sym (c.1 ∙ matching_asked m f a b (latest_of h))) (counted c.0.0 (fits, c.0.1))
 
 -- a range that is too long for an interval
 pub told_too_long : (opening : Settings) (h : History) (m f : Text) (a b : ℤ) (r : Result Select ParseError) (fault : QlFault)
@@ -53,9 +51,9 @@ selected m f a b r s t p e same =
     (same ∙ q.0, q.1)
 
 pub told_count : (opening : Settings) (h : History) (m f : Text) (a b : ℤ) (s : Select) (r : Result ℕ PlanError) (n : ℕ)
-    → a <ℤ b → (s ≡ count_select m f a b) × IsInterval (b -ℤ a) → IsCounted opening h s.query r → r ≡ Ok n → Counts opening h m f a b (line (decimal n))
-told_count opening h m f a b s r n some is c e =
-    count_printed opening h m f a b n some is.1 (subst (λ (x : Select). IsCounted opening h x.query (Ok n)) is.0 (subst (IsCounted opening h s.query) e c))
+    → (s ≡ count_select m f a b) × IsInterval (b -ℤ a) → IsCounted opening h s.query r → r ≡ Ok n → Counts opening h m f a b (line (decimal n))
+told_count opening h m f a b s r n is c e =
+    count_printed opening h m f a b n is.1 (subst (λ (x : Select). IsCounted opening h x.query (Ok n)) is.0 (subst (IsCounted opening h s.query) e c))
 
 pub told_no_plan : (opening : Settings) (h : History) (m f : Text) (a b : ℤ) (s : Select) (r : Result ℕ PlanError) (fault : PlanFault)
     → (s ≡ count_select m f a b) × IsInterval (b -ℤ a) → IsCounted opening h s.query r → r ≡ Err (errors.Fault fault) → Counts opening h m f a b (line (plan_fault_text fault))
@@ -74,14 +72,14 @@ of_history k P shows p = λ opening h stands.
     let s = shows opening h stands in
     subst (λ (x : Marks). P (settings_of opening h) x) s.marks (subst (λ (x : Settings). P x k.marks) s.settings p)
 
--- ---- an execution
+-- ---- a count
 
--- what is executed by a valid plan has the number of the answer over all facts
-pub count_shown : (k : StoreData) (s : Select) (plan : Plan) (table : Answered) (n : ℕ)
-    → ShowsEach k → plan.select ≡ s → IsAnswer (seen_of (state_of k)) plan table → n ≡ first_count table.groups
-    → OfEachHistory k (λ opening h. n ≡ first_count (answer_of (latest_of h) s.query))
-count_shown k s plan table n shows e a is opening h stands =
-    is ∙ ap first_count (a.answer opening h (shows opening h stands) ∙ ap (λ (x : Select). answer_of (latest_of h) x.query) e)
+-- what is counted by a valid plan are the facts that match, of all ever accepted
+pub count_shown : (k : StoreData) (s : Select) (plan : Plan) (n : ℕ)
+    → ShowsEach k → plan.select ≡ s → IsPointCount (seen_of (state_of k)) plan n
+    → OfEachHistory k (λ opening h. n ≡ length (filter (matches s.query) (latest_of h)))
+count_shown k s plan n shows e is opening h stands =
+    is.answer opening h (shows opening h stands) ∙ ap (λ (x : Select). length (filter (matches x.query) (latest_of h))) e
 
 -- what a planner answers for a store, it answers for each history
 planned : (k : StoreData) (settings : Settings) (marks : Marks) (q : Query) (r : Result (List Piece) PlanError)
@@ -91,7 +89,7 @@ planned k settings marks q r shows st mt p =
 
 pub was_counted : (k : StoreData) (settings : Settings) (marks : Marks) (q : Query) (r : Result (List Piece) PlanError) (plan : List Piece) (n : ℕ)
     → ShowsEach k → settings ≡ k.settings → marks ≡ k.marks → IsPlanFor settings marks q r → r ≡ Ok plan
-    → OfEachHistory k (λ opening h. n ≡ first_count (answer_of (latest_of h) q)) → OfEachHistory k (λ opening h. IsCounted opening h q (Ok n))
+    → OfEachHistory k (λ opening h. n ≡ length (filter (matches q) (latest_of h))) → OfEachHistory k (λ opening h. IsCounted opening h q (Ok n))
 was_counted k settings marks q r plan n shows st mt p is e opening h stands =
     ((plan, planned k settings marks q (Ok plan) shows st mt (subst (IsPlanFor settings marks q) is p) opening h stands), e opening h stands)
 

@@ -1,36 +1,23 @@
-//! The command `count`: a query that counts is planned, checked and executed.
-ghost use Rattle.std.specs.Prelude.{◌≡◌, ◌<ℤ◌, IfOk};
-ghost use Rattle.ts_core.specs.Answers.{answer_of};
+//! The command `count`: a query that counts is planned and checked, and its points are counted.
+ghost use Rattle.std.specs.Prelude.{◌≡◌, ◌<ℤ◌, length, filter, IfOk};
 ghost use Rattle.ts_core.specs.Latest.{latest_of};
 ghost use Rattle.ts_core.specs.Pieces.{IsValid};
+ghost use Rattle.ts_core.specs.Queries.{matches};
 ghost use Rattle.ts_core.specs.StoreData.{OfEachHistory};
-ghost use Rattle.tsdb.specs.Counted.{first_count, IsCounted};
+ghost use Rattle.tsdb.specs.Counted.{IsCounted};
 ghost use Rattle.tsdb.specs.Machine.{Counts};
 ghost use Rattle.tsdb.specs.ScriptReplies.{text_of};
 
 use crate::reply::Reply;
 use std::alloc::{AllocError, Allocator};
 use ts_check::{Certificate, CheckError, check};
-use ts_core::{Partial, Time};
-use ts_exec::{ExecFault, Table, execute};
+use ts_core::Time;
+use ts_exec::{ExecFault, count_points};
 use ts_plan::{PlanError, plan};
 use ts_ql::{ParseError, Query, count_query};
 use ts_store::{Store, View};
 
-/// How many points the first bucket of the first group has; none where there is no group.
-fn first_count<A: Allocator>(table: &Table<'_, A>) -> u64
-    ensures { result ≡ first_count table.now.groups }
-{
-    match table.groups().split_first() {
-        Some((group, _)) => match group.rows().split_first() {
-            Some((points, _)) => points.count(),
-            None => 0,
-        },
-        None => 0,
-    }
-}
-
-/// How many points the first bucket of a query has, by a valid plan.
+/// How many points a query asks for, by a valid plan, over all facts that the store ever accepted.
 fn counted_by<A: Allocator + Copy>(
     alloc: A,
     store: &Store<A>,
@@ -38,22 +25,21 @@ fn counted_by<A: Allocator + Copy>(
     plan: &Certificate<'_, A>,
 ) -> Result<u64, AllocError>
     requires { IsValid store.now.settings store.now.marks query.now.query plan.now }
-    ensures { IfOk result (λ n. OfEachHistory store.now (λ opening h. n ≡ first_count (answer_of (latest_of h) query.now.query))) }
+    ensures { IfOk result (λ n. OfEachHistory store.now (λ opening h. n ≡ length (filter (matches query.now.query) (latest_of h)))) }
 {
     let checked = match check(alloc, store.settings(), store.marks(), query, plan) {
         Ok(checked) => checked,
         Err(CheckError::OutOfMemory) => return Err(AllocError),
         Err(CheckError::Fault(_)) => unreachable!(),
     };
-    match execute(alloc, store, &checked) {
-        Ok(table) => Ok(first_count(&table)),
-        Err(ExecFault::OutOfMemory) => Err(AllocError),
+    match count_points(store, &checked) {
+        Ok(count) => Ok(count),
         Err(ExecFault::Stale(_, _)) => unreachable!(),
+        Err(ExecFault::OutOfMemory) => unreachable!(),
     }
 }
 
-/// How many points the first bucket of a query has, over all facts that the store ever accepted; or why the
-/// query has no plan.
+/// How many points a query asks for, over all facts that the store ever accepted; or why the query has no plan.
 fn counted<A: Allocator + Copy>(
     alloc: A,
     store: &Store<A>,

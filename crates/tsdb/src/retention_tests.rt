@@ -166,7 +166,7 @@ const WHOLE: [Whole; 22] = [
 ];
 
 /// Behind `THREE`: commands, and the last that they print.
-const BEHIND_THREE: [(&str, &str); 10] = [
+const BEHIND_THREE: [(&str, &str); 11] = [
     // cells and raw points are put together, and the plan says how
     (
         "query SELECT COUNT(v),SUM(v) FROM cpu WHERE time >= 0 AND time < 180s GROUP BY time(1m)",
@@ -177,6 +177,10 @@ const BEHIND_THREE: [(&str, &str); 10] = [
         "{\"results\":[{\"cert\":\"plan 1\\nrollup m1 0 120000000000\\nraw 120000000000 180000000000\\nend\\n\",\"statement_id\":0}]}\n",
     ),
     ("count cpu v 0 120000000000", "\n3\n"),
+    (
+        "write cpu v=7i 130\ncount cpu v 0 180000000000",
+        "\nok\n4\n",
+    ),
     // a late point and one in its place
     (
         "epoch s\nwrite cpu,host=a v=9i 100\nwrite cpu,host=a v=2i 100\nquery SELECT COUNT(v),SUM(v),MIN(v),MAX(v),FIRST(v),LAST(v),MEAN(v) FROM cpu WHERE time >= 60s AND time < 120s GROUP BY time(1m)",

@@ -15,7 +15,7 @@ returns-in-Err-OutOfMemory g c = λ opening h stands.
 pub returns-in-Ok-counted : goal.returns-in-Ok-counted
 returns-in-Ok-counted g c = λ opening h stands.
     let q = selected c.args.measurement.now c.args.field.now c.args.from c.args.to c.count_query.result c.in-Ok.query c.in-Ok.query c.count_query.ensures c.in-Ok.is refl in
-    told_count opening h c.args.measurement.now c.args.field.now c.args.from c.args.to c.in-Ok.query c.counted.result c.in-Ok-counted.count c.requires q (c.counted.ensures opening h stands) c.in-Ok-counted.is
+    told_count opening h c.args.measurement.now c.args.field.now c.args.from c.args.to c.in-Ok.query c.counted.result c.in-Ok-counted.count q (c.counted.ensures opening h stands) c.in-Ok-counted.is
 
 pub returns-in-Err-Fault-counted : goal.returns-in-Err-Fault-counted
 returns-in-Err-Fault-counted g c = λ opening h stands.
