@@ -1,15 +1,16 @@
 -- What is kept for a rule: the columns of each lane, when a lane or a column is made.
-use Rattle.std.proofs.Common.{◌≡◌, ℕ, zero, suc, ◌+◌, ◌<◌, ◌≤◌, ◌==◌, Bool, true, false, cond, List, [], ◌∷◌, ◌++◌, length, map, set, get_or, replicate, Option, Some, None, Vec, vec_len, vec_capacity, refl, sym, ◌∙◌, ap, subst, ⊎_elim, arith}
+use Rattle.std.proofs.Common.{◌≡◌, ℕ, zero, suc, ◌+◌, ◌<◌, ◌≤◌, ◌==◌, Bool, true, false, cond, List, [], ◌∷◌, ◌++◌, length, map, set, get_or, replicate, Option, Some, None, refl, sym, ◌∙◌, ap, subst, ⊎_elim, arith}
 use Rattle.std.specs.List.{slice_get}
-use Rattle.std.proofs.lemmas.Bool.{eqb-true, eqb-false, ltb-true, lt-ltb}
+use Rattle.std.proofs.Math.Seq.{map-set_same}
+use Rattle.std.proofs.lemmas.Bool.{eqb-true, eqb-false}
 use Rattle.std.proofs.lemmas.List.{append-nil, map-append, map-set, length-set, length_push, length-map, get_or-map, get_or-set_same, get_or-set_other}
 use Rattle.ts_core.specs.Members.{Among, AllDistinct}
 use Rattle.ts_cells.specs.Grids.{Lane}
-use Rattle.ts_raw.specs.Lists.{lists_of}
 use Rattle.ts_core.specs.Numbered.{Gains, numbers_where}
 use Rattle.ts_raw.proofs.NumbersLaws.{numbers_there}
 use Rattle.ts_core.proofs.NumberedLemmas.{numbers_where-push, once_more}
-use Rattle.ts_store.specs.Rollups.{is_of_lane, has_spare, HasSpareAt, HasSpares, IsRollup}
+use Rattle.ts_store.specs.ColumnLists.{ColumnList, lists_in, places_in, HasPlaceAt}
+use Rattle.ts_store.specs.Rollups.{is_of_lane, HasSpares, IsRollup, Extends}
 
 same_number : (n : ℕ) → (n == n) ≡ true
 same_number n = grind arith
@@ -41,26 +42,37 @@ true_within [] n e = cc
 true_within (b ∷ bs) zero e = omega arith
 true_within (b ∷ bs) (suc n) e = let w = true_within bs n e in omega (arith, w)
 
--- a vector without members changes no list
-pub vector_made : {X A : Type 0} (vs : List (Vec X A)) (v : Vec X A) → v.items ≡ [] → (l : ℕ) → get_or (lists_of (vs ++ v ∷ [])) l [] ≡ get_or (lists_of vs) l []
-vector_made {X} {A} vs v e l =
-    ap (λ (xs : List (List X)). get_or xs l []) (map-append (λ (w : Vec X A). w.items) vs (v ∷ [])) ∙ ap (λ (xs : List X). get_or (lists_of vs ++ xs ∷ []) l []) e ∙ list_made (lists_of vs) l
+-- a lane without columns is made
+pub lane_made : (ls : List ColumnList) (new : ColumnList) → new.items ≡ [] → (l : ℕ) → get_or (lists_in (ls ++ new ∷ [])) l [] ≡ get_or (lists_in ls) l []
+lane_made ls new e l =
+    ap (λ (xs : List (List ℕ)). get_or xs l []) (map-append (λ (w : ColumnList). w.items) ls (new ∷ [])) ∙ ap (λ (xs : List ℕ). get_or (lists_in ls ++ xs ∷ []) l []) e
+    ∙ list_made (lists_in ls) l
 
-module _ {X A : Type 0} (vs : List (Vec X A)) (n : ℕ) where
-  pub spare_within : HasSpareAt vs n → n < length vs
-  spare_within h = let w = true_within (map has_spare vs) n h in let e = length-map vs (has_spare {X = X} {A = A}) in omega (arith, w, e)
+-- the columns of a lane are replaced
+module _ (ls : List ColumnList) (i : ℕ) (old new : ColumnList) (is : old ≡ get_or ls i old) where
+  pub lists_same : new.items ≡ old.items → lists_in (set ls i new) ≡ lists_in ls
+  lists_same e = map-set_same (λ (v : ColumnList). v.items) ls i new old (e ∙ ap (λ (v : ColumnList). v.items) is)
 
-  -- a vector that has room
-  pub spare_at : (v : Vec X A) → v ≡ get_or vs n v → HasSpareAt vs n → vec_len v < vec_capacity v
-  spare_at v is h =
-      ltb-true (vec_len v) (vec_capacity v) (ap has_spare is ∙ sym (get_or-map has_spare vs n v false (spare_within h)) ∙ h)
+  pub lists_more : (n : ℕ) → i < length ls → new.items ≡ old.items ++ n ∷ [] → lists_in (set ls i new) ≡ set (lists_in ls) i (get_or (lists_in ls) i [] ++ n ∷ [])
+  lists_more n l e =
+      map-set (λ (v : ColumnList). v.items) ls i new
+      ∙ ap (λ xs. set (lists_in ls) i xs)
+      (e ∙ ap (λ xs. xs ++ n ∷ []) (ap (λ (v : ColumnList). v.items) is ∙ sym (get_or-map (λ (v : ColumnList). v.items) ls i old [] l)))
 
-  -- room was taken in it
-  pub spare_taken : (v : Vec X A) → n < length vs → vec_len v + 1 ≤ vec_capacity v → HasSpareAt (set vs n v) n
-  spare_taken v within room =
-      ap (λ bs. get_or bs n false) (map-set has_spare vs n v)
-      ∙ get_or-set_same (map has_spare vs) n (has_spare v) false (let e = length-map vs (has_spare {X = X} {A = A}) in omega (arith, within, e))
-      ∙ lt-ltb (vec_len v) (vec_capacity v) (omega (arith, room))
+module _ (ls : List ColumnList) (n : ℕ) where
+  pub place_within : HasPlaceAt ls n → n < length ls
+  place_within h = let w = true_within (places_in ls) n h in let e = length-map ls (λ (v : ColumnList). v.place) in omega (arith, w, e)
+
+  -- columns with a place for one more
+  pub place_at : (v : ColumnList) → v ≡ get_or ls n v → HasPlaceAt ls n → v.place ≡ true
+  place_at v is h = ap (λ (w : ColumnList). w.place) is ∙ sym (get_or-map (λ (w : ColumnList). w.place) ls n v false (place_within h)) ∙ h
+
+  -- a place was made
+  pub place_taken : (v : ColumnList) → n < length ls → v.place ≡ true → HasPlaceAt (set ls n v) n
+  place_taken v within room =
+      ap (λ bs. get_or bs n false) (map-set (λ (w : ColumnList). w.place) ls n v)
+      ∙ get_or-set_same (places_in ls) n v.place false (let e = length-map ls (λ (w : ColumnList). w.place) in omega (arith, within, e))
+      ∙ room
 
 pub room_in : (l : ℕ) (next : Option (Option ℕ)) (spare : Bool) (spares : List Bool) → next ≡ Some (Some l) → HasSpares next spare spares → get_or spares l false ≡ true
 room_in l next spare spares e h = (subst (λ (o : Option (Option ℕ)). HasSpares o spare spares) e h).1
@@ -72,6 +84,13 @@ map_map f h (x ∷ xs) = ap (λ ys. h (f x) ∷ ys) (map_map f h xs)
 pub gains-length : {X : Type 0} (before after : List X) (x : X) → Gains before after x → length after ≤ length before + 1
 gains-length before after x h =
     ⊎_elim {C = length after ≤ length before + 1} (λ a. let e = ap length a.1 in omega (arith, e)) (λ b. let e = ap length b.1 ∙ length_push before x in omega (arith, e)) h
+
+pub gains-extends : (before after : List Lane) (lane : Lane) → Gains before after lane → Extends before after
+gains-extends before after lane h = ⊎_elim {C = Extends before after} (λ a. ([], a.1 ∙ sym (append-nil before))) (λ b. (lane ∷ [], b.1)) h
+
+pub gains-least : {X : Type 0} (before after : List X) (x : X) → Gains before after x → length before ≤ length after
+gains-least before after x h =
+    ⊎_elim {C = length before ≤ length after} (λ a. let e = ap length a.1 in omega (arith, e)) (λ b. let e = ap length b.1 ∙ length_push before x in omega (arith, e)) h
 
 pub gains-distinct : {X : Type 0} (before after : List X) (x : X) → Gains before after x → AllDistinct before → AllDistinct after
 gains-distinct before after x h d =

@@ -7,6 +7,7 @@ pub mod StoreFaultTexts
 pub mod LinesPut
 pub mod WholeRuns
 -- what only models and proofs of the code need
+pub mod ColumnLists
 pub mod Rollups
 pub mod ColumnsKept
 pub mod LinesInColumns

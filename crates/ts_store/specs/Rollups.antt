@@ -12,10 +12,10 @@ use Rattle.ts_core.specs.Changes.{changed}
 use Rattle.ts_core.specs.StoreMoves.{frozen_with}
 use Rattle.ts_core.specs.StoreCodes.{coded_aggregate}
 use Rattle.ts_core.specs.StoreData.{FrozenCells}
-use Rattle.ts_raw.specs.Lists.{lists_of}
 use Rattle.ts_cells.specs.CellChanges.{roomy}
 use Rattle.ts_cells.specs.Grids.{Lane, Grid, cell_in, coded_grid}
 use Rattle.ts_core.specs.Numbered.{IsAt, numbers_where}
+use Rattle.ts_store.specs.ColumnLists.{ColumnList, lists_in, HasPlaceAt}
 
 -- the cells of a rule; of each column the lane, none where the column is of another measurement; and that of a column which
 -- may be made next, for which there is room
@@ -72,10 +72,6 @@ columns_of_lane l s = numbers_where (is_of_lane l) s.lanes
 abbrev pub has_spare : {X A : Type 0} → Vec X A → Bool
 has_spare v = nat_lt (vec_len v) (vec_capacity v)
 
--- so has the vector of a number
-abbrev pub HasSpareAt : {X A : Type 0} → List (Vec X A) → ℕ → Type 0
-HasSpareAt vs n = get_or (map has_spare vs) n false ≡ true
-
 -- where the lane of the next column is known, there is room for it, and for the column among those of its lane
 abbrev pub HasSpares : Option (Option ℕ) → Bool → List Bool → Type 0
 HasSpares None spare spares = Unit {0}
@@ -97,13 +93,13 @@ Extends before after = (more : List Lane) × (after ≡ before ++ more)
 
 -- what is left by a call that asks for the number of a lane, and makes the lane where it isn't there: among the lists of columns, one
 -- for each lane, that of this lane has room for one column more; no list changes, and no cell
-pub record IsLaneFor {A E : Type 0} (lane : Lane) (before : Grid Aggregate) (lists : List (Vec ℕ A)) (after : Grid Aggregate) (lists' : List (Vec ℕ A)) (result : Result ℕ E) : Type 0 where
+pub record IsLaneFor {E : Type 0} (lane : Lane) (before : Grid Aggregate) (lists : List ColumnList) (after : Grid Aggregate) (lists' : List ColumnList) (result : Result ℕ E) : Type 0 where
   pub number : IfOk result (λ n. IsAt after.lanes n lane)
-  pub room : IfOk result (λ n. HasSpareAt lists' n)
+  pub room : IfOk result (λ n. HasPlaceAt lists' n)
   pub each : length lists' ≡ length after.lanes
   pub made : Extends before.lanes after.lanes
   pub once : AllDistinct before.lanes → AllDistinct after.lanes
-  pub columns : (n : ℕ) → get_or (lists_of lists') n [] ≡ get_or (lists_of lists) n []
+  pub columns : (n : ℕ) → get_or (lists_in lists') n [] ≡ get_or (lists_in lists) n []
   pub cells : after.cells ≡ before.cells
 
 -- the lanes of columns and the cells stay; lanes may have been made

@@ -21,6 +21,7 @@ mod columns;
 mod columns_seen;
 mod fault;
 mod freezing;
+mod lane_columns;
 mod rollup;
 mod rooms;
 mod run;

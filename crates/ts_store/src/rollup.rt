@@ -9,6 +9,7 @@ ghost use Rattle.ts_cells.specs.Grids.{lane_of, lane_named, lent_texts};
 ghost use Rattle.ts_cells.specs.Walks.{entry_of, entries_within};
 ghost use Rattle.ts_store.specs.Rollups.{new_rollup, IsLaneFor, KeepsCells, HasNext, with_next, with_frozen, roomed_in, frozen_in, lane_at, columns_of_lane};
 
+use crate::lane_columns::LaneColumns;
 use std::alloc::{AllocError, Allocator};
 use std::marker::Model;
 use ts_cells::{Cells, LaneId, Walk};
@@ -21,15 +22,15 @@ pub(crate) struct Rollup<A: Allocator> {
     cells: Cells<Agg, A>,
     /// Of each column its lane; none where the column is of another measurement.
     lanes: Vec<Option<LaneId>, A>,
-    /// Of each lane its columns, in the order of making.
-    columns: Vec<Vec<ColumnId, A>, A>,
+    /// Of each lane its columns.
+    columns: Vec<LaneColumns<A>, A>,
     /// The lane of a column that may be made next, for which there is room.
     next: Option<Option<LaneId>>,
 }
 
 impl<A: Allocator> Model for Rollup<A> {
     ghost use Rattle.std.specs.Prelude.{map};
-    ghost use Rattle.ts_raw.specs.Lists.{lists_of};
+    ghost use Rattle.ts_store.specs.ColumnLists.{lists_in, places_in};
     ghost use Rattle.ts_store.specs.Rollups.{RollupState, coded_rollup, IsRollup, has_spare};
 
     ghost Value = { RollupState };
@@ -38,7 +39,7 @@ impl<A: Allocator> Model for Rollup<A> {
 
     ghost view = { λ r. record { grid = r.cells; lanes = r.lanes.items; next = r.next } };
 
-    ghost invariant = { λ r. IsRollup r.cells.lanes r.lanes.items (lists_of r.columns.items) r.next (has_spare r.lanes) (map has_spare r.columns.items) };
+    ghost invariant = { λ r. IsRollup r.cells.lanes r.lanes.items (lists_in r.columns.items) r.next (has_spare r.lanes) (places_in r.columns.items) };
 }
 
 /// What is kept for so many rules: nothing yet.
@@ -75,7 +76,7 @@ fn group_of<'a, A: Allocator + Copy>(
 /// there are none.
 fn lane_for<A: Allocator + Copy>(
     cells: &mut Cells<Agg, A>,
-    columns: &mut Vec<Vec<ColumnId, A>, A>,
+    columns: &mut Vec<LaneColumns<A>, A>,
     field: &str,
     group: &[&str],
 ) -> Result<LaneId, AllocError>
@@ -85,10 +86,10 @@ fn lane_for<A: Allocator + Copy>(
     reserve_eighth(columns, 1)?;
     let lane = cells.lane(field, group)?;
     if columns.len() < cells.lanes() {
-        let none = Vec::new(*columns.allocator());
-        columns.push(none).unwrap();
+        columns.push(LaneColumns::new()).unwrap();
     }
-    columns[lane.number() as usize].reserve(1)?;
+    let alloc = *columns.allocator();
+    columns[lane.number() as usize].reserve(alloc)?;
     Ok(lane)
 }
 
@@ -136,7 +137,7 @@ impl<A: Allocator + Copy> Rollup<A> {
         let lane = self.next.take().unwrap();
         self.lanes.push(lane).unwrap();
         if let Some(lane) = &lane {
-            self.columns[lane.number() as usize].push(column).unwrap();
+            self.columns[lane.number() as usize].push(column);
         }
     }
 

@@ -1,6 +1,6 @@
 use Rattle.std.proofs.Common.{◌∙◌, ◌<◌, [], ap, sym, arith, length, get_or}
 use Rattle.std.proofs.lemmas.List.{length-map, get_or-map}
-use Rattle.ts_raw.specs.Lists.{lists_of}
+use Rattle.ts_store.specs.ColumnLists.{lists_in}
 use Rattle.ts_store.specs.Rollups.{RollupState, columns_of_lane}
 use Rattle.ts_store.proofs.rollup.Rollup.columns_of.Goals as goal
 
@@ -9,5 +9,5 @@ returns g c =
     let vs = c.self.inside.columns.items in
     let within : c.number.result < length vs =
     omega (arith, c.number.ensures, c.requires, c.self.invariant.each, length-map vs (λ v. v.items), ap (λ (s : RollupState). length s.grid.lanes) c.self.view_is) in
-    c.as_slice.ensures.value ∙ ap (λ v. v.items) c.index.ensures ∙ sym (get_or-map (λ v. v.items) vs c.number.result c.index.result.now [] within)
-    ∙ ap (λ n. get_or (lists_of vs) n []) c.number.ensures ∙ c.self.invariant.grouped c.args.lane ∙ ap (λ (s : RollupState). columns_of_lane c.args.lane s) c.self.view_is
+    c.as_slice.ensures ∙ ap (λ v. v.items) c.index.ensures ∙ sym (get_or-map (λ v. v.items) vs c.number.result c.index.result.now [] within)
+    ∙ ap (λ n. get_or (lists_in vs) n []) c.number.ensures ∙ c.self.invariant.grouped c.args.lane ∙ ap (λ (s : RollupState). columns_of_lane c.args.lane s) c.self.view_is

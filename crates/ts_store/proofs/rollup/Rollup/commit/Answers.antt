@@ -1,10 +1,15 @@
 use Rattle.std.proofs.Common.{◌≡◌, ◌∙◌, ◌<◌, ◌++◌, ◌∷◌, [], List, ℕ, ap, sym, Some, None, Option, length, cond, is_ok, get_or, set, arith}
 use Rattle.std.proofs.lemmas.List.{length-map}
-use Rattle.ts_raw.specs.Lists.{lists_of}
-use Rattle.ts_raw.proofs.ListsLemmas.{lists_more}
+use Rattle.ts_store.specs.ColumnLists.{lists_in}
 use Rattle.ts_store.specs.Rollups.{RollupState}
-use Rattle.ts_store.proofs.RollupLemmas.{spare_within, room_in, made_apart, made_in}
+use Rattle.ts_store.proofs.RollupLemmas.{place_within, place_at, room_in, lists_more, made_apart, made_in}
 use Rattle.ts_store.proofs.rollup.Rollup.commit.Goals as goal
+
+pub push-requires-in-Some : goal.push-requires-in-Some
+push-requires-in-Some g c =
+    let here : c.unwrap-lane.result ≡ Some c.number.result = c.in-Some.is ∙ ap Some (sym c.number.ensures) in
+    let next : c.self.inside.next ≡ Some (Some c.number.result) = sym c.take.ensures.value ∙ c.unwrap-lane.ensures ∙ ap Some here in
+    place_at c.self.inside.columns.items c.number.result c.index_mut.result.now c.index_mut.ensures.value (room_in c.number.result _ _ _ next c.self.invariant.room)
 
 pub invariant_of-self : goal.invariant_of-self
 invariant_of-self g c =
@@ -12,15 +17,14 @@ invariant_of-self g c =
     let vs = c.self.inside.columns.items in
     let here : c.unwrap-lane.result ≡ Some c.number.result = c.in-Some.is ∙ ap Some (sym c.number.ensures) in
     let next : c.self.inside.next ≡ Some (Some c.number.result) = sym c.take.ensures.value ∙ c.unwrap-lane.ensures ∙ ap Some here in
-    let within : c.number.result < length vs = spare_within vs c.number.result (room_in c.number.result _ _ _ next c.self.invariant.room) in
+    let within : c.number.result < length vs = place_within vs c.number.result (room_in c.number.result _ _ _ next c.self.invariant.room) in
     let number : c.args.column ≡ length os = c.requires.number ∙ sym (ap (λ (s : RollupState). length s.lanes) c.self.view_is) in
     let pushed : c.push.new.self.items ≡ os ++ Some c.number.result ∷ [] =
     c.push.ensures.items ∙ ap (λ r. cond (is_ok r) (os ++ c.unwrap-lane.result ∷ []) os) c.unwrap.ensures ∙ ap (λ (o : Option ℕ). os ++ o ∷ []) here in
-    let joined : c.push-in-Some.new.self.items ≡ c.index_mut.result.now.items ++ c.args.column ∷ [] =
-    c.push-in-Some.ensures.items ∙ ap (λ r. cond (is_ok r) (c.index_mut.result.now.items ++ c.args.column ∷ []) c.index_mut.result.now.items) c.unwrap-in-Some.ensures in
-    let lists : lists_of (set vs c.number.result c.push-in-Some.new.self) ≡ set (lists_of vs) c.number.result (get_or (lists_of vs) c.number.result [] ++ length os ∷ []) =
-    lists_more vs c.number.result c.index_mut.result.now c.push-in-Some.new.self c.index_mut.ensures.value c.args.column within joined
-    ∙ ap (λ n. set (lists_of vs) c.number.result (get_or (lists_of vs) c.number.result [] ++ n ∷ [])) number in
+    let joined : c.push-in-Some.new.self.items ≡ c.index_mut.result.now.items ++ length os ∷ [] =
+    c.push-in-Some.ensures ∙ ap (λ n. c.index_mut.result.now.items ++ n ∷ []) number in
+    let lists : lists_in (set vs c.number.result c.push-in-Some.new.self) ≡ set (lists_in vs) c.number.result (get_or (lists_in vs) c.number.result [] ++ length os ∷ []) =
+    lists_more vs c.number.result c.index_mut.result.now c.push-in-Some.new.self c.index_mut.ensures.value (length os) within joined in
     made_in _ _ _ _ _ _ c.self.invariant c.number.result (omega (arith, within, length-map vs (λ v. v.items))) _ _ _ _ _ pushed lists c.take.ensures.after
 
 pub invariant_of-self-in_default : goal.invariant_of-self-in_default

@@ -1,0 +1,80 @@
+//! The columns of a lane. Most lanes have one, which lies here itself; more lie in a list of their own.
+ghost use Rattle.std.specs.Prelude.{◌≡◌, ◌++◌, ◌∷◌, [], true, OnOk};
+
+use std::alloc::{AllocError, Allocator};
+use std::marker::Model;
+use std::slice;
+use ts_raw::ColumnId;
+
+#[derive(Drop)]
+enum Kept<A: Allocator> {
+    /// One at most.
+    One(Option<ColumnId>),
+    Many(Vec<ColumnId, A>),
+}
+
+/// The columns of a lane, in the order of making.
+#[derive(Drop)]
+pub(crate) struct LaneColumns<A: Allocator> {
+    kept: Kept<A>,
+}
+
+impl<A: Allocator> Model for LaneColumns<A> {
+    ghost use Rattle.ts_store.specs.ColumnLists.{ColumnList, coded_list_of_columns, list_kept};
+
+    ghost Value = { ColumnList };
+
+    ghost coded = { coded_list_of_columns };
+
+    ghost view = { λ c. list_kept c.kept };
+}
+
+impl<A: Allocator + Copy> LaneColumns<A> {
+    /// No columns. It takes no memory.
+    pub(crate) fn new() -> LaneColumns<A>
+        ensures { result.items ≡ [] }
+    {
+        LaneColumns {
+            kept: Kept::One(None),
+        }
+    }
+
+    /// The columns, in the order of making.
+    pub(crate) fn as_slice(&self) -> &[ColumnId]
+        ensures { result.now ≡ self.now.items }
+    {
+        match &self.kept {
+            Kept::One(None) => &[],
+            Kept::One(Some(column)) => slice::from_ref(column),
+            Kept::Many(columns) => columns.as_slice(),
+        }
+    }
+
+    /// Makes room for one column more. The first needs none.
+    pub(crate) fn reserve(&mut self, alloc: A) -> Result<(), AllocError>
+        ensures items { self.new.items ≡ self.old.items }
+        ensures ok { OnOk result (self.new.place ≡ true) }
+    {
+        match &mut self.kept {
+            Kept::One(None) => Ok(()),
+            Kept::One(Some(column)) => {
+                let mut columns = Vec::with_capacity(alloc, 2)?;
+                columns.push(*column).unwrap();
+                self.kept = Kept::Many(columns);
+                Ok(())
+            }
+            Kept::Many(columns) => columns.reserve(1),
+        }
+    }
+
+    /// Puts a column behind the others. It takes no memory.
+    pub(crate) fn push(&mut self, column: ColumnId)
+        requires { self.old.place ≡ true }
+        ensures { self.new.items ≡ self.old.items ++ column ∷ [] }
+    {
+        match &mut self.kept {
+            Kept::One(one) => *one = Some(column),
+            Kept::Many(columns) => columns.push(column).unwrap(),
+        }
+    }
+}
