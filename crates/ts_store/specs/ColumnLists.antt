@@ -1,4 +1,4 @@
--- The columns of a lane as they are kept: one lies there itself, more in a vector. (Own rule.)
+-- The columns of a lane as they are kept: one lies there itself, more in a vector of their own. (Own rule.)
 use Rattle.std.specs.Prelude.{ℕ, Bool, true, false, nat_lt, vec_len, vec_capacity, List, [], ◌∷◌, map, Some, None, get_or, ◌≡◌, refl}
 use Rattle.std.specs.Coded.{Coded, code_by, coded×, coded_ℕ, coded_list, coded_bool}
 use Rattle.ts_store.specs.declared.lane_columns.Kept.{Kept}
@@ -12,7 +12,7 @@ pub record ColumnList : Type 0 where
 abbrev pub list_kept : {A : Type 0} → Kept A → ColumnList
 list_kept (One None) = record { items = []; place = true }
 list_kept (One (Some c)) = record { items = c ∷ []; place = false }
-list_kept (Many v) = record { items = v.items; place = nat_lt (vec_len v) (vec_capacity v) }
+list_kept (Many b) = record { items = b.value.items; place = nat_lt (vec_len b.value) (vec_capacity b.value) }
 
 abbrev pub coded_list_of_columns : Coded ColumnList
 coded_list_of_columns = code_by (List ℕ × Bool) (coded× (coded_list coded_ℕ) coded_bool) (λ l. (l.items, l.place)) (λ p. record { items = p.0; place = p.1 }) (λ _. refl)

@@ -10,7 +10,7 @@ use ts_raw::ColumnId;
 enum Kept<A: Allocator> {
     /// One at most.
     One(Option<ColumnId>),
-    Many(Vec<ColumnId, A>),
+    Many(Box<Vec<ColumnId, A>, A>),
 }
 
 /// The columns of a lane, in the order of making.
@@ -60,7 +60,7 @@ impl<A: Allocator + Copy> LaneColumns<A> {
             Kept::One(Some(column)) => {
                 let mut columns = Vec::with_capacity(alloc, 2)?;
                 columns.push(*column).unwrap();
-                self.kept = Kept::Many(columns);
+                self.kept = Kept::Many(Box::new(alloc, columns)?);
                 Ok(())
             }
             Kept::Many(columns) => columns.reserve(1),
