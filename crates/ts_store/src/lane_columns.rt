@@ -10,6 +10,7 @@ use ts_raw::ColumnId;
 enum Kept<A: Allocator> {
     /// One at most.
     One(Option<ColumnId>),
+    /// More. The box keeps the lanes of one column small.
     Many(Box<Vec<ColumnId, A>, A>),
 }
 
