@@ -12,36 +12,36 @@ use Rattle.ts_core.specs.Views.{RuleTotals, Seen}
 use Rattle.ts_core.specs.Assembly.{rule_shown}
 use Rattle.ts_store.specs.Seats.{Seat, points_at, CellTotal, no_rule, cells_within, cells_at}
 use Rattle.ts_exec.specs.GroupTables.{is_cell_taken}
-use Rattle.ts_exec.specs.Shares.{Share, points_in, seat_shares, seats_shares, cell_share, rule_shares, source_shares, pieces_shares}
+use Rattle.ts_exec.specs.Shares.{Share, points_of_shares, seat_shares, seats_shares, cell_share, rule_shares, source_shares, pieces_shares}
 use Rattle.ts_exec.proofs.NamedRules.{IsShownAt}
 use Rattle.ts_exec.proofs.PointCounts.{seat-points, points-append}
 
 -- what is counted already and what is still to be counted
 abbrev pub counted : ℕ → List Share → ℕ
-counted n ss = min (points_in ss + n) 18446744073709551615
+counted n ss = min (points_of_shares ss + n) 18446744073709551615
 
 more : (m n k r c : ℕ) → m ≡ n + k → c ≡ min (r + n) 18446744073709551615 → min (k + c) 18446744073709551615 ≡ min (m + r) 18446744073709551615
 more m n k r c e f = omega arith
 
 -- shares of which some have been counted
-pub counted-more : (n new : ℕ) (xs ys : List Share) → new ≡ min (n + points_in xs) 18446744073709551615 → counted new ys ≡ counted n (xs ++ ys)
-counted-more n new xs ys e = more (points_in (xs ++ ys)) (points_in xs) (points_in ys) n new (points-append xs ys) e
+pub counted-more : (n new : ℕ) (xs ys : List Share) → new ≡ min (n + points_of_shares xs) 18446744073709551615 → counted new ys ≡ counted n (xs ++ ys)
+counted-more n new xs ys e = more (points_of_shares (xs ++ ys)) (points_of_shares xs) (points_of_shares ys) n new (points-append xs ys) e
 
 -- a column that meets the conditions
 pub counted-seat : (q : Query) (cs : List ColumnPoints) (a b : ℤ) (s : Seat) (ss : List Seat) (n new : ℕ)
     → list_all (meets s.series) q.conditions ≡ true → new ≡ min (n + length (points_at cs s.number a b)) 18446744073709551615
     → counted new (seats_shares q cs a b ss) ≡ counted n (seats_shares q cs a b (s ∷ ss))
 counted-seat q cs a b s ss n new met e =
-    let own : points_in (seat_shares q cs a b s) ≡ length (points_at cs s.number a b) = seat-points q cs a b s ∙ ap (λ z. cond z (length (points_at cs s.number a b)) 0) met in
+    let own : points_of_shares (seat_shares q cs a b s) ≡ length (points_at cs s.number a b) = seat-points q cs a b s ∙ ap (λ z. cond z (length (points_at cs s.number a b)) 0) met in
     counted-more n new (seat_shares q cs a b s) (seats_shares q cs a b ss) (e ∙ ap (λ k. min (n + k) 18446744073709551615) (sym own))
 
 -- a column that doesn't
 pub counted-other_seat : (q : Query) (cs : List ColumnPoints) (a b : ℤ) (s : Seat) (ss : List Seat) (n : ℕ)
     → list_all (meets s.series) q.conditions ≡ false → counted n (seats_shares q cs a b ss) ≡ counted n (seats_shares q cs a b (s ∷ ss))
 counted-other_seat q cs a b s ss n not_met =
-    let own : points_in (seat_shares q cs a b s) ≡ 0 = seat-points q cs a b s ∙ ap (λ z. cond z (length (points_at cs s.number a b)) 0) not_met in
+    let own : points_of_shares (seat_shares q cs a b s) ≡ 0 = seat-points q cs a b s ∙ ap (λ z. cond z (length (points_at cs s.number a b)) 0) not_met in
     let all = points-append (seat_shares q cs a b s) (seats_shares q cs a b ss) in
-    let same : points_in (seats_shares q cs a b ss) ≡ points_in (seats_shares q cs a b (s ∷ ss)) = omega arith in
+    let same : points_of_shares (seats_shares q cs a b ss) ≡ points_of_shares (seats_shares q cs a b (s ∷ ss)) = omega arith in
     ap (λ k. min (k + n) 18446744073709551615) same
 
 -- a cell
@@ -52,17 +52,17 @@ pub counted-cell : (q : Query) (r : Rule) (a b : ℤ) (c : CellTotal) (cs : List
     → new ≡ min (n + cond (is_cell_taken q r a b c) c.total.count 0) 18446744073709551615 → counted new (taken_shares q r a b cs) ≡ counted n (taken_shares q r a b (c ∷ cs))
 counted-cell q r a b c cs n new e =
     elim (is_cell_taken q r a b c) as (λ z. new ≡ min (n + cond z c.total.count 0) 18446744073709551615 → counted new (taken_shares q r a b cs) ≡ counted n (map (cell_share q r) (cond z (c ∷ filter (is_cell_taken q r a b) cs) (filter (is_cell_taken q r a b) cs)))) [
-      | true ↦ λ f. more (c.total.count + points_in (taken_shares q r a b cs)) c.total.count (points_in (taken_shares q r a b cs)) n new (omega arith) f
-      | false ↦ λ f. more (points_in (taken_shares q r a b cs)) 0 (points_in (taken_shares q r a b cs)) n new (omega arith) f
+      | true ↦ λ f. more (c.total.count + points_of_shares (taken_shares q r a b cs)) c.total.count (points_of_shares (taken_shares q r a b cs)) n new (omega arith) f
+      | false ↦ λ f. more (points_of_shares (taken_shares q r a b cs)) 0 (points_of_shares (taken_shares q r a b cs)) n new (omega arith) f
     ] e
 
 -- a piece
 pub counted-piece : (seen : Seen) (q : Query) (ps : List Piece) (i : ℕ) (p : Piece) (n new : ℕ)
-    → i < length ps → p ≡ get_or ps i p → new ≡ min (n + min (points_in (source_shares seen q p.source p.from p.to)) 18446744073709551615) 18446744073709551615
+    → i < length ps → p ≡ get_or ps i p → new ≡ min (n + min (points_of_shares (source_shares seen q p.source p.from p.to)) 18446744073709551615) 18446744073709551615
     → counted new (pieces_shares seen q (drop (i + 1) ps)) ≡ counted n (pieces_shares seen q (drop i ps))
 counted-piece seen q ps i p n new below at e =
     let next : drop i ps ≡ p ∷ drop (i + 1) ps = drop_more ps i p below ∙ ap (λ x. x ∷ drop (i + 1) ps) (sym at) in
-    let f : new ≡ min (n + points_in (source_shares seen q p.source p.from p.to)) 18446744073709551615 = omega arith in
+    let f : new ≡ min (n + points_of_shares (source_shares seen q p.source p.from p.to)) 18446744073709551615 = omega arith in
     counted-more n new (source_shares seen q p.source p.from p.to) (pieces_shares seen q (drop (i + 1) ps)) f
     ∙ ap (λ xs. counted n (pieces_shares seen q xs)) (sym next)
 
@@ -71,7 +71,7 @@ pub counted-all : (n : ℕ) → n ≤ 18446744073709551615 → n ≡ counted n [
 counted-all n few = omega arith
 
 -- none is counted
-pub counted-none : (ss : List Share) → counted 0 ss ≡ min (points_in ss) 18446744073709551615
+pub counted-none : (ss : List Share) → counted 0 ss ≡ min (points_of_shares ss) 18446744073709551615
 counted-none ss = omega arith
 
 -- the cells of a rule that is shown

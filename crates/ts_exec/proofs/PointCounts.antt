@@ -29,7 +29,7 @@ use Rattle.ts_ql.proofs.CountingLemmas.{in_first}
 use Rattle.ts_store.specs.Seats.{Seat, seats_where, points_at, CellTotal, cells_within}
 use Rattle.ts_exec.specs.RowParts.{BucketGrid, bucket_grid, place_at}
 use Rattle.ts_exec.specs.GroupTables.{is_cell_taken}
-use Rattle.ts_exec.specs.Shares.{Share, is_share, total_at, points_in, point_share, seat_shares, seats_shares, cell_share, rule_shares, source_shares, pieces_shares}
+use Rattle.ts_exec.specs.Shares.{Share, is_share, total_at, points_of_shares, point_share, seat_shares, seats_shares, cell_share, rule_shares, source_shares, pieces_shares}
 use Rattle.ts_exec.proofs.Walked.{taken-within}
 use Rattle.ts_exec.proofs.Given.{all_shares_total, few}
 
@@ -76,44 +76,44 @@ module _ (s : Settings) (m : Marks) (q : Query) where
 
 -- ---- it has as many points
 
-shares_length : (g : BucketGrid) (x : List Text) (ps : List (ℤ × ℤ)) → points_in (map (point_share g x) ps) ≡ length ps
+shares_length : (g : BucketGrid) (x : List Text) (ps : List (ℤ × ℤ)) → points_of_shares (map (point_share g x) ps) ≡ length ps
 shares_length g x [] = refl
 shares_length g x (p ∷ ps) = let rest = shares_length g x ps in omega arith
 
 -- the points of a column
-pub seat-points : (q : Query) (cs : List ColumnPoints) (a b : ℤ) (s : Seat) → points_in (seat_shares q cs a b s) ≡ cond (list_all (meets s.series) q.conditions) (length (points_at cs s.number a b)) 0
+pub seat-points : (q : Query) (cs : List ColumnPoints) (a b : ℤ) (s : Seat) → points_of_shares (seat_shares q cs a b s) ≡ cond (list_all (meets s.series) q.conditions) (length (points_at cs s.number a b)) 0
 seat-points q cs a b s =
     let ps : List (ℤ × ℤ) = points_at cs s.number a b in
-    elim (list_all (meets s.series) q.conditions) as (λ z. points_in (cond z (map (point_share (bucket_grid q) (tag_values q.group_tags s.series)) ps) []) ≡ cond z (length ps) 0) [
+    elim (list_all (meets s.series) q.conditions) as (λ z. points_of_shares (cond z (map (point_share (bucket_grid q) (tag_values q.group_tags s.series)) ps) []) ≡ cond z (length ps) 0) [
       | true ↦ shares_length (bucket_grid q) (tag_values q.group_tags s.series) ps
       | false ↦ refl
     ]
 
-pub points-append : (xs ys : List Share) → points_in (xs ++ ys) ≡ points_in xs + points_in ys
+pub points-append : (xs ys : List Share) → points_of_shares (xs ++ ys) ≡ points_of_shares xs + points_of_shares ys
 points-append [] ys = omega arith
 points-append (x ∷ xs) ys = let rest = points-append xs ys in omega arith
 
 module _ (q : Query) (a b : ℤ) where
-  seats_same : (cs : List ColumnPoints) (ss : List Seat) → points_in (seats_shares q cs a b ss) ≡ points_in (seats_shares (whole q) cs a b ss)
+  seats_same : (cs : List ColumnPoints) (ss : List Seat) → points_of_shares (seats_shares q cs a b ss) ≡ points_of_shares (seats_shares (whole q) cs a b ss)
   seats_same cs [] = refl
   seats_same cs (s ∷ ss) =
       points-append (seat_shares q cs a b s) (seats_shares q cs a b ss)
       ∙ ap₂ (λ (m n : ℕ). m + n) (seat-points q cs a b s ∙ sym (seat-points (whole q) cs a b s)) (seats_same cs ss)
       ∙ sym (points-append (seat_shares (whole q) cs a b s) (seats_shares (whole q) cs a b ss))
 
-  cells_same : (r : RuleTotals) (cs : List CellTotal) → points_in (map (cell_share q r.rule) cs) ≡ points_in (map (cell_share (whole q) r.rule) cs)
+  cells_same : (r : RuleTotals) (cs : List CellTotal) → points_of_shares (map (cell_share q r.rule) cs) ≡ points_of_shares (map (cell_share (whole q) r.rule) cs)
   cells_same r [] = refl
   cells_same r (c ∷ cs) = ap (λ n. c.total.count + n) (cells_same r cs)
 
-  rule_same : (o : Option RuleTotals) → points_in (rule_shares q a b o) ≡ points_in (rule_shares (whole q) a b o)
+  rule_same : (o : Option RuleTotals) → points_of_shares (rule_shares q a b o) ≡ points_of_shares (rule_shares (whole q) a b o)
   rule_same None = refl
   rule_same (Some r) = cells_same r (filter (is_cell_taken q r.rule a b) (cells_within r (index_of r.rule a) (index_of r.rule b)))
 
-  source_same : (seen : Seen) (source : Source) → points_in (source_shares seen q source a b) ≡ points_in (source_shares seen (whole q) source a b)
+  source_same : (seen : Seen) (source : Source) → points_of_shares (source_shares seen q source a b) ≡ points_of_shares (source_shares seen (whole q) source a b)
   source_same seen Raw = seats_same seen.columns (seats_where (is_of q.measurement q.field) seen.columns)
   source_same seen (Rollup name) = rule_same (rule_shown name seen.rules)
 
-whole_same : (seen : Seen) (q : Query) (ps : List Piece) → points_in (pieces_shares seen q ps) ≡ points_in (pieces_shares seen (whole q) ps)
+whole_same : (seen : Seen) (q : Query) (ps : List Piece) → points_of_shares (pieces_shares seen q ps) ≡ points_of_shares (pieces_shares seen (whole q) ps)
 whole_same seen q [] = refl
 whole_same seen q (p ∷ ps) =
     points-append (source_shares seen q p.source p.from p.to) (pieces_shares seen q ps)
@@ -125,7 +125,7 @@ whole_same seen q (p ∷ ps) =
 abbrev IsFirst : Share → Type 0
 IsFirst s = is_share [] 0 s ≡ true
 
-first_total : (ss : List Share) → AllByRecursion IsFirst ss → (total_at [] 0 ss).count ≡ points_in ss
+first_total : (ss : List Share) → AllByRecursion IsFirst ss → (total_at [] 0 ss).count ≡ points_of_shares ss
 first_total [] a = refl
 first_total (s ∷ ss) a =
     ap (λ z. (fold_by empty_aggregate merged (λ (x : Share). x.part) (cond z (s ∷ filter (is_share [] 0) ss) (filter (is_share [] 0) ss))).count) a.0
@@ -207,7 +207,7 @@ module _ (opening : Settings) (h : History) (seen : Seen) (q : Query) (ps : List
   abbrev row : ℤ
   row = bucket_in (whole q) q.from +ℤ pos 0
 
-  points_total : points_in (pieces_shares seen q ps) ≡ (assembled seen (whole q) ps [] row).count
+  points_total : points_of_shares (pieces_shares seen q ps) ≡ (assembled seen (whole q) ps [] row).count
   points_total =
       let first : q.from ≤ℤ q.from = omega (arith, ints) in
       whole_same seen q ps
@@ -215,7 +215,7 @@ module _ (opening : Settings) (h : History) (seen : Seen) (q : Query) (ps : List
       ∙ ap (λ (x : Aggregate). x.count) (all_shares_total opening h seen (whole q) shows wide [] 0 q.from ps first again.covers again.each)
 
   -- all that match, as valid pieces give them
-  pub points-matching : points_in (pieces_shares seen q ps) ≡ length (filter (matches q) (latest_of h))
+  pub points-matching : points_of_shares (pieces_shares seen q ps) ≡ length (filter (matches q) (latest_of h))
   points-matching =
       points_total
       ∙ ap (λ (x : Aggregate). x.count) (assembled-row opening h seen (whole q) shows wide [] row ps again)
@@ -223,5 +223,5 @@ module _ (opening : Settings) (h : History) (seen : Seen) (q : Query) (ps : List
       ∙ ap (λ (fs : List Fact). length fs) (filter-agree (is_in_row (whole q) [] row) (matches q) (latest_of h) (λ f o. whole_row q f))
 
   -- no more than a history has
-  pub points-few : points_in (pieces_shares seen q ps) ≤ 2 ^ 62
+  pub points-few : points_of_shares (pieces_shares seen q ps) ≤ 2 ^ 62
   points-few = subst (λ n. n ≤ 2 ^ 62) (sym points_total) (few opening h seen (whole q) shows wide ps again [] row)

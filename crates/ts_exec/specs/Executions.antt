@@ -11,7 +11,7 @@ use Rattle.ts_exec.specs.declared.fault.ExecFault.{ExecFault}
 use Rattle.ts_exec.specs.declared.fault.ExecFault.TheVariants as errors
 use Rattle.ts_exec.specs.Answered.{Answered}
 use Rattle.ts_exec.specs.GroupTables.{given}
-use Rattle.ts_exec.specs.Shares.{points_in, pieces_shares}
+use Rattle.ts_exec.specs.Shares.{points_of_shares, pieces_shares}
 
 -- a view has the settings and marks that a plan was checked for
 pub record IsFresh (seen : Seen) (p : Plan) : Type 0 where
@@ -26,7 +26,7 @@ pub record IsAnswer (seen : Seen) (p : Plan) (a : Answered) : Type 0 where
 
 -- how many points a plan gives of a view: of one that shows a history, just those of all points ever accepted that match the query
 pub record IsPointCount (seen : Seen) (p : Plan) (n : ℕ) : Type 0 where
-  pub exact : n ≡ min (points_in (pieces_shares seen p.select.query p.pieces)) 18446744073709551615
+  pub exact : n ≡ min (points_of_shares (pieces_shares seen p.select.query p.pieces)) 18446744073709551615
   pub answer : (opening : Settings) (h : History) → Shows opening h seen → n ≡ length (filter (matches p.select.query) (latest_of h))
 
 -- the answer; or that the plan is stale, just where the view has other settings or marks, which it answers; or that memory ran out

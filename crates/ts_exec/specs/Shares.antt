@@ -37,9 +37,9 @@ abbrev pub total_at : List Text → ℕ → List Share → Aggregate
 total_at g j ss = fold_by empty_aggregate merged (λ (s : Share). s.part) (filter (is_share g j) ss)
 
 -- how many points are in them
-abbrev pub points_in : List Share → ℕ
-points_in [] = 0
-points_in (s ∷ ss) = s.part.count + points_in ss
+abbrev pub points_of_shares : List Share → ℕ
+points_of_shares [] = 0
+points_of_shares (s ∷ ss) = s.part.count + points_of_shares ss
 
 -- ---- of points and cells
 

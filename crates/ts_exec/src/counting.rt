@@ -6,7 +6,7 @@ ghost use Rattle.ts_core.specs.Pieces.{Raw};
 ghost use Rattle.ts_store.specs.Seats.{cells_at};
 ghost use Rattle.ts_exec.specs.Executions.{IsCountOf};
 ghost use Rattle.ts_exec.specs.GroupTables.{is_cell_taken};
-ghost use Rattle.ts_exec.specs.Shares.{points_in, cell_share, source_shares, pieces_shares};
+ghost use Rattle.ts_exec.specs.Shares.{points_of_shares, cell_share, source_shares, pieces_shares};
 
 use crate::executor::is_fresh;
 use crate::fault::ExecFault;
@@ -24,7 +24,7 @@ fn raw_points<A: Allocator + Copy, V: View<A>>(
     from: i64,
     to: i64,
 ) -> u64
-    ensures { result ≡ min (points_in (source_shares (V.seen view.now) query.now.query Raw from to)) 18446744073709551615 }
+    ensures { result ≡ min (points_of_shares (source_shares (V.seen view.now) query.now.query Raw from to)) 18446744073709551615 }
 {
     let mut count: u64 = 0;
     for column in view.columns_of(query.measurement(), query.field()) {
@@ -67,7 +67,7 @@ fn rollup_points<A: Allocator + Copy, V: View<A>>(
 ) -> u64
     requires number { number < length (V.seen view.now).rules }
     requires interval { pos 1 ≤ℤ rule.now.interval }
-    ensures { result ≡ min (points_in (map (cell_share query.now.query rule.now) (filter (is_cell_taken query.now.query rule.now from to) (cells_at (V.seen view.now).rules number (index_of rule.now from) (index_of rule.now to))))) 18446744073709551615 }
+    ensures { result ≡ min (points_of_shares (map (cell_share query.now.query rule.now) (filter (is_cell_taken query.now.query rule.now from to) (cells_at (V.seen view.now).rules number (index_of rule.now from) (index_of rule.now to))))) 18446744073709551615 }
 {
     let first = bucket_index(i128::from(from), rule.interval(), rule.offset());
     let end = bucket_index(i128::from(to), rule.interval(), rule.offset());
@@ -84,7 +84,7 @@ fn piece_points<A: Allocator + Copy, V: View<A>>(
     query: &Query<A>,
     piece: &Piece<'_>,
 ) -> u64
-    ensures { result ≡ min (points_in (source_shares (V.seen view.now) query.now.query piece.now.source piece.now.from piece.now.to)) 18446744073709551615 }
+    ensures { result ≡ min (points_of_shares (source_shares (V.seen view.now) query.now.query piece.now.source piece.now.from piece.now.to)) 18446744073709551615 }
 {
     match piece.source {
         PieceSource::Raw => raw_points(view, query, piece.from, piece.to),
@@ -103,7 +103,7 @@ fn pieces_points<A: Allocator + Copy, V: View<A>>(
     query: &Query<A>,
     pieces: &[Piece<'_>],
 ) -> u64
-    ensures { result ≡ min (points_in (pieces_shares (V.seen view.now) query.now.query pieces.now)) 18446744073709551615 }
+    ensures { result ≡ min (points_of_shares (pieces_shares (V.seen view.now) query.now.query pieces.now)) 18446744073709551615 }
 {
     let mut count: u64 = 0;
     for piece in pieces {

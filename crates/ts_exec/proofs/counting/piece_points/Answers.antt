@@ -6,7 +6,7 @@ use Rattle.ts_core.specs.Pieces.{Source, Rollup}
 use Rattle.ts_core.specs.Views.{Seen, RuleTotals, seen_rule}
 use Rattle.ts_store.specs.Seats.{cells_at}
 use Rattle.ts_exec.specs.FirstOf.{rule_from}
-use Rattle.ts_exec.specs.Shares.{Share, points_in, rule_shares, source_shares}
+use Rattle.ts_exec.specs.Shares.{Share, points_of_shares, rule_shares, source_shares}
 use Rattle.ts_exec.proofs.NamedRules.{found-shown, none-shown, found-holds}
 use Rattle.ts_exec.proofs.CountSteps.{taken_shares, found-shares}
 use Rattle.ts_exec.proofs.counting.piece_points.Goals as goal
@@ -30,9 +30,9 @@ returns-in-Some g c =
     let source : c.args.piece.now.source ≡ Rollup c.in-Rollup.name.now = search rules in
     let s = found-shown c.in-Rollup.name.now seen.rules c.in-Some.number c.in-Some.rule.now e in
     let shares = found-shares q c.args.piece.now.from c.args.piece.now.to c.in-Rollup.name.now seen.rules c.in-Some.number c.in-Some.rule.now s in
-    let own : c.rollup_points.result ≡ min (points_in (taken_shares q c.in-Some.rule.now c.args.piece.now.from c.args.piece.now.to (cells_at seen.rules c.in-Some.number (index_of c.in-Some.rule.now c.args.piece.now.from) (index_of c.in-Some.rule.now c.args.piece.now.to)))) 18446744073709551615 = search rules in
+    let own : c.rollup_points.result ≡ min (points_of_shares (taken_shares q c.in-Some.rule.now c.args.piece.now.from c.args.piece.now.to (cells_at seen.rules c.in-Some.number (index_of c.in-Some.rule.now c.args.piece.now.from) (index_of c.in-Some.rule.now c.args.piece.now.to)))) 18446744073709551615 = search rules in
     own
-    ∙ ap (λ (ss : List Share). min (points_in ss) 18446744073709551615) (shares ∙ sym (ap (λ (z : Source). source_shares seen q z c.args.piece.now.from c.args.piece.now.to) source))
+    ∙ ap (λ (ss : List Share). min (points_of_shares ss) 18446744073709551615) (shares ∙ sym (ap (λ (z : Source). source_shares seen q z c.args.piece.now.from c.args.piece.now.to) source))
 
 pub returns-in-None : goal.returns-in-None
 returns-in-None g c =
@@ -40,5 +40,5 @@ returns-in-None g c =
     let q : Query = c.args.query.now.query in
     let e : rule_from c.in-Rollup.name.now 0 (map seen_rule seen.rules) ≡ None = search rules in
     let source : c.args.piece.now.source ≡ Rollup c.in-Rollup.name.now = search rules in
-    sym (ap (λ (z : Source). min (points_in (source_shares seen q z c.args.piece.now.from c.args.piece.now.to)) 18446744073709551615) source
-    ∙ ap (λ o. min (points_in (rule_shares q c.args.piece.now.from c.args.piece.now.to o)) 18446744073709551615) (none-shown c.in-Rollup.name.now seen.rules 0 e))
+    sym (ap (λ (z : Source). min (points_of_shares (source_shares seen q z c.args.piece.now.from c.args.piece.now.to)) 18446744073709551615) source
+    ∙ ap (λ o. min (points_of_shares (rule_shares q c.args.piece.now.from c.args.piece.now.to o)) 18446744073709551615) (none-shown c.in-Rollup.name.now seen.rules 0 e))

@@ -3,7 +3,7 @@ use Rattle.std.proofs.lemmas.List.{drop_all}
 use Rattle.ts_core.specs.Pieces.{Piece}
 use Rattle.ts_core.specs.Queries.{Query}
 use Rattle.ts_core.specs.Views.{Seen}
-use Rattle.ts_exec.specs.Shares.{points_in, source_shares, pieces_shares}
+use Rattle.ts_exec.specs.Shares.{points_of_shares, source_shares, pieces_shares}
 use Rattle.ts_exec.proofs.CountSteps.{counted, counted-piece, counted-all, counted-none}
 use Rattle.ts_exec.proofs.counting.pieces_points.Goals as goal
 
@@ -12,7 +12,7 @@ loop-piece-preserved g c =
     let seen : Seen = g.V.View.seen c.args.view.now in
     let q : Query = c.args.query.now.query in
     let p : Piece = c.piece-item.result in
-    let sum : c.saturating_add-count.result ≡ min (c.loop-piece.count + min (points_in (source_shares seen q p.source p.from p.to)) 18446744073709551615) 18446744073709551615 = search rules in (
+    let sum : c.saturating_add-count.result ≡ min (c.loop-piece.count + min (points_of_shares (source_shares seen q p.source p.from p.to)) 18446744073709551615) 18446744073709551615 = search rules in (
       counted-piece seen q c.args.pieces.now c.loop-piece.piece-index p c.loop-piece.count c.saturating_add-count.result c.loop-piece-test.true c.piece-item.is sum
           ∙ c.loop-piece.invariant.0,
       omega (arith, sum),
