@@ -1,5 +1,5 @@
 -- Marks of names.
-use Rattle.std.proofs.Common.{◌≡◌, OnOk, Result, Ok, Err, subst, ℕ, ℤ, zero, suc, ◌+◌, ◌<◌, Bool, true, false, List, [], ◌∷◌, ◌++◌, length, get_or, set, bytes_eq, None, refl, sym, ap, ◌∙◌, slice_index_or}
+use Rattle.std.proofs.Common.{◌≡◌, ℕ, ℤ, zero, suc, ◌+◌, ◌<◌, Bool, true, false, List, [], ◌∷◌, ◌++◌, length, get_or, set, bytes_eq, None, refl, sym, ap, ◌∙◌, slice_index_or}
 use Rattle.std.proofs.lemmas.List.{get_or-set_same}
 use Rattle.std.proofs.lemmas.Slice.Eq.{bytes_eq-Decides}
 use Rattle.ts_core.specs.Facts.{Text}
@@ -55,11 +55,6 @@ marked_at marks slot lt = get_or-set_same marks slot true false lt
 pub push_marked : (marks : List Bool) (f : LinePart × ℤ) (fields : List (LinePart × ℤ)) → slot_of f.0.text < length marks → AreMarked marks fields → AreMarked (set marks (slot_of f.0.text) true) (with_field fields f)
 push_marked marks f fields lt all =
     with_marked (set marks (slot_of f.0.text) true) fields f (all_kept marks (slot_of f.0.text) fields all) (marked_at marks (slot_of f.0.text) lt)
-
--- whatever is answered
-pub put_marked : (marks : List Bool) (fields new : List (LinePart × ℤ)) (f : LinePart × ℤ) {U E : Type 0} (r : Result U E) → AreMarked marks fields → Mark marks f.0.text → OnOk r (new ≡ with_field fields f) → OnOk r (AreMarked marks new)
-put_marked marks fields new f (Ok u) all mark is = subst (AreMarked marks) (sym is) (with_marked marks fields f all mark)
-put_marked marks fields new f (Err e) all mark is = tt
 
 -- ---- keys of tags
 

@@ -1,15 +1,16 @@
 //! The fields of a line are read: 1 to 256 names, each with the value that it has last.
-ghost use Rattle.std.specs.Prelude.{◌≡◌, ◌<◌, length, [], IfOk, IfSome, OnOk};
+ghost use Rattle.std.specs.Prelude.{◌≡◌, ◌<◌, length, [], Ok, IfOk, IfSome, OnOk};
 ghost use Rattle.std.specs.Str.{IsCharBoundary};
 ghost use Rattle.ts_line.specs.ReadSteps.{GivesIfRoom};
 ghost use Rattle.ts_line.specs.NameMarks.{AreMarked};
-ghost use Rattle.ts_line.specs.Fields.{next_field, place_from, with_field, fields_at};
+ghost use Rattle.ts_line.specs.Fields.{next_field, place_from, with_field, PutsNextField, fields_at};
 
 use crate::fault::{LineFaultKind, ReadLineError};
-use crate::line::Field;
+use crate::line::{Field, Part};
 use crate::mark::slot_of;
 use crate::part::part_at;
 use crate::scan::{Stops, end_at};
+use crate::short::short_integer;
 use crate::value::value_begun_at;
 use std::alloc::{AllocError, Allocator};
 use ts_core::{after, byte_at};
@@ -19,6 +20,26 @@ const FIELD_LIMIT: usize = 256;
 
 /// Room for so many fields is taken at first.
 const FIELDS_AT_FIRST: usize = 16;
+
+/// The field that begins at `start`, and its end, where no escape stands in its name and its value is an integer of few
+/// digits: it is read in one pass. None where something else stands there.
+#[tactic(auto, using(crate::proofs::PieceLemmas::plain_text), unfolding(crate::specs::Fields::next_field))]
+fn plain<'a, A: Allocator>(line: &'a str, start: usize) -> Option<(Field<'a, A>, usize)>
+    requires { IsCharBoundary line.now start }
+    ensures value { IfSome result (λ x. next_field line.now start ≡ Ok x) }
+    ensures boundary { IfSome result (λ x. IsCharBoundary line.now x.1) }
+{
+    let name_end = end_at(line, start, Stops::Equals);
+    if name_end.has_escape || name_end.at == start || byte_at(line, name_end.at) != b'=' {
+        return None;
+    }
+    let name = &line[start..name_end.at];
+    if name == "time" {
+        return None;
+    }
+    let (value, end) = short_integer(line, after(line, name_end.at))?;
+    Some((Field::new(Part::plain(start, name), value), end))
+}
 
 /// The field that begins at `start`, and its end.
 #[tactic(auto, unfolding(crate::specs::Fields::next_field))]
@@ -57,8 +78,7 @@ fn place_of<A: Allocator>(fields: &[Field<'_, A>], name: &str) -> Option<usize>
 }
 
 /// Puts a field behind others, or its value in place of the one of its name.
-#[cold]
-fn put_among<'a, A: Allocator>(
+fn put<'a, A: Allocator>(
     fields: &mut Vec<Field<'a, A>, A>,
     field: Field<'a, A>,
 ) -> Result<(), AllocError>
@@ -74,24 +94,47 @@ fn put_among<'a, A: Allocator>(
     Ok(())
 }
 
-/// Puts a field behind others, or its value in place of the one of its name. Each name has its mark; a name whose place
-/// bears no mark is new.
-fn put<'a, A: Allocator>(
+/// Puts the field that begins at `start` among others, whatever stands there: its end.
+#[cold]
+fn put_any<'a, A: Allocator + Copy>(
+    alloc: A,
     fields: &mut Vec<Field<'a, A>, A>,
     marks: &mut [bool; 64],
-    field: Field<'a, A>,
-) -> Result<(), AllocError>
+    line: &'a str,
+    start: usize,
+) -> Result<usize, ReadLineError>
+    requires boundary { IsCharBoundary line.now start }
     requires marked { AreMarked marks.old fields.old.items }
-    ensures ok { OnOk result (fields.new.items ≡ with_field fields.old.items field.entry) }
-    ensures marked { OnOk result (AreMarked marks.new fields.new.items) }
+    ensures { PutsNextField fields.old.items fields.new.items marks.new line.now start result }
 {
-    let slot = slot_of(field.name().text());
-    if marks[slot] {
-        return put_among(fields, field);
+    let (field, end) = next(alloc, line, start)?;
+    marks[slot_of(field.name().text())] = true;
+    put(fields, field)?;
+    Ok(end)
+}
+
+/// Puts the field that begins at `start` among others: its end. Each name has its mark; a name whose place bears no mark
+/// is new.
+fn put_next<'a, A: Allocator + Copy>(
+    alloc: A,
+    fields: &mut Vec<Field<'a, A>, A>,
+    marks: &mut [bool; 64],
+    line: &'a str,
+    start: usize,
+) -> Result<usize, ReadLineError>
+    requires boundary { IsCharBoundary line.now start }
+    requires marked { AreMarked marks.old fields.old.items }
+    ensures { PutsNextField fields.old.items fields.new.items marks.new line.now start result }
+{
+    if let Some((field, end)) = plain(line, start) {
+        let slot = slot_of(field.name().text());
+        if !marks[slot] {
+            marks[slot] = true;
+            fields.push(field)?;
+            return Ok(end);
+        }
     }
-    marks[slot] = true;
-    fields.push(field)?;
-    Ok(())
+    put_any(alloc, fields, marks, line, start)
 }
 
 /// The fields from `start` on, with commas between them, and the end of the last.
@@ -108,8 +151,7 @@ pub fn fields<'a, A: Allocator + Copy>(
     let mut marks = [false; 64];
     let mut at = start;
     for _ in 0..FIELD_LIMIT {
-        let (field, end) = next(alloc, line, at)?;
-        put(&mut fields, &mut marks, field)?;
+        let end = put_next(alloc, &mut fields, &mut marks, line, at)?;
         if byte_at(line, end) != b',' {
             return Ok((fields, end));
         }

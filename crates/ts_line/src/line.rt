@@ -45,6 +45,13 @@ impl<'a, A: Allocator> Part<'a, A> {
         Part { start, raw, text }
     }
 
+    /// A part that spells its own bytes.
+    pub(crate) fn plain(start: usize, raw: &'a str) -> Self
+        ensures { result ≡ record { start = start; raw = raw.now; text = raw.now } }
+    {
+        Part::new(start, raw, CowStr::Borrowed(raw))
+    }
+
     /// Where it starts, in bytes from the line's first.
     pub fn start(&self) -> usize
         ensures { result ≡ self.now.start }

@@ -1,13 +1,13 @@
 //! The tags of a line are read: up to 64, no key twice.
-ghost use Rattle.std.specs.Prelude.{◌≡◌, ◌<◌, ◌≤◌, ◌+◌, ◌++◌, ◌∷◌, length, [], IfOk, slice_index_or, true, false};
+ghost use Rattle.std.specs.Prelude.{◌≡◌, ◌<◌, ◌≤◌, ◌+◌, ◌++◌, ◌∷◌, length, [], Ok, IfOk, IfSome, slice_index_or, bytes_eq, codes, true, false};
 ghost use Rattle.std.specs.Str.{IsCharBoundary};
 ghost use Rattle.ts_core.specs.Cursors.{IsPlaceFrom};
 ghost use Rattle.ts_line.specs.ReadSteps.{GivesIfRoom};
 ghost use Rattle.ts_line.specs.NameMarks.{slot_of, AreKeysMarked};
-ghost use Rattle.ts_line.specs.TagParts.{has_key, next_tag, tags_at};
+ghost use Rattle.ts_line.specs.TagParts.{pair_at, has_key, next_tag, PushesNextTag, tags_at};
 
 use crate::fault::{LineFaultKind, ReadLineError};
-use crate::line::{TAG_LIMIT, Tag};
+use crate::line::{Part, TAG_LIMIT, Tag};
 use crate::mark::slot_of;
 use crate::part::part_at;
 use crate::scan::{Stops, end_at};
@@ -37,6 +37,32 @@ fn is_repeated<A: Allocator>(tags: &[Tag<'_, A>], marks: &mut [bool; 64], key: &
     }
     marks[slot] = true;
     false
+}
+
+/// The tag that begins at `start`, and its end, where no escape stands in it. None where something else stands there.
+#[tactic(auto, using(crate::proofs::PieceLemmas::plain_text), unfolding(crate::specs::TagParts::pair_at))]
+fn plain<'a, A: Allocator>(line: &'a str, start: usize) -> Option<(Tag<'a, A>, usize)>
+    requires { IsCharBoundary line.now start }
+    ensures value { IfSome result (λ x. pair_at line.now start ≡ Ok x) }
+    ensures key { IfSome result (λ x. bytes_eq x.0.0.text (codes "time") ≡ false) }
+    ensures place { IfSome result (λ x. IsPlaceFrom line.now (start + 1) x.1) }
+{
+    let key_end = end_at(line, start, Stops::Equals);
+    if key_end.has_escape || key_end.at == start || byte_at(line, key_end.at) != b'=' {
+        return None;
+    }
+    let value_start = after(line, key_end.at);
+    let value_end = end_at(line, value_start, Stops::Equals);
+    if value_end.has_escape || value_end.at == value_start || byte_at(line, value_end.at) == b'=' {
+        return None;
+    }
+    let key = &line[start..key_end.at];
+    if key == "time" {
+        return None;
+    }
+    let value = &line[value_start..value_end.at];
+    let tag = Tag::new(Part::plain(start, key), Part::plain(value_start, value));
+    Some((tag, value_end.at))
 }
 
 /// The tag that begins at `start`, behind others, and its end.
@@ -78,6 +104,48 @@ fn next<'a, A: Allocator + Copy>(
     Ok((Tag::new(key, value), value_end.at))
 }
 
+/// Appends the tag that begins at `start` to others, whatever stands there: its end.
+#[cold]
+fn push_any<'a, A: Allocator + Copy>(
+    alloc: A,
+    tags: &mut Vec<Tag<'a, A>, A>,
+    marks: &mut [bool; 64],
+    line: &'a str,
+    start: usize,
+) -> Result<usize, ReadLineError>
+    requires boundary { IsCharBoundary line.now start }
+    requires marked { AreKeysMarked marks.old tags.old.items }
+    ensures { PushesNextTag tags.old.items tags.new.items marks.new line.now start result }
+{
+    let (tag, end) = next(alloc, tags, marks, line, start)?;
+    tags.push(tag)?;
+    Ok(end)
+}
+
+/// Appends the tag that begins at `start` to others: its end. Each key has its mark; a key whose place bears no mark is
+/// new.
+fn push_next<'a, A: Allocator + Copy>(
+    alloc: A,
+    tags: &mut Vec<Tag<'a, A>, A>,
+    marks: &mut [bool; 64],
+    line: &'a str,
+    start: usize,
+) -> Result<usize, ReadLineError>
+    requires boundary { IsCharBoundary line.now start }
+    requires marked { AreKeysMarked marks.old tags.old.items }
+    ensures { PushesNextTag tags.old.items tags.new.items marks.new line.now start result }
+{
+    if let Some((tag, end)) = plain(line, start) {
+        let slot = slot_of(tag.key().text());
+        if tags.len() < TAG_LIMIT && !marks[slot] {
+            marks[slot] = true;
+            tags.push(tag)?;
+            return Ok(end);
+        }
+    }
+    push_any(alloc, tags, marks, line, start)
+}
+
 /// The tags from `start` on, each behind a comma, and the end of the last.
 pub fn tags<'a, A: Allocator + Copy>(
     alloc: A,
@@ -93,9 +161,7 @@ pub fn tags<'a, A: Allocator + Copy>(
     let mut marks = [false; 64];
     let mut at = start;
     while byte_at(line, at) == b',' {
-        let (tag, end) = next(alloc, &tags, &mut marks, line, after(line, at))?;
-        tags.push(tag)?;
-        at = end;
+        at = push_next(alloc, &mut tags, &mut marks, line, after(line, at))?;
     }
     Ok((tags, at))
 }

@@ -9,7 +9,6 @@ ghost use Rattle.ts_line.specs.Values.{is_unsigned, is_boolean, is_float, behind
 use crate::fault::{LineFault, LineFaultKind};
 use crate::number::{after_minus, are_digits, is_number, whole};
 use crate::scan::{Stops, end_at};
-use crate::short::short_integer;
 use ts_core::byte_at;
 
 fn is_unsigned(text: &[u8]) -> bool
@@ -133,7 +132,6 @@ fn value_said(start: usize, text: &str) -> Result<i64, LineFault>
 }
 
 /// The fault of a field whose value is a text in double quotes.
-#[cold]
 fn quoted(start: usize, text: &[u8]) -> LineFault
     ensures { result ≡ (if then_is (behind_quotes false text.now) is_value_end then fault_at LineFaultKind.FieldType start else fault_at LineFaultKind.BadField start) }
 {
@@ -145,8 +143,7 @@ fn quoted(start: usize, text: &[u8]) -> LineFault
 
 /// The value that begins at `at`, of a field that starts there, and its end.
 #[tactic(auto, unfolding(crate::specs::Values::value_begun_at))]
-#[cold]
-fn any_value_at(start: usize, line: &str, at: usize) -> Result<(i64, usize), LineFault>
+pub fn value_begun_at(start: usize, line: &str, at: usize) -> Result<(i64, usize), LineFault>
     requires { IsCharBoundary line.now at }
     ensures value { result ≡ value_begun_at start line.now at }
     ensures place { IfOk result (λ x. IsPlaceFrom line.now at x.1) }
@@ -156,17 +153,4 @@ fn any_value_at(start: usize, line: &str, at: usize) -> Result<(i64, usize), Lin
     }
     let end = end_at(line, at, Stops::Plain).at;
     Ok((value_said(start, &line[at..end])?, end))
-}
-
-/// The value that begins at `at`, of a field that starts there, and its end. An integer of few digits is read in one
-/// pass.
-pub fn value_begun_at(start: usize, line: &str, at: usize) -> Result<(i64, usize), LineFault>
-    requires { IsCharBoundary line.now at }
-    ensures value { result ≡ value_begun_at start line.now at }
-    ensures place { IfOk result (λ x. IsPlaceFrom line.now at x.1) }
-{
-    match short_integer(line, at) {
-        Some(found) => Ok(found),
-        None => any_value_at(start, line, at),
-    }
 }

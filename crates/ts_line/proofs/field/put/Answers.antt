@@ -1,34 +1,25 @@
-use Rattle.std.proofs.Common.{◌≡◌, ◌<◌, ℤ, false, List, length, slice_index_or, sym, ap, ◌∙◌, subst, arith}
+use Rattle.std.proofs.Common.{◌≡◌, ℤ, List, Some, None, get_or, set, ap, ◌∙◌}
+use Rattle.ts_core.specs.Facts.{Text}
 use Rattle.ts_line.specs.Parts.{LinePart}
-use Rattle.ts_line.specs.NameMarks.{slot_of}
-use Rattle.ts_line.specs.Fields.{with_field}
-use Rattle.ts_line.proofs.MarkLemmas.{unmarked_pushed, push_marked, put_marked}
+use Rattle.ts_line.specs.Fields.{place_from}
+use Rattle.ts_line.proofs.FieldLemmas.{field_set, field_pushed}
 use Rattle.ts_line.proofs.field.put.Goals as goal
 
-pub returns-then-marks-slot-clause-marked : goal.returns-then-marks-slot-clause-marked
-returns-then-marks-slot-clause-marked g c =
-    let field : LinePart × ℤ = c.args.field in
-    let name : c.text.result.now ≡ field.0.text = c.text.ensures ∙ ap (λ (p : LinePart). p.text) c.name.ensures in
-    let slot : c.slot_of-slot.result ≡ slot_of field.0.text = c.slot_of-slot.ensures.value ∙ ap slot_of name in
-    let test = c.if-marks-slot.true in
-    put_marked c.args.marks.now c.args.fields.now.items c.put_among.new.fields.items field c.put_among.result c.requires.marked (ap (λ n. slice_index_or c.args.marks.now n false) (sym slot) ∙ test) c.put_among.ensures
-
-pub returns-clause-ok : goal.returns-clause-ok
-returns-clause-ok g c =
-    let field : LinePart × ℤ = c.args.field in
-    let name : c.text.result.now ≡ field.0.text = c.text.ensures ∙ ap (λ (p : LinePart). p.text) c.name.ensures in
-    let slot : c.slot_of-slot.result ≡ slot_of field.0.text = c.slot_of-slot.ensures.value ∙ ap slot_of name in
-    let test = c.if-marks-slot.false in
-    c.in_ok-push.ensures.items ∙ unmarked_pushed c.args.marks.now field c.args.fields.now.items (ap (λ n. slice_index_or c.args.marks.now n false) (sym slot) ∙ test) c.requires.marked
-
-pub returns-clause-marked : goal.returns-clause-marked
-returns-clause-marked g c =
-    let field : LinePart × ℤ = c.args.field in
+pub returns-in-Some : goal.returns-in-Some
+returns-in-Some g c =
     let fields : List (LinePart × ℤ) = c.args.fields.now.items in
+    let field : LinePart × ℤ = c.args.field in
+    let older : LinePart × ℤ = c.index_mut-older.result.now in
     let name : c.text.result.now ≡ field.0.text = c.text.ensures ∙ ap (λ (p : LinePart). p.text) c.name.ensures in
-    let slot : c.slot_of-slot.result ≡ slot_of field.0.text = c.slot_of-slot.ensures.value ∙ ap slot_of name in
-    let test = c.if-marks-slot.false in
-    let bare : slice_index_or c.args.marks.now (slot_of field.0.text) false ≡ false = ap (λ n. slice_index_or c.args.marks.now n false) (sym slot) ∙ test in
-    let items : c.push.new.self.items ≡ with_field fields field = c.in_ok-push.ensures.items ∙ unmarked_pushed c.args.marks.now field fields bare c.requires.marked in
-    let within : slot_of field.0.text < length c.args.marks.now = subst (λ n. n < length c.args.marks.now) slot (omega (arith, c.slot_of-slot.ensures.bound, c.told-marks)) in
-    rw (items, slot) (push_marked c.args.marks.now field fields within c.requires.marked)
+    let found : Some c.in-Some.at ≡ place_from 0 field.0.text fields = c.in-Some.ensures.value ∙ ap (λ (fs : List (LinePart × ℤ)). place_from 0 c.text.result.now fs) c.deref.ensures.value ∙ ap (λ (t : Text). place_from 0 t fields) name in
+    let is : older ≡ get_or fields c.in-Some.at older = c.index_mut-older.ensures.value in
+    let new : c.take_value.new.self ≡ ((get_or fields c.in-Some.at older).0, field.1) = c.take_value.ensures ∙ ap (λ (p : LinePart × ℤ). (p.0, field.1)) is in
+    ap (λ (x : LinePart × ℤ). set fields c.in-Some.at x) new ∙ field_set field fields c.in-Some.at older found
+
+pub returns-in_ok-push-in-None : goal.returns-in_ok-push-in-None
+returns-in_ok-push-in-None g c =
+    let fields : List (LinePart × ℤ) = c.args.fields.now.items in
+    let field : LinePart × ℤ = c.args.field in
+    let name : c.text.result.now ≡ field.0.text = c.text.ensures ∙ ap (λ (p : LinePart). p.text) c.name.ensures in
+    let found : None ≡ place_from 0 field.0.text fields = c.in-None.ensures.value ∙ ap (λ (fs : List (LinePart × ℤ)). place_from 0 c.text.result.now fs) c.deref.ensures.value ∙ ap (λ (t : Text). place_from 0 t fields) name in
+    c.in_ok-push-in-None.ensures.items ∙ field_pushed field fields found
