@@ -5,7 +5,7 @@ use Rattle.std.specs.Prelude.{◌↔◌, Bool}
 use Rattle.ts_core.specs.Settings.{Settings}
 use Rattle.ts_core.specs.Marks.{Marks}
 use Rattle.ts_core.specs.Queries.{Query}
-use Rattle.ts_core.specs.Pieces.{Piece, asked, IsValid}
+use Rattle.ts_core.specs.Pieces.{Piece, asked}
 use Rattle.ts_core.proofs.Intervals.{IsWide}
 use Rattle.ts_core.specs.Plans.{IsWalk, joined, IsPlan, IsTooMany}
 use Rattle.ts_core.proofs.Walks.{plan_valid}

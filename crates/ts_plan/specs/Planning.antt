@@ -7,7 +7,6 @@ use Rattle.ts_core.specs.Pieces.{Piece, IsValid}
 use Rattle.ts_core.specs.Plans.{IsPlan, IsTooMany}
 use Rattle.ts_plan.specs.declared.fault.PlanError.{PlanError}
 use Rattle.ts_plan.specs.declared.fault.PlanError.TheVariants as errors
-use Rattle.ts_plan.specs.declared.fault.PlanFault.{PlanFault}
 use Rattle.ts_plan.specs.declared.fault.PlanFault.TheVariants.{NoPlan, TooManyBuckets}
 
 -- the plan of a query: the one that is determined, and so a valid one

@@ -23,8 +23,3 @@ mod walk;
 
 pub use fault::{PlanError, PlanFault};
 pub use planner::plan;
-
-#[cfg(test)]
-mod plain;
-#[cfg(test)]
-mod tests;
