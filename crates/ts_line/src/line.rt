@@ -228,21 +228,19 @@ impl<'a, A: Allocator> Line<'a, A> {
         self.time
     }
 
-    /// The texts of the tags with their values, in byte order of the keys, in an array of so many places. It takes no
-    /// memory. Nearly all lines have room in few places, and an array is filled with blanks first, so take a small one
-    /// where it serves.
-    pub fn tags_by_key<const N: usize>(&self) -> ArrayVec<(&str, &str), N>
+    /// Puts the texts of the tags with their values in an array, in byte order of the keys. It takes no memory. Nearly all
+    /// lines have room in few places, and an array is filled with blanks first, so take a small one where it serves.
+    pub fn tags_by_key<'b, const N: usize>(&'b self, pairs: &mut ArrayVec<(&'b str, &'b str), N>)
+        requires none { pairs.old.items ≡ [] }
         requires room { length self.now.tags ≤ N }
-        ensures value { lent_pairs result.items ≡ (series_of self.now).tags }
-        ensures set { IsTagSet (lent_pairs result.items) }
+        ensures value { lent_pairs pairs.new.items ≡ (series_of self.now).tags }
+        ensures set { IsTagSet (lent_pairs pairs.new.items) }
     {
-        let mut pairs = ArrayVec::new();
         if rise(&self.tags) {
-            push_all(&mut pairs, &self.tags);
+            push_all(pairs, &self.tags);
         } else {
-            self.put_all(&mut pairs);
+            self.put_all(pairs);
         }
-        pairs
     }
 
     /// Puts the texts of the tags with their values in byte order of the keys.

@@ -25,6 +25,7 @@ use crate::columns_seen::Columns;
 use crate::fault::WriteFault;
 use crate::run::Run;
 use crate::view::View;
+use arrayvec::ArrayVec;
 use std::alloc::{AllocError, Allocator};
 use std::marker::Model;
 use ts_core::{KeyRef, Marks, Rule, Settings, Time, index_of};
@@ -103,7 +104,8 @@ impl<A: Allocator + Copy> Store<A> {
         if line.tags().len() > FEW_TAGS {
             return self.write_many_tags(line);
         }
-        let tags = line.tags_by_key::<8>();
+        let mut tags = ArrayVec::<_, FEW_TAGS>::new();
+        line.tags_by_key(&mut tags);
         self.write_tagged(line, &tags)
     }
 
@@ -113,7 +115,8 @@ impl<A: Allocator + Copy> Store<A> {
         requires { length line.now.tags ≤ 64 }
         ensures { WritesLine self.old self.new line.now result }
     {
-        let tags = line.tags_by_key::<64>();
+        let mut tags = ArrayVec::<_, 64>::new();
+        line.tags_by_key(&mut tags);
         self.write_tagged(line, &tags)
     }
 
