@@ -84,6 +84,7 @@ pub mod NumberedLemmas
 -- lists, texts and comparisons, for all of these
 pub mod MembersLemmas
 pub mod ListSteps
+mod Takes
 pub mod Places
 pub mod Sorted
 pub mod Windows

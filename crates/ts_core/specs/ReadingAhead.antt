@@ -1,12 +1,13 @@
 -- Reading ahead of use, within a limit on the turns of reading. (Own rules.)
-use Rattle.std.specs.Prelude.{◌≡◌, ℕ, ◌+◌, ◌-◌, ◌*◌, ◌≤◌, ◌<◌, List, [], length, take, drop, Bool, true, false, not, nat_lt, Option, Result, Ok, Err, OnOk, OnErr, IfOk, if◌then◌else◌}
+use Rattle.std.specs.Prelude.{◌≡◌, ℕ, ◌+◌, ◌-◌, ◌*◌, ◌≤◌, ◌<◌, List, [], ◌++◌, length, take, drop, Bool, true, false, not, nat_lt, Option, Result, Ok, Err, OnOk, OnErr, IfOk, if◌then◌else◌}
 use Rattle.std.specs.Io.KnownBytes.{prepend_known, IsAtEnd, Consumes, Keeps}
 use Rattle.ts_core.specs.Devices.{Input}
 use Rattle.ts_core.specs.declared.read_ahead.ReadFault.{ReadFault}
 use Rattle.ts_core.specs.declared.read_ahead.ReadFault.TheVariants.{Device, Turns}
 
--- what was read and not used; the turns taken, and how many may be; whether the end was read
+-- what the last turn read, the bytes that were used and those that were not; the turns taken, and how many may be; whether the end was read
 pub record Ahead : Type 0 where
+  pub used : List ℕ
   pub buffered : List ℕ
   pub turns : ℕ
   pub limit : ℕ
@@ -14,7 +15,7 @@ pub record Ahead : Type 0 where
 
 -- before the first turn
 abbrev pub nothing_ahead : ℕ → Ahead
-nothing_ahead limit = record { buffered = []; turns = 0; limit = limit; ended = false }
+nothing_ahead limit = record { used = []; buffered = []; turns = 0; limit = limit; ended = false }
 
 -- the bytes still to come, where they are known
 abbrev pub pending : Ahead → Input → Option (List ℕ)
@@ -45,6 +46,7 @@ weight ahead = (ahead.limit - ahead.turns) * (most_ahead + 1) + length ahead.buf
 
 -- the first bytes of what was read ahead are taken away, so many
 pub record IsConsumed (old : Ahead) (count : ℕ) (new : Ahead) : Type 0 where
+  pub used : new.used ≡ old.used ++ take count old.buffered
   pub buffered : new.buffered ≡ drop count old.buffered
   pub turns : new.turns ≡ old.turns
   pub limit : new.limit ≡ old.limit
@@ -62,6 +64,7 @@ pub record IsFilled (old : Ahead) (source : Input) (result : Result Bool ReadFau
   pub more : IfOk result (λ more. more ≡ not new.ended)
   pub some : IfOk result (λ more. more ≡ nat_lt 0 (length new.buffered))
   pub none : OnErr result (new.buffered ≡ [])
+  pub unused : OnOk result (new.used ≡ [])
   pub stays : OnErr result (new.ended ≡ false)
   pub bound : length new.buffered ≤ most_ahead
   -- what the source counts

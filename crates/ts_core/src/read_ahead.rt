@@ -31,12 +31,12 @@ pub struct ReadAhead<A: Allocator + Copy> {
 }
 
 impl<A: Allocator + Copy> Model for ReadAhead<A> {
-    ghost use Rattle.std.specs.Prelude.{◌≡◌, ◌≤◌, slice_range, vec_len};
+    ghost use Rattle.std.specs.Prelude.{◌≡◌, ◌≤◌, take, slice_range, vec_len};
     ghost use Rattle.ts_core.specs.ReadingAhead.{Ahead, most_ahead};
 
     ghost Value = { Ahead };
 
-    ghost view = { λ r. record { buffered = slice_range r.buffer.items r.at r.end; turns = r.turns; limit = r.limit; ended = r.ended } };
+    ghost view = { λ r. record { used = take r.at r.buffer.items; buffered = slice_range r.buffer.items r.at r.end; turns = r.turns; limit = r.limit; ended = r.ended } };
 
     ghost invariant = { λ r. (r.at ≤ r.end) × (r.end ≤ vec_len r.buffer) × (vec_len r.buffer ≡ most_ahead) × (r.turns ≤ r.limit) };
 }
@@ -63,6 +63,14 @@ impl<A: Allocator + Copy> ReadAhead<A> {
         ensures within { self.now.turns ≤ self.now.limit }
     {
         &self.buffer[self.at..self.end]
+    }
+
+    /// What the last turn read and was used since. It stands until the next turn.
+    pub fn used(&self) -> &[u8]
+        ensures value { result.now ≡ self.now.used }
+        ensures bound { length result.now ≤ most_ahead }
+    {
+        &self.buffer[..self.at]
     }
 
     /// Whether the end of the input was read.

@@ -12,9 +12,6 @@ use Rattle.std.proofs.Common.{◌≡◌, true, slice_range, drop, Option, None, 
 use Rattle.std.proofs.lemmas.Bool.{le-ltb}
 use Rattle.ts_core.specs.Facts.{Text}
 use Rattle.ts_line.specs.declared.fault.LineFault.{LineFault}
-use Rattle.ts_line.specs.declared.fault.ReadLineError.{ReadLineError}
-use Rattle.ts_line.specs.declared.fault.ReadLineError.TheVariants as errors
-use Rattle.ts_line.specs.ReadSteps.{FailsIfRoom}
 use Rattle.ts_line.specs.Parts.{LinePart, Parts}
 use Rattle.ts_line.specs.declared.scan.Stops.TheVariants.{Space}
 use Rattle.ts_line.specs.Scan.{end_of, spaces_end}
@@ -50,13 +47,6 @@ pub time_fails : (unit now : ℤ) (line : Text) (start end end' end'' : ℕ) (m 
     → parts_at unit now line start ≡ Err f
 unfolding parts_at
 time_fails unit now line start end end' end'' m tags fields f a b c d e = rw (a, b, c, d, e) refl
-
-pub fields_fail : (unit now : ℤ) (line : Text) (start end end' : ℕ) (m : LinePart) (tags : List (LinePart × LinePart)) (e : ReadLineError)
-    → measurement_at line start ≡ Ok (m, end) → tags_at 65 [] line end ≡ Ok (tags, end') → eqb (spaces_end line end') (length line) ≡ false
-    → FailsIfRoom e (fields_at 256 [] line (spaces_end line end')) → FailsIfRoom e (parts_at unit now line start)
-unfolding parts_at
-fields_fail unit now line start end end' m tags errors.OutOfMemory a b c d = tt
-fields_fail unit now line start end end' m tags (errors.Fault f) a b c d = rw (a, b, c, d) refl
 
 pub line_read : (unit now : ℤ) (source : Text) (p : Parts) → ltb 65536 (length source) ≡ false → eqb (spaces_end (content source) 0) (length (content source)) ≡ false
     → eqb (slice_index (content source) (spaces_end (content source) 0)) 35 ≡ false → parts_at unit now (content source) (spaces_end (content source) 0) ≡ Ok p

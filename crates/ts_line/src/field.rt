@@ -18,6 +18,9 @@ use ts_core::{after, byte_at};
 /// A line has no more fields than this.
 const FIELD_LIMIT: usize = 256;
 
+/// Room for so many fields is taken at first.
+const FIELDS_AT_FIRST: usize = 16;
+
 /// The field that begins at `start`, and its end, where no escape stands in its name and its value is an integer of few
 /// digits: it is read in one pass. None where something else stands there.
 #[tactic(auto, using(crate::proofs::PieceLemmas::plain_text), unfolding(crate::specs::Fields::next_field))]
@@ -134,24 +137,23 @@ fn put_next<'a, A: Allocator + Copy>(
     put_any(alloc, fields, marks, line, start)
 }
 
-/// Puts the fields from `start` on, with commas between them, among none: the end of the last.
-pub fn put_fields<'a, A: Allocator + Copy>(
+/// The fields from `start` on, with commas between them, and the end of the last.
+pub fn fields<'a, A: Allocator + Copy>(
     alloc: A,
-    fields: &mut Vec<Field<'a, A>, A>,
     line: &'a str,
     start: usize,
-) -> Result<usize, ReadLineError>
-    requires none { fields.old.items ≡ [] }
-    requires start { IsCharBoundary line.now start }
-    ensures value { GivesIfRoom (λ end. (fields.new.items, end)) result (fields_at 256 [] line.now start) }
-    ensures boundary { IfOk result (λ end. IsCharBoundary line.now end) }
+) -> Result<(Vec<Field<'a, A>, A>, usize), ReadLineError>
+    requires { IsCharBoundary line.now start }
+    ensures value { GivesIfRoom (λ x. (x.0.items, x.1)) result (fields_at 256 [] line.now start) }
+    ensures boundary { IfOk result (λ x. IsCharBoundary line.now x.1) }
 {
+    let mut fields = Vec::with_capacity(alloc, FIELDS_AT_FIRST)?;
     let mut marks = [false; 64];
     let mut at = start;
     for _ in 0..FIELD_LIMIT {
-        let end = put_next(alloc, fields, &mut marks, line, at)?;
+        let end = put_next(alloc, &mut fields, &mut marks, line, at)?;
         if byte_at(line, end) != b',' {
-            return Ok(end);
+            return Ok((fields, end));
         }
         at = after(line, end);
     }

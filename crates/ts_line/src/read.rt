@@ -9,13 +9,13 @@ ghost use Rattle.ts_core.specs.TimeUnits.{nanoseconds_of};
 ghost use Rattle.ts_line.specs.Lines.{is_bare_space, trimmed, without_return, content, measurement_at, time_at, parts_at, line_of};
 
 use crate::fault::{LineFault, LineFaultKind, ReadLineError};
-use crate::field::put_fields;
+use crate::field::fields;
 use crate::line::{Line, Part};
 use crate::number::{is_number, moment, time_of};
 use crate::part::part_at;
 use crate::scan::{Stops, after_spaces, end_at};
 use crate::short::short_number;
-use crate::tag::push_tags;
+use crate::tag::tags;
 use std::alloc::Allocator;
 use ts_core::{Time, TimeUnit, byte_at};
 
@@ -24,12 +24,6 @@ const LINE_LIMIT: usize = 65_536;
 
 /// A measurement with its tags has no more bytes than this.
 const KEY_LIMIT: usize = 4_096;
-
-/// Room for so many tags is taken at first.
-const TAGS_AT_FIRST: usize = 8;
-
-/// Room for so many fields is taken at first.
-const FIELDS_AT_FIRST: usize = 16;
 
 /// Reads a line without its line feed: its parts, or `None` for a comment or a blank line.
 /// A timestamp counts units of `precision`; without one the time is `now`.
@@ -177,14 +171,12 @@ fn parts<A: Allocator + Copy>(
     ensures { GivesIfRoom (λ l. l) result (parts_at (nanoseconds_of precision) now line.now start) }
 {
     let (measurement, end) = measurement(alloc, line, start)?;
-    let mut tags = Vec::with_capacity(alloc, TAGS_AT_FIRST)?;
-    let end = push_tags(alloc, &mut tags, line, end)?;
+    let (tags, end) = tags(alloc, line, end)?;
     let start = after_spaces(line, end);
     if start == line.len() {
         return Err(ReadLineError::Fault(LineFaultKind::NoField.at(end)));
     }
-    let mut fields = Vec::with_capacity(alloc, FIELDS_AT_FIRST)?;
-    let end = put_fields(alloc, &mut fields, line, start)?;
+    let (fields, end) = fields(alloc, line, start)?;
     let time = time(line, end, precision, now)?;
     Ok(Line::new(measurement, tags, fields, time))
 }

@@ -14,6 +14,9 @@ use crate::scan::{Stops, end_at};
 use std::alloc::Allocator;
 use ts_core::{after, byte_at};
 
+/// Room for so many tags is taken at first.
+const TAGS_AT_FIRST: usize = 8;
+
 /// Whether a tag has a key.
 fn has_key<A: Allocator>(tags: &[Tag<'_, A>], key: &str) -> bool
     ensures { result ≡ has_key tags.now key.now }
@@ -143,23 +146,22 @@ fn push_next<'a, A: Allocator + Copy>(
     push_any(alloc, tags, marks, line, start)
 }
 
-/// Appends the tags from `start` on, each behind a comma, to none: the end of the last.
-pub fn push_tags<'a, A: Allocator + Copy>(
+/// The tags from `start` on, each behind a comma, and the end of the last.
+pub fn tags<'a, A: Allocator + Copy>(
     alloc: A,
-    tags: &mut Vec<Tag<'a, A>, A>,
     line: &'a str,
     start: usize,
-) -> Result<usize, ReadLineError>
-    requires none { tags.old.items ≡ [] }
-    requires start { IsCharBoundary line.now start }
-    ensures value { GivesIfRoom (λ end. (tags.new.items, end)) result (tags_at 65 [] line.now start) }
-    ensures few { IfOk result (λ _. length tags.new.items ≤ 64) }
-    ensures boundary { IfOk result (λ end. IsCharBoundary line.now end) }
+) -> Result<(Vec<Tag<'a, A>, A>, usize), ReadLineError>
+    requires { IsCharBoundary line.now start }
+    ensures value { GivesIfRoom (λ x. (x.0.items, x.1)) result (tags_at 65 [] line.now start) }
+    ensures few { IfOk result (λ x. length x.0.items ≤ 64) }
+    ensures boundary { IfOk result (λ x. IsCharBoundary line.now x.1) }
 {
+    let mut tags = Vec::with_capacity(alloc, TAGS_AT_FIRST)?;
     let mut marks = [false; 64];
     let mut at = start;
     while byte_at(line, at) == b',' {
-        at = push_next(alloc, tags, &mut marks, line, after(line, at))?;
+        at = push_next(alloc, &mut tags, &mut marks, line, after(line, at))?;
     }
-    Ok(at)
+    Ok((tags, at))
 }

@@ -124,6 +124,11 @@ kept_rest None now k = tt
 kept_rest (Some r) None k = absurd k
 kept_rest (Some r) (Some r') k = k
 
+-- at first no byte is there
+pub nothing_yet : (all : Option (List ℕ)) (line : List ℕ) (long : Bool) → LineIs [] line long → SoFar all all [] line long
+nothing_yet None line long kept = record { no_lf = refl; before = tt; kept = kept }
+nothing_yet (Some xs) line long kept = record { no_lf = refl; before = refl; kept = kept }
+
 -- the bytes grow by a chunk without an LF
 pub so_far_more : (all : Option (List ℕ)) (buffered : List ℕ) (remaining now : Option (List ℕ)) (bytes line line' : List ℕ) (long long' : Bool)
     → SoFar all (prepend_known buffered remaining) bytes line long → has_lf buffered ≡ false → LineIs (bytes ++ first_line buffered) line' long'

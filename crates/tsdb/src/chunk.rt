@@ -1,6 +1,7 @@
 //! The parts of a line as they come.
-ghost use Rattle.std.specs.Prelude.{ℕ, ◌≤◌, ◌++◌, List, vec_len, vec_capacity};
+ghost use Rattle.std.specs.Prelude.{◌≡◌, ℕ, ◌≤◌, ◌++◌, List, length, IfSome, vec_len, vec_capacity};
 ghost use Rattle.tsdb.specs.ScriptLines.{script_line_limit};
+ghost use Rattle.tsdb.specs.HeldLine.{line_held};
 ghost use Rattle.tsdb.specs.LineReading.{IsLineEnd, LineIs};
 
 use memchr::memchr;
@@ -37,5 +38,26 @@ pub(crate) fn extend_line<A: Allocator>(line: &mut Vec<u8, A>, long: bool, bytes
     match line.extend_from_slice(bytes) {
         Ok(()) => false,
         Err(_) => unreachable!(),
+    }
+}
+
+/// Copies a line that is lent, so that it outlasts what was read.
+pub(crate) fn keep_lent<A: Allocator>(
+    line: &mut Vec<u8, A>,
+    lent: Option<(usize, usize)>,
+    used: &[u8],
+)
+    requires room { script_line_limit ≤ vec_capacity line.old }
+    requires within { IfSome lent (λ lent. (lent.0 ≤ lent.1) × (lent.1 ≤ length used.now)) }
+    requires short { length (line_held used.now lent line.old.items) ≤ script_line_limit }
+    ensures room { script_line_limit ≤ vec_capacity line.new }
+    ensures line { line.new.items ≡ line_held used.now lent line.old.items }
+{
+    if let Some((start, end)) = lent {
+        line.clear();
+        match line.extend_from_slice(&used[start..end]) {
+            Ok(()) => {}
+            Err(_) => unreachable!(),
+        }
     }
 }

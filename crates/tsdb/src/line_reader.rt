@@ -1,10 +1,11 @@
 //! The lines of a script as they are read: each is held whole, up to a limit on its length.
-ghost use Rattle.std.specs.Prelude.{◌≡◌, ◌≤◌, [], length, IfOk, false};
+ghost use Rattle.std.specs.Prelude.{◌≡◌, ◌≤◌, [], length, IfOk, true, false};
+ghost use Rattle.std.specs.Bool.{OnFalse, OnTrue};
 ghost use Rattle.ts_core.specs.ReadingAhead.{EndIsEnd, nothing_ahead};
 ghost use Rattle.tsdb.specs.ScriptLines.{script_line_limit, turn_limit};
 ghost use Rattle.tsdb.specs.LineReading.{LineIs, IsTaken, IsLonger, IsAsked, IsReadOn, IsNext, UsesUp, has_lf, next_of, last_of};
 
-use crate::chunk::{LINE_LIMIT, extend_line, line_end};
+use crate::chunk::{LINE_LIMIT, extend_line, keep_lent, line_end};
 use std::alloc::{AllocError, Allocator};
 use std::io::Read;
 use std::marker::Model;
@@ -25,26 +26,27 @@ pub enum Next {
 }
 
 /// Reads lines from a source that it is lent for each. `end` is where the first line ends of what was read ahead, so that each end is
-/// looked for once.
+/// looked for once. A line that was read whole is lent where it lies: from one place of what was used to another.
 #[derive(Drop)]
 pub struct LineReader<A: Allocator + Copy> {
     ahead: ReadAhead<A>,
     end: usize,
+    lent: Option<(usize, usize)>,
     line: Vec<u8, A>,
     long: bool,
 }
 
 impl<A: Allocator + Copy> Model for LineReader<A> {
-    ghost use Rattle.std.specs.Prelude.{◌≡◌, ◌≤◌, vec_len, vec_capacity};
+    ghost use Rattle.std.specs.Prelude.{◌≡◌, ◌≤◌, length, IfSome, vec_len, vec_capacity};
     ghost use Rattle.tsdb.specs.ScriptLines.{script_line_limit, turn_limit};
     ghost use Rattle.tsdb.specs.LineReading.{IsLineEnd};
-    ghost use Rattle.tsdb.specs.HeldLine.{HeldLine};
+    ghost use Rattle.tsdb.specs.HeldLine.{HeldLine, line_held};
 
     ghost Value = { HeldLine };
 
-    ghost view = { λ r. record { ahead = r.ahead; line = r.line.items; long = r.long } };
+    ghost view = { λ r. record { ahead = r.ahead; line = line_held r.ahead.used r.lent r.line.items; long = r.long } };
 
-    ghost invariant = { λ r. (r.ahead.limit ≡ turn_limit) × (r.ahead.turns ≤ turn_limit) × (script_line_limit ≤ vec_capacity r.line) × (vec_len r.line ≤ script_line_limit) × IsLineEnd r.ahead.buffered r.end };
+    ghost invariant = { λ r. (r.ahead.limit ≡ turn_limit) × (r.ahead.turns ≤ turn_limit) × (script_line_limit ≤ vec_capacity r.line) × (vec_len r.line ≤ script_line_limit) × IsLineEnd r.ahead.buffered r.end × IfSome r.lent (λ lent. (lent.0 ≤ lent.1) × (lent.1 ≤ length r.ahead.used)) × (length (line_held r.ahead.used r.lent r.line.items) ≤ script_line_limit) };
 }
 
 impl<A: Allocator + Copy> LineReader<A> {
@@ -55,6 +57,7 @@ impl<A: Allocator + Copy> LineReader<A> {
         Ok(LineReader {
             ahead: ReadAhead::new(alloc, TURN_LIMIT)?,
             end: 0,
+            lent: None,
             line: Vec::with_capacity(alloc, LINE_LIMIT)?,
             long: false,
         })
@@ -65,7 +68,10 @@ impl<A: Allocator + Copy> LineReader<A> {
         ensures line { result.now ≡ self.now.line }
         ensures short { length result.now ≤ script_line_limit }
     {
-        self.line.as_slice()
+        match self.lent {
+            Some((start, end)) => &self.ahead.used()[start..end],
+            None => self.line.as_slice(),
+        }
     }
 
     /// Whether the next line, with its LF, was read ahead, so that it comes without a read.
@@ -80,8 +86,27 @@ impl<A: Allocator + Copy> LineReader<A> {
         ensures line { LineIs [] self.new.line self.new.long }
         ensures ahead { self.new.ahead ≡ self.old.ahead }
     {
+        self.lent = None;
         self.line.clear();
         self.long = false;
+    }
+
+    /// Lends the next line, where it was read whole. Answers whether it was.
+    fn lend_line(&mut self) -> bool
+        requires { LineIs [] self.old.line self.old.long }
+        ensures taken { OnTrue result (IsTaken self.old true self.new) }
+        ensures line { OnTrue result (IsLonger self.old self.new) }
+        ensures left { OnFalse result (self.new ≡ self.old) }
+    {
+        let size = self.end;
+        if size >= self.ahead.buffered().len() {
+            return false;
+        }
+        let start = self.ahead.used().len();
+        self.lent = Some((start, start + size));
+        self.ahead.consume(size + 1);
+        self.end = line_end(self.ahead.buffered());
+        true
     }
 
     /// Moves what was read ahead to the line, up to an LF. Answers whether there was one.
@@ -89,6 +114,7 @@ impl<A: Allocator + Copy> LineReader<A> {
         ensures taken { IsTaken self.old result self.new }
         ensures line { IsLonger self.old self.new }
     {
+        keep_lent(&mut self.line, self.lent.take(), self.ahead.used());
         let rest = self.ahead.buffered();
         let size = self.end;
         let found = size < rest.len();
@@ -106,9 +132,28 @@ impl<A: Allocator + Copy> LineReader<A> {
         ensures read { IsReadOn self.old source.old result self.new source.new }
         ensures asked { IsAsked self.old.ahead source.old result self.new.ahead source.new }
     {
+        keep_lent(&mut self.line, self.lent.take(), self.ahead.used());
         let more = self.ahead.fill(source);
         self.end = line_end(self.ahead.buffered());
         more
+    }
+
+    /// Reads the next line from its parts on, as they come.
+    fn gather<R: Read>(&mut self, source: &mut Source<R>) -> Result<Next, ReadFault>
+        requires none { LineIs [] self.old.line self.old.long }
+        requires going { self.old.ahead.ended ≡ false }
+        ensures next { IfOk result (λ next. IsNext self.old source.old next self.new source.new) }
+        ensures goes_on { IfOk result (λ next. UsesUp self.old.ahead next self.new.ahead) }
+        ensures asked { IsAsked self.old.ahead source.old result self.new.ahead source.new }
+    {
+        loop {
+            if self.take_chunk() {
+                return Ok(self.found());
+            }
+            if !self.read_on(source)? {
+                return Ok(self.last());
+            }
+        }
     }
 
     /// Reads the next line.
@@ -122,14 +167,10 @@ impl<A: Allocator + Copy> LineReader<A> {
             return Ok(Next::End);
         }
         self.start_line();
-        loop {
-            if self.take_chunk() {
-                return Ok(self.found());
-            }
-            if !self.read_on(source)? {
-                return Ok(self.last());
-            }
+        if self.lend_line() {
+            return Ok(self.found());
         }
+        self.gather(source)
     }
 
     /// What the line is, where it was ended by an LF.
@@ -143,7 +184,7 @@ impl<A: Allocator + Copy> LineReader<A> {
     fn last(&self) -> Next
         ensures { result ≡ last_of self.now.line self.now.long }
     {
-        if !self.long && self.line.is_empty() {
+        if !self.long && self.line().is_empty() {
             Next::End
         } else {
             self.found()

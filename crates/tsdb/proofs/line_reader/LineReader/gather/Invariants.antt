@@ -3,13 +3,12 @@ use Rattle.ts_core.specs.ReadingAhead.{weight}
 use Rattle.tsdb.specs.ScriptLines.{turn_limit}
 use Rattle.tsdb.specs.LineReading.{to_come}
 use Rattle.tsdb.proofs.LineScan.{SoFar}
-use Rattle.tsdb.proofs.line_reader.LineReader.next.Given as goal
+use Rattle.tsdb.proofs.line_reader.LineReader.gather.Given as goal
 
 abbrev pub invariant-loop-self : goal.invariant-loop-self
 invariant-loop-self g l = record {
   so_far : (bytes : List ℕ) × SoFar (to_come l.initial.self l.initial.source) (to_come l.self l.source) bytes l.self.line l.self.long;
   going : l.self.ahead.ended ≡ false;
-  began : l.initial.self.ahead.ended ≡ false;
   less : weight l.self.ahead ≤ weight l.initial.self.ahead;
   failures : l.source.failures ≡ l.initial.source.failures;
   turns : l.source.turns + l.initial.self.ahead.turns ≡ l.initial.source.turns + l.self.ahead.turns;

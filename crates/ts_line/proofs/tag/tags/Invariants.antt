@@ -1,7 +1,7 @@
 use Rattle.std.proofs.Common.{◌≡◌, ◌-◌, ◌≤◌, length, [], IsCharBoundary}
 use Rattle.ts_line.specs.NameMarks.{AreKeysMarked}
 use Rattle.ts_line.specs.TagParts.{tags_at}
-use Rattle.ts_line.proofs.tag.push_tags.Given as goal
+use Rattle.ts_line.proofs.tag.tags.Given as goal
 
 abbrev pub invariant-loop-alloc : goal.invariant-loop-alloc
 invariant-loop-alloc g l = record {

@@ -2,11 +2,11 @@ use Rattle.std.proofs.Common.{◌≡◌, ◌+◌, [], sym, ap, Err, ◌∙◌, s
 use Rattle.std.proofs.lemmas.Result.{err_from_is_err_and}
 use Rattle.ts_line.specs.Fields.{fields_at}
 use Rattle.ts_line.proofs.FieldLemmas.{field_taken, field_fails, fields_ended, too_many, step_was, step_failed}
-use Rattle.ts_line.proofs.field.put_fields.Goals as goal
+use Rattle.ts_line.proofs.field.fields.Goals as goal
 
 pub returns-in_err-end-clause-value : goal.returns-in_err-end-clause-value
 returns-in_err-end-clause-value g c =
-    let p = err_from_is_err_and c.from_residual.result c.from_residual.ensures.1 in
+    let p = err_from_is_err_and c.from_residual-in_err-end.result c.from_residual-in_err-end.ensures.1 in
     let read = step_failed c.loop.fields.items c.args.line.now c.loop.at c.in_err-end.field-0.0 c.in_err-end.ensures.value in
     rw (p.1, p.2) (field_fails c.loop.counter c.loop.fields.items c.args.line.now c.loop.at c.in_err-end.field-0.0 (fields_at 256 [] c.args.line.now c.args.start) c.loop-test.true read c.loop.invariant.value)
 

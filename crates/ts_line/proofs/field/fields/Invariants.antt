@@ -1,7 +1,7 @@
 use Rattle.std.proofs.Common.{◌≡◌, ◌-◌, [], IsCharBoundary}
 use Rattle.ts_line.specs.NameMarks.{AreMarked}
 use Rattle.ts_line.specs.Fields.{fields_at}
-use Rattle.ts_line.proofs.field.put_fields.Given as goal
+use Rattle.ts_line.proofs.field.fields.Given as goal
 
 abbrev pub invariant-loop : goal.invariant-loop
 invariant-loop g l = record {

@@ -5,7 +5,7 @@ use Rattle.ts_line.specs.Parts.{LinePart}
 use Rattle.ts_line.specs.ReadSteps.{FailsIfRoom}
 use Rattle.ts_line.specs.TagParts.{tags_at, with_next_tag}
 use Rattle.ts_line.proofs.TagLemmas.{tag_taken, tag_fails, tags_ended, step_was, step_failed}
-use Rattle.ts_line.proofs.tag.push_tags.Goals as goal
+use Rattle.ts_line.proofs.tag.tags.Goals as goal
 
 pub loop-alloc-preserved : goal.loop-alloc-preserved
 loop-alloc-preserved g c =
@@ -31,5 +31,5 @@ returns-in_err-at-clause-value g c =
     let comma : slice_index c.args.line.now c.loop-alloc.at ≡ 44 = sym c.byte_at.ensures ∙ c.loop-alloc-test.true in
     let step : FailsIfRoom c.in_err-at.field-0.0 (with_next_tag before c.args.line.now (c.loop-alloc.at + 1)) = rw (← c.after.ensures.value) c.in_err-at.ensures.value in
     let read = step_failed before c.args.line.now (c.loop-alloc.at + 1) c.in_err-at.field-0.0 step in
-    let p = err_from_is_err_and c.from_residual.result c.from_residual.ensures.1 in
+    let p = err_from_is_err_and c.from_residual-in_err-at.result c.from_residual-in_err-at.ensures.1 in
     rw (p.1, p.2) (tag_fails (length before) before c.args.line.now c.loop-alloc.at c.in_err-at.field-0.0 (tags_at 65 [] c.args.line.now c.args.start) c.loop-alloc.invariant.few comma read c.loop-alloc.invariant.value)
