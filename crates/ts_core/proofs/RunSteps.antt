@@ -207,21 +207,4 @@ close_stands opening h s st e = record {
 pub idle_step_stands : (opening : Settings) (h : History) (s : StoreState) → StandsFor opening h s → s.running ≡ false → StandsFor opening (Step true ∷ h) s
 idle_step_stands opening h s st e =
     let idle : IsRunOpen h → ⊥ = λ o. true≢false (sym (st.running.1 o) ∙ e) in
-    record {
-      lawful = st.lawful;
-      settings = st.settings;
-      marks = st.marks;
-      accepted = st.accepted;
-      running = (λ k. absurd (true≢false (sym k ∙ e)), λ k. absurd k);
-      waiting_once = st.waiting_once;
-      waiting_there = st.waiting_there;
-      idle = λ k. st.idle idle;
-      columns_once = st.columns_once;
-      columns_there = st.columns_there;
-      registered = st.registered;
-      once = st.once;
-      raw = st.raw;
-      rules = st.rules;
-      lows = st.lows;
-      rolled = st.rolled;
-    }
+    subst (StandsFor opening (Step true ∷ h)) (λ i. record s { running = sym e i }) (close_stands opening h s st (st.idle idle))
