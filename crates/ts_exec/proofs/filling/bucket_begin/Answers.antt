@@ -1,7 +1,7 @@
 use Rattle.std.proofs.Common.{rules, ◌≡◌, SFits, w64}
 use Rattle.std.specs.Int.{w128}
 use Rattle.ts_core.specs.Buckets.{bucket_of}
-use Rattle.ts_exec.proofs.FillSteps.{BeginFits, begin-fits}
+use Rattle.ts_exec.proofs.Spans.{BeginFits, begin-fits}
 use Rattle.ts_exec.proofs.filling.bucket_begin.Goals as goal
 
 fits : (c : goal.After-from-3) → BeginFits c.args.time c.args.interval c.args.offset c.bucket_index-index.result c.from-2.result c.from-3.result
