@@ -139,16 +139,15 @@ unfolding Reaches
 max_from ps d e f g = let r = reaches value_of e.max ps g.reached.max in subst (λ z. z ≤ℤ d.max) (sym r.1.1) (f.within r.0 r.1.0).max
 
 -- neither of two points comes before the other
-one_point : (p q : ℤ × ℤ) → (p.0 <ℤ q.0) ⊎ ((p.0 ≡ q.0) × (q.1 ≤ℤ p.1)) → (q.0 <ℤ p.0) ⊎ ((q.0 ≡ p.0) × (p.1 ≤ℤ q.1)) → p ≡ q
-one_point p q (inl h) (inl k) = absurd (omega (arith, ints))
-one_point p q (inl h) (inr k) = absurd (let e = k.0 in omega (arith, ints))
-one_point p q (inr h) (inl k) = absurd (let e = h.0 in omega (arith, ints))
-one_point p q (inr h) (inr k) =
-    let e : p.0 ≡ q.0 = h.0 in
+one_point : (B : ℤ → ℤ → Type 0) → ((s t : ℤ) → B s t → B t s → ⊥) → (p q : ℤ × ℤ) → B p.0 q.0 ⊎ ((p.0 ≡ q.0) × (q.1 ≤ℤ p.1)) → B q.0 p.0 ⊎ ((q.0 ≡ p.0) × (p.1 ≤ℤ q.1)) → p ≡ q
+one_point B never p q (inl h) (inl k) = absurd (never p.0 q.0 h k)
+one_point B never p q (inl h) (inr k) = let b = subst (B p.0) k.0 h in absurd (never p.0 p.0 b b)
+one_point B never p q (inr h) (inl k) = let b = subst (B q.0) h.0 k in absurd (never q.0 q.0 b b)
+one_point B never p q (inr h) (inr k) =
     let a = h.1 in
     let b = k.1 in
-    let f : p.1 ≡ q.1 = omega (arith, ints) in
-    λ i. (e i, f i)
+    let e : p.1 ≡ q.1 = omega (arith, ints) in
+    λ i. (h.0 i, e i)
 
 only_extremes : (ps : List (ℤ × ℤ)) (d e : Extremes) → AreExtremesOf ps d → AreExtremesOf ps e → d ≡ e
 only_extremes ps d e f g =
@@ -158,20 +157,9 @@ only_extremes ps d e f g =
     let k = max_from ps e d g f in
     let min : d.min ≡ e.min = omega (arith, ints) in
     let max : d.max ≡ e.max = omega (arith, ints) in
-    let first : d.first ≡ e.first = one_point d.first e.first (f.within e.first g.reached.first).first (g.within d.first f.reached.first).first in
-    let last : d.last ≡ e.last = one_point_back d.last e.last (f.within e.last g.reached.last).last (g.within d.last f.reached.last).last in
+    let first : d.first ≡ e.first = one_point (λ s t. s <ℤ t) (λ s t h k. omega (arith, ints)) d.first e.first (f.within e.first g.reached.first).first (g.within d.first f.reached.first).first in
+    let last : d.last ≡ e.last = one_point (λ s t. t <ℤ s) (λ s t h k. omega (arith, ints)) d.last e.last (f.within e.last g.reached.last).last (g.within d.last f.reached.last).last in
     λ i. record { min = min i; max = max i; first = first i; last = last i }
-  where
-    one_point_back : (p q : ℤ × ℤ) → (q.0 <ℤ p.0) ⊎ ((p.0 ≡ q.0) × (q.1 ≤ℤ p.1)) → (p.0 <ℤ q.0) ⊎ ((q.0 ≡ p.0) × (p.1 ≤ℤ q.1)) → p ≡ q
-    one_point_back p q (inl h) (inl k) = absurd (omega (arith, ints))
-    one_point_back p q (inl h) (inr k) = absurd (let e = k.0 in omega (arith, ints))
-    one_point_back p q (inr h) (inl k) = absurd (let e = h.0 in omega (arith, ints))
-    one_point_back p q (inr h) (inr k) =
-        let e : p.0 ≡ q.0 = h.0 in
-        let a = h.1 in
-        let b = k.1 in
-        let f : p.1 ≡ q.1 = omega (arith, ints) in
-        λ i. (e i, f i)
 
 only_options : (ps : List (ℤ × ℤ)) (d e : Option Extremes) → MatchOption d (ps ≡ []) (AreExtremesOf ps) → MatchOption e (ps ≡ []) (AreExtremesOf ps) → d ≡ e
 only_options ps None None f g = refl

@@ -1,6 +1,6 @@
 -- The steps of a run: one moves a column, whose facts below the mark go from the live parts to the frozen ones; one
 -- removes cells below the low index; the last one ends the run.
-use Rattle.std.proofs.Common.{◌≡◌, ℤ, Bool, true, false, cond, not, ◌&&◌, ◌||◌, List, [], ◌∷◌, ◌++◌, filter, map, refl, sym, ◌∙◌, ap, ap₂, subst, inr, true≢false, int_le, ◌≤ℤ◌}
+use Rattle.std.proofs.Common.{◌≡◌, ◌↔◌, IsTrue, ℤ, Bool, true, false, cond, not, ◌&&◌, ◌||◌, List, [], ◌∷◌, ◌++◌, filter, map, refl, sym, ◌∙◌, ap, ap₂, subst, inr, true≢false, int_le, ◌≤ℤ◌}
 use Rattle.std.specs.List.{AllByRecursion}
 use Rattle.ts_core.specs.Members.{Among, AllDistinct}
 use Rattle.ts_core.specs.Facts.{Column, Fact}
@@ -150,78 +150,51 @@ move_stands opening h s c rest after st w t =
           (λ r y k p. moved_cells cut next fs c s.marks.raw s.columns columns rise is held left (latest-distinct (accepted h)) r y k p) s.rules after t rolled;
     }
 
--- ---- cells are removed
+-- ---- cells are removed, and the run ends
+
+-- a step that moves no column
+step_stands : (opening : Settings) (h : History) (s : StoreState) (ended running : Bool) (after : List RuleCells) → StandsFor opening h s → (IsTrue running ↔ IsRunOpen (Step ended ∷ h))
+    → ((IsRunOpen (Step ended ∷ h) → ⊥) → s.waiting ≡ []) → map rule_of after ≡ s.settings.rules → map lowest_of after ≡ s.marks.lows
+    → AllByRecursion (HasCells (kept_from opening h s.waiting) (latest_of h)) after → StandsFor opening (Step ended ∷ h) (record s { running = running; rules = after })
+step_stands opening h s ended running after st is_open idle rules lows rolled = record {
+  lawful = st.lawful;
+  settings = st.settings;
+  marks = st.marks;
+  accepted = st.accepted;
+  running = is_open;
+  waiting_once = st.waiting_once;
+  waiting_there = st.waiting_there;
+  idle = idle;
+  columns_once = st.columns_once;
+  columns_there = st.columns_there;
+  registered = st.registered;
+  once = st.once;
+  raw = st.raw;
+  rules = rules;
+  lows = lows;
+  rolled = rolled;
+}
 
 -- cells below the low index are nobody's
 pub expire_stands : (opening : Settings) (h : History) (s : StoreState) (after : List RuleCells) → StandsFor opening h s → AllTwo IsExpired s.rules after → StandsFor opening (Step false ∷ h) (expired after s)
 expire_stands opening h s after st t =
     let cut : Column → ℤ = kept_from opening h s.waiting in
     let fs : List Fact = latest_of h in
-    record {
-      lawful = st.lawful;
-      settings = st.settings;
-      marks = st.marks;
-      accepted = st.accepted;
-      running = st.running;
-      waiting_once = st.waiting_once;
-      waiting_there = st.waiting_there;
-      idle = st.idle;
-      columns_once = st.columns_once;
-      columns_there = st.columns_there;
-      registered = st.registered;
-      once = st.once;
-      raw = st.raw;
-      rules = sym (AllTwo-map IsExpired rule_of rule_of (λ r y k. k.rule) s.rules after t) ∙ st.rules;
-      lows = sym (AllTwo-map IsExpired lowest_of lowest_of (λ r y k. k.low) s.rules after t) ∙ st.lows;
-      rolled = AllTwo-all IsExpired (HasCells cut fs) (HasCells cut fs) (λ r y k p. HasCells-as cut fs r y k.rule k.low (record {
-        once = k.once;
-        there = λ f a m l. k.stays (cell_of r.rule f) l (p.there f a m l);
-        frozen = λ q l. ap (λ x. x.frozen) (k.parts q l) ∙ p.frozen q l;
-        live = λ q l. ap (λ x. x.live) (k.parts q l) ∙ p.live q l;
-      })) s.rules after t st.rolled;
-    }
-
--- ---- the run ends
+    step_stands opening h s false s.running after st st.running st.idle
+    (sym (AllTwo-map IsExpired rule_of rule_of (λ r y k. k.rule) s.rules after t) ∙ st.rules)
+    (sym (AllTwo-map IsExpired lowest_of lowest_of (λ r y k. k.low) s.rules after t) ∙ st.lows)
+    (AllTwo-all IsExpired (HasCells cut fs) (HasCells cut fs) (λ r y k p. HasCells-as cut fs r y k.rule k.low (record {
+      once = k.once;
+      there = λ f a m l. k.stays (cell_of r.rule f) l (p.there f a m l);
+      frozen = λ q l. ap (λ x. x.frozen) (k.parts q l) ∙ p.frozen q l;
+      live = λ q l. ap (λ x. x.live) (k.parts q l) ∙ p.live q l;
+    })) s.rules after t st.rolled)
 
 pub close_stands : (opening : Settings) (h : History) (s : StoreState) → StandsFor opening h s → s.waiting ≡ [] → StandsFor opening (Step true ∷ h) (closed s)
-close_stands opening h s st e = record {
-  lawful = st.lawful;
-  settings = st.settings;
-  marks = st.marks;
-  accepted = st.accepted;
-  running = (λ k. absurd (true≢false (sym k)), λ k. absurd k);
-  waiting_once = st.waiting_once;
-  waiting_there = st.waiting_there;
-  idle = λ k. e;
-  columns_once = st.columns_once;
-  columns_there = st.columns_there;
-  registered = st.registered;
-  once = st.once;
-  raw = st.raw;
-  rules = st.rules;
-  lows = st.lows;
-  rolled = st.rolled;
-}
+close_stands opening h s st e = step_stands opening h s true false s.rules st (λ k. absurd (true≢false (sym k)), λ k. absurd k) (λ k. e) st.rules st.lows st.rolled
 
 -- a step where no run is open changes nothing
 pub idle_step_stands : (opening : Settings) (h : History) (s : StoreState) → StandsFor opening h s → s.running ≡ false → StandsFor opening (Step true ∷ h) s
 idle_step_stands opening h s st e =
     let idle : IsRunOpen h → ⊥ = λ o. true≢false (sym (st.running.1 o) ∙ e) in
-    record {
-      lawful = st.lawful;
-      settings = st.settings;
-      marks = st.marks;
-      accepted = st.accepted;
-      running = (λ k. absurd (true≢false (sym k ∙ e)), λ k. absurd k);
-      waiting_once = st.waiting_once;
-      waiting_there = st.waiting_there;
-      idle = λ k. st.idle idle;
-      columns_once = st.columns_once;
-      columns_there = st.columns_there;
-      registered = st.registered;
-      once = st.once;
-      raw = st.raw;
-      rules = st.rules;
-      lows = st.lows;
-      rolled = st.rolled;
-    }
+    subst (StandsFor opening (Step true ∷ h)) (λ i. record s { running = sym e i }) (close_stands opening h s st (st.idle idle))

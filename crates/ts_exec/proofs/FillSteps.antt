@@ -1,5 +1,5 @@
 -- Rows that are filled one by one are the filled rows, and their starts have 128 bits.
-use Rattle.std.proofs.Common.{◌≡◌, ℕ, suc, ◌+◌, ◌-◌, ◌*◌, ◌<◌, ◌≤◌, ◌^◌, unsigned_abs, ℤ, pos, negsuc, neg_ℤ, ◌+ℤ◌, ◌*ℤ◌, ◌≤ℤ◌, ◌<ℤ◌, true, false, cond, not, List, [], ◌∷◌, map, filter, length, get_or, drop, drop-cons, add-one, Option, Some, None, SFits, w64, to_z, of_z, to_z-of_z, refl, sym, ◌∙◌, ap, ap₂, subst, arith}
+use Rattle.std.proofs.Common.{◌≡◌, ℕ, suc, ◌+◌, ◌-◌, ◌*◌, ◌<◌, ◌≤◌, ◌^◌, ℤ, pos, negsuc, neg_ℤ, ◌+ℤ◌, ◌*ℤ◌, ◌≤ℤ◌, ◌<ℤ◌, true, false, cond, not, List, [], ◌∷◌, map, filter, length, get_or, drop, drop-cons, add-one, Option, Some, None, SFits, w64, refl, sym, ◌∙◌, ap, ap₂, arith}
 use Rattle.std.specs.Int.{w128}
 use Rattle.std.proofs.Math.IntN.{suc_ℤ-*ℤ, pos-*ℤ-pos}
 use Rattle.std.proofs.lemmas.List.{drop_all}
@@ -10,11 +10,11 @@ use Rattle.ts_core.specs.declared.fill.Fill.TheVariants.{Null as NullFill, None 
 use Rattle.ts_core.specs.declared.value.Function.{Function}
 use Rattle.ts_core.specs.Facts.{Text}
 use Rattle.ts_core.specs.Aggregates.{Aggregate}
-use Rattle.ts_core.specs.Buckets.{bucket_of, bucket_start}
+use Rattle.ts_core.specs.Buckets.{bucket_start}
 use Rattle.ts_core.specs.Queries.{Query}
 use Rattle.ts_core.specs.Answers.{Row, Group, bucket_in}
 use Rattle.ts_core.specs.Fills.{FilledRow, FilledGroup, is_empty, has_data, shown, numbered, repeated, last_data, with_previous, number_value, filled_rows, filled}
-use Rattle.ts_core.proofs.BucketsOrder.{bucket_is, one_more}
+use Rattle.ts_core.proofs.BucketsOrder.{one_more}
 use Rattle.ts_exec.specs.RowParts.{BucketGrid, bucket_grid}
 use Rattle.ts_exec.specs.GroupTables.{rows_from, group_with}
 use Rattle.ts_ql.specs.Selects.{Projection, Select}
@@ -124,43 +124,3 @@ ends-fit interval start parts near fits short =
     let high = near.most in
     let all = times_high (length parts) interval near.forward fits short in
     ends_fit interval start parts near.forward near.least (omega (arith, ints))
-
--- ---- the first of them, computed in 128 bits
-
-abbrev product_of : ℤ → ℤ → ℤ
-product_of k i = to_z w128 (of_z w128 k) *ℤ to_z w128 (of_z w128 i)
-
-abbrev begin_of : ℤ → ℤ → ℤ → ℤ
-begin_of k i o = to_z w128 (of_z w128 (product_of k i)) +ℤ to_z w128 (of_z w128 o)
-
-pub record BeginFits (t i o k i2 o2 : ℤ) : Type 0 where
-  pub product : SFits w128 (product_of k i2)
-  pub begin : SFits w128 (begin_of k i2 o2)
-  pub is : to_z w128 (of_z w128 (begin_of k i2 o2)) ≡ bucket_start (bucket_of t i o) i o
-  pub near : AreNear (to_z w128 (of_z w128 (begin_of k i2 o2))) i
-
-fits : (t i o k : ℤ) → pos 1 ≤ℤ i → SFits w64 t → SFits w64 i → SFits w64 o → SFits w128 k → k ≡ bucket_of t i o → BeginFits t i o k i o
-fits t i o k h ft fi fo fk e =
-    let b = bucket_is t i o h in
-    let low : ((k *ℤ i) +ℤ o) ≤ℤ t = subst (λ z. ((z *ℤ i) +ℤ o) ≤ℤ t) (sym e) b.from_start in
-    let high : t <ℤ (((k +ℤ pos 1) *ℤ i) +ℤ o) = subst (λ z. t <ℤ (((z +ℤ pos 1) *ℤ i) +ℤ o)) (sym e) b.before_end in
-    let m = one_more k i in
-    let x : ℤ = k *ℤ i in
-    let at : unsigned_abs t ≤ 2 ^ 63 = omega (arith, ints) in
-    let ai : unsigned_abs i ≤ 2 ^ 63 = omega (arith, ints) in
-    let ao : unsigned_abs o ≤ 2 ^ 63 = omega (arith, ints) in
-    let small : unsigned_abs x ≤ 2 ^ 66 = omega (arith, ints) in
-    let wi : SFits w128 i = fits_signed_from_abs w128 i (omega arith) in
-    let wo : SFits w128 o = fits_signed_from_abs w128 o (omega arith) in
-    let p : SFits w128 x = fits_signed_from_abs w128 x (omega arith) in
-    let s : SFits w128 (x +ℤ o) = fits_signed_from_abs w128 (x +ℤ o) (omega (arith, ints)) in
-    record {
-      product = rw (to_z-of_z fk, to_z-of_z wi) p;
-      begin = rw (to_z-of_z fk, to_z-of_z wi, to_z-of_z p, to_z-of_z wo) s;
-      is = rw (to_z-of_z fk, to_z-of_z wi, to_z-of_z p, to_z-of_z wo, to_z-of_z s) (ap (λ z. (z *ℤ i) +ℤ o) e);
-      near = rw (to_z-of_z fk, to_z-of_z wi, to_z-of_z p, to_z-of_z wo, to_z-of_z s) (record { least = omega (arith, ints); most = omega (arith, ints); forward = omega (arith, ints) });
-    }
-
-pub begin-fits : (t i o k i2 o2 : ℤ) → pos 1 ≤ℤ i → SFits w64 t → SFits w64 i → SFits w64 o → SFits w128 k → k ≡ bucket_of t i o → i2 ≡ i → o2 ≡ o → BeginFits t i o k i2 o2
-begin-fits t i o k i2 o2 h ft fi fo fk e a b =
-    subst (λ x. BeginFits t i o k x o2) (sym a) (subst (λ x. BeginFits t i o k i x) (sym b) (fits t i o k h ft fi fo fk e))

@@ -5,6 +5,8 @@ use Rattle.ts_core.specs.Queries.{Condition}
 use Rattle.ts_core.specs.declared.fill.Fill.TheVariants as fills
 use Rattle.ts_ql.specs.Selects.{Projection, Select, texts}
 use Rattle.ts_ql.proofs.CountingLemmas.{one_limited}
+use Rattle.ts_ql.proofs.query.count.count_query.Given.{Over}
+use Rattle.ts_ql.proofs.query.count.count_query.Goals.{After-new-2}
 use Rattle.ts_ql.proofs.query.count.count_query.Goals as goal
 
 read : (z v : ℤ) → FitsSigned w64 z → z ≡ v → to_z w64 (of_z w64 z) ≡ v
@@ -23,36 +25,36 @@ same : (cs ds : List Projection) (m n v w : Text) (ks ls : List Condition) (a b 
     → cs ≡ ds → m ≡ n → v ≡ w → ks ≡ ls → a ≡ b → c ≡ d → i ≡ j → o ≡ p → gs ≡ hs → made cs m v ks a c i o gs ≡ made ds n w ls b d j p hs
 same cs ds m n v w ks ls a b c d i j o p gs hs e1 e2 e3 e4 e5 e6 e7 e8 e9 = λ k. made (e1 k) (e2 k) (e3 k) (e4 k) (e5 k) (e6 k) (e7 k) (e8 k) (e9 k)
 
+-- a range, as the numbers of a query tell it
+record IsRange (from to a b i o : ℤ) : Type 0 where
+  start : a ≡ from
+  end : b ≡ to
+  interval : i ≡ to -ℤ from
+  offset : o ≡ from
+  fits : FitsSigned w64 (to -ℤ from)
+
+range : (g : Over) (c : After-new-2 g)
+    → IsRange c.args.from c.args.to (to_z w64 (of_z w64 c.nanos-3.result)) (to_z w64 (of_z w64 c.nanos-4.result)) (to_z w64 (of_z w64 c.in-Some.interval)) (to_z w64 (of_z w64 c.nanos-5.result))
+range g c =
+    let to = read c.nanos.result c.args.to (search rules) c.nanos.ensures.value in
+    let from = read c.nanos-2.result c.args.from (search rules) c.nanos-2.ensures.value in
+    record {
+      start = read c.nanos-3.result c.args.from (search rules) c.nanos-3.ensures.value;
+      end = read c.nanos-4.result c.args.to (search rules) c.nanos-4.ensures.value;
+      interval = apart c.in-Some.interval _ _ c.args.to c.args.from c.in-Some.ensures.0 c.in-Some.ensures.1 to from;
+      offset = read c.nanos-5.result c.args.from (search rules) c.nanos-5.ensures.value;
+      fits = rw (to, from) at c.in-Some.ensures.0;
+    }
+
 pub invariant_of-result : goal.invariant_of-result
 invariant_of-result g c =
-    let f1 : FitsSigned w64 c.nanos.result = search rules in
-    let f2 : FitsSigned w64 c.nanos-2.result = search rules in
-    let f3 : FitsSigned w64 c.nanos-3.result = search rules in
-    let f4 : FitsSigned w64 c.nanos-4.result = search rules in
-    let f5 : FitsSigned w64 c.nanos-5.result = search rules in
-    let to = read c.nanos.result c.args.to f1 c.nanos.ensures.value in
-    let from = read c.nanos-2.result c.args.from f2 c.nanos-2.ensures.value in
-    let start = read c.nanos-3.result c.args.from f3 c.nanos-3.ensures.value in
-    let end = read c.nanos-4.result c.args.to f4 c.nanos-4.ensures.value in
-    let offset = read c.nanos-5.result c.args.from f5 c.nanos-5.ensures.value in
-    let interval = apart c.in-Some.interval _ _ c.args.to c.args.from c.in-Some.ensures.0 c.in-Some.ensures.1 to from in
-    let least = c.nanos-3.ensures.valid.not_before in
-    one_limited _ (record { some = rw (start, end) c.requires; interval = interval ∙ sym (λ k. end k -ℤ start k); offset = offset ∙ sym start }) (rw (start, ← c.nanos-3.ensures.value) least)
+    let r = range g (goal.at.invariant_of-result g c).After-new-2 in
+    one_limited _ (record { some = rw (r.start, r.end) c.requires; interval = r.interval ∙ sym (λ k. r.end k -ℤ r.start k); offset = r.offset ∙ sym r.start })
+    (rw (r.start, ← c.nanos-3.ensures.value) c.nanos-3.ensures.valid.not_before)
 
 pub returns : goal.returns
 returns g c =
-    let f1 : FitsSigned w64 c.nanos.result = search rules in
-    let f2 : FitsSigned w64 c.nanos-2.result = search rules in
-    let f3 : FitsSigned w64 c.nanos-3.result = search rules in
-    let f4 : FitsSigned w64 c.nanos-4.result = search rules in
-    let f5 : FitsSigned w64 c.nanos-5.result = search rules in
-    let to = read c.nanos.result c.args.to f1 c.nanos.ensures.value in
-    let from = read c.nanos-2.result c.args.from f2 c.nanos-2.ensures.value in
-    let start = read c.nanos-3.result c.args.from f3 c.nanos-3.ensures.value in
-    let end = read c.nanos-4.result c.args.to f4 c.nanos-4.ensures.value in
-    let offset = read c.nanos-5.result c.args.from f5 c.nanos-5.ensures.value in
-    let interval = apart c.in-Some.interval _ _ c.args.to c.args.from c.in-Some.ensures.0 c.in-Some.ensures.1 to from in
+    let r = range g (goal.at.returns g c).After-new-2 in
     let conditions : c.new.result.items ≡ [] = c.new.ensures.items in
     let tags : texts c.new-2.result.items ≡ [] = ap texts c.new-2.ensures.items in
-    let fits : FitsSigned w64 (c.args.to -ℤ c.args.from) = rw (to, from) at c.in-Some.ensures.0 in
-    (same _ _ _ _ _ _ _ _ _ _ _ _ _ _ _ _ _ _ c.in_ok-count_column.ensures c.in_ok-from_str.ensures.ok c.in_ok-from_str-2.ensures.ok conditions start end interval offset tags, no_longer _ fits)
+    (same _ _ _ _ _ _ _ _ _ _ _ _ _ _ _ _ _ _ c.in_ok-count_column.ensures c.in_ok-from_str.ensures.ok c.in_ok-from_str-2.ensures.ok conditions r.start r.end r.interval r.offset tags, no_longer _ r.fits)

@@ -1,4 +1,4 @@
-use Rattle.std.proofs.Common.{◌≡◌, ◌<◌, List, length, get_or, sym, ◌∙◌, subst, rules}
+use Rattle.std.proofs.Common.{◌≡◌, ◌<◌, List, length, get_or, subst, rules}
 use Rattle.std.proofs.lemmas.Bool.{OnTrue_at}
 use Rattle.ts_core.specs.Facts.{Series}
 use Rattle.ts_core.specs.Numbered.{IsAt}
