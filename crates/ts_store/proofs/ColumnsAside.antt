@@ -113,8 +113,8 @@ aside_grown cs ss (n ∷ ns) (f ∷ fs) c s l a =
     )
 
 -- what is set aside changes no points
-pub aside_leaves : (ss : List ColumnState) (n : ℕ) (s : ColumnState) → s.points ≡ (get_or ss n no_column).points → point_maps (set ss n s) ≡ point_maps ss
-aside_leaves ss n s e = map-set_same (λ (t : ColumnState). t.points) ss n s no_column e
+pub aside_leaves : (ss : List ColumnState) (n : ℕ) (old new : ColumnState) → old ≡ get_or ss n old → new.points ≡ old.points → point_maps (set ss n new) ≡ point_maps ss
+aside_leaves ss n old new is e = map-set_same (λ (t : ColumnState). t.points) ss n new old (e ∙ ap (λ (t : ColumnState). t.points) is)
 
 -- ---- the facts of a line are of different columns
 

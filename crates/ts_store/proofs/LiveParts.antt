@@ -3,7 +3,7 @@ use Rattle.std.proofs.Common.{◌≡◌, ℕ, zero, suc, ℤ, ◌+◌, ◌<◌, 
 use Rattle.std.specs.Ordering.{int_eq}
 use Rattle.std.specs.FinMap as finmap
 use Rattle.std.specs.List.{AllByRecursion}
-use Rattle.std.proofs.lemmas.List.{length-map, length-append, drop_more}
+use Rattle.std.proofs.lemmas.List.{length-map, length-append, drop_more, get_or_default}
 use Rattle.std.proofs.lemmas.Bool.Decides.{Decides-int_eq, Decides-eqb}
 use Rattle.ts_core.specs.Members.{Among, AllDistinct}
 use Rattle.ts_core.specs.Facts.{Column, Fact}
@@ -152,13 +152,17 @@ pub record IsNext (r : Rule) (columns : List ColumnState) (index : ℤ) (rest : 
   pub same : merged (merged total (aggregate_of_points ps)) (aggregate_of_points (points_in r columns index rest)) ≡ whole
   pub more : (merged total (aggregate_of_points ps)).count + length (points_in r columns index rest) ≤ few
 
-pub column_next : (r : Rule) (columns : List ColumnState) (index : ℤ) (ns : List ℕ) (i : ℕ) (total : Aggregate) (ps : List (ℤ × ℤ)) (whole : Aggregate) (few : ℕ) → i < length ns
-    → ps ≡ points_in_bucket (get_or columns (get_or ns i 0) no_column).points index r.interval r.offset
+-- n is the number at which the walk is, col its column, and ps the points of that in the bucket
+pub column_next : (r : Rule) (columns : List ColumnState) (index : ℤ) (ns : List ℕ) (i d n : ℕ) (col : ColumnState) (bucket interval offset : ℤ) (total : Aggregate) (ps : List (ℤ × ℤ)) (whole : Aggregate) (few : ℕ) → i < length ns
+    → n ≡ get_or ns i d → AllByRecursion (λ m. m < length columns) ns → col ≡ get_or columns n col → bucket ≡ index → interval ≡ r.interval → offset ≡ r.offset → ps ≡ points_in_bucket col.points bucket interval offset
     → merged total (aggregate_of_points (points_in r columns index (drop i ns))) ≡ whole → total.count + length (points_in r columns index (drop i ns)) ≤ few
     → IsNext r columns index (drop (i + 1) ns) total ps whole few
-column_next r columns index ns i total ps whole few below e same fits =
+column_next r columns index ns i d n col bucket interval offset total ps whole few below read all is is_index is_interval is_offset e same fits =
     let rest : List (ℤ × ℤ) = points_in r columns index (drop (i + 1) ns) in
-    let parts : points_in r columns index (drop i ns) ≡ ps ++ rest = ap (points_in r columns index) (drop_more ns i 0 below) ∙ ap (λ xs. xs ++ rest) (sym e) in
+    let column : col ≡ get_or columns (get_or ns i 0) no_column =
+    is ∙ get_or_default columns n col no_column (number_there columns ns i d n below read all) ∙ ap (λ m. get_or columns m no_column) (read ∙ get_or_default ns i d 0 below) in
+    let first : ps ≡ points_in_bucket (get_or columns (get_or ns i 0) no_column).points index r.interval r.offset = e ∙ (λ j. points_in_bucket (column j).points (is_index j) (is_interval j) (is_offset j)) in
+    let parts : points_in r columns index (drop i ns) ≡ ps ++ rest = ap (points_in r columns index) (drop_more ns i 0 below) ∙ ap (λ xs. xs ++ rest) (sym first) in
     let long : length (points_in r columns index (drop i ns)) ≡ length ps + length rest = ap length parts ∙ length-append ps rest in
     let count = count_of_fold ps in
     record {

@@ -5,12 +5,13 @@ use Rattle.std.proofs.Math.Seq.{map-set_same}
 use Rattle.std.proofs.lemmas.Bool.{eqb-true, eqb-false}
 use Rattle.std.proofs.lemmas.List.{append-nil, map-append, map-set, length-set, length_push, length-map, get_or-map, get_or-set_same, get_or-set_other}
 use Rattle.ts_core.specs.Members.{Among, AllDistinct}
-use Rattle.ts_cells.specs.Grids.{Lane}
+use Rattle.ts_core.specs.Aggregates.{Aggregate}
+use Rattle.ts_cells.specs.Grids.{Lane, Grid}
 use Rattle.ts_core.specs.Numbered.{Gains, numbers_where}
 use Rattle.ts_raw.proofs.NumbersLaws.{numbers_there}
 use Rattle.ts_core.proofs.NumberedLemmas.{numbers_where-push, once_more}
 use Rattle.ts_store.specs.ColumnLists.{ColumnList, lists_in, places_in, HasPlaceAt}
-use Rattle.ts_store.specs.Rollups.{is_of_lane, HasSpares, IsRollup, Extends}
+use Rattle.ts_store.specs.Rollups.{is_of_lane, HasSpares, IsRollup, Extends, KeepsLists}
 
 same_number : (n : ℕ) → (n == n) ≡ true
 same_number n = grind arith
@@ -50,8 +51,18 @@ lane_made ls new e l =
 
 -- the columns of a lane are replaced
 module _ (ls : List ColumnList) (i : ℕ) (old new : ColumnList) (is : old ≡ get_or ls i old) where
-  pub lists_same : new.items ≡ old.items → lists_in (set ls i new) ≡ lists_in ls
+  lists_same : new.items ≡ old.items → lists_in (set ls i new) ≡ lists_in ls
   lists_same e = map-set_same (λ (v : ColumnList). v.items) ls i new old (e ∙ ap (λ (v : ColumnList). v.items) is)
+
+  -- no list changes where its columns stay
+  pub list_roomed : (before after : Grid Aggregate) (lists : List ColumnList) → new.items ≡ old.items → KeepsLists before lists after ls → KeepsLists before lists after (set ls i new)
+  list_roomed before after lists e k = record {
+    each = length-set ls i new ∙ k.each;
+    made = k.made;
+    once = k.once;
+    columns = λ l. ap (λ (xs : List (List ℕ)). get_or xs l []) (lists_same e) ∙ k.columns l;
+    cells = k.cells;
+  }
 
   pub lists_more : (n : ℕ) → i < length ls → new.items ≡ old.items ++ n ∷ [] → lists_in (set ls i new) ≡ set (lists_in ls) i (get_or (lists_in ls) i [] ++ n ∷ [])
   lists_more n l e =

@@ -6,7 +6,7 @@ use Rattle.std.proofs.lemmas.List.{length-map, drop-map, take_all, length-take}
 use Rattle.std.proofs.Math.ListN.{drop_of_length-le}
 use Rattle.std.proofs.lemmas.Option.{none-some, same_Some, slice_get-get_or}
 use Rattle.ts_core.specs.Facts.{Column}
-use Rattle.ts_core.specs.Settings.{Settings}
+use Rattle.ts_core.specs.Settings.{Rule, Settings}
 use Rattle.ts_core.specs.Marks.{Marks}
 use Rattle.ts_core.specs.History.{Begin, Step, kept_since}
 use Rattle.ts_core.specs.RawFacts.{same_column}
@@ -192,10 +192,10 @@ module _ (settings : Settings) (marks : Marks) (n : ℕ) where
       cells = cells_of held.rollups;
     }
 
-    pub ended-stands : GoesOn open_run (Step true) (kept_data settings marks n held None)
+    ended-stands : GoesOn open_run (Step true) (kept_data settings marks n held None)
     ended-stands = λ opening h st. subst (λ (k : StoreData). StandsFor opening (Step true ∷ h) (state_of k)) is_ended (run_ends opening h open_run st (none_waits next end held.columns over))
 
-    pub ended-kept : IsKept (kept_data settings marks n held None) held None
+    ended-kept : IsKept (kept_data settings marks n held None) held None
     ended-kept = record {
       rollups = kept.rollups;
       few = tt;
@@ -236,7 +236,7 @@ module _ (settings : Settings) (marks : Marks) (n : ℕ) where
       };
     }
 
--- ---- a step of an open run that goes on
+-- ---- a step of the run that is open
 
 -- the store goes on with one step fewer left, and is kept
 pub record IsStep (before after : StoreData) (held : Held) (run : Option Run) : Type 0 where
@@ -245,31 +245,57 @@ pub record IsStep (before after : StoreData) (held : Held) (run : Option Run) : 
   pub series : after.series ≡ before.series
   pub kept : IsKept after held run
 
-module _ (settings : Settings) (marks : Marks) (n : ℕ) where
-  pub move_steps : (held after : Held) (next end : ℕ) → next < end → IsKept (kept_data settings marks n held (Some (run_of next end))) held (Some (run_of next end))
-      → ((s : ColumnPoints) → IsAt held.columns next s → FreezeFit settings.rules s.column (points_below marks.raw s.points) (cells_of held.rollups) → after ≡ held_moved settings.rules s marks.raw held)
-      → IsStep (kept_data settings marks n held (Some (run_of next end))) (kept_data settings marks n after (Some (run_of (next + 1) end))) after (Some (run_of (next + 1) end))
-  move_steps held after next end within kept moves =
-      let s : ColumnPoints = get_or held.columns next no_points in
-      let there : next < length held.columns = let f = kept.few.1 in omega arith in
-      let at : IsAt held.columns next s = slice_get-get_or held.columns next no_points there in
-      let is : after ≡ held_moved settings.rules s marks.raw held = moves s at (kept-fits settings marks n held (Some (run_of next end)) next s kept at) in
-      subst (λ (h : Held). IsStep (kept_data settings marks n held (Some (run_of next end))) (kept_data settings marks n h (Some (run_of (next + 1) end))) h (Some (run_of (next + 1) end))) (sym is)
-      (record {
-        goes = moved-stands settings marks n held next end s within at kept;
-        fewer = moved-steps settings marks n held next end s within at kept;
-        series = refl;
-        kept = moved-kept settings marks n held next end s within at kept;
-      })
+module _ (settings : Settings) (marks : Marks) (n : ℕ) (held after : Held) (run : Option Run) (before : StoreData) (shown : kept_data settings marks n held run ≡ before) (kept : IsKept (kept_data settings marks n held run) held run) where
+  kept_by : (r : Option Run) → run ≡ r → IsKept (kept_data settings marks n held r) held r
+  kept_by r e = subst (λ (q : Option Run). IsKept (kept_data settings marks n held q) held q) e kept
 
-  pub removal_steps : (held after : Held) (run : Run) → IsKept (kept_data settings marks n held (Some run)) held (Some run) → after ≡ held_with (cells_of after.rollups) held → FirstLoses marks.lows (cells_of held.rollups) (cells_of after.rollups)
-      → IsStep (kept_data settings marks n held (Some run)) (kept_data settings marks n after (Some run)) after (Some run)
-  removal_steps held after run kept is loses = record {
-    goes = removed-stands settings marks n held after run is loses kept;
-    fewer = removed-steps settings marks n held after run is loses kept;
-    series = ap (λ (h : Held). h.series) is;
-    kept = removed-kept settings marks n held after run is loses kept;
-  }
+  as_before : (r : Option Run) → run ≡ r → kept_data settings marks n held r ≡ before
+  as_before r e = ap (kept_data settings marks n held) (sym e) ∙ shown
+
+  pub move_steps : (next end : ℕ) (rs : List Rule) (mark : ℤ) → run ≡ Some (run_of next end) → rs ≡ settings.rules → mark ≡ marks.raw → next < end
+      → ((s : ColumnPoints) → IsAt held.columns next s → FreezeFit rs s.column (points_below mark s.points) (cells_of held.rollups) → after ≡ held_moved rs s mark held)
+      → IsStep before (kept_data settings marks n after (Some (run_of (next + 1) end))) after (Some (run_of (next + 1) end))
+  move_steps next end rs mark e same raw within moves =
+      let r : Run = run_of next end in
+      let r' : Run = run_of (next + 1) end in
+      let whole : IsKept (kept_data settings marks n held (Some r)) held (Some r) = kept_by (Some r) e in
+      let s : ColumnPoints = get_or held.columns next no_points in
+      let there : next < length held.columns = let f = whole.few.1 in omega arith in
+      let at : IsAt held.columns next s = slice_get-get_or held.columns next no_points there in
+      let fit : FreezeFit settings.rules s.column (points_below marks.raw s.points) (cells_of held.rollups) = kept-fits settings marks n held (Some r) next s whole at in
+      let is : after ≡ held_moved settings.rules s marks.raw held =
+      moves s at (subst (λ (us : List Rule). FreezeFit us s.column (points_below mark s.points) (cells_of held.rollups)) (sym same) (subst (λ m. FreezeFit settings.rules s.column (points_below m s.points) (cells_of held.rollups)) (sym raw) fit))
+      ∙ ap₂ (λ (us : List Rule) m. held_moved us s m held) same raw in
+      let step : IsStep (kept_data settings marks n held (Some r)) (kept_data settings marks n after (Some r')) after (Some r') =
+      subst (λ (h : Held). IsStep (kept_data settings marks n held (Some r)) (kept_data settings marks n h (Some r')) h (Some r')) (sym is)
+      (record {
+        goes = moved-stands settings marks n held next end s within at whole;
+        fewer = moved-steps settings marks n held next end s within at whole;
+        series = refl;
+        kept = moved-kept settings marks n held next end s within at whole;
+      }) in
+      subst (λ (k : StoreData). IsStep k (kept_data settings marks n after (Some r')) after (Some r')) (as_before (Some r) e) step
+
+  pub removal_steps : (r : Run) (lows : List ℤ) → run ≡ Some r → lows ≡ marks.lows → after ≡ held_with (cells_of after.rollups) held → FirstLoses lows (cells_of held.rollups) (cells_of after.rollups)
+      → IsStep before (kept_data settings marks n after run) after run
+  removal_steps r lows e same is loses =
+      let some : FirstLoses marks.lows (cells_of held.rollups) (cells_of after.rollups) = subst (λ (ls : List ℤ). FirstLoses ls (cells_of held.rollups) (cells_of after.rollups)) same loses in
+      let whole : IsKept (kept_data settings marks n held (Some r)) held (Some r) = kept_by (Some r) e in
+      let step : IsStep (kept_data settings marks n held (Some r)) (kept_data settings marks n after (Some r)) after (Some r) = record {
+        goes = removed-stands settings marks n held after r is some whole;
+        fewer = removed-steps settings marks n held after r is some whole;
+        series = ap (λ (h : Held). h.series) is;
+        kept = removed-kept settings marks n held after r is some whole;
+      } in
+      subst (λ (q : Option Run). IsStep before (kept_data settings marks n after q) after q) (sym e) (subst (λ (k : StoreData). IsStep k (kept_data settings marks n after (Some r)) after (Some r)) (as_before (Some r) e) step)
+
+  -- nothing was left, and the run is over
+  pub end_steps : (next end : ℕ) → run ≡ Some (run_of next end) → after ≡ held → end ≤ next → GoesOn before (Step true) (kept_data settings marks n after None) × IsKept (kept_data settings marks n after None) after None
+  end_steps next end e is over =
+      let r : Run = run_of next end in
+      let whole : IsKept (kept_data settings marks n held (Some r)) held (Some r) = kept_by (Some r) e in
+      subst (λ (h : Held). GoesOn before (Step true) (kept_data settings marks n h None) × IsKept (kept_data settings marks n h None) h None) (sym is)
+      (subst (λ (k : StoreData). GoesOn k (Step true) (kept_data settings marks n held None)) (as_before (Some r) e) (ended-stands settings marks n held next end over whole), ended-kept settings marks n held next end over whole)
 
 -- without an open run a step changes nothing
 pub idle-stands : (k : StoreData) → k.running ≡ false → GoesOn k (Step true) k

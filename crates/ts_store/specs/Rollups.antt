@@ -1,6 +1,6 @@
 -- What is kept for a rollup rule: its cells, and the lane of each column. A lane is a field with a group, whose cells stand under
 -- one number. (Own rules.)
-use Rattle.std.specs.Prelude.{◌≡◌, ◌==◌, nat_lt, Vec, vec_len, vec_capacity, ℕ, ℤ, Bool, true, false, get_or, List, [], ◌∷◌, ◌++◌, length, map, Option, Some, None, Result, IfOk, refl}
+use Rattle.std.specs.Prelude.{◌≡◌, ◌==◌, nat_lt, Vec, vec_len, vec_capacity, ℕ, ℤ, Bool, true, false, get_or, List, [], ◌∷◌, ◌++◌, length, map, Option, Some, None, refl}
 use Rattle.std.specs.FinMap as finmap
 use Rattle.std.specs.Coded.{Coded, code_by, coded×, coded_ℕ, coded_list, coded_option}
 use Rattle.ts_core.specs.Members.{AllDistinct}
@@ -15,7 +15,7 @@ use Rattle.ts_core.specs.StoreData.{FrozenCells}
 use Rattle.ts_cells.specs.CellChanges.{roomy}
 use Rattle.ts_cells.specs.Grids.{Lane, Grid, cell_in, coded_grid}
 use Rattle.ts_core.specs.Numbered.{IsAt, numbers_where}
-use Rattle.ts_store.specs.ColumnLists.{ColumnList, lists_in, HasPlaceAt}
+use Rattle.ts_store.specs.ColumnLists.{ColumnList, lists_in}
 
 -- the cells of a rule; of each column the lane, none where the column is of another measurement; and that of a column which
 -- may be made next, for which there is room
@@ -91,11 +91,9 @@ pub record IsRollup (lanes : List Lane) (of_columns : List (Option ℕ)) (member
 abbrev pub Extends : List Lane → List Lane → Type 0
 Extends before after = (more : List Lane) × (after ≡ before ++ more)
 
--- what is left by a call that asks for the number of a lane, and makes the lane where it isn't there: among the lists of columns, one
--- for each lane, that of this lane has room for one column more; no list changes, and no cell
-pub record IsLaneFor {E : Type 0} (lane : Lane) (before : Grid Aggregate) (lists : List ColumnList) (after : Grid Aggregate) (lists' : List ColumnList) (result : Result ℕ E) : Type 0 where
-  pub number : IfOk result (λ n. IsAt after.lanes n lane)
-  pub room : IfOk result (λ n. HasPlaceAt lists' n)
+-- what is left by a call that asks for a lane, and makes it where it isn't there: each lane once, with a list of columns; no list
+-- changes, and no cell
+pub record KeepsLists (before : Grid Aggregate) (lists : List ColumnList) (after : Grid Aggregate) (lists' : List ColumnList) : Type 0 where
   pub each : length lists' ≡ length after.lanes
   pub made : Extends before.lanes after.lanes
   pub once : AllDistinct before.lanes → AllDistinct after.lanes

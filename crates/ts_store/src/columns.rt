@@ -1,5 +1,5 @@
 //! What a line writes to columns that are found through an index: each of its columns is looked up once.
-ghost use Rattle.std.specs.Prelude.{◌≡◌, ◌<◌, [], length, map, IsSome, OnOk, set, get_or};
+ghost use Rattle.std.specs.Prelude.{◌≡◌, ◌<◌, ◌++◌, ◌∷◌, [], length, map, IsSome, OnOk, set, get_or};
 ghost use Rattle.std.specs.List.{AllByRecursion};
 ghost use Rattle.ts_line.specs.Parts.{series_of};
 ghost use Rattle.ts_raw.specs.Indexed.{column_in};
@@ -100,19 +100,23 @@ fn column_for<A: Allocator + Copy>(
     }
 }
 
-/// Sets a point aside in one of the columns. No column's points change.
+/// Sets a point aside in one of the columns, and puts the column's number behind those touched. No column's points change.
 fn prepare_at<A: Allocator + Copy>(
     columns: &mut Vec<PlainColumn<A>, A>,
-    at: usize,
+    touched: &mut Vec<ColumnId, A>,
+    column: ColumnId,
     time: Time,
     value: i64,
 ) -> Result<(), AllocError>
-    requires { at < length columns.old.items }
-    ensures ok { OnOk result (columns.new.items ≡ set columns.old.items at (with_point_aside (get_or columns.old.items at no_column) time value)) }
+    requires { column < length columns.old.items }
+    ensures ok { OnOk result (columns.new.items ≡ set columns.old.items column (with_point_aside (get_or columns.old.items column no_column) time value)) }
+    ensures touched { OnOk result (touched.new.items ≡ touched.old.items ++ column ∷ []) }
     ensures len { length columns.new.items ≡ length columns.old.items }
     ensures unchanged { point_maps columns.new.items ≡ point_maps columns.old.items }
 {
-    columns[at].prepare(time, value)
+    columns[column.number()].prepare(time, value)?;
+    touched.push(column)?;
+    Ok(())
 }
 
 /// Puts in what is aside in the columns of these numbers. It takes no memory.
@@ -149,8 +153,7 @@ pub(crate) fn prepare_line<A: Allocator + Copy>(
     for field in line.fields() {
         let name = field.name().text();
         let column = column_for(index, columns, rules, rollups, series, name)?;
-        prepare_at(columns, column.number(), line.time(), field.value())?;
-        touched.push(column)?;
+        prepare_at(columns, touched, column, line.time(), field.value())?;
     }
     Ok(())
 }

@@ -7,7 +7,8 @@ ghost use Rattle.ts_cells.specs.Expiry.{LosesBelow};
 ghost use Rattle.ts_core.specs.Numbered.{IsAt};
 ghost use Rattle.ts_cells.specs.Grids.{lane_of, lane_named, lent_texts};
 ghost use Rattle.ts_cells.specs.Walks.{entry_of, entries_within};
-ghost use Rattle.ts_store.specs.Rollups.{new_rollup, IsLaneFor, KeepsCells, HasNext, with_next, with_frozen, roomed_in, frozen_in, lane_at, columns_of_lane};
+ghost use Rattle.ts_store.specs.ColumnLists.{HasPlaceAt};
+ghost use Rattle.ts_store.specs.Rollups.{new_rollup, KeepsLists, KeepsCells, HasNext, with_next, with_frozen, roomed_in, frozen_in, lane_at, columns_of_lane};
 
 use crate::lane_columns::LaneColumns;
 use std::alloc::{AllocError, Allocator};
@@ -72,8 +73,26 @@ fn group_of<'a, A: Allocator + Copy>(
     Ok(group)
 }
 
-/// The lane of a field and a group, with its list of columns, which has room for one column more. Both are made where
-/// there are none.
+/// The lane of a field and a group, with its list of columns. Both are made where there are none.
+fn listed_lane<A: Allocator + Copy>(
+    cells: &mut Cells<Agg, A>,
+    columns: &mut Vec<LaneColumns<A>, A>,
+    field: &str,
+    group: &[&str],
+) -> Result<LaneId, AllocError>
+    requires each { length columns.old.items ≡ length cells.old.lanes }
+    ensures number { IfOk result (λ n. IsAt cells.new.lanes n (lane_named field.now group.now)) }
+    ensures kept { KeepsLists cells.old columns.old.items cells.new columns.new.items }
+{
+    reserve_eighth(columns, 1)?;
+    let lane = cells.lane(field, group)?;
+    if columns.len() < cells.lanes() {
+        columns.push(LaneColumns::new()).unwrap();
+    }
+    Ok(lane)
+}
+
+/// The same, where the list has room for one column more.
 fn lane_for<A: Allocator + Copy>(
     cells: &mut Cells<Agg, A>,
     columns: &mut Vec<LaneColumns<A>, A>,
@@ -81,13 +100,11 @@ fn lane_for<A: Allocator + Copy>(
     group: &[&str],
 ) -> Result<LaneId, AllocError>
     requires each { length columns.old.items ≡ length cells.old.lanes }
-    ensures { IsLaneFor (lane_named field.now group.now) cells.old columns.old.items cells.new columns.new.items result }
+    ensures number { IfOk result (λ n. IsAt cells.new.lanes n (lane_named field.now group.now)) }
+    ensures room { IfOk result (λ n. HasPlaceAt columns.new.items n) }
+    ensures kept { KeepsLists cells.old columns.old.items cells.new columns.new.items }
 {
-    reserve_eighth(columns, 1)?;
-    let lane = cells.lane(field, group)?;
-    if columns.len() < cells.lanes() {
-        columns.push(LaneColumns::new()).unwrap();
-    }
+    let lane = listed_lane(cells, columns, field, group)?;
     let alloc = *columns.allocator();
     columns[lane.number() as usize].reserve(alloc)?;
     Ok(lane)

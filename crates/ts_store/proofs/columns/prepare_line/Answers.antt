@@ -42,7 +42,7 @@ prepare_at-requires g c =
     let i = c.loop-field.invariant in
     let len = (grown_aside _ c.loop-field.index.columns c.column_for.new.index.columns c.loop-field.columns.items c.column_for.new.columns.items c.loop-field.touched.items _ i.held.each c.in_ok-column.ensures.column.grown i.aside).1 in
     let w = slice_get_within c.column_for.new.index.columns c.in_ok-column.column _ c.in_ok-column.ensures.column.number in
-    omega (arith, w, len, c.number.ensures)
+    omega (arith, w, len)
 
 pub returns-in_err-prepare_at-clause-line : goal.returns-in_err-prepare_at-clause-line
 returns-in_err-prepare_at-clause-line g c =
@@ -51,18 +51,6 @@ returns-in_err-prepare_at-clause-line g c =
     c.field-item.result c.in_ok-column.ensures.column.grown (ap (λ (xs : List Series). slice_get xs c.args.series) i.series ∙ c.requires.series) (c.text-name.ensures ∙ ap (λ (q : LinePart). q.text) c.name.ensures)
     c.fields-field-items.ensures.value c.fields-field-items.ensures.once c.loop-field-test.true c.field-item.is i.held.each i.made in
     let p = err_from_is_err_and c.from_residual-in_err-prepare_at.result c.from_residual-in_err-prepare_at.ensures.1 in
-    refused _ _ _ _ _ _ _ _ p.1
-    (first_made c.args.line.now _ _ c.fields-field-items.result.now (c.loop-field.field-index + 1) c.fields-field-items.ensures.value (ap (with_points c.column_for.new.index.columns) c.prepare_at.ensures.unchanged ∙ more))
-    (record { sound = c.column_for.ensures.column.sound i.held.sound; each = c.prepare_at.ensures.len ∙ (grown_aside _ c.loop-field.index.columns c.column_for.new.index.columns c.loop-field.columns.items c.column_for.new.columns.items c.loop-field.touched.items _ i.held.each c.in_ok-column.ensures.column.grown i.aside).1 })
-    (c.column_for.ensures.column.series ∙ i.series)
-
-pub returns-in_err-push-clause-line : goal.returns-in_err-push-clause-line
-returns-in_err-push-clause-line g c =
-    let i = c.loop-field.invariant in
-    let more = made_next c.args.line.now c.loop-field.index c.args.series c.text-name.result.now _ c.column_for.new.index.columns c.loop-field.columns.items c.column_for.new.columns.items c.fields-field-items.result.now c.loop-field.field-index
-    c.field-item.result c.in_ok-column.ensures.column.grown (ap (λ (xs : List Series). slice_get xs c.args.series) i.series ∙ c.requires.series) (c.text-name.ensures ∙ ap (λ (q : LinePart). q.text) c.name.ensures)
-    c.fields-field-items.ensures.value c.fields-field-items.ensures.once c.loop-field-test.true c.field-item.is i.held.each i.made in
-    let p = err_from_is_err_and c.from_residual-in_err-push.result c.from_residual-in_err-push.ensures.1 in
     refused _ _ _ _ _ _ _ _ p.1
     (first_made c.args.line.now _ _ c.fields-field-items.result.now (c.loop-field.field-index + 1) c.fields-field-items.ensures.value (ap (with_points c.column_for.new.index.columns) c.prepare_at.ensures.unchanged ∙ more))
     (record { sound = c.column_for.ensures.column.sound i.held.sound; each = c.prepare_at.ensures.len ∙ (grown_aside _ c.loop-field.index.columns c.column_for.new.index.columns c.loop-field.columns.items c.column_for.new.columns.items c.loop-field.touched.items _ i.held.each c.in_ok-column.ensures.column.grown i.aside).1 })
@@ -96,10 +84,10 @@ loop-field-preserved g c =
     let time : IsTime c.time.result = search rules in
     let taken : MayBeTaken least_time (fact_of p x) = subst (λ (f : Fact). MayBeTaken least_time f) (λ j. record { column = (fact_of p x).column; time = c.time.ensures j; value = c.value.ensures j }) (record { valid = time; fits = search rules; raw = time.not_before }) in
     let set_is : ss'' ≡ set ss' n (with_point_aside (get_or ss' n no_column) p.time x.1) =
-    c.in_ok-prepare_at.ensures.ok ∙ (λ j. set ss' (c.number.ensures j) (with_point_aside (get_or ss' (c.number.ensures j) no_column) (c.time.ensures j) (value j))) in
+    c.in_ok-prepare_at.ensures.ok ∙ (λ j. set ss' n (with_point_aside (get_or ss' n no_column) (c.time.ensures j) (value j))) in
     let next = next_aside p cs cs' ss ss' ss'' ns n k x i.held.each aside grown at within is once set_is in
     record {
-      aside = rw c.in_ok-push.ensures.items (subst (λ (fs : List (LinePart × ℤ)). AreAside cs' ss'' (ns ++ n ∷ []) (map (fact_of p) (take (k + 1) fs))) (sym e) next.0);
+      aside = rw c.in_ok-prepare_at.ensures.touched (subst (λ (fs : List (LinePart × ℤ)). AreAside cs' ss'' (ns ++ n ∷ []) (map (fact_of p) (take (k + 1) fs))) (sym e) next.0);
       taken = subst (λ (fs : List (LinePart × ℤ)). AllByRecursion (MayBeTaken least_time) (map (fact_of p) (take (k + 1) fs))) (sym e)
           (subst (AllByRecursion (MayBeTaken least_time)) (facts_next p k x within is) (taken_more least_time (map (fact_of p) (take k p.fields)) (fact_of p x)
           (subst (λ (fs : List (LinePart × ℤ)). AllByRecursion (MayBeTaken least_time) (map (fact_of p) (take k fs))) e i.taken) taken));

@@ -8,10 +8,10 @@ pub returns-clause-kept : goal.returns-clause-kept
 returns-clause-kept g c = elim c.if-eq.branch [
   | then-eq+in_ok-group+in_ok-lane_for w ↦ record {
     made = (
-      w.lane_for.ensures.made.0,
-      ap (λ s. s.cells.lanes) w.self-inside-is ∙ w.lane_for.ensures.made.1 ∙ ap (λ (s : RollupState). s.grid.lanes ++ w.lane_for.ensures.made.0) c.self.view_is,
+      w.lane_for.ensures.kept.made.0,
+      ap (λ s. s.cells.lanes) w.self-inside-is ∙ w.lane_for.ensures.kept.made.1 ∙ ap (λ (s : RollupState). s.grid.lanes ++ w.lane_for.ensures.kept.made.0) c.self.view_is,
     );
-    cells = ap (λ s. s.cells.cells) w.self-inside-is ∙ w.lane_for.ensures.cells ∙ ap (λ (s : RollupState). s.grid.cells) c.self.view_is;
+    cells = ap (λ s. s.cells.cells) w.self-inside-is ∙ w.lane_for.ensures.kept.cells ∙ ap (λ (s : RollupState). s.grid.cells) c.self.view_is;
     lanes = ap (λ s. s.lanes.items) w.self-inside-is ∙ c.reserve_eighth.ensures.items ∙ ap (λ (s : RollupState). s.lanes) c.self.view_is;
   }
   | else-eq w ↦ record {
