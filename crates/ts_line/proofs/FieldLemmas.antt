@@ -11,8 +11,8 @@ use Rattle.ts_core.specs.Members.{Among, AllDistinct}
 use Rattle.ts_line.specs.Parts.{LinePart, AreFields, field_text}
 use Rattle.ts_line.specs.declared.fault.ReadLineError.{ReadLineError}
 use Rattle.ts_line.specs.declared.fault.ReadLineError.TheVariants as errors
-use Rattle.ts_line.specs.ReadSteps.{◌>>=◌, FailsIfRoom}
-use Rattle.ts_line.specs.Fields.{next_field, place_from, with_field, field_put, with_next_field, fields_at}
+use Rattle.ts_line.specs.ReadSteps.{FailsIfRoom}
+use Rattle.ts_line.specs.Fields.{next_field, place_from, with_field, fields_at}
 
 pub field_taken : (n : ℕ) (before : List (LinePart × ℤ)) (line : Text) (at : ℕ) (f : LinePart × ℤ) (end : ℕ) (total : Result (List (LinePart × ℤ) × ℕ) LineFault) → n < 256 → slice_index line end ≡ 44
     → next_field line at ≡ Ok (f, end) → fields_at (256 - n) before line at ≡ total → fields_at (256 - (n + 1)) (with_field before f) line (end + 1) ≡ total
@@ -50,38 +50,6 @@ pub field_fails : (n : ℕ) (before : List (LinePart × ℤ)) (line : Text) (at 
     → FailsIfRoom e (next_field line at) → fields_at (256 - n) before line at ≡ total → FailsIfRoom e total
 field_fails n before line at errors.OutOfMemory total lt read so_far = tt
 field_fails n before line at (errors.Fault f) total lt read so_far = field_failed n before line at f total lt read so_far
-
--- ---- one step: a field is read, and put among others
-
-was_by : (before new : List (LinePart × ℤ)) (end : ℕ) (q : Result ((LinePart × ℤ) × ℕ) LineFault) → (q >>= field_put before) ≡ Ok (new, end)
-    → (f : LinePart × ℤ) × (q ≡ Ok (f, end)) × (new ≡ with_field before f)
-was_by before new end (Ok f) step =
-    let is : (with_field before f.0, f.1) ≡ (new, end) = cc in
-    (f.0, ap (λ (r : List (LinePart × ℤ) × ℕ). Ok (f.0, r.1)) is, ap (λ (r : List (LinePart × ℤ) × ℕ). r.0) (sym is))
-was_by before new end (Err e) step = absurd cc
-
-pub step_was : (before new : List (LinePart × ℤ)) (line : Text) (at end : ℕ) → with_next_field before line at ≡ Ok (new, end)
-    → (f : LinePart × ℤ) × (next_field line at ≡ Ok (f, end)) × (new ≡ with_field before f)
-unfolding with_next_field
-step_was before new line at end step = was_by before new end (next_field line at) step
-
-fails_by : (before : List (LinePart × ℤ)) (e : LineFault) (q : Result ((LinePart × ℤ) × ℕ) LineFault) → (q >>= field_put before) ≡ Err e → q ≡ Err e
-fails_by before e (Ok f) step = absurd cc
-fails_by before e (Err g) step = let is : g ≡ e = cc in ap Err is
-
-pub step_failed : (before : List (LinePart × ℤ)) (line : Text) (at : ℕ) (e : ReadLineError) → FailsIfRoom e (with_next_field before line at) → FailsIfRoom e (next_field line at)
-unfolding with_next_field
-step_failed before line at errors.OutOfMemory step = tt
-step_failed before line at (errors.Fault f) step = fails_by before f (next_field line at) step
-
-pub step_fails : (before : List (LinePart × ℤ)) (line : Text) (at : ℕ) (e : ReadLineError) → FailsIfRoom e (next_field line at) → FailsIfRoom e (with_next_field before line at)
-unfolding with_next_field
-step_fails before line at errors.OutOfMemory read = tt
-step_fails before line at (errors.Fault f) read = rw read refl
-
-pub step_puts : (before : List (LinePart × ℤ)) (line : Text) (at : ℕ) (f : (LinePart × ℤ) × ℕ) → next_field line at ≡ Ok f → with_next_field before line at ≡ Ok (with_field before f.0, f.1)
-unfolding with_next_field
-step_puts before line at f read = rw read refl
 
 -- ---- one field put among others
 

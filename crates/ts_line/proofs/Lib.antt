@@ -18,6 +18,7 @@ pub mod LineLemmas
 pub mod TagLemmas
 pub mod FieldLemmas
 pub mod MarkLemmas
+pub mod StepsPutLemmas
 -- Scan, PartTexts: byte by byte
 pub mod ScanLemmas
 pub mod PieceLemmas

@@ -1,17 +1,14 @@
 -- The fields of a line. (InfluxData 1.8, line protocol reference, field set; own limits and refusals.)
-use Rattle.std.specs.Prelude.{ℕ, ℤ, zero, suc, ◌+◌, List, [], ◌∷◌, not, ◌||◌, ◌==◌, if◌then◌else◌, slice_index, Bool, Option, Some, None, Result, Ok, Err, IfOk, bytes_eq, codes}
-use Rattle.std.specs.Str.{IsCharBoundary}
+use Rattle.std.specs.Prelude.{ℕ, ℤ, zero, suc, ◌+◌, List, [], ◌∷◌, not, ◌||◌, ◌==◌, if◌then◌else◌, slice_index, Option, Some, None, Result, Ok, Err, bytes_eq, codes}
 use Rattle.ts_core.specs.Facts.{Text}
 use Rattle.ts_line.specs.declared.fault.LineFault.{LineFault}
-use Rattle.ts_line.specs.declared.fault.ReadLineError.{ReadLineError}
 use Rattle.ts_line.specs.declared.fault.LineFaultKind.TheVariants.{BadField, OverLimit, ReservedKey}
 use Rattle.ts_line.specs.FaultText.{fault_at}
 use Rattle.ts_line.specs.declared.scan.Stops.TheVariants.{Equals}
 use Rattle.ts_line.specs.Parts.{LinePart}
 use Rattle.ts_line.specs.Scan.{end_of}
 use Rattle.ts_line.specs.PartTexts.{piece_at}
-use Rattle.ts_line.specs.ReadSteps.{◌>>=◌, GivesIfRoom}
-use Rattle.ts_line.specs.NameMarks.{AreMarked}
+use Rattle.ts_line.specs.ReadSteps.{◌>>=◌}
 use Rattle.ts_line.specs.Values.{value_begun_at}
 
 -- the field that begins at `start`, and its end
@@ -38,18 +35,3 @@ unfoldable pub fields_at : ℕ → List (LinePart × ℤ) → Text → ℕ → R
 fields_at zero before line at = Err (fault_at OverLimit at)
 fields_at (suc n) before line at = next_field line at >>= λ f.
     if slice_index line f.1 == 44 then fields_at n (with_field before f.0) line (f.1 + 1) else Ok (with_field before f.0, f.1)
-
--- ---- one step of the reader
-
-abbrev pub field_put : List (LinePart × ℤ) → (LinePart × ℤ) × ℕ → Result (List (LinePart × ℤ) × ℕ) LineFault
-field_put before f = Ok (with_field before f.0, f.1)
-
--- fields with the one that begins at `start`, and its end
-unfoldable pub with_next_field : List (LinePart × ℤ) → Text → ℕ → Result (List (LinePart × ℤ) × ℕ) LineFault
-with_next_field before line start = next_field line start >>= field_put before
-
--- a call that puts the field that begins at `start` among others: what they are after it, with the marks of their names
-pub record PutsNextField (before after : List (LinePart × ℤ)) (marks : List Bool) (line : Text) (start : ℕ) (result : Result ℕ ReadLineError) : Type 0 where
-  pub value : GivesIfRoom (λ end. (after, end)) result (with_next_field before line start)
-  pub marked : IfOk result (λ _. AreMarked marks after)
-  pub boundary : IfOk result (λ end. IsCharBoundary line end)

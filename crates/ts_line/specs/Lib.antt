@@ -16,4 +16,5 @@ pub mod Spans
 -- what only models and proofs of the code need
 pub mod Sorting
 pub mod NameMarks
+pub mod StepsPut
 pub mod Digits

@@ -1,18 +1,15 @@
 -- The tags of a line. (InfluxData 1.8, line protocol reference, tag set; own limits and refusals.)
-use Rattle.std.specs.Prelude.{◌≤◌, ℕ, zero, suc, ◌+◌, List, [], ◌∷◌, ◌++◌, length, Bool, not, ◌||◌, ◌==◌, nat_le, if◌then◌else◌, slice_index, Result, Ok, Err, IfOk, bytes_eq, codes}
+use Rattle.std.specs.Prelude.{ℕ, zero, suc, ◌+◌, List, [], ◌∷◌, ◌++◌, length, Bool, not, ◌||◌, ◌==◌, nat_le, if◌then◌else◌, slice_index, Result, Ok, Err, bytes_eq, codes}
 use Rattle.std.specs.List.{list_any}
-use Rattle.ts_core.specs.Cursors.{IsPlaceFrom}
 use Rattle.ts_core.specs.Facts.{Text}
 use Rattle.ts_line.specs.declared.fault.LineFault.{LineFault}
-use Rattle.ts_line.specs.declared.fault.ReadLineError.{ReadLineError}
 use Rattle.ts_line.specs.declared.fault.LineFaultKind.TheVariants.{BadTag, RepeatedTagKey, OverLimit, ReservedKey}
 use Rattle.ts_line.specs.FaultText.{fault_at}
 use Rattle.ts_line.specs.declared.scan.Stops.TheVariants.{Equals}
 use Rattle.ts_line.specs.Parts.{LinePart}
 use Rattle.ts_line.specs.Scan.{end_of}
 use Rattle.ts_line.specs.PartTexts.{piece_at}
-use Rattle.ts_line.specs.ReadSteps.{◌>>=◌, GivesIfRoom}
-use Rattle.ts_line.specs.NameMarks.{AreKeysMarked}
+use Rattle.ts_line.specs.ReadSteps.{◌>>=◌}
 
 -- a key and a value, neither empty, with one equals sign between them, and the end of the tag
 unfoldable pub pair_at : Text → ℕ → Result ((LinePart × LinePart) × ℕ) LineFault
@@ -41,19 +38,3 @@ tags_at (suc n) before line at =
     if slice_index line at == 44
     then (next_tag before line (at + 1) >>= λ t. tags_at n (before ++ t.0 ∷ []) line t.1)
     else Ok (before, at)
-
--- ---- one step of the reader
-
-abbrev pub tag_pushed : List (LinePart × LinePart) → (LinePart × LinePart) × ℕ → Result (List (LinePart × LinePart) × ℕ) LineFault
-tag_pushed before t = Ok (before ++ t.0 ∷ [], t.1)
-
--- tags with the one that begins at `start`, and its end
-unfoldable pub with_next_tag : List (LinePart × LinePart) → Text → ℕ → Result (List (LinePart × LinePart) × ℕ) LineFault
-with_next_tag before line start = next_tag before line start >>= tag_pushed before
-
--- a call that appends the tag that begins at `start` to others: what they are after it, with the marks of their keys
-pub record PushesNextTag (before after : List (LinePart × LinePart)) (marks : List Bool) (line : Text) (start : ℕ) (result : Result ℕ ReadLineError) : Type 0 where
-  pub value : GivesIfRoom (λ end. (after, end)) result (with_next_tag before line start)
-  pub marked : IfOk result (λ _. AreKeysMarked marks after)
-  pub few : IfOk result (λ _. length after ≤ 64)
-  pub place : IfOk result (λ end. IsPlaceFrom line (start + 1) end)

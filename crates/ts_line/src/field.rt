@@ -3,7 +3,8 @@ ghost use Rattle.std.specs.Prelude.{◌≡◌, ◌<◌, length, [], Ok, IfOk, If
 ghost use Rattle.std.specs.Str.{IsCharBoundary};
 ghost use Rattle.ts_line.specs.ReadSteps.{GivesIfRoom};
 ghost use Rattle.ts_line.specs.NameMarks.{AreMarked};
-ghost use Rattle.ts_line.specs.Fields.{next_field, place_from, with_field, PutsNextField, fields_at};
+ghost use Rattle.ts_line.specs.Fields.{next_field, place_from, with_field, fields_at};
+ghost use Rattle.ts_line.specs.StepsPut.{PutsNextField};
 
 use crate::fault::{LineFaultKind, ReadLineError};
 use crate::line::{Field, Part};

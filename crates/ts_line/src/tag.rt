@@ -4,7 +4,8 @@ ghost use Rattle.std.specs.Str.{IsCharBoundary};
 ghost use Rattle.ts_core.specs.Cursors.{IsPlaceFrom};
 ghost use Rattle.ts_line.specs.ReadSteps.{GivesIfRoom};
 ghost use Rattle.ts_line.specs.NameMarks.{slot_of, AreKeysMarked};
-ghost use Rattle.ts_line.specs.TagParts.{pair_at, has_key, next_tag, PushesNextTag, tags_at};
+ghost use Rattle.ts_line.specs.TagParts.{pair_at, has_key, next_tag, tags_at};
+ghost use Rattle.ts_line.specs.StepsPut.{PushesNextTag};
 
 use crate::fault::{LineFaultKind, ReadLineError};
 use crate::line::{Part, TAG_LIMIT, Tag};

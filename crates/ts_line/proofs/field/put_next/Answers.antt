@@ -1,8 +1,8 @@
 use Rattle.std.proofs.Common.{◌≡◌, ◌<◌, ℤ, false, List, length, slice_index_or, sym, ap, ◌∙◌, subst, arith}
 use Rattle.ts_line.specs.Parts.{LinePart}
 use Rattle.ts_line.specs.NameMarks.{slot_of}
-use Rattle.ts_line.specs.Fields.{with_field}
-use Rattle.ts_line.proofs.FieldLemmas.{step_puts}
+use Rattle.ts_line.specs.Fields.{next_field, with_field}
+use Rattle.ts_line.proofs.StepsPutLemmas.{put_read}
 use Rattle.ts_line.proofs.MarkLemmas.{unmarked_pushed, push_marked}
 use Rattle.ts_line.proofs.field.put_next.Goals as goal
 
@@ -17,7 +17,7 @@ returns-then-not-marks-slot g c =
     let items : c.push.new.self.items ≡ with_field fields field = c.in_ok-push.ensures.items ∙ unmarked_pushed c.args.marks.now field fields bare c.requires.marked in
     let within : slot_of field.0.text < length c.args.marks.now = subst (λ n. n < length c.args.marks.now) slot (omega (arith, c.slot_of-slot.ensures.bound, c.told-marks)) in
     record {
-      value = rw items (step_puts fields c.args.line.now c.args.start (field, c.in-Some.end) c.in-Some.ensures.value);
+      value = rw items (put_read (with_field fields) (next_field c.args.line.now c.args.start) field c.in-Some.end c.in-Some.ensures.value);
       marked = rw (items, slot) (push_marked c.args.marks.now field fields within c.requires.marked);
       boundary = c.in-Some.ensures.boundary;
     }

@@ -1,15 +1,16 @@
 use Rattle.std.proofs.Common.{◌≡◌, ◌+◌, ◌++◌, ◌∷◌, [], Ok, arith, vec_len}
 use Rattle.std.proofs.lemmas.Result.{err_from_is_err_and}
+use Rattle.ts_line.specs.Parts.{LinePart}
 use Rattle.ts_line.specs.ReadSteps.{FailsIfRoom}
 use Rattle.ts_line.specs.TagParts.{next_tag}
-use Rattle.ts_line.proofs.TagLemmas.{step_fails, step_pushes}
+use Rattle.ts_line.proofs.StepsPutLemmas.{put_read, put_fault}
 use Rattle.ts_line.proofs.tag.push_any.Goals as goal
 
 pub returns-in_err-tag : goal.returns-in_err-tag
 returns-in_err-tag g c =
     let read : FailsIfRoom c.in_err-tag.field-0.0 (next_tag c.args.tags.now.items c.args.line.now c.args.start) = rw (← c.deref.ensures.value) c.in_err-tag.ensures.value in
     let p = err_from_is_err_and c.from_residual.result c.from_residual.ensures.1 in
-    rw (p.1, p.2) (record { value = step_fails c.args.tags.now.items c.args.line.now c.args.start c.in_err-tag.field-0.0 read; marked = tt; few = tt; place = tt })
+    rw (p.1, p.2) (record { value = put_fault (λ (tag : LinePart × LinePart). c.args.tags.now.items ++ tag ∷ []) (next_tag c.args.tags.now.items c.args.line.now c.args.start) c.in_err-tag.field-0.0 read; marked = tt; few = tt; place = tt })
 
 pub returns : goal.returns
 returns g c =
@@ -18,7 +19,7 @@ returns g c =
     let len : vec_len c.push.new.self ≡ vec_len c.args.tags.now + 1 = c.in_ok-push.ensures.len in
     let room = rw c.deref.ensures.len at c.in_ok-tag.ensures.room in
     record {
-      value = rw items (step_pushes c.args.tags.now.items c.args.line.now c.args.start (c.in_ok-tag.tag, c.in_ok-tag.end) read);
+      value = rw items (put_read (λ (tag : LinePart × LinePart). c.args.tags.now.items ++ tag ∷ []) (next_tag c.args.tags.now.items c.args.line.now c.args.start) c.in_ok-tag.tag c.in_ok-tag.end read);
       marked = rw (items, ← c.deref.ensures.value) c.in_ok-tag.ensures.marked;
       few = omega arith;
       place = c.in_ok-tag.ensures.place;

@@ -3,7 +3,8 @@ use Rattle.ts_line.specs.Parts.{LinePart}
 use Rattle.ts_line.specs.NameMarks.{slot_of}
 use Rattle.ts_line.specs.TagParts.{next_tag}
 use Rattle.ts_line.proofs.MarkLemmas.{unmarked_key, keys_kept, key_more, marked_at}
-use Rattle.ts_line.proofs.TagLemmas.{plain_tag, step_pushes}
+use Rattle.ts_line.proofs.StepsPutLemmas.{put_read}
+use Rattle.ts_line.proofs.TagLemmas.{plain_tag}
 use Rattle.ts_line.proofs.tag.push_next.Goals as goal
 
 pub returns-then-not-marks-slot : goal.returns-then-not-marks-slot
@@ -21,7 +22,7 @@ returns-then-not-marks-slot g c =
     let len : vec_len c.push.new.self ≡ vec_len c.args.tags.now + 1 = c.in_ok-push.ensures.len in
     let within : slot_of tag.0.text < length c.args.marks.now = subst (λ n. n < length c.args.marks.now) slot (omega (arith, c.slot_of-slot.ensures.bound, c.told-marks)) in
     record {
-      value = rw items (step_pushes tags c.args.line.now c.args.start (tag, c.in-Some.end) read);
+      value = rw items (put_read (λ (t : LinePart × LinePart). tags ++ t ∷ []) (next_tag tags c.args.line.now c.args.start) tag c.in-Some.end read);
       marked = rw (items, slot) (key_more (slice_set c.args.marks.now (slot_of tag.0.text) true) tags tag (keys_kept c.args.marks.now (slot_of tag.0.text) tags c.requires.marked) (marked_at c.args.marks.now (slot_of tag.0.text) within));
       few = omega arith;
       place = c.in-Some.ensures.place;

@@ -1,0 +1,30 @@
+-- What the reader does with the field or the tag that comes next: it is put among those before it. (Own rule.)
+use Rattle.std.specs.Prelude.{◌≤◌, ℕ, ℤ, ◌+◌, List, [], ◌∷◌, ◌++◌, length, Bool, Result, Ok, Err, IfOk}
+use Rattle.std.specs.Str.{IsCharBoundary}
+use Rattle.ts_core.specs.Cursors.{IsPlaceFrom}
+use Rattle.ts_core.specs.Facts.{Text}
+use Rattle.ts_line.specs.declared.fault.LineFault.{LineFault}
+use Rattle.ts_line.specs.declared.fault.ReadLineError.{ReadLineError}
+use Rattle.ts_line.specs.Parts.{LinePart}
+use Rattle.ts_line.specs.ReadSteps.{GivesIfRoom}
+use Rattle.ts_line.specs.TagParts.{next_tag}
+use Rattle.ts_line.specs.Fields.{next_field, with_field}
+use Rattle.ts_line.specs.NameMarks.{AreMarked, AreKeysMarked}
+
+-- what was read and where it ends, put among others by `put`
+abbrev pub put_by : {X Y : Type 0} → (X → Y) → Result (X × ℕ) LineFault → Result (Y × ℕ) LineFault
+put_by put (Ok read) = Ok (put read.0, read.1)
+put_by put (Err fault) = Err fault
+
+-- a call that puts the field that begins at `start` among others: what they are after it, with the marks of their names
+pub record PutsNextField (before after : List (LinePart × ℤ)) (marks : List Bool) (line : Text) (start : ℕ) (result : Result ℕ ReadLineError) : Type 0 where
+  pub value : GivesIfRoom (λ end. (after, end)) result (put_by (with_field before) (next_field line start))
+  pub marked : IfOk result (λ _. AreMarked marks after)
+  pub boundary : IfOk result (λ end. IsCharBoundary line end)
+
+-- a call that appends the tag that begins at `start` to others: what they are after it, with the marks of their keys
+pub record PushesNextTag (before after : List (LinePart × LinePart)) (marks : List Bool) (line : Text) (start : ℕ) (result : Result ℕ ReadLineError) : Type 0 where
+  pub value : GivesIfRoom (λ end. (after, end)) result (put_by (λ tag. before ++ tag ∷ []) (next_tag before line start))
+  pub marked : IfOk result (λ _. AreKeysMarked marks after)
+  pub few : IfOk result (λ _. length after ≤ 64)
+  pub place : IfOk result (λ end. IsPlaceFrom line (start + 1) end)
