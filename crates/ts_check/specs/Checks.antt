@@ -11,7 +11,7 @@ use Rattle.ts_check.specs.declared.fault.CheckError.{CheckError}
 use Rattle.ts_check.specs.declared.fault.CheckError.TheVariants as errors
 
 -- no interval is empty, of the query or of a rule
-pub record HasIntervals (t : Asked) : Type 0 where
+pub record HasPositiveIntervals (t : Asked) : Type 0 where
   pub query : pos 1 ≤ℤ t.query.interval
   pub rules : AllByRecursion (λ (r : MarkedRule). pos 1 ≤ℤ r.rule.interval) t.rules
 

@@ -1,7 +1,7 @@
 //! A query with what a store still knows.
 ghost use Rattle.std.specs.Prelude.{◌≡◌, ◌≤◌, length, slice_get};
 ghost use Rattle.ts_core.specs.Pieces.{marked_rules, rule_named, asked};
-ghost use Rattle.ts_check.specs.Checks.{HasIntervals};
+ghost use Rattle.ts_check.specs.Checks.{HasPositiveIntervals};
 
 use std::alloc::Allocator;
 use std::marker::Model;
@@ -85,7 +85,7 @@ impl<'a, A: Allocator> Asked<'a, A> {
     /// A query, asked where a store has these settings and marks.
     pub fn new(settings: &'a Settings<A>, marks: &'a Marks<A>, query: &'a Query<A>) -> Asked<'a, A>
         ensures value { result ≡ asked settings.now marks.now query.now.query }
-        ensures intervals { HasIntervals result }
+        ensures intervals { HasPositiveIntervals result }
     {
         let _interval = query.interval();
         let _rules = settings.rules();

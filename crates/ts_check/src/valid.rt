@@ -54,7 +54,7 @@ fn rule_fault<A: Allocator>(
 
 impl<'a, A: Allocator> Asked<'a, A> {
     /// What is wrong with a piece, but for its place in a list.
-    pub fn piece_fault(&self, piece: &Piece<'_>) -> Option<Fault>
+    pub(crate) fn piece_fault(&self, piece: &Piece<'_>) -> Option<Fault>
         requires { AllByRecursion (λ r. pos 1 ≤ℤ r.rule.interval) self.now.rules }
         ensures { result ≡ piece_fault self.now piece.now }
     {

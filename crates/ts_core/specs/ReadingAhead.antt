@@ -1,5 +1,5 @@
 -- Reading ahead of use, within a limit on the turns of reading. (Own rules.)
-use Rattle.std.specs.Prelude.{◌≡◌, ℕ, ◌+◌, ◌-◌, ◌*◌, ◌≤◌, ◌<◌, List, [], ◌++◌, length, take, drop, Bool, true, false, not, nat_lt, Option, Result, Ok, Err, OnOk, OnErr, IfOk, if◌then◌else◌}
+use Rattle.std.specs.Prelude.{◌≡◌, ◌≢◌, ℕ, ◌+◌, ◌-◌, ◌*◌, ◌≤◌, ◌<◌, List, [], ◌++◌, length, take, drop, Bool, true, false, not, nat_lt, Option, Result, Ok, Err, OnOk, OnErr, IfOk, if◌then◌else◌}
 use Rattle.std.specs.Io.KnownBytes.{prepend_known, IsAtEnd, Consumes, Keeps}
 use Rattle.ts_core.specs.Devices.{Input}
 use Rattle.ts_core.specs.declared.read_ahead.ReadFault.{ReadFault}
@@ -64,7 +64,7 @@ pub record IsFilled (old : Ahead) (source : Input) (result : Result Bool ReadFau
   pub more : IfOk result (λ more. more ≡ not new.ended)
   pub some : IfOk result (λ more. more ≡ nat_lt 0 (length new.buffered))
   pub none : OnErr result (new.buffered ≡ [])
-  pub unused : OnOk result (new.used ≡ [])
+  pub unused : result ≢ Err Turns → new.used ≡ []
   pub stays : OnErr result (new.ended ≡ false)
   pub bound : length new.buffered ≤ most_ahead
   -- what the source counts

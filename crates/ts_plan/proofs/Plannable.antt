@@ -8,10 +8,10 @@ use Rattle.ts_core.specs.Pieces.{Asked, asked}
 use Rattle.ts_core.proofs.Intervals.{IsWide}
 use Rattle.ts_core.proofs.RuleNames.{marked_names}
 use Rattle.ts_plan.specs.Steps.{IsPlannable}
-use Rattle.ts_check.specs.Checks.{HasIntervals}
+use Rattle.ts_check.specs.Checks.{HasPositiveIntervals}
 
 -- what a query and rules always have
-pub are_wide : (t : Asked) → HasIntervals t → IsWide t
+pub are_wide : (t : Asked) → HasPositiveIntervals t → IsWide t
 are_wide t has = record { query = has.query; rules = has.rules }
 
 pub plannable : (s : Settings) (m : Marks) (q : Query) (t : Asked) → length m.lows ≡ length s.rules → AreSettings s → t ≡ asked s m q → IsWide t → IsPlannable t
