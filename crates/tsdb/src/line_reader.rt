@@ -94,6 +94,7 @@ impl<A: Allocator + Copy> LineReader<A> {
     /// Lends the next line, where it was read whole. Answers whether it was.
     fn lend_line(&mut self) -> bool
         requires { LineIs [] self.old.line self.old.long }
+        ensures whole { result ≡ has_lf self.old.ahead.buffered }
         ensures taken { OnTrue result (IsTaken self.old true self.new) }
         ensures line { OnTrue result (IsLonger self.old self.new) }
         ensures left { OnFalse result (self.new ≡ self.old) }
@@ -143,6 +144,7 @@ impl<A: Allocator + Copy> LineReader<A> {
         requires none { LineIs [] self.old.line self.old.long }
         requires going { self.old.ahead.ended ≡ false }
         ensures next { IfOk result (λ next. IsNext self.old source.old next self.new source.new) }
+        ensures long { IfOk result (λ next. next ≡ Next.TooLong → self.new.long ≡ true) }
         ensures goes_on { IfOk result (λ next. UsesUp self.old.ahead next self.new.ahead) }
         ensures asked { IsAsked self.old.ahead source.old result self.new.ahead source.new }
     {
@@ -160,6 +162,7 @@ impl<A: Allocator + Copy> LineReader<A> {
     pub fn next<R: Read>(&mut self, source: &mut Source<R>) -> Result<Next, ReadFault>
         requires { EndIsEnd self.old.ahead source.old }
         ensures next { IfOk result (λ next. IsNext self.old source.old next self.new source.new) }
+        ensures long { IfOk result (λ next. next ≡ Next.TooLong → self.new.long ≡ true) }
         ensures goes_on { IfOk result (λ next. UsesUp self.old.ahead next self.new.ahead) }
         ensures asked { IsAsked self.old.ahead source.old result self.new.ahead source.new }
     {
