@@ -49,7 +49,7 @@ all_kept : (marks : List Bool) (slot : ℕ) (fields : List (LinePart × ℤ)) �
 all_kept marks slot [] all = tt
 all_kept marks slot (g ∷ gs) all = (kept marks slot (slot_of g.0.text) all.0, all_kept marks slot gs all.1)
 
-pub marked_at : (marks : List Bool) (slot : ℕ) → slot < length marks → get_or (set marks slot true) slot false ≡ true
+marked_at : (marks : List Bool) (slot : ℕ) → slot < length marks → get_or (set marks slot true) slot false ≡ true
 marked_at marks slot lt = get_or-set_same marks slot true false lt
 
 pub push_marked : (marks : List Bool) (f : LinePart × ℤ) (fields : List (LinePart × ℤ)) → slot_of f.0.text < length marks → AreMarked marks fields → AreMarked (set marks (slot_of f.0.text) true) (with_field fields f)
@@ -72,10 +72,14 @@ unmarked_key marks key [] bare all = refl
 unmarked_key marks key (g ∷ gs) bare all = key_by marks key g gs (bytes_eq g.0.text key) refl bare all.0 (unmarked_key marks key gs bare all.1)
 
 -- one mark more, and one tag more
-pub keys_kept : (marks : List Bool) (slot : ℕ) (tags : List (LinePart × LinePart)) → AreKeysMarked marks tags → AreKeysMarked (set marks slot true) tags
+keys_kept : (marks : List Bool) (slot : ℕ) (tags : List (LinePart × LinePart)) → AreKeysMarked marks tags → AreKeysMarked (set marks slot true) tags
 keys_kept marks slot [] all = tt
 keys_kept marks slot (g ∷ gs) all = (kept marks slot (slot_of g.0.text) all.0, keys_kept marks slot gs all.1)
 
-pub key_more : (marks : List Bool) (tags : List (LinePart × LinePart)) (t : LinePart × LinePart) → AreKeysMarked marks tags → Mark marks t.0.text → AreKeysMarked marks (tags ++ t ∷ [])
+key_more : (marks : List Bool) (tags : List (LinePart × LinePart)) (t : LinePart × LinePart) → AreKeysMarked marks tags → Mark marks t.0.text → AreKeysMarked marks (tags ++ t ∷ [])
 key_more marks [] t all mark = (mark, tt)
 key_more marks (g ∷ gs) t all mark = (all.0, key_more marks gs t all.1 mark)
+
+pub push_key_marked : (marks : List Bool) (t : LinePart × LinePart) (tags : List (LinePart × LinePart)) → slot_of t.0.text < length marks → AreKeysMarked marks tags → AreKeysMarked (set marks (slot_of t.0.text) true) (tags ++ t ∷ [])
+push_key_marked marks t tags lt all =
+    key_more (set marks (slot_of t.0.text) true) tags t (keys_kept marks (slot_of t.0.text) tags all) (marked_at marks (slot_of t.0.text) lt)

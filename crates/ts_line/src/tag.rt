@@ -1,9 +1,9 @@
 //! The tags of a line are read: up to 64, no key twice.
-ghost use Rattle.std.specs.Prelude.{◌≡◌, ◌<◌, ◌≤◌, ◌+◌, ◌++◌, ◌∷◌, length, [], Ok, IfOk, IfSome, slice_index_or, bytes_eq, codes, true, false};
+ghost use Rattle.std.specs.Prelude.{◌≡◌, ◌<◌, ◌≤◌, ◌+◌, length, [], Ok, IfOk, IfSome, bytes_eq, codes, false};
 ghost use Rattle.std.specs.Str.{IsCharBoundary};
 ghost use Rattle.ts_core.specs.Cursors.{IsPlaceFrom};
 ghost use Rattle.ts_line.specs.ReadSteps.{GivesIfRoom};
-ghost use Rattle.ts_line.specs.NameMarks.{slot_of, AreKeysMarked};
+ghost use Rattle.ts_line.specs.NameMarks.{AreKeysMarked};
 ghost use Rattle.ts_line.specs.TagParts.{pair_at, has_key, next_tag, tags_at};
 ghost use Rattle.ts_line.specs.StepsPut.{PushesNextTag};
 
@@ -23,21 +23,6 @@ fn has_key<A: Allocator>(tags: &[Tag<'_, A>], key: &str) -> bool
     ensures { result ≡ has_key tags.now key.now }
 {
     tags.iter().any(|tag| tag.key().text() == key)
-}
-
-/// Whether a tag has a key. Each key has its mark; a key whose place bears no mark is new.
-fn is_repeated<A: Allocator>(tags: &[Tag<'_, A>], marks: &mut [bool; 64], key: &str) -> bool
-    requires { AreKeysMarked marks.old tags.now }
-    ensures value { result ≡ has_key tags.now key.now }
-    ensures marked { AreKeysMarked marks.new tags.now }
-    ensures own { slice_index_or marks.new (slot_of key.now) false ≡ true }
-{
-    let slot = slot_of(key);
-    if marks[slot] {
-        return has_key(tags, key);
-    }
-    marks[slot] = true;
-    false
 }
 
 /// The tag that begins at `start`, and its end, where no escape stands in it. None where something else stands there.
@@ -71,16 +56,13 @@ fn plain<'a, A: Allocator>(line: &'a str, start: usize) -> Option<(Tag<'a, A>, u
 fn next<'a, A: Allocator + Copy>(
     alloc: A,
     before: &[Tag<'a, A>],
-    marks: &mut [bool; 64],
     line: &'a str,
     start: usize,
 ) -> Result<(Tag<'a, A>, usize), ReadLineError>
-    requires boundary { IsCharBoundary line.now start }
-    requires marked { AreKeysMarked marks.old before.now }
+    requires { IsCharBoundary line.now start }
     ensures value { GivesIfRoom (λ x. x) result (next_tag before.now line.now start) }
     ensures place { IfOk result (λ x. IsPlaceFrom line.now (start + 1) x.1) }
     ensures room { IfOk result (λ _. length before.now < 64) }
-    ensures marked { IfOk result (λ x. AreKeysMarked marks.new (before.now ++ x.0 ∷ [])) }
 {
     let key_end = end_at(line, start, Stops::Equals);
     if key_end.at == start || byte_at(line, key_end.at) != b'=' {
@@ -98,7 +80,7 @@ fn next<'a, A: Allocator + Copy>(
     if key.text() == "time" {
         return Err(ReadLineError::Fault(LineFaultKind::ReservedKey.at(start)));
     }
-    if is_repeated(before, marks, key.text()) {
+    if has_key(before, key.text()) {
         return Err(ReadLineError::Fault(LineFaultKind::RepeatedTagKey.at(start)));
     }
     let value = part_at(alloc, line, value_start, value_end, Stops::Equals)?;
@@ -118,7 +100,8 @@ fn push_any<'a, A: Allocator + Copy>(
     requires marked { AreKeysMarked marks.old tags.old.items }
     ensures { PushesNextTag tags.old.items tags.new.items marks.new line.now start result }
 {
-    let (tag, end) = next(alloc, tags, marks, line, start)?;
+    let (tag, end) = next(alloc, tags, line, start)?;
+    marks[slot_of(tag.key().text())] = true;
     tags.push(tag)?;
     Ok(end)
 }

@@ -68,10 +68,10 @@ impl<A: Allocator + Copy> ColumnFacts<A> {
 
     /// Puts the facts of a line in, each in place of the one of its id. All room is taken before the first:
     /// after a refusal there is at most the series more, columns without points, and cells without facts.
-    pub(crate) fn put_line(
+    pub(crate) fn put_line<L: Allocator>(
         &mut self,
         rules: &[Rule<A>],
-        line: &Line<'_, A>,
+        line: &Line<'_, L>,
         key: &KeyRef<'_>,
     ) -> Result<(), AllocError>
         requires key { key.now ≡ series_of line.now }

@@ -133,14 +133,14 @@ pub(crate) fn commit_all<A: Allocator + Copy>(
 }
 
 /// Sets the points of a line aside, each in its column, and answers the columns.
-pub(crate) fn prepare_line<A: Allocator + Copy>(
+pub(crate) fn prepare_line<A: Allocator + Copy, L: Allocator>(
     index: &mut Index<A>,
     columns: &mut Vec<PlainColumn<A>, A>,
     rules: &[Rule<A>],
     rollups: &mut [Rollup<A>],
     touched: &mut Vec<ColumnId, A>,
     series: SeriesId,
-    line: &Line<'_, A>,
+    line: &Line<'_, L>,
 ) -> Result<(), AllocError>
     requires held { IsHeld index.old columns.old.items }
     requires rollups { AreRollups rules.now index.old.columns rollups.old }

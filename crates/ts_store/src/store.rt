@@ -98,7 +98,7 @@ impl<A: Allocator + Copy> Store<A> {
     /// What it is refused by is found without memory, and changes nothing. Where no memory is found, it stands for what it
     /// stood for; the line's series may be registered, and the first of its new columns made. Columns keep their numbers. A
     /// line below the raw mark is refused with that mark.
-    pub fn write(&mut self, line: &Line<'_, A>) -> Result<(), WriteFault>
+    pub fn write<L: Allocator>(&mut self, line: &Line<'_, L>) -> Result<(), WriteFault>
         ensures { WritesLine self.old self.new line.now result }
     {
         if line.tags().len() > FEW_TAGS {
@@ -111,7 +111,7 @@ impl<A: Allocator + Copy> Store<A> {
 
     /// The same for a line of more tags than most have.
     #[cold]
-    fn write_many_tags(&mut self, line: &Line<'_, A>) -> Result<(), WriteFault>
+    fn write_many_tags<L: Allocator>(&mut self, line: &Line<'_, L>) -> Result<(), WriteFault>
         requires { length line.now.tags ≤ 64 }
         ensures { WritesLine self.old self.new line.now result }
     {
@@ -121,7 +121,11 @@ impl<A: Allocator + Copy> Store<A> {
     }
 
     /// The same for a line whose tags are these.
-    fn write_tagged(&mut self, line: &Line<'_, A>, tags: &[(&str, &str)]) -> Result<(), WriteFault>
+    fn write_tagged<L: Allocator>(
+        &mut self,
+        line: &Line<'_, L>,
+        tags: &[(&str, &str)],
+    ) -> Result<(), WriteFault>
         requires set { IsTagSet (lent_pairs tags.now) }
         requires tags { lent_pairs tags.now ≡ (series_of line.now).tags }
         ensures { WritesLine self.old self.new line.now result }
@@ -136,7 +140,7 @@ impl<A: Allocator + Copy> Store<A> {
     }
 
     /// What a line is refused by.
-    fn refusal(&self, line: &Line<'_, A>, key: &KeyRef<'_>) -> Option<WriteFault>
+    fn refusal<L: Allocator>(&self, line: &Line<'_, L>, key: &KeyRef<'_>) -> Option<WriteFault>
         requires { key.now ≡ series_of line.now }
         ensures { result ≡ write_fault self.now.marks.raw self.now.series self.now.accepted line.now }
     {

@@ -39,7 +39,7 @@ use Rattle.tsdb.specs.declared.reply.Reply.{Reply}
 use Rattle.tsdb.specs.declared.reply.Reply.TheVariants as reply
 use Rattle.tsdb.specs.declared.reply.Reply.TheVariants.{Done, OutOfMemory}
 use Rattle.tsdb.specs.Machine.{State, no_longer_fresh, with_certificate, opened_with, with_run, marks_told, with_line, with_series, at_moment, in_precision, line_in, refusal_in, in_epoch, refused, accepted_whole, found_no_memory, Counts, Does, Step, opens, refuses_settings, opens_no_memory, opens_late, moves, sets, shows, writes, passes_over, refuses, reads_no_memory, retains, retains_no_memory, hands_in, hands_in_no_memory, replies, replies_no_memory, explains, explains_no_memory, tells_live, counts, counts_nothing, refuses_count, refuses_unknown, too_long, no_text, skips, does}
-use Rattle.tsdb.specs.Serving.{Serving, IsIn, Replied, HasExplanation, Took, Did, Refused, Stepped, IsAnswered}
+use Rattle.tsdb.specs.Serving.{Serving, keeping, IsIn, Replied, HasExplanation, Took, Did, Refused, Stepped, IsAnswered}
 use Rattle.tsdb.specs.LineReading.{NextOf}
 use Rattle.tsdb.specs.declared.line_reader.Next.TheVariants as next
 
@@ -51,10 +51,6 @@ read_then s m text r i e = ap (λ (t : ℤ). line_of (nanoseconds_of s.precision
 -- a machine of these parts
 abbrev pub serving : ℤ → TimeUnit → Epoch → Bool → Option Text → StoreData → Serving
 serving t p e f c k = record { moment = t; precision = p; epoch = e; fresh = f; certificate = c; kept = k }
-
--- a machine with this kept in place of what it kept
-abbrev pub keeping : StoreData → Serving → Serving
-keeping k m = record m { kept = k }
 
 -- what a write answers, and how that is told
 abbrev pub Written : Type 0

@@ -1,5 +1,5 @@
 -- The text of marks, and how long it is.
-use Rattle.std.proofs.Common.{◌≡◌, ◌∙◌, ◌+◌, ◌≤◌, ◌++◌, List, [], ◌∷◌, ℕ, ℤ, length, append_assoc, Result, Ok, Err, OnOk, Option, Some, None, Bool, true, false, ◌&&◌, nat_le, cond, arith, refl, ap, sym, subst}
+use Rattle.std.proofs.Common.{◌≡◌, ◌∙◌, ◌≤◌, ◌++◌, List, [], ◌∷◌, ℕ, ℤ, length, append_assoc, Result, Ok, Err, OnOk, Option, Some, None, Bool, true, false, ◌&&◌, nat_le, cond, arith, refl, ap, sym, subst}
 use Rattle.std.specs.List.{AllByRecursion}
 use Rattle.std.proofs.lemmas.Bool.{and_parts}
 use Rattle.std.proofs.lemmas.Bool.Decides.{nat_tests}

@@ -26,6 +26,10 @@ pub record Serving : Type 0 where
   pub certificate : Option Text
   pub kept : StoreData
 
+-- a machine with this store in place of its own
+abbrev pub keeping : StoreData → Serving → Serving
+keeping k m = record m { kept = k }
+
 pub record IsIn (s : State) (m : Serving) : Type 0 where
   pub moment : m.moment ≡ s.moment
   pub precision : m.precision ≡ s.precision

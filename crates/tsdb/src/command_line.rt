@@ -51,7 +51,7 @@ prints ok, ok and 1.
 `tsdb faults` prints what the number of each fault means, `tsdb faults N` that of N.";
 
 /// What became of a command line that asks for no replay; its exit status shows it.
-#[derive(Clone, Copy, Debug, Drop)]
+#[derive(Clone, Copy, Drop)]
 pub enum Told {
     /// Help or the version was printed.
     Done,

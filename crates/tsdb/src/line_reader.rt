@@ -15,7 +15,7 @@ use ts_core::{ReadAhead, ReadFault, Source};
 const TURN_LIMIT: u64 = 4_294_967_296;
 
 /// What came next.
-#[derive(Clone, Copy, Debug, Drop)]
+#[derive(Clone, Copy, Drop)]
 pub enum Next {
     /// A line, which the reader holds.
     Line,

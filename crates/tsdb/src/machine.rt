@@ -7,7 +7,7 @@ ghost use Rattle.tsdb.specs.Machine.{State, start};
 ghost use Rattle.tsdb.specs.MarksTexts.{marks_text};
 ghost use Rattle.tsdb.specs.Commands.{OpenWith as OpenWithCommand, Write as WriteCommand, Retain as RetainCommand, SetCertificate as CertificateCommand, Query as QueryCommand, Explain as ExplainCommand, Count as CountCommand};
 ghost use Rattle.tsdb.specs.ScriptReplies.{line, text_of};
-ghost use Rattle.tsdb.specs.Serving.{IsIn, Replied, HasExplanation, Took, Did, Refused, Stepped};
+ghost use Rattle.tsdb.specs.Serving.{Serving, keeping, IsIn, Replied, HasExplanation, Took, Did, Refused, Stepped};
 
 use crate::certificate_text::with_line_feeds;
 use crate::command::{Command, is_skipped};
@@ -15,6 +15,7 @@ use crate::count::count;
 use crate::marks_text::{MARKS_ROOM, marks_line};
 use crate::opening::{bad_settings, store_with};
 use crate::reply::Reply;
+use bumpalo::Bump;
 use std::alloc::{AllocError, Allocator, Global};
 use std::marker::Model;
 use std::str;
@@ -24,7 +25,7 @@ use ts_reply::{Epoch, answer, explain};
 use ts_store::{Store, View};
 
 /// The moment, the precision and the epoch that a script has set, whether settings may still come, the certificate for its next query,
-/// and its store.
+/// its store, and an arena for the lists of a line's tags and fields.
 #[derive(Drop)]
 pub struct Machine<A: Allocator> {
     alloc: A,
@@ -35,6 +36,7 @@ pub struct Machine<A: Allocator> {
     fresh: bool,
     certificate: Option<String<A>>,
     store: Store<A>,
+    line_room: Bump<A>,
 }
 
 impl<A: Allocator> Model for Machine<A> {
@@ -63,6 +65,7 @@ impl<A: Allocator + Copy> Machine<A> {
             fresh: true,
             certificate: None,
             store: Store::new(alloc, Settings::open(alloc))?,
+            line_room: Bump::new(alloc),
         })
     }
 
@@ -247,26 +250,36 @@ impl<A: Allocator + Copy> Machine<A> {
         }
     }
 
-    /// Reads a line and writes it to the store.
+    /// Reads a line and writes it to the store. A line of a known series takes no memory but that of columns that grow.
     fn write(&mut self, text: &str) -> Reply
         ensures { (s : State) → IsIn s self.old → Did (WriteCommand text.now) s (text_of result) self.new }
     {
-        match read_line(self.alloc, text, self.precision, self.moment) {
-            Ok(Some(line)) => self.accept(&line),
+        let reply = self.write_in_room(text);
+        // no block of the line is left, so its room is free again
+        let _ = self.line_room.reset();
+        reply
+    }
+
+    /// Reads a line in the arena, and writes it to the store.
+    fn write_in_room(&mut self, text: &str) -> Reply
+        ensures { (s : State) → IsIn s self.old → Did (WriteCommand text.now) s (text_of result) self.new }
+    {
+        match read_line(&self.line_room, text, self.precision, self.moment) {
+            Ok(Some(line)) => accept(&mut self.store, &line),
             Ok(None) => Reply::NoLine,
             Err(ReadLineError::Fault(fault)) => Reply::BadLine(fault),
             Err(ReadLineError::OutOfMemory) => Reply::OutOfMemory,
         }
     }
+}
 
-    /// Writes a line to the store.
-    fn accept(&mut self, line: &Line<'_, A>) -> Reply
-        ensures { (s : State) → IsIn s self.old → Took line.now s (text_of result) self.new }
-    {
-        match self.store.write(line) {
-            Ok(()) => Reply::Done,
-            Err(fault) => Reply::Refused(fault),
-        }
+/// Writes a line to a store.
+fn accept<A: Allocator + Copy, L: Allocator>(store: &mut Store<A>, line: &Line<'_, L>) -> Reply
+    ensures { (s : State) (m : Serving) → IsIn s (keeping store.old m) → Took line.now s (text_of result) (keeping store.new m) }
+{
+    match store.write(line) {
+        Ok(()) => Reply::Done,
+        Err(fault) => Reply::Refused(fault),
     }
 }
 

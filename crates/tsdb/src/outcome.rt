@@ -8,7 +8,7 @@ use crate::run_fault::RunFault;
 use std::process::ExitCode;
 
 /// How a call of the program came out.
-#[derive(Clone, Copy, Debug, Drop)]
+#[derive(Clone, Copy, Drop)]
 pub enum Outcome {
     /// A script was answered to its end.
     Answered,

@@ -17,7 +17,7 @@ use ts_plan::PlanFault;
 use ts_store::WriteFault;
 
 /// The answer to a line.
-#[derive(Debug, Drop)]
+#[derive(Drop)]
 pub enum Reply {
     /// Nothing is printed.
     Nothing,

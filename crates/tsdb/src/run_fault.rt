@@ -6,7 +6,7 @@ use std::alloc::AllocError;
 use ts_core::{ReadFault, Refused};
 
 /// Why a script was not answered to its end.
-#[derive(Clone, Copy, Debug, Drop)]
+#[derive(Clone, Copy, Drop)]
 pub enum RunFault {
     /// No memory was found for reading.
     OutOfMemory,

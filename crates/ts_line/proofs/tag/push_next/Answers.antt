@@ -1,8 +1,8 @@
-use Rattle.std.proofs.Common.{◌≡◌, ◌<◌, ◌+◌, ◌++◌, ◌∷◌, [], Ok, List, length, false, slice_index_or, slice_set, true, sym, ap, ◌∙◌, subst, arith, vec_len}
+use Rattle.std.proofs.Common.{◌≡◌, ◌<◌, ◌+◌, ◌++◌, ◌∷◌, [], Ok, List, length, false, slice_index_or, sym, ap, ◌∙◌, subst, arith, vec_len}
 use Rattle.ts_line.specs.Parts.{LinePart}
 use Rattle.ts_line.specs.NameMarks.{slot_of}
 use Rattle.ts_line.specs.TagParts.{next_tag}
-use Rattle.ts_line.proofs.MarkLemmas.{unmarked_key, keys_kept, key_more, marked_at}
+use Rattle.ts_line.proofs.MarkLemmas.{unmarked_key, push_key_marked}
 use Rattle.ts_line.proofs.StepsPutLemmas.{put_read}
 use Rattle.ts_line.proofs.TagLemmas.{plain_tag}
 use Rattle.ts_line.proofs.tag.push_next.Goals as goal
@@ -23,7 +23,7 @@ returns-then-not-marks-slot g c =
     let within : slot_of tag.0.text < length c.args.marks.now = subst (λ n. n < length c.args.marks.now) slot (omega (arith, c.slot_of-slot.ensures.bound, c.told-marks)) in
     record {
       value = rw items (put_read (λ (t : LinePart × LinePart). tags ++ t ∷ []) (next_tag tags c.args.line.now c.args.start) tag c.in-Some.end read);
-      marked = rw (items, slot) (key_more (slice_set c.args.marks.now (slot_of tag.0.text) true) tags tag (keys_kept c.args.marks.now (slot_of tag.0.text) tags c.requires.marked) (marked_at c.args.marks.now (slot_of tag.0.text) within));
+      marked = rw (items, slot) (push_key_marked c.args.marks.now tag tags within c.requires.marked);
       few = omega arith;
       place = c.in-Some.ensures.place;
     }

@@ -2,9 +2,9 @@ use Rattle.std.proofs.Common.{sym, subst, codes, ap, ◌∙◌, Ok, option_map, 
 use Rattle.ts_line.specs.FaultText.{line_fault_text}
 use Rattle.tsdb.specs.Commands.{Write}
 use Rattle.tsdb.specs.ScriptReplies.{line}
-use Rattle.tsdb.specs.Serving.{Serving, IsIn, Did}
+use Rattle.tsdb.specs.Serving.{Serving, keeping, IsIn, Did}
 use Rattle.tsdb.proofs.MachineLemmas.{serving, was_said, was_no_line, was_refused, wrote, read_no_memory}
-use Rattle.tsdb.proofs.machine.Machine.write.Goals as goal
+use Rattle.tsdb.proofs.machine.Machine.write_in_room.Goals as goal
 
 pub returns-in-Ok-None : goal.returns-in-Ok-None
 returns-in-Ok-None g c = λ s i.
@@ -25,4 +25,4 @@ pub returns-in-Ok-Some : goal.returns-in-Ok-Some
 returns-in-Ok-Some g c = λ s i.
     let m : Serving = serving c.self.inside.moment c.self.inside.precision c.self.inside.epoch c.self.inside.fresh (option_map string_bytes c.self.inside.certificate) c.self.inside.store in
     let before = subst (λ (k : Serving). IsIn s k) (sym c.self.view_is) i in
-    wrote c.args.text.now _ _ s c.accept.new.self (was_said c.args.text.now c.in-Ok-Some.line s m before (c.in-Ok-Some.ensures.value ∙ ap Ok c.in-Ok-Some.field-0-is)) (c.accept.ensures s i)
+    wrote c.args.text.now _ _ s (keeping c.accept.new.store m) (was_said c.args.text.now c.in-Ok-Some.line s m before (c.in-Ok-Some.ensures.value ∙ ap Ok c.in-Ok-Some.field-0-is)) (c.accept.ensures s m before)
