@@ -85,7 +85,7 @@ fn long_lines_are_taken_up_to_their_limits(rt: HostRuntime) -> Result<(), Fail> 
 }
 
 /// A text, so many numbers behind it, each between two texts, and the text behind these; then how many lines are
-/// written, and the last answer.
+/// written, and what is printed behind their `ok`.
 type Numbered = (
     &'static str,
     &'static str,
@@ -96,10 +96,16 @@ type Numbered = (
     &'static str,
 );
 
-const NUMBERED: [Numbered; 6] = [
-    ("write m", ",t", 64, "=1", " f=1i\nlive", 1, "1"),
-    ("write m", ",t", 65, "=1", " f=1i", 0, "fault 20 at 376"),
-    ("write m f=1i", ",f", 255, "=1i", "\nlive", 1, "256"),
+/// A rule of a second, whose cells are kept for two minutes.
+const EXPIRING: &str = "\
+settings {\"raw\":\"1m\",\"rules\":[{\"name\":\"s1\",\"measurement\":\"cpu\",\"interval\":\"1s\",\"offset\":\"0s\",\"keep\":[],\"duration\":\"2m\"}]}
+precision s
+";
+
+const NUMBERED: [Numbered; 7] = [
+    ("write m", ",t", 64, "=1", " f=1i\nlive", 1, "1\n"),
+    ("write m", ",t", 65, "=1", " f=1i", 0, "fault 20 at 376\n"),
+    ("write m f=1i", ",f", 255, "=1i", "\nlive", 1, "256\n"),
     // series, fields of a measurement, and points of a column
     (
         "",
@@ -108,9 +114,9 @@ const NUMBERED: [Numbered; 6] = [
         " f=1i 5\n",
         "live",
         100_000,
-        "100000",
+        "100000\n",
     ),
-    ("", "write m f", 5_000, "=1i 5\n", "live", 5_000, "5000"),
+    ("", "write m f", 5_000, "=1i 5\n", "live", 5_000, "5000\n"),
     (
         "",
         "write m f=1i ",
@@ -118,11 +124,21 @@ const NUMBERED: [Numbered; 6] = [
         "\n",
         "count m f 0 1000001",
         1_000_001,
-        "1000001",
+        "1000001\n",
+    ),
+    // 300 cells are below the low index; a run removes 256 of them in a step
+    (
+        EXPIRING,
+        "write cpu v=1i ",
+        300,
+        "\n",
+        "at 10m\nretain\nlive\nwrite cpu v=1i 539\nwrite cpu v=1i 540\nlive\ncount cpu v 540000000000 541000000000",
+        300,
+        "marks 540000000000 s1=480\n0\nfault 51 mark 540000000000\nok\n1\n1\n",
     ),
 ];
 
-pub(crate) fn numbered(
+fn numbered(
     alloc: Global,
     first: &str,
     before: &str,
@@ -140,19 +156,22 @@ pub(crate) fn numbered(
     Ok(script)
 }
 
-/// Whether so many lines of what is printed are `ok`, and the last one is that answer.
-fn ends_with(printed: &str, written: usize, answer: &str) -> bool {
-    printed.lines().filter(|line| *line == "ok").count() == written
-        && printed.lines().last() == Some(answer)
+/// Whether so many lines of what is printed are `ok`, and these answers stand behind them.
+fn is_told(printed: &str, written: usize, answers: &str) -> bool {
+    match printed.strip_suffix(answers) {
+        Some(before) => before.lines().count() == written
+            && before.lines().all(|line| line == "ok"),
+        None => false,
+    }
 }
 
-/// An error is the last answer of the first script that prints something else.
+/// An error is the last answers of the first script that prints something else.
 fn all_are_taken(alloc: Global, rows: &[Numbered]) -> Result<(), Fail> {
-    for &(first, before, count, after, last, written, answer) in rows {
+    for &(first, before, count, after, last, written, told) in rows {
         let script = numbered(alloc, first, before, count, after, last)?;
         let printed = answers(alloc, script.as_bytes())?;
-        if !ends_with(str::from_utf8(printed.as_slice())?, written, answer) {
-            Err(answer)?;
+        if !is_told(str::from_utf8(printed.as_slice())?, written, told) {
+            Err(told)?;
         }
     }
     Ok(())

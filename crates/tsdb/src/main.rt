@@ -12,8 +12,6 @@
 #![tactic(auto)]
 
 mod call;
-#[cfg(test)]
-mod certificate_tests;
 mod certificate_text;
 mod chunk;
 #[cfg(test)]
@@ -40,28 +38,14 @@ mod memory_tests;
 mod moment;
 mod opening;
 mod outcome;
-#[cfg(test)]
-mod outcome_tests;
-#[cfg(test)]
-mod plan_tests;
-#[cfg(test)]
-mod query_tests;
 mod reply;
-#[cfg(test)]
-mod retention_tests;
 mod run_fault;
 #[cfg(test)]
 mod script_tests;
 #[cfg(test)]
-mod settings_tests;
-#[cfg(test)]
 mod stale_tests;
 #[cfg(test)]
-mod store_tests;
-#[cfg(test)]
 mod text_tests;
-#[cfg(test)]
-mod time_tests;
 #[cfg(test)]
 mod view_tests;
 

@@ -1,33 +1,38 @@
 //! A plan that was checked before a run of retention is stale behind it.
 use std::alloc::Global;
 use std::test::Fail;
-use ts_check::{Certificate, Checked, Piece, PieceSource, check};
+use ts_check::{Checked, check, read_certificate};
 use ts_core::{Settings, Time};
 use ts_exec::{ExecFault, execute};
 use ts_ql::count_query;
 use ts_store::{Store, View};
 
-/// A store whose raw points are kept for two minutes.
-fn store_of_two_minutes(alloc: Global) -> Result<Store<Global>, Fail> {
-    let settings = Settings::new(120_000_000_000, Vec::new(alloc));
+/// Raw points for two minutes, and a rule of a minute.
+pub(crate) const SETTINGS: &str =
+    r#"{"raw":"2m","rules":[{"name":"m1","measurement":"cpu","interval":"1m","offset":"0s","keep":[],"duration":"INF"}]}"#;
+
+/// The first two minutes after the Unix epoch, in nanoseconds.
+const TWO_MINUTES: i64 = 120_000_000_000;
+
+/// A store with the settings of a text.
+pub(crate) fn store_of(alloc: Global, settings: &str) -> Result<Store<Global>, Fail> {
+    let settings = Settings::read(alloc, alloc, settings);
     Ok(Store::new(alloc, settings.ok().ok_or("settings")?)?)
 }
 
-/// The raw plan of the first minute, checked for a store.
-fn first_minute(alloc: Global, store: &Store<Global>) -> Result<Checked<'static, Global>, Fail> {
+/// A certificate for the count of `v` within the first two minutes, checked for a store.
+pub(crate) fn checked(
+    alloc: Global,
+    store: &Store<Global>,
+    certificate: &'static str,
+) -> Result<Checked<'static, Global>, Fail> {
     let from = Time::new(0).ok_or("a time")?;
-    let to = Time::new(60_000_000_000).ok_or("a time")?;
-    let query = count_query(alloc, "cpu", "v", from, to)
-        .ok()
-        .ok_or("a query")?;
-    let mut pieces = Vec::new(alloc);
-    pieces.push(Piece {
-        source: PieceSource::Raw,
-        from: 0,
-        to: 60_000_000_000,
-    })?;
-    let plan = Certificate::new(pieces);
-    let checked = check(alloc, store.settings(), store.marks(), &query, &plan);
+    let to = Time::new(TWO_MINUTES).ok_or("a time")?;
+    let query = count_query(alloc, "cpu", "v", from, to);
+    let query = query.ok().ok_or("a query")?;
+    let certificate = read_certificate(alloc, certificate);
+    let certificate = certificate.ok().ok_or("a certificate")?;
+    let checked = check(alloc, store.settings(), store.marks(), &query, &certificate);
     Ok(checked.ok().ok_or("a plan")?)
 }
 
@@ -42,8 +47,8 @@ fn stale_mark(alloc: Global, store: &Store<Global>, plan: &Checked<'_, Global>) 
 #[test]
 fn a_run_makes_a_checked_plan_stale(rt: HostRuntime) -> Result<(), Fail> {
     let alloc = rt.alloc();
-    let mut store = store_of_two_minutes(alloc)?;
-    let plan = first_minute(alloc, &store)?;
+    let mut store = store_of(alloc, SETTINGS)?;
+    let plan = checked(alloc, &store, "plan 1\nraw 0 120000000000\nend\n")?;
     assert_eq!(rt; stale_mark(alloc, &store, &plan), None);
     let now = Time::new(200_000_000_000).ok_or("a time")?;
     store.retain(now).ok().ok_or("a run")?;

@@ -4,23 +4,21 @@ ghost use Rattle.ts_core.specs.Facts.{is_within};
 ghost use Rattle.ts_core.specs.StoreData.{state_of};
 ghost use Rattle.ts_core.specs.Views.{seen_of};
 
+use crate::stale_tests::{SETTINGS, checked, store_of};
 use std::alloc::Global;
 use std::slice;
 use std::test::Fail;
-use ts_check::{Certificate, Checked, Piece, PieceSource, check};
+use ts_check::Checked;
 use ts_core::{Agg, Marks, Partial, Settings, Time};
 use ts_exec::{Table, execute};
 use ts_line::{Precision, read_line};
-use ts_ql::count_query;
 use ts_raw::{ColumnId, Points};
 use ts_store::{CellSeen, CellWalk, Columns, Store, View};
 
-const SETTINGS: &str =
-    r#"{"raw":"2m","rules":[{"name":"m1","measurement":"cpu","interval":"1m","offset":"0s","keep":[],"duration":"INF"}]}"#;
-
 const MINUTE: i64 = 60_000_000_000;
 
-const TWO_MINUTES: i64 = 120_000_000_000;
+/// Raw points for the first minute, and the rule's cells for the second.
+const TWO_PIECES: &str = "plan 1\nraw 0 60000000000\nrollup m1 60000000000 120000000000\nend\n";
 
 /// How many points an aggregate has at most: 2^62.
 const POINT_LIMIT: u64 = 4_611_686_018_427_387_904;
@@ -72,13 +70,11 @@ impl<'a> View<Global> for OneCell<'a> {
     }
 }
 
-/// A store with one point in the first minute, of value 5.
-fn store_of_a_point(alloc: Global) -> Result<Store<Global>, Fail> {
-    let settings = Settings::read(alloc, alloc, SETTINGS);
-    let mut store = Store::new(alloc, settings.ok().ok_or("settings")?)?;
-    let line = read_line(alloc, "cpu v=5i 7", Precision::Nanoseconds, Time::least())?;
+/// Writes a line to a store.
+fn write(alloc: Global, store: &mut Store<Global>, line: &str) -> Result<(), Fail> {
+    let line = read_line(alloc, line, Precision::Nanoseconds, Time::least())?;
     store.write(&line.ok_or("a line")?)?;
-    Ok(store)
+    Ok(())
 }
 
 /// Both merged, where they have at most 2^62 points together.
@@ -99,34 +95,6 @@ fn all_but_one(time: Time) -> Result<Agg, Fail> {
     Ok(total)
 }
 
-/// A piece for the first minute by raw points, and one for the second by the rule's cells.
-fn two_pieces(alloc: Global) -> Result<Certificate<'static, Global>, Fail> {
-    let mut pieces = Vec::new(alloc);
-    pieces.push(Piece {
-        source: PieceSource::Raw,
-        from: 0,
-        to: MINUTE,
-    })?;
-    pieces.push(Piece {
-        source: PieceSource::Rollup("m1"),
-        from: MINUTE,
-        to: TWO_MINUTES,
-    })?;
-    Ok(Certificate::new(pieces))
-}
-
-/// The plan of these pieces, checked for a store.
-fn two_minutes(alloc: Global, store: &Store<Global>) -> Result<Checked<'static, Global>, Fail> {
-    let from = Time::new(0).ok_or("a time")?;
-    let to = Time::new(TWO_MINUTES).ok_or("a time")?;
-    let query = count_query(alloc, "cpu", "v", from, to)
-        .ok()
-        .ok_or("a query")?;
-    let plan = two_pieces(alloc)?;
-    let checked = check(alloc, store.settings(), store.marks(), &query, &plan);
-    Ok(checked.ok().ok_or("a plan")?)
-}
-
 /// Count and sum of a table's first row.
 fn first_row(table: &Table<'_, Global>) -> Option<(u64, i128)> {
     let row = table.groups().first()?.rows().first()?;
@@ -141,10 +109,11 @@ fn answered(alloc: Global, view: &OneCell<'_>, plan: &Checked<'_, Global>) -> Op
     }
 }
 
-/// Count and sum of the point in the first minute and of a cell with this total in the second.
+/// Count and sum of a point of value 5 in the first minute and of a cell with this total in the second.
 fn both(alloc: Global, total: Agg) -> Result<Option<(u64, i128)>, Fail> {
-    let store = store_of_a_point(alloc)?;
-    let plan = two_minutes(alloc, &store)?;
+    let mut store = store_of(alloc, SETTINGS)?;
+    write(alloc, &mut store, "cpu v=5i 7")?;
+    let plan = checked(alloc, &store, TWO_PIECES)?;
     let cell = CellSeen {
         index: 1,
         field: "v",
