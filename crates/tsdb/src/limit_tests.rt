@@ -53,7 +53,8 @@ const REPEATED: [Repeated; 16] = [
     ),
 ];
 
-fn repeated(
+/// A text so often, between two others.
+pub(crate) fn repeated(
     alloc: Global,
     before: &str,
     text: &str,

@@ -1,7 +1,8 @@
 //! Out of memory: each allocation of a script is refused in turn. What is refused is answered and changes nothing, and the
-//! same line is written once there is room.
+//! same line is written once there is room. A line of a known series takes none.
 use crate::chunk::line_end;
 use crate::engine::run;
+use crate::limit_tests::repeated;
 use crate::run_fault::RunFault;
 use linked_list_allocator::LocalHeap;
 use std::alloc::{AllocError, Global};
@@ -154,5 +155,19 @@ fn each_allocation_is_refused_in_turn(rt: HostRuntime) -> Result<(), Fail> {
     }
     assert!(rt; not_begun > 12_000 && refused > 30);
     assert!(rt; not_begun.saturating_add(refused) < HEAP / 16);
+    Ok(())
+}
+
+/// Each line replaces one point, and all of them have the room of a few.
+#[test]
+fn a_line_of_a_known_series_takes_no_memory(rt: HostRuntime) -> Result<(), Fail> {
+    let alloc = rt.alloc();
+    let script = repeated(alloc, "", "write m,a=1 f=3i,g=4i 5\n", 10_000, "")?;
+    let heap = LocalHeap::new(alloc, HEAP)?;
+    let mut source = Source::new(script.as_bytes());
+    let mut sink = Sink::new(Vec::new(alloc));
+    let result = run(&heap, alloc, &mut source, &mut sink);
+    let printed = repeated(alloc, "", "ok\n", 10_000, "")?;
+    assert!(rt; result.is_ok() && sink.into_inner().as_slice() == printed.as_bytes());
     Ok(())
 }
