@@ -1,8 +1,9 @@
 //! A plan that was checked before a run of retention is stale behind it.
+use crate::opening::store_with;
 use std::alloc::Global;
 use std::test::Fail;
 use ts_check::{Checked, check, read_certificate};
-use ts_core::{Settings, Time};
+use ts_core::Time;
 use ts_exec::{ExecFault, execute};
 use ts_ql::count_query;
 use ts_store::{Store, View};
@@ -16,8 +17,7 @@ const TWO_MINUTES: i64 = 120_000_000_000;
 
 /// A store with the settings of a text.
 pub(crate) fn store_of(alloc: Global, settings: &str) -> Result<Store<Global>, Fail> {
-    let settings = Settings::read(alloc, alloc, settings);
-    Ok(Store::new(alloc, settings.ok().ok_or("settings")?)?)
+    Ok(store_with(alloc, alloc, settings).ok().ok_or("a store")?)
 }
 
 /// A certificate for the count of `v` within the first two minutes, checked for a store.

@@ -72,9 +72,11 @@ impl<'a> View<Global> for OneCell<'a> {
 
 /// Writes a line to a store.
 fn write(alloc: Global, store: &mut Store<Global>, line: &str) -> Result<(), Fail> {
-    let line = read_line(alloc, line, Precision::Nanoseconds, Time::least())?;
-    store.write(&line.ok_or("a line")?)?;
-    Ok(())
+    let line = read_line(alloc, line, Precision::Nanoseconds, Time::least())?.ok_or("a line")?;
+    match store.write(&line) {
+        Ok(()) => Ok(()),
+        Err(_) => Err("a line that is refused")?,
+    }
 }
 
 /// Both merged, where they have at most 2^62 points together.
