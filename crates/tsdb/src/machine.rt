@@ -250,7 +250,7 @@ impl<A: Allocator + Copy> Machine<A> {
         }
     }
 
-    /// Reads a line and writes it to the store. A line of a known series takes no memory but that of columns that grow.
+    /// Reads a line and writes it to the store. The room of its parts is used again for the next line.
     fn write(&mut self, text: &str) -> Reply
         ensures { (s : State) → IsIn s self.old → Did (WriteCommand text.now) s (text_of result) self.new }
     {
