@@ -1,8 +1,7 @@
 //! Devices that give or take little at a time, or fail in the middle.
 use crate::engine::run;
 use crate::run_fault::RunFault;
-use crate::script_tests::answers;
-use std::alloc::Global;
+use std::alloc::{AllocError, Global};
 use std::io;
 use std::io::{Read, Write};
 use std::test::Fail;
@@ -57,6 +56,16 @@ impl Write for Taker {
 
     fn flush(&mut self) -> io::Result<()> {
         Ok(())
+    }
+}
+
+/// What a script prints.
+fn answers(alloc: Global, script: &[u8]) -> Result<Vec<u8>, AllocError> {
+    let mut source = Source::new(script);
+    let mut sink = Sink::new(Vec::new(alloc));
+    match run(alloc, alloc, &mut source, &mut sink) {
+        Ok(()) => Ok(sink.into_inner()),
+        Err(_) => Err(AllocError),
     }
 }
 

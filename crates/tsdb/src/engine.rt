@@ -85,10 +85,10 @@ pub fn run<R: Read, W: Write, A: Allocator + Copy>(
 ) -> Result<(), RunFault>
     ensures { IsReplay source.old sink.old result source.new sink.new }
 {
-    let mut machine = Machine::new(alloc, json)?;
     let mut lines = LineReader::new(alloc)?;
     let mut text = String::with_capacity(alloc, TEXT_ROOM)?;
     let mut answers = Gathered::new(alloc)?;
+    let mut machine = Machine::new(alloc, json)?;
     answer_all(
         &mut machine,
         &mut lines,

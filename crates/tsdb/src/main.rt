@@ -18,16 +18,12 @@ mod chunk;
 mod column_tests;
 mod command;
 mod command_line;
-#[cfg(test)]
-mod command_line_tests;
 mod count;
 #[cfg(test)]
 mod device_tests;
 mod engine;
 mod fault_table;
 mod gathered;
-#[cfg(test)]
-mod limit_tests;
 mod line_reader;
 #[cfg(test)]
 mod line_tests;
@@ -40,8 +36,6 @@ mod opening;
 mod outcome;
 mod reply;
 mod run_fault;
-#[cfg(test)]
-mod script_tests;
 #[cfg(test)]
 mod stale_tests;
 #[cfg(test)]

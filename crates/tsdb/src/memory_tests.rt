@@ -2,7 +2,6 @@
 //! same line is written once there is room. A line of a known series takes none.
 use crate::chunk::line_end;
 use crate::engine::run;
-use crate::limit_tests::repeated;
 use crate::run_fault::RunFault;
 use linked_list_allocator::LocalHeap;
 use std::alloc::{AllocError, Global};
@@ -158,16 +157,25 @@ fn each_allocation_is_refused_in_turn(rt: HostRuntime) -> Result<(), Fail> {
     Ok(())
 }
 
+/// A text so often.
+fn repeated(alloc: Global, text: &str, times: u32) -> Result<String, AllocError> {
+    let mut all = String::new(alloc);
+    for _ in 0..times {
+        all.push_str(text)?;
+    }
+    Ok(all)
+}
+
 /// Each line replaces one point, and all of them have the room of a few.
 #[test]
 fn a_line_of_a_known_series_takes_no_memory(rt: HostRuntime) -> Result<(), Fail> {
     let alloc = rt.alloc();
-    let script = repeated(alloc, "", "write m,a=1 f=3i,g=4i 5\n", 10_000, "")?;
+    let script = repeated(alloc, "write m,a=1 f=3i,g=4i 5\n", 10_000)?;
     let heap = LocalHeap::new(alloc, HEAP)?;
     let mut source = Source::new(script.as_bytes());
     let mut sink = Sink::new(Vec::new(alloc));
     let result = run(&heap, alloc, &mut source, &mut sink);
-    let printed = repeated(alloc, "", "ok\n", 10_000, "")?;
+    let printed = repeated(alloc, "ok\n", 10_000)?;
     assert!(rt; result.is_ok() && sink.into_inner().as_slice() == printed.as_bytes());
     Ok(())
 }

@@ -5,7 +5,7 @@ ghost use Rattle.ts_core.specs.StoreData.{state_of};
 ghost use Rattle.ts_core.specs.Views.{seen_of};
 
 use crate::stale_tests::{SETTINGS, checked, store_of};
-use std::alloc::Global;
+use std::alloc::{Allocator, Global};
 use std::slice;
 use std::test::Fail;
 use ts_check::Checked;
@@ -32,12 +32,12 @@ fn is_within(from: &i128, to: &i128, index: &i128) -> bool
 
 /// The points of a store, with this cell alone under each of its rules.
 #[derive(Drop)]
-struct OneCell<'a> {
-    store: &'a Store<Global>,
-    cell: CellSeen<'a, Global>,
+struct OneCell<'a, A: Allocator> {
+    store: &'a Store<A>,
+    cell: CellSeen<'a, A>,
 }
 
-impl<'a> View<Global> for OneCell<'a> {
+impl<'a, A: Allocator + Copy> View<A> for OneCell<'a, A> {
     ghost seen = { λ v. record {
       settings = v.store.now.settings;
       marks = v.store.now.marks;
@@ -45,15 +45,15 @@ impl<'a> View<Global> for OneCell<'a> {
       rules = map (λ r. record { rule = r.rule; low = r.low; cells = v.cell.cell ∷ []; total = λ k. v.cell.total }) (seen_of (state_of v.store.now)).rules;
     } };
 
-    fn settings(&self) -> &Settings<Global> {
+    fn settings(&self) -> &Settings<A> {
         self.store.settings()
     }
 
-    fn marks(&self) -> &Marks<Global> {
+    fn marks(&self) -> &Marks<A> {
         self.store.marks()
     }
 
-    fn columns_of(&self, measurement: &str, field: &str) -> Columns<'_, Global> {
+    fn columns_of(&self, measurement: &str, field: &str) -> Columns<'_, A> {
         self.store.columns_of(measurement, field)
     }
 
@@ -61,7 +61,7 @@ impl<'a> View<Global> for OneCell<'a> {
         self.store.raw_range(column, from, to)
     }
 
-    fn cell_walk(&self, _rule: usize, from: &i128, to: &i128) -> CellWalk<'_, Global> {
+    fn cell_walk(&self, _rule: usize, from: &i128, to: &i128) -> CellWalk<'_, A> {
         if is_within(from, to, &self.cell.index) {
             CellWalk::lent(slice::from_ref(&self.cell))
         } else {
@@ -71,7 +71,7 @@ impl<'a> View<Global> for OneCell<'a> {
 }
 
 /// Writes a line to a store.
-fn write(alloc: Global, store: &mut Store<Global>, line: &str) -> Result<(), Fail> {
+fn write<A: Allocator + Copy>(alloc: A, store: &mut Store<A>, line: &str) -> Result<(), Fail> {
     let line = read_line(alloc, line, Precision::Nanoseconds, Time::least())?.ok_or("a line")?;
     match store.write(&line) {
         Ok(()) => Ok(()),
@@ -98,35 +98,48 @@ fn all_but_one(time: Time) -> Result<Agg, Fail> {
 }
 
 /// Count and sum of a table's first row.
-fn first_row(table: &Table<'_, Global>) -> Option<(u64, i128)> {
+fn first_row<A: Allocator>(table: &Table<'_, A>) -> Option<(u64, i128)> {
     let row = table.groups().first()?.rows().first()?;
     Some((row.count(), row.sum()))
 }
 
 /// Count and sum of the first row that a plan gives.
-fn answered(alloc: Global, view: &OneCell<'_>, plan: &Checked<'_, Global>) -> Option<(u64, i128)> {
+fn answered<A: Allocator + Copy>(
+    alloc: A,
+    view: &OneCell<'_, A>,
+    plan: &Checked<'_, A>,
+) -> Option<(u64, i128)> {
     match execute(alloc, view, plan) {
         Ok(table) => first_row(&table),
         Err(_) => None,
     }
 }
 
-/// Count and sum of a point of value 5 in the first minute and of a cell with this total in the second.
-fn both(alloc: Global, total: Agg) -> Result<Option<(u64, i128)>, Fail> {
-    let mut store = store_of(alloc, SETTINGS)?;
-    write(alloc, &mut store, "cpu v=5i 7")?;
-    let plan = checked(alloc, &store, TWO_PIECES)?;
+/// Count and sum that a plan gives over a store's points in the first minute and a cell with this total in the second.
+fn with_cell<A: Allocator + Copy>(
+    alloc: A,
+    store: &Store<A>,
+    total: Agg,
+) -> Result<Option<(u64, i128)>, Fail> {
+    let plan = checked(alloc, store, TWO_PIECES)?;
     let cell = CellSeen {
         index: 1,
         field: "v",
         group: &[],
         total,
     };
-    let view = OneCell {
-        store: &store,
-        cell,
-    };
-    Ok(answered(alloc, &view, &plan))
+    Ok(answered(alloc, &OneCell { store, cell }, &plan))
+}
+
+/// The same, where the store has one point, of value 5.
+fn both<A: Allocator + Copy>(
+    alloc: A,
+    json: Global,
+    total: Agg,
+) -> Result<Option<(u64, i128)>, Fail> {
+    let mut store = store_of(alloc, json, SETTINGS)?;
+    write(alloc, &mut store, "cpu v=5i 7")?;
+    with_cell(alloc, &store, total)
 }
 
 #[test]
@@ -134,7 +147,7 @@ fn a_cell_and_a_point_are_added(rt: HostRuntime) -> Result<(), Fail> {
     let alloc = rt.alloc();
     let time = Time::new(MINUTE).ok_or("a time")?;
     let total = merged(Agg::single(time, 7), Agg::single(time, -4))?;
-    assert_eq!(rt; both(alloc, total)?, Some((3, 8)));
+    assert_eq!(rt; both(alloc, alloc, total)?, Some((3, 8)));
     Ok(())
 }
 
@@ -144,8 +157,8 @@ fn a_cell_past_the_limit_is_left_out(rt: HostRuntime) -> Result<(), Fail> {
     let time = Time::new(MINUTE).ok_or("a time")?;
     let most = all_but_one(time)?;
     let sum = i128::from(POINT_LIMIT) + 4;
-    assert_eq!(rt; both(alloc, most)?, Some((POINT_LIMIT, sum)));
+    assert_eq!(rt; both(alloc, alloc, most)?, Some((POINT_LIMIT, sum)));
     let all = merged(most, Agg::single(time, 1))?;
-    assert_eq!(rt; both(alloc, all)?, Some((1, 5)));
+    assert_eq!(rt; both(alloc, alloc, all)?, Some((1, 5)));
     Ok(())
 }

@@ -20,15 +20,10 @@ without_memory source sink result none = rw none record {
   limit = λ e. cc;
 }
 
-pub returns-in_err-machine : goal.returns-in_err-machine
-returns-in_err-machine g c =
-    let p = err_from_is_err_and c.from_residual.result c.from_residual.ensures.1 in
-    without_memory c.args.source.now c.args.sink.now c.from_residual.result (p.1 ∙ ap Err p.2)
-
 pub returns-in_err-lines : goal.returns-in_err-lines
 returns-in_err-lines g c =
-    let p = err_from_is_err_and c.from_residual-in_err-lines.result c.from_residual-in_err-lines.ensures.1 in
-    without_memory c.args.source.now c.args.sink.now c.from_residual-in_err-lines.result (p.1 ∙ ap Err p.2)
+    let p = err_from_is_err_and c.from_residual.result c.from_residual.ensures.1 in
+    without_memory c.args.source.now c.args.sink.now c.from_residual.result (p.1 ∙ ap Err p.2)
 
 pub returns-in_err-text : goal.returns-in_err-text
 returns-in_err-text g c =
@@ -39,3 +34,8 @@ pub returns-in_err-answers : goal.returns-in_err-answers
 returns-in_err-answers g c =
     let p = err_from_is_err_and c.from_residual-in_err-answers.result c.from_residual-in_err-answers.ensures.1 in
     without_memory c.args.source.now c.args.sink.now c.from_residual-in_err-answers.result (p.1 ∙ ap Err p.2)
+
+pub returns-in_err-machine : goal.returns-in_err-machine
+returns-in_err-machine g c =
+    let p = err_from_is_err_and c.from_residual-in_err-machine.result c.from_residual-in_err-machine.ensures.1 in
+    without_memory c.args.source.now c.args.sink.now c.from_residual-in_err-machine.result (p.1 ∙ ap Err p.2)

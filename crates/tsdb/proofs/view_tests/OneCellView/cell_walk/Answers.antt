@@ -3,7 +3,7 @@ use Rattle.std.proofs.lemmas.List.{get_or-map, length-map}
 use Rattle.ts_core.specs.Facts.{is_within}
 use Rattle.ts_core.specs.Views.{RuleTotals}
 use Rattle.ts_store.specs.Seats.{CellTotal, with_total, no_rule, cells_within, cells_at}
-use Rattle.tsdb.proofs.view_tests.OneCellViewGlobal.cell_walk.Goals as goal
+use Rattle.tsdb.proofs.view_tests.OneCellView.cell_walk.Goals as goal
 
 -- a rule with this cell alone
 abbrev alone : CellTotal → RuleTotals → RuleTotals
@@ -25,11 +25,11 @@ walk_outside : (c : CellTotal) (rs : List RuleTotals) (n : ℕ) (a b : ℤ) → 
 walk_outside c rs n a b there e = sym (rule_there c rs n a b there ∙ cell_outside c (get_or rs n no_rule) a b e)
 
 pub returns-then-is_within : goal.returns-then-is_within
-returns-then-is_within c =
+returns-then-is_within g c =
     let here : is_within c.args.from.now c.args.to.now c.args.self.now.cell.cell.index ≡ true = search rules in
     c.lent.ensures ∙ c.from_ref.ensures.value ∙ walk_inside c.args.self.now.cell _ _ _ _ c.requires here
 
 pub returns-else-is_within : goal.returns-else-is_within
-returns-else-is_within c =
+returns-else-is_within g c =
     let here : is_within c.args.from.now c.args.to.now c.args.self.now.cell.cell.index ≡ false = search rules in
     c.lent-else-is_within.ensures ∙ walk_outside c.args.self.now.cell _ _ _ _ c.requires here
