@@ -33,10 +33,13 @@ meaning_of OutOfMemory = codes "there is no memory for reading the script"
 abbrev pub stopped_line : RunFault → Text
 stopped_line fault = run_fault_text fault ++ codes ": " ++ meaning_of fault
 
--- the line for standard error, if any; what clap says of a command line isn't one
+-- the line for standard error, if any; of a wrong command line clap has told it
 abbrev pub error_line : Outcome → Option Text
 error_line Answered = None
 error_line (Stopped fault) = Some (stopped_line fault)
-error_line (NoScript said) = None
+error_line (NoScript told.Done) = None
+error_line (NoScript told.Wrong) = None
+error_line (NoScript told.Device) = Some (codes "tsdb: standard output or standard error could not be written")
+error_line (NoScript told.OutOfMemory) = Some (codes "tsdb: there is no memory to answer the command line")
 error_line NoFault = Some (codes "tsdb: no fault has this number; `tsdb faults` prints them all")
 error_line NoText = Some (codes "tsdb: the command line can't be read as text")

@@ -42,12 +42,18 @@ impl Outcome {
         }
     }
 
-    /// The line for standard error, if any; what clap says of a command line isn't one.
+    /// The line for standard error, if any. Of a wrong command line clap has told it.
     pub fn error_line(self) -> Option<&'static str>
         ensures { MatchOption result (error_line self ≡ None) (λ line. error_line self ≡ Some line.now) }
     {
         match self {
-            Outcome::Answered | Outcome::NoScript(_) => None,
+            Outcome::Answered | Outcome::NoScript(Told::Done | Told::Wrong) => None,
+            Outcome::NoScript(Told::Device) => {
+                Some("tsdb: standard output or standard error could not be written")
+            }
+            Outcome::NoScript(Told::OutOfMemory) => {
+                Some("tsdb: there is no memory to answer the command line")
+            }
             Outcome::NoFault => {
                 Some("tsdb: no fault has this number; `tsdb faults` prints them all")
             }
