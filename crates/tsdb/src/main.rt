@@ -14,34 +14,20 @@
 mod call;
 mod certificate_text;
 mod chunk;
-#[cfg(test)]
-mod column_tests;
 mod command;
 mod command_line;
 mod count;
-#[cfg(test)]
-mod device_tests;
 mod engine;
 mod fault_table;
 mod gathered;
 mod line_reader;
-#[cfg(test)]
-mod line_tests;
 mod machine;
 mod marks_text;
-#[cfg(test)]
-mod memory_tests;
 mod moment;
 mod opening;
 mod outcome;
 mod reply;
 mod run_fault;
-#[cfg(test)]
-mod stale_tests;
-#[cfg(test)]
-mod text_tests;
-#[cfg(test)]
-mod view_tests;
 
 use call::{answer_words, read_words};
 use std::io;
