@@ -77,7 +77,7 @@ fn tell_faults<W: Write>(alloc: Global, asked: Option<&str>, sink: &mut Sink<W>)
 fn replay<R: Read, W: Write>(alloc: Global, source: &mut Source<R>, sink: &mut Sink<W>) -> Outcome
     ensures { IsReplayed source.old sink.old result source.new sink.new }
 {
-    match run(alloc, alloc, source, sink) {
+    match run(alloc, source, sink) {
         Ok(()) => Outcome::Answered,
         Err(fault) => Outcome::Stopped(fault),
     }

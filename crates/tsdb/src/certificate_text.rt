@@ -2,10 +2,10 @@
 ghost use Rattle.std.specs.Prelude.{◌≡◌, IfOk, string_bytes};
 ghost use Rattle.tsdb.specs.ScriptCertificates.{with_line_feeds};
 
-use std::alloc::{AllocError, Allocator};
+use std::alloc::{AllocError, Global};
 
 /// A text with an LF in place of each `;`.
-pub(crate) fn with_line_feeds<A: Allocator>(alloc: A, text: &str) -> Result<String<A>, AllocError>
+pub(crate) fn with_line_feeds(alloc: Global, text: &str) -> Result<String, AllocError>
     ensures { IfOk result (λ lines. string_bytes lines ≡ with_line_feeds text.now) }
 {
     let mut lines = String::with_capacity(alloc, text.len())?;

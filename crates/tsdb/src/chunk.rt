@@ -5,7 +5,6 @@ ghost use Rattle.tsdb.specs.HeldLine.{line_held};
 ghost use Rattle.tsdb.specs.LineReading.{IsLineEnd, LineIs};
 
 use memchr::memchr;
-use std::alloc::Allocator;
 
 /// How many bytes a line has at most.
 pub const LINE_LIMIT: usize = 131_072;
@@ -21,7 +20,7 @@ pub(crate) fn line_end(bytes: &[u8]) -> usize
 }
 
 /// Adds bytes to a line that is kept while it is short. Answers whether it is too long now.
-pub(crate) fn extend_line<A: Allocator>(line: &mut Vec<u8, A>, long: bool, bytes: &[u8]) -> bool
+pub(crate) fn extend_line(line: &mut Vec<u8>, long: bool, bytes: &[u8]) -> bool
     requires room { script_line_limit ≤ vec_capacity line.old }
     requires short { vec_len line.old ≤ script_line_limit }
     ensures room { script_line_limit ≤ vec_capacity line.new }
@@ -42,11 +41,7 @@ pub(crate) fn extend_line<A: Allocator>(line: &mut Vec<u8, A>, long: bool, bytes
 }
 
 /// Copies a line that is lent, so that it outlasts what was read.
-pub(crate) fn keep_lent<A: Allocator>(
-    line: &mut Vec<u8, A>,
-    lent: Option<(usize, usize)>,
-    used: &[u8],
-)
+pub(crate) fn keep_lent(line: &mut Vec<u8>, lent: Option<(usize, usize)>, used: &[u8])
     requires room { script_line_limit ≤ vec_capacity line.old }
     requires within { IfSome lent (λ lent. (lent.0 ≤ lent.1) × (lent.1 ≤ length used.now)) }
     requires short { length (line_held used.now lent line.old.items) ≤ script_line_limit }

@@ -9,7 +9,7 @@ ghost use Rattle.tsdb.specs.Machine.{Counts};
 ghost use Rattle.tsdb.specs.ScriptReplies.{text_of};
 
 use crate::reply::Reply;
-use std::alloc::{AllocError, Allocator};
+use std::alloc::{AllocError, Global};
 use ts_check::{Certificate, CheckError, check};
 use ts_core::Time;
 use ts_exec::{ExecFault, count_points};
@@ -18,11 +18,11 @@ use ts_ql::{ParseError, Query, count_query};
 use ts_store::{Store, View};
 
 /// How many points a query asks for, by a valid plan, over all facts that the store ever accepted.
-fn counted_by<A: Allocator + Copy>(
-    alloc: A,
-    store: &Store<A>,
-    query: &Query<A>,
-    plan: &Certificate<'_, A>,
+fn counted_by(
+    alloc: Global,
+    store: &Store<Global>,
+    query: &Query<Global>,
+    plan: &Certificate<'_, Global>,
 ) -> Result<u64, AllocError>
     requires { IsValid store.now.settings store.now.marks query.now.query plan.now }
     ensures { IfOk result (λ n. OfEachHistory store.now (λ opening h. n ≡ length (filter (matches query.now.query) (latest_of h)))) }
@@ -40,11 +40,7 @@ fn counted_by<A: Allocator + Copy>(
 }
 
 /// How many points a query asks for, over all facts that the store ever accepted; or why the query has no plan.
-fn counted<A: Allocator + Copy>(
-    alloc: A,
-    store: &Store<A>,
-    query: &Query<A>,
-) -> Result<u64, PlanError>
+fn counted(alloc: Global, store: &Store<Global>, query: &Query<Global>) -> Result<u64, PlanError>
     ensures { OfEachHistory store.now (λ opening h. IsCounted opening h query.now.query result) }
 {
     match plan(alloc, store.settings(), store.marks(), query) {
@@ -55,9 +51,9 @@ fn counted<A: Allocator + Copy>(
 
 /// Counts the values of a field from one time on and before another, over all facts that the store ever
 /// accepted.
-pub(crate) fn count<A: Allocator + Copy>(
-    alloc: A,
-    store: &Store<A>,
+pub(crate) fn count(
+    alloc: Global,
+    store: &Store<Global>,
     measurement: &str,
     field: &str,
     from: Time,

@@ -16,12 +16,12 @@ use crate::line_reader::{LineReader, Next};
 use crate::machine::Machine;
 use crate::reply::{Reply, TEXT_ROOM};
 use crate::run_fault::RunFault;
-use std::alloc::{Allocator, Global};
+use std::alloc::Global;
 use std::io::{Read, Write};
 use ts_core::{Refused, Sink, Source};
 
 /// Answers the line that came.
-fn answer<A: Allocator + Copy>(machine: &mut Machine<A>, next: Next, line: &[u8]) -> Reply
+fn answer(machine: &mut Machine, next: Next, line: &[u8]) -> Reply
     requires { length line.now ≤ script_line_limit }
     ensures { (bytes : Text) (left : Option Text) (s : State) → next ≢ Next.End → NextOf bytes next line.now left → IsIn s machine.old → IsAnswered bytes left s machine.new (text_of result) }
 {
@@ -33,9 +33,9 @@ fn answer<A: Allocator + Copy>(machine: &mut Machine<A>, next: Next, line: &[u8]
 }
 
 /// Sends the answers that are kept, unless the next line is here already: nobody waits for an answer that is kept.
-fn send_before_wait<W: Write, A: Allocator + Copy>(
-    lines: &LineReader<A>,
-    answers: &mut Gathered<A>,
+fn send_before_wait<W: Write>(
+    lines: &LineReader,
+    answers: &mut Gathered,
     sink: &mut Sink<W>,
 ) -> Result<(), Refused>
     ensures sent { IsPassedOn sink.old answers.old result [] sink.new answers.new }
@@ -48,11 +48,11 @@ fn send_before_wait<W: Write, A: Allocator + Copy>(
 }
 
 /// Answers all lines that are left. Answers go out together, but none is kept while the next line is waited for.
-fn answer_all<R: Read, W: Write, A: Allocator + Copy>(
-    machine: &mut Machine<A>,
-    lines: &mut LineReader<A>,
-    text: &mut String<A>,
-    answers: &mut Gathered<A>,
+fn answer_all<R: Read, W: Write>(
+    machine: &mut Machine,
+    lines: &mut LineReader,
+    text: &mut String,
+    answers: &mut Gathered,
     source: &mut Source<R>,
     sink: &mut Sink<W>,
 ) -> Result<(), RunFault>
@@ -75,11 +75,9 @@ fn answer_all<R: Read, W: Write, A: Allocator + Copy>(
 }
 
 /// Answers each line of a script on the sink, from an empty store and the moment 0 on. All memory of
-/// reading, of the texts of faults and of gathering answers is taken before the first line. Replies are made in the memory of
-/// `json`, all else in that of `alloc`.
-pub fn run<R: Read, W: Write, A: Allocator + Copy>(
-    alloc: A,
-    json: Global,
+/// reading, of the texts of faults and of gathering answers is taken before the first line.
+pub fn run<R: Read, W: Write>(
+    alloc: Global,
     source: &mut Source<R>,
     sink: &mut Sink<W>,
 ) -> Result<(), RunFault>
@@ -88,7 +86,7 @@ pub fn run<R: Read, W: Write, A: Allocator + Copy>(
     let mut lines = LineReader::new(alloc)?;
     let mut text = String::with_capacity(alloc, TEXT_ROOM)?;
     let mut answers = Gathered::new(alloc)?;
-    let mut machine = Machine::new(alloc, json)?;
+    let mut machine = Machine::new(alloc)?;
     answer_all(
         &mut machine,
         &mut lines,

@@ -5,7 +5,7 @@ ghost use Rattle.tsdb.specs.FaultTables.{faults_asked, is_wanted, is_listed, fau
 ghost use Rattle.tsdb.specs.FaultNumbers.{row_where, asked_row};
 
 use itoa::Buffer;
-use std::alloc::{AllocError, Allocator};
+use std::alloc::{AllocError, Global};
 use std::convert::AsStr;
 use ts_core::{FaultCode, append_words};
 
@@ -32,11 +32,7 @@ fn is_wanted(asked: Option<&str>, digits: &str) -> bool
 }
 
 /// Appends the row of a fault, where it is asked for.
-fn row_to<A: Allocator>(
-    text: &mut String<A>,
-    asked: Option<&str>,
-    code: FaultCode,
-) -> Result<(), AllocError>
+fn row_to(text: &mut String, asked: Option<&str>, code: FaultCode) -> Result<(), AllocError>
     ensures { OnOk result (string_bytes text.new ≡ string_bytes text.old ++ row_where (is_listed (handed_in asked.entry)) code) }
 {
     let mut digits = Buffer::new();
@@ -48,11 +44,7 @@ fn row_to<A: Allocator>(
 }
 
 /// Appends the row of the fault of a number, where there is one and it is asked for.
-fn numbered_row_to<A: Allocator>(
-    text: &mut String<A>,
-    asked: Option<&str>,
-    number: u8,
-) -> Result<(), AllocError>
+fn numbered_row_to(text: &mut String, asked: Option<&str>, number: u8) -> Result<(), AllocError>
     ensures { OnOk result (string_bytes text.new ≡ string_bytes text.old ++ asked_row (is_listed (handed_in asked.entry)) number) }
 {
     match FaultCode::of_number(number) {
@@ -62,7 +54,7 @@ fn numbered_row_to<A: Allocator>(
 }
 
 /// The rows of the faults that are asked for: all, or the one of a number, if there is one.
-pub fn fault_table<A: Allocator>(alloc: A, asked: Option<&str>) -> Result<String<A>, AllocError>
+pub fn fault_table(alloc: Global, asked: Option<&str>) -> Result<String, AllocError>
     ensures { IfOk result (λ text. string_bytes text ≡ fault_table (handed_in asked.entry)) }
 {
     let mut text = String::new(alloc);

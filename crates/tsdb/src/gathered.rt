@@ -2,7 +2,7 @@
 ghost use Rattle.std.specs.Prelude.{◌≡◌, ◌+◌, ◌≤◌, ◌++◌, [], length, IfOk};
 ghost use Rattle.tsdb.specs.Gathering.{IsPassedOn, gathered_limit};
 
-use std::alloc::{AllocError, Allocator};
+use std::alloc::{AllocError, Global};
 use std::io::Write;
 use std::marker::Model;
 use ts_core::{Refused, Sink};
@@ -12,11 +12,11 @@ const ROOM: usize = 8_192;
 
 /// Answers that are made and not sent yet, seen by their bytes. They go out when no more fit, and when they are sent for.
 #[derive(Drop)]
-pub struct Gathered<A: Allocator> {
-    kept: Vec<u8, A>,
+pub struct Gathered {
+    kept: Vec<u8>,
 }
 
-impl<A: Allocator> Model for Gathered<A> {
+impl Model for Gathered {
     ghost use Rattle.std.specs.Prelude.{◌≤◌, ℕ, List, vec_len, vec_capacity};
     ghost use Rattle.tsdb.specs.Gathering.{gathered_limit};
 
@@ -27,9 +27,9 @@ impl<A: Allocator> Model for Gathered<A> {
     ghost invariant = { λ g. (vec_len g.kept ≤ gathered_limit) × (gathered_limit ≤ vec_capacity g.kept) };
 }
 
-impl<A: Allocator> Gathered<A> {
+impl Gathered {
     /// Takes all the memory that gathering needs, 8 KiB.
-    pub fn new(alloc: A) -> Result<Gathered<A>, AllocError>
+    pub fn new(alloc: Global) -> Result<Gathered, AllocError>
         ensures { IfOk result (λ g. g ≡ []) }
     {
         Ok(Gathered {

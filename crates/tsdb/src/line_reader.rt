@@ -6,7 +6,7 @@ ghost use Rattle.tsdb.specs.ScriptLines.{script_line_limit, turn_limit};
 ghost use Rattle.tsdb.specs.LineReading.{LineIs, IsTaken, IsLonger, IsAsked, IsReadOn, IsNext, UsesUp, has_lf, next_of, last_of};
 
 use crate::chunk::{LINE_LIMIT, extend_line, keep_lent, line_end};
-use std::alloc::{AllocError, Allocator};
+use std::alloc::{AllocError, Global};
 use std::io::Read;
 use std::marker::Model;
 use ts_core::{ReadAhead, ReadFault, Source};
@@ -28,15 +28,15 @@ pub enum Next {
 /// Reads lines from a source that it is lent for each. `end` is where the first line ends of what was read ahead, so that each end is
 /// looked for once. A line that was read whole is lent where it lies: from one place of what was used to another.
 #[derive(Drop)]
-pub struct LineReader<A: Allocator + Copy> {
-    ahead: ReadAhead<A>,
+pub struct LineReader {
+    ahead: ReadAhead<Global>,
     end: usize,
     lent: Option<(usize, usize)>,
-    line: Vec<u8, A>,
+    line: Vec<u8>,
     long: bool,
 }
 
-impl<A: Allocator + Copy> Model for LineReader<A> {
+impl Model for LineReader {
     ghost use Rattle.std.specs.Prelude.{◌≡◌, ◌≤◌, length, IfSome, vec_len, vec_capacity};
     ghost use Rattle.tsdb.specs.ScriptLines.{script_line_limit, turn_limit};
     ghost use Rattle.tsdb.specs.LineReading.{IsLineEnd};
@@ -49,9 +49,9 @@ impl<A: Allocator + Copy> Model for LineReader<A> {
     ghost invariant = { λ r. (r.ahead.limit ≡ turn_limit) × (r.ahead.turns ≤ turn_limit) × (script_line_limit ≤ vec_capacity r.line) × (vec_len r.line ≤ script_line_limit) × IsLineEnd r.ahead.buffered r.end × IfSome r.lent (λ lent. (lent.0 ≤ lent.1) × (lent.1 ≤ length r.ahead.used)) × (length (line_held r.ahead.used r.lent r.line.items) ≤ script_line_limit) };
 }
 
-impl<A: Allocator + Copy> LineReader<A> {
+impl LineReader {
     /// Takes all the memory that reading needs.
-    pub fn new(alloc: A) -> Result<LineReader<A>, AllocError>
+    pub fn new(alloc: Global) -> Result<LineReader, AllocError>
         ensures { IfOk result (λ r. r.ahead ≡ nothing_ahead turn_limit) }
     {
         Ok(LineReader {

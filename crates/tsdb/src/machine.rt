@@ -27,19 +27,18 @@ use ts_store::{Store, View};
 /// The moment, the precision and the epoch that a script has set, whether settings may still come, the certificate for its next query,
 /// its store, and an arena for the lists of a line's tags and fields.
 #[derive(Drop)]
-pub struct Machine<A: Allocator> {
-    alloc: A,
-    json: Global,
+pub struct Machine {
+    alloc: Global,
     moment: Time,
     precision: TimeUnit,
     epoch: Epoch,
     fresh: bool,
-    certificate: Option<String<A>>,
-    store: Store<A>,
-    line_room: Bump<A>,
+    certificate: Option<String>,
+    store: Store<Global>,
+    line_room: Bump<Global>,
 }
 
-impl<A: Allocator> Model for Machine<A> {
+impl Model for Machine {
     ghost use Rattle.std.specs.Prelude.{option_map, string_bytes};
     ghost use Rattle.tsdb.specs.Serving.{Serving, coded_serving};
 
@@ -50,15 +49,14 @@ impl<A: Allocator> Model for Machine<A> {
     ghost view = { λ m. record { moment = m.moment; precision = m.precision; epoch = m.epoch; fresh = m.fresh; certificate = option_map string_bytes m.certificate; kept = m.store } };
 }
 
-impl<A: Allocator + Copy> Machine<A> {
+impl Machine {
     /// A machine with an empty store, at the moment 0, with timestamps in nanoseconds and times of replies as
-    /// text. Replies are made in the memory of `json`.
-    pub fn new(alloc: A, json: Global) -> Result<Machine<A>, AllocError>
+    /// text.
+    pub fn new(alloc: Global) -> Result<Machine, AllocError>
         ensures { IfOk result (λ m. IsIn start m) }
     {
         Ok(Machine {
             alloc,
-            json,
             moment: Time::new(0).unwrap(),
             precision: TimeUnit::Nanoseconds,
             epoch: Epoch::Text,
@@ -139,12 +137,12 @@ impl<A: Allocator + Copy> Machine<A> {
         if !self.fresh {
             return Reply::Unknown;
         }
-        match store_with(self.alloc, self.json, text) {
+        match store_with(self.alloc, text) {
             Ok(store) => {
                 self.store = store;
                 Reply::Nothing
             }
-            Err(SettingsError::Fault(fault)) => bad_settings(self.json, fault),
+            Err(SettingsError::Fault(fault)) => bad_settings(self.alloc, fault),
             Err(SettingsError::OutOfMemory) => Reply::OutOfMemory,
         }
     }
@@ -153,7 +151,7 @@ impl<A: Allocator + Copy> Machine<A> {
     fn retain(&mut self) -> Reply
         ensures { (s : State) → IsIn s self.old → Did RetainCommand s (text_of result) self.new }
     {
-        match String::with_capacity(self.json, MARKS_ROOM) {
+        match String::with_capacity(self.alloc, MARKS_ROOM) {
             Ok(text) => self.retain_and_tell(text),
             Err(_) => Reply::OutOfMemory,
         }
@@ -210,7 +208,7 @@ impl<A: Allocator + Copy> Machine<A> {
     {
         let reply = answer(
             self.alloc,
-            self.json,
+            self.alloc,
             &self.store,
             self.moment,
             text,
@@ -235,7 +233,7 @@ impl<A: Allocator + Copy> Machine<A> {
         ensures { IfOk result (λ body. (s : State) → IsIn s self.now → HasExplanation s text.now (string_bytes body)) }
     {
         let now = self.moment;
-        let reply = explain(self.alloc, self.json, &self.store, now, text)?;
+        let reply = explain(self.alloc, self.alloc, &self.store, now, text)?;
         ended(reply.body)
     }
 
@@ -274,7 +272,7 @@ impl<A: Allocator + Copy> Machine<A> {
 }
 
 /// Writes a line to a store.
-fn accept<A: Allocator + Copy, L: Allocator>(store: &mut Store<A>, line: &Line<'_, L>) -> Reply
+fn accept<L: Allocator>(store: &mut Store<Global>, line: &Line<'_, L>) -> Reply
     ensures { (s : State) (m : Serving) → IsIn s (keeping store.old m) → Took line.now s (text_of result) (keeping store.new m) }
 {
     match store.write(line) {
@@ -284,7 +282,7 @@ fn accept<A: Allocator + Copy, L: Allocator>(store: &mut Store<A>, line: &Line<'
 }
 
 /// The certificate's text, where there is one.
-fn lent<A: Allocator>(certificate: &Option<String<A>>) -> Option<&str>
+fn lent(certificate: &Option<String>) -> Option<&str>
     ensures { handed_in result ≡ option_map string_bytes certificate.now }
 {
     match certificate {

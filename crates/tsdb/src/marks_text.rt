@@ -6,25 +6,21 @@ ghost use Rattle.tsdb.specs.MarksTexts.{low_text, lows_text, raw_text, marks_tex
 ghost use Rattle.tsdb.specs.ScriptReplies.{line};
 
 use itoa::Buffer;
-use std::alloc::{AllocError, Allocator};
+use std::alloc::{AllocError, Global};
 use ts_core::{Marks, Rule, Settings, append_words};
 
 /// How much room the text of marks takes at most, with its LF: 32 rules with names of 32 bytes, and 40 for a number.
 pub(crate) const MARKS_ROOM: usize = 2_415;
 
 /// Appends a rule's name and its low index. Where the room is there, no memory is taken.
-fn low_to<A: Allocator>(text: &mut String<A>, name: &str, low: i128) -> Result<(), AllocError>
+fn low_to(text: &mut String, name: &str, low: i128) -> Result<(), AllocError>
     ensures { IsAppendedWithin (length name.now + 42) (low_text name.now low) text.old text.new result }
 {
     append_words(text, &[" ", name, "=", Buffer::new().format(low)])
 }
 
 /// Appends the name and the low index of each rule. Where the room is there, no memory is taken.
-fn lows_to<A: Allocator, B: Allocator>(
-    text: &mut String<B>,
-    rules: &[Rule<A>],
-    lows: &[i128],
-) -> Result<(), AllocError>
+fn lows_to(text: &mut String, rules: &[Rule<Global>], lows: &[i128]) -> Result<(), AllocError>
     requires { AllByRecursion (λ (r : RuleValue). length r.name ≤ 32) rules.now }
     ensures { IsAppendedWithin (74 * length rules.now) (lows_text rules.now lows.now) text.old text.new result }
 {
@@ -38,17 +34,17 @@ fn lows_to<A: Allocator, B: Allocator>(
 }
 
 /// Appends the raw mark. Where the room is there, no memory is taken.
-fn raw_to<A: Allocator>(text: &mut String<A>, mark: i64) -> Result<(), AllocError>
+fn raw_to(text: &mut String, mark: i64) -> Result<(), AllocError>
     ensures { IsAppendedWithin 46 (raw_text mark) text.old text.new result }
 {
     append_words(text, &["marks ", Buffer::new().format(mark)])
 }
 
 /// Appends the raw mark and the low index of each rule. Where the room is there, no memory is taken.
-fn marks_to<A: Allocator, B: Allocator>(
-    text: &mut String<B>,
-    settings: &Settings<A>,
-    marks: &Marks<A>,
+fn marks_to(
+    text: &mut String,
+    settings: &Settings<Global>,
+    marks: &Marks<Global>,
 ) -> Result<(), AllocError>
     ensures { IsAppendedWithin 2414 (marks_text settings.now marks.now) text.old text.new result }
 {
@@ -57,11 +53,11 @@ fn marks_to<A: Allocator, B: Allocator>(
 }
 
 /// Makes an empty text that of marks, with an LF. The room is there, so no memory is taken.
-pub(crate) fn marks_line<A: Allocator, B: Allocator>(
-    mut text: String<B>,
-    settings: &Settings<A>,
-    marks: &Marks<A>,
-) -> String<B>
+pub(crate) fn marks_line(
+    mut text: String,
+    settings: &Settings<Global>,
+    marks: &Marks<Global>,
+) -> String
     requires empty { string_len text ≡ 0 }
     requires room { MARKS_ROOM ≤ string_capacity text }
     ensures { string_bytes result ≡ line (marks_text settings.now marks.now) }

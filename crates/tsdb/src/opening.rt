@@ -5,19 +5,15 @@ ghost use Rattle.tsdb.specs.Opening.{IsOpening};
 ghost use Rattle.tsdb.specs.ScriptReplies.{line, text_of};
 
 use crate::reply::Reply;
-use std::alloc::{AllocError, Allocator, Global};
+use std::alloc::{AllocError, Global};
 use ts_core::{Settings, SettingsError, SettingsFault};
 use ts_store::Store;
 
-/// An empty store with the settings of a text, or their first fault. JSON is read in the memory of `json`.
-pub(crate) fn store_with<A: Allocator + Copy>(
-    alloc: A,
-    json: Global,
-    text: &str,
-) -> Result<Store<A>, SettingsError>
+/// An empty store with the settings of a text, or their first fault.
+pub(crate) fn store_with(alloc: Global, text: &str) -> Result<Store<Global>, SettingsError>
     ensures { IsOpening text.now result }
 {
-    let settings = Settings::read(alloc, json, text)?;
+    let settings = Settings::read(alloc, alloc, text)?;
     match Store::new(alloc, settings) {
         Ok(store) => Ok(store),
         Err(_) => Err(SettingsError::OutOfMemory),
@@ -25,20 +21,20 @@ pub(crate) fn store_with<A: Allocator + Copy>(
 }
 
 /// The text of the fault of settings, with an LF.
-fn settings_fault_line(json: Global, fault: SettingsFault) -> Result<String, AllocError>
+fn settings_fault_line(alloc: Global, fault: SettingsFault) -> Result<String, AllocError>
     ensures { IfOk result (λ text. string_bytes text ≡ line (settings_fault_text fault)) }
 {
-    let mut text = String::new(json);
+    let mut text = String::new(alloc);
     fault.text_to(&mut text)?;
     text.push_str("\n")?;
     Ok(text)
 }
 
 /// Answers the fault of settings.
-pub(crate) fn bad_settings(json: Global, fault: SettingsFault) -> Reply
+pub(crate) fn bad_settings(alloc: Global, fault: SettingsFault) -> Reply
     ensures { (text_of result ≡ line (settings_fault_text fault)) ⊎ (result ≡ Reply.OutOfMemory) }
 {
-    match settings_fault_line(json, fault) {
+    match settings_fault_line(alloc, fault) {
         Ok(text) => Reply::Body(text),
         Err(_) => Reply::OutOfMemory,
     }

@@ -9,7 +9,7 @@ ghost use Rattle.tsdb.specs.ScriptReplies.{line, text_of};
 
 use crate::gathered::Gathered;
 use itoa::write_digits;
-use std::alloc::{AllocError, Allocator};
+use std::alloc::AllocError;
 use std::io::Write;
 use ts_core::{Refused, Sink};
 use ts_line::LineFault;
@@ -51,10 +51,10 @@ pub const TEXT_ROOM: usize = 35;
 impl Reply {
     /// Puts it behind the answers before it, with its LF. The text is where a fault's is made: its room is there before, so that no
     /// memory is taken.
-    pub fn send<W: Write, A: Allocator>(
+    pub fn send<W: Write>(
         self,
-        text: &mut String<A>,
-        answers: &mut Gathered<A>,
+        text: &mut String,
+        answers: &mut Gathered,
         sink: &mut Sink<W>,
     ) -> Result<(), Refused>
         requires { TEXT_ROOM ≤ string_capacity text.old }
@@ -79,9 +79,9 @@ impl Reply {
 }
 
 /// Puts the text of a fault with an LF behind the answers before it.
-fn send_fault<W: Write, A: Allocator>(
-    text: &mut String<A>,
-    answers: &mut Gathered<A>,
+fn send_fault<W: Write>(
+    text: &mut String,
+    answers: &mut Gathered,
     sink: &mut Sink<W>,
     fault: LineFault,
 ) -> Result<(), Refused>
@@ -96,7 +96,7 @@ fn send_fault<W: Write, A: Allocator>(
 }
 
 /// Makes the text of a fault with an LF, in place of what the text was.
-fn fault_line<A: Allocator>(text: &mut String<A>, fault: LineFault) -> Result<(), AllocError>
+fn fault_line(text: &mut String, fault: LineFault) -> Result<(), AllocError>
     requires { TEXT_ROOM ≤ string_capacity text.old }
     ensures room { TEXT_ROOM ≤ string_capacity text.new }
     ensures text { OnOk result (string_bytes text.new ≡ line (line_fault_text fault)) }
@@ -108,9 +108,9 @@ fn fault_line<A: Allocator>(text: &mut String<A>, fault: LineFault) -> Result<()
 }
 
 /// Puts the text of the refusal of a write with an LF behind the answers before it.
-fn send_refusal<W: Write, A: Allocator>(
-    text: &mut String<A>,
-    answers: &mut Gathered<A>,
+fn send_refusal<W: Write>(
+    text: &mut String,
+    answers: &mut Gathered,
     sink: &mut Sink<W>,
     fault: WriteFault,
 ) -> Result<(), Refused>
@@ -125,7 +125,7 @@ fn send_refusal<W: Write, A: Allocator>(
 }
 
 /// Makes the text of the refusal of a write with an LF, in place of what the text was.
-fn refusal_line<A: Allocator>(text: &mut String<A>, fault: WriteFault) -> Result<(), AllocError>
+fn refusal_line(text: &mut String, fault: WriteFault) -> Result<(), AllocError>
     requires { TEXT_ROOM ≤ string_capacity text.old }
     ensures room { TEXT_ROOM ≤ string_capacity text.new }
     ensures text { OnOk result (string_bytes text.new ≡ line (write_fault_text fault)) }
@@ -148,8 +148,8 @@ fn plan_fault_line(fault: PlanFault) -> &'static [u8]
 }
 
 /// Puts a number with an LF behind the answers before it.
-fn send_count<W: Write, A: Allocator>(
-    answers: &mut Gathered<A>,
+fn send_count<W: Write>(
+    answers: &mut Gathered,
     sink: &mut Sink<W>,
     count: u64,
 ) -> Result<(), Refused>

@@ -5,7 +5,7 @@ use Rattle.tsdb.proofs.CertificateTextLemmas.{none_there, first_there, one_more}
 use Rattle.tsdb.proofs.certificate_text.with_line_feeds.Goals as goal
 
 pub loop-line-preserved : goal.loop-line-preserved
-loop-line-preserved g c =
+loop-line-preserved c =
     let p = split_parts 59 c.loop-line.rest.now c.split_once.result c.split_once.ensures.cases (lit< tt) in
     let parts = rw c.in-Some.is at p in
     let first : with_line_feeds c.loop-line.rest.now ≡ c.in-Some.line.now ++ (10 ∷ with_line_feeds c.in-Some.others.now) = first_there c.loop-line.rest.now c.in-Some.line.now c.in-Some.others.now parts.0 parts.1 in (
@@ -15,7 +15,7 @@ loop-line-preserved g c =
     )
 
 pub returns : goal.returns
-returns g c =
+returns c =
     let p = split_parts 59 c.loop-line.rest.now c.split_once.result c.split_once.ensures.cases (lit< tt) in
     let none = rw c.in_default.is at p in
     let same = none_there c.loop-line.rest.now none in

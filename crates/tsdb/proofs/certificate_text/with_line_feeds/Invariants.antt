@@ -5,7 +5,7 @@ use Rattle.tsdb.specs.ScriptCertificates.{with_line_feeds}
 use Rattle.tsdb.proofs.certificate_text.with_line_feeds.Given as goal
 
 abbrev pub invariant-loop-line : goal.invariant-loop-line
-invariant-loop-line g l = shadow (Utf8 l.rest) × (string_bytes l.lines ++ with_line_feeds l.rest ≡ with_line_feeds l.fn.text)
+invariant-loop-line l = shadow (Utf8 l.rest) × (string_bytes l.lines ++ with_line_feeds l.rest ≡ with_line_feeds l.fn.text)
 
 abbrev pub decreases-loop-line : goal.decreases-loop-line
-decreases-loop-line g l = length l.rest
+decreases-loop-line l = length l.rest

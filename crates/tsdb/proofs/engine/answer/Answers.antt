@@ -6,5 +6,5 @@ use Rattle.tsdb.proofs.MachineLemmas.{long_answered}
 use Rattle.tsdb.proofs.engine.answer.Goals as goal
 
 pub returns-in-TooLong : goal.returns-in-TooLong
-returns-in-TooLong g c = λ bytes left s some n i.
+returns-in-TooLong c = λ bytes left s some n i.
     long_answered bytes c.args.line.now (text_of c.refuse.result) left s c.refuse.new.self (subst (λ (k : Next). NextOf bytes k c.args.line.now left) c.in-TooLong.is n) (c.refuse.ensures s i)

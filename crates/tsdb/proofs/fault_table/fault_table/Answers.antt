@@ -7,11 +7,11 @@ use Rattle.tsdb.proofs.FaultTableLemmas.{rows_more, table_whole}
 use Rattle.tsdb.proofs.fault_table.fault_table.Goals as goal
 
 pub loop-number-preserved : goal.loop-number-preserved
-loop-number-preserved g c =
+loop-number-preserved c =
     rows_more (is_listed (handed_in c.args.asked)) c.loop-number.number (string_bytes c.loop-number.text) (string_bytes c.numbered_row_to.new.text) c.loop-number.invariant c.in_ok-numbered_row_to.ensures
 
 pub returns : goal.returns
 unfolding fault_table
-returns g c =
+returns c =
     let all : c.loop-number.number ≡ 128 = omega arith in
     c.loop-number.invariant ∙ ap (λ (n : ℕ). concat (map (asked_row (is_listed (handed_in c.args.asked))) (range_with_len 0 n))) all ∙ table_whole (is_listed (handed_in c.args.asked))

@@ -6,4 +6,4 @@ use Rattle.tsdb.specs.FaultTables.{is_listed}
 use Rattle.tsdb.proofs.fault_table.fault_table.Given as goal
 
 abbrev pub invariant-loop-number : goal.invariant-loop-number
-invariant-loop-number g l = string_bytes l.text ≡ concat (map (asked_row (is_listed (handed_in l.fn.asked))) (range_with_len 0 l.number))
+invariant-loop-number l = string_bytes l.text ≡ concat (map (asked_row (is_listed (handed_in l.fn.asked))) (range_with_len 0 l.number))

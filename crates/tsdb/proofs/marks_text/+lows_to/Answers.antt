@@ -6,7 +6,7 @@ use Rattle.tsdb.proofs.MarksTextLemmas.{lows_put, first_short, no_longer}
 use Rattle.tsdb.proofs.marks_text.+lows_to.Goals as goal
 
 pub returns-in_ok-low_to-in-Some-Some : goal.returns-in_ok-low_to-in-Some-Some
-returns-in_ok-low_to-in-Some-Some g t c =
+returns-in_ok-low_to-in-Some-Some t c =
     let i = c.in-Some-Some in
     let first = c.in_ok-low_to-in-Some-Some.ensures in
     let others = c.lows_to.ensures in
@@ -23,7 +23,7 @@ returns-in_ok-low_to-in-Some-Some g t c =
     }
 
 pub returns-in_err-low_to-in-Some-Some : goal.returns-in_err-low_to-in-Some-Some
-returns-in_err-low_to-in-Some-Some g t c =
+returns-in_err-low_to-in-Some-Some t c =
     let i = c.in-Some-Some in
     let p = err_from_is_err_and c.from_residual.result c.from_residual.ensures.1 in
     let first = c.in_err-low_to-in-Some-Some.ensures in
@@ -36,7 +36,7 @@ returns-in_err-low_to-in-Some-Some g t c =
     }
 
 pub returns-in_default : goal.returns-in_default
-returns-in_default g t c = record {
+returns-in_default t c = record {
   ok = grind (arith, common_steps);
   long = omega arith;
   room = λ _. refl;

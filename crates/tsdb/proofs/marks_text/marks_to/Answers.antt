@@ -4,10 +4,10 @@ use Rattle.tsdb.proofs.MarksTextLemmas.{marks_put, names_short, no_longer}
 use Rattle.tsdb.proofs.marks_text.marks_to.Goals as goal
 
 pub lows_to-requires : goal.lows_to-requires
-lows_to-requires g c = rw c.rules.ensures.value (names_short c.args.settings.now c.rules.ensures.faultless)
+lows_to-requires c = rw c.rules.ensures.value (names_short c.args.settings.now c.rules.ensures.faultless)
 
 pub returns : goal.returns
-returns g c =
+returns c =
     let raw = c.in_ok-raw_to.ensures in
     let lows = c.lows_to.ensures in
     let fits : SFits w64 c.nanos.result = search rules in

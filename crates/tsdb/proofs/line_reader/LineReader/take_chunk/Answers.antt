@@ -4,7 +4,7 @@ use Rattle.tsdb.specs.LineReading.{first_line, LineIs, IsLineEnd}
 use Rattle.tsdb.proofs.line_reader.LineReader.take_chunk.Goals as goal
 
 pub returns-clause-line : goal.returns-clause-line
-returns-clause-line g c = λ before h.
+returns-clause-line c = λ before h.
     let Kept = λ (r : HeldLine). LineIs before r.line r.long in
     let s = c.self.inside in
     let ends : IsLineEnd s.ahead.buffered s.end = c.self.invariant.4 in

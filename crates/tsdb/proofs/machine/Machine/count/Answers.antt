@@ -7,7 +7,7 @@ use Rattle.tsdb.proofs.MachineLemmas.{serving, was_counted, none_counted}
 use Rattle.tsdb.proofs.machine.Machine.count.Goals as goal
 
 pub returns-then-lt : goal.returns-then-lt
-returns-then-lt g c = λ s i.
+returns-then-lt c = λ s i.
     let m : Serving = serving c.self.inside.moment c.self.inside.precision c.self.inside.epoch c.self.inside.fresh (option_map string_bytes c.self.inside.certificate) c.self.inside.store in
     let before = subst (λ (k : Serving). IsIn s k) (sym c.self.view_is) i in
     let some : c.args.from <ℤ c.args.to = search rules in
@@ -16,6 +16,6 @@ returns-then-lt g c = λ s i.
 
 pub returns-else-lt : goal.returns-else-lt
 unfolding digits
-returns-else-lt g c = λ s i.
+returns-else-lt c = λ s i.
     let none : c.args.to ≤ℤ c.args.from = search rules in
     none_counted c.args.measurement.now c.args.field.now c.args.from c.args.to s c.args.self.now i none

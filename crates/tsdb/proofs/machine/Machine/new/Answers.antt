@@ -5,7 +5,7 @@ use Rattle.ts_core.specs.StoreData.{StoreData, state_of}
 use Rattle.tsdb.proofs.machine.Machine.new.Goals as goal
 
 pub returns : goal.returns
-returns g c = record {
+returns c = record {
   moment = search rules;
   precision = search rules;
   epoch = search rules;

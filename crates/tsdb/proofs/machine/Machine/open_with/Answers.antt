@@ -7,27 +7,27 @@ use Rattle.tsdb.proofs.MachineLemmas.{serving, was_opened, settings_refused, ope
 use Rattle.tsdb.proofs.machine.Machine.open_with.Goals as goal
 
 pub returns-then-not-self : goal.returns-then-not-self
-returns-then-not-self g c = λ s i.
+returns-then-not-self c = λ s i.
     let m : Serving = serving c.self.inside.moment c.self.inside.precision c.self.inside.epoch c.self.inside.fresh (option_map string_bytes c.self.inside.certificate) c.self.inside.store in
     let before = subst (λ (k : Serving). IsIn s k) (sym c.self.view_is) i in
     subst (λ (k : Serving). Did (OpenWith c.args.text.now) s (line unknown_text) k) c.self.view_is (opened_late c.args.text.now s m before c.if-not-self.true)
 
 pub returns-in-Ok : goal.returns-in-Ok
-returns-in-Ok g c = λ s i.
+returns-in-Ok c = λ s i.
     let m : Serving = serving c.self.inside.moment c.self.inside.precision c.self.inside.epoch c.self.inside.fresh (option_map string_bytes c.self.inside.certificate) c.self.inside.store in
     let before = subst (λ (k : Serving). IsIn s k) (sym c.self.view_is) i in
     let e = c.in-Ok.ensures in
     was_opened c.args.text.now e.0 s m c.in-Ok.store before c.if-not-self.false e.1 e.2
 
 pub returns-in-Err-Fault : goal.returns-in-Err-Fault
-returns-in-Err-Fault g c = λ s i.
+returns-in-Err-Fault c = λ s i.
     let m : Serving = serving c.self.inside.moment c.self.inside.precision c.self.inside.epoch c.self.inside.fresh (option_map string_bytes c.self.inside.certificate) c.self.inside.store in
     let before = subst (λ (k : Serving). IsIn s k) (sym c.self.view_is) i in
     subst (λ (k : Serving). Did (OpenWith c.args.text.now) s (text_of c.bad_settings.result) k) c.self.view_is
     (settings_refused c.args.text.now c.bad_settings.result c.in-Err-Fault.fault s m before c.if-not-self.false (rw c.in-Err-Fault.field-0-is at c.in-Err-Fault.ensures) c.bad_settings.ensures)
 
 pub returns-in-Err-OutOfMemory : goal.returns-in-Err-OutOfMemory
-returns-in-Err-OutOfMemory g c = λ s i.
+returns-in-Err-OutOfMemory c = λ s i.
     let m : Serving = serving c.self.inside.moment c.self.inside.precision c.self.inside.epoch c.self.inside.fresh (option_map string_bytes c.self.inside.certificate) c.self.inside.store in
     let before = subst (λ (k : Serving). IsIn s k) (sym c.self.view_is) i in
     subst (λ (k : Serving). Did (OpenWith c.args.text.now) s (line memory_text) k) c.self.view_is (opened_no_memory c.args.text.now s m before c.if-not-self.false)

@@ -5,7 +5,7 @@ use Rattle.tsdb.proofs.MachineLemmas.{serving, was_replied, replied_no_memory}
 use Rattle.tsdb.proofs.machine.Machine.query.Goals as goal
 
 pub returns-in-Ok : goal.returns-in-Ok
-returns-in-Ok g c = λ s i.
+returns-in-Ok c = λ s i.
     let m : Serving = serving c.self.inside.moment c.self.inside.precision c.self.inside.epoch c.self.inside.fresh (option_map string_bytes c.self.inside.certificate) c.self.inside.store in
     let before = subst (λ (k : Serving). IsIn s k) (sym c.self.view_is) i in
     let own : handed_in c.lent.result ≡ m.certificate = c.lent.ensures ∙ ap (option_map string_bytes) c.take-certificate.ensures.value in
@@ -13,7 +13,7 @@ returns-in-Ok g c = λ s i.
     was_replied c.args.text.now (string_bytes c.in-Ok.body) (handed_in c.lent.result) (option_map string_bytes c.take-certificate.new.self) s m before own none c.in-Ok.ensures
 
 pub returns : goal.returns
-returns g c = λ s i.
+returns c = λ s i.
     let m : Serving = serving c.self.inside.moment c.self.inside.precision c.self.inside.epoch c.self.inside.fresh (option_map string_bytes c.self.inside.certificate) c.self.inside.store in
     let before = subst (λ (k : Serving). IsIn s k) (sym c.self.view_is) i in
     let none : option_map string_bytes c.take-certificate.new.self ≡ None = ap (option_map string_bytes) c.take-certificate.ensures.after in
