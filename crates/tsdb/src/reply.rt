@@ -1,9 +1,7 @@
 //! What a line of a script prints.
-ghost use Rattle.std.specs.Prelude.{◌≡◌, ◌≤◌, IsOk, OnOk, string_bytes, string_capacity};
+ghost use Rattle.std.specs.Prelude.{◌≡◌, ◌≤◌, ◌+◌, IsOk, string_bytes, string_len, string_capacity};
 ghost use Rattle.std.specs.Fmt.{decimal};
-ghost use Rattle.ts_line.specs.FaultText.{line_fault_text};
 ghost use Rattle.ts_plan.specs.PlanTexts.{plan_fault_text};
-ghost use Rattle.ts_store.specs.StoreFaultTexts.{write_fault_text};
 ghost use Rattle.tsdb.specs.Gathering.{IsPassedOn};
 ghost use Rattle.tsdb.specs.ScriptReplies.{line, text_of};
 
@@ -61,79 +59,40 @@ impl Reply {
         ensures room { TEXT_ROOM ≤ string_capacity text.new }
         ensures sent { IsPassedOn sink.old answers.old result (text_of self) sink.new answers.new }
     {
+        text.clear();
         match self {
             Reply::Nothing => answers.put(b"", sink),
             Reply::Done => answers.put(b"ok\n", sink),
             Reply::NoLine => answers.put(b"none\n", sink),
-            Reply::BadLine(fault) => send_fault(text, answers, sink, fault),
+            Reply::BadLine(fault) => send_made(fault.text_to(text), text, answers, sink),
             Reply::Count(count) => send_count(answers, sink, count),
             Reply::Body(body) => answers.put(body.as_bytes(), sink),
             Reply::NoPlan(fault) => answers.put(plan_fault_line(fault), sink),
             Reply::Unknown => answers.put(b"fault 95\n", sink),
             Reply::BadRange => answers.put(b"fault 74 at 0\n", sink),
-            Reply::Refused(fault) => send_refusal(text, answers, sink, fault),
+            Reply::Refused(fault) => send_made(fault.text_to(text), text, answers, sink),
             Reply::RunInProgress => answers.put(b"fault 53\n", sink),
             Reply::OutOfMemory => answers.put(b"fault memory\n", sink),
         }
     }
 }
 
-/// Puts the text of a fault with an LF behind the answers before it.
-fn send_fault<W: Write>(
+/// Puts a text that was made, with an LF, behind the answers before it.
+fn send_made<W: Write>(
+    made: Result<(), AllocError>,
     text: &mut String,
     answers: &mut Gathered,
     sink: &mut Sink<W>,
-    fault: LineFault,
 ) -> Result<(), Refused>
-    requires { TEXT_ROOM ≤ string_capacity text.old }
-    ensures room { TEXT_ROOM ≤ string_capacity text.new }
-    ensures sent { IsPassedOn sink.old answers.old result (line (line_fault_text fault)) sink.new answers.new }
+    requires made { IsOk made }
+    requires room { string_len text.old + 1 ≤ string_capacity text.old }
+    ensures room { string_capacity text.old ≤ string_capacity text.new }
+    ensures sent { IsPassedOn sink.old answers.old result (line (string_bytes text.old)) sink.new answers.new }
 {
-    match fault_line(text, fault) {
-        Ok(()) => answers.put(text.as_bytes(), sink),
-        Err(_) => unreachable!(),
+    match (made, text.push_str("\n")) {
+        (Ok(()), Ok(())) => answers.put(text.as_bytes(), sink),
+        _ => unreachable!(),
     }
-}
-
-/// Makes the text of a fault with an LF, in place of what the text was.
-fn fault_line(text: &mut String, fault: LineFault) -> Result<(), AllocError>
-    requires { TEXT_ROOM ≤ string_capacity text.old }
-    ensures room { TEXT_ROOM ≤ string_capacity text.new }
-    ensures text { OnOk result (string_bytes text.new ≡ line (line_fault_text fault)) }
-    ensures done { IsOk result }
-{
-    text.clear();
-    fault.text_to(text)?;
-    text.push_str("\n")
-}
-
-/// Puts the text of the refusal of a write with an LF behind the answers before it.
-fn send_refusal<W: Write>(
-    text: &mut String,
-    answers: &mut Gathered,
-    sink: &mut Sink<W>,
-    fault: WriteFault,
-) -> Result<(), Refused>
-    requires { TEXT_ROOM ≤ string_capacity text.old }
-    ensures room { TEXT_ROOM ≤ string_capacity text.new }
-    ensures sent { IsPassedOn sink.old answers.old result (line (write_fault_text fault)) sink.new answers.new }
-{
-    match refusal_line(text, fault) {
-        Ok(()) => answers.put(text.as_bytes(), sink),
-        Err(_) => unreachable!(),
-    }
-}
-
-/// Makes the text of the refusal of a write with an LF, in place of what the text was.
-fn refusal_line(text: &mut String, fault: WriteFault) -> Result<(), AllocError>
-    requires { TEXT_ROOM ≤ string_capacity text.old }
-    ensures room { TEXT_ROOM ≤ string_capacity text.new }
-    ensures text { OnOk result (string_bytes text.new ≡ line (write_fault_text fault)) }
-    ensures done { IsOk result }
-{
-    text.clear();
-    fault.text_to(text)?;
-    text.push_str("\n")
 }
 
 /// The text of the fault of a plan, with an LF.

@@ -1,7 +1,4 @@
 //! Why a script was not answered to its end.
-ghost use Rattle.std.specs.Prelude.{◌≡◌};
-ghost use Rattle.tsdb.specs.RunFaults.{run_fault_text};
-
 use std::alloc::AllocError;
 use ts_core::{ReadFault, Refused};
 
@@ -16,20 +13,6 @@ pub enum RunFault {
     Writer,
     /// 2^32 reads saw no end (number 98).
     Turns,
-}
-
-impl RunFault {
-    /// Its text.
-    pub fn text(self) -> &'static str
-        ensures { result.now ≡ run_fault_text self }
-    {
-        match self {
-            RunFault::Reader => "fault 96",
-            RunFault::Writer => "fault 97",
-            RunFault::Turns => "fault 98",
-            RunFault::OutOfMemory => "fault memory",
-        }
-    }
 }
 
 impl From<AllocError> for RunFault {
