@@ -11,8 +11,8 @@ use Rattle.ts_core.specs.Facts.{Text, Column, Fact}
 use Rattle.ts_line.specs.Parts.{LinePart, Parts, field_text, series_of, fact_of, line_facts}
 use Rattle.ts_raw.specs.Columns.{PointMap, ColumnState}
 use Rattle.ts_raw.specs.Indexed.{Indexed, no_series, column_in}
-use Rattle.ts_core.specs.StoreStates.{ColumnPoints, column_of}
-use Rattle.ts_core.specs.StoreMoves.{Puts, PutsFacts}
+use Rattle.ts_core.specs.StoreStates.{ColumnPoints, column_of, facts_at, facts_of}
+use Rattle.ts_core.specs.StoreMoves.{Puts}
 use Rattle.ts_store.specs.ColumnsKept.{with_points, columns_in, facts_of_columns, point_maps, no_column, with_aside, with_point_aside, committed, all_committed, AreReady, AreAside, MayGrow}
 use Rattle.ts_store.specs.Registered.{new_columns, without_points, with_columns, MakesAll, MakesFirst}
 use Rattle.ts_store.proofs.ColumnsLemmas.{columns_puts, names_of, grown_behind}
@@ -27,7 +27,7 @@ points_at (s ∷ ss) zero = refl
 points_at (s ∷ ss) (suc n) = points_at ss n
 
 -- one point is put in
-one_committed : (cs : List Column) (ss : List ColumnState) (n : ℕ) (f : Fact) → AllDistinct cs → length ss ≡ length cs → slice_get cs n ≡ Some f.column
+pub one_committed : (cs : List Column) (ss : List ColumnState) (n : ℕ) (f : Fact) → AllDistinct cs → length ss ≡ length cs → slice_get cs n ≡ Some f.column
     → (get_or ss n no_column).aside ≡ Some (f.time, f.value)
     → Puts (facts_of_columns cs (point_maps ss)) (facts_of_columns cs (point_maps (set ss n (committed (get_or ss n no_column))))) f
 one_committed cs ss n f d l at is =
@@ -64,23 +64,9 @@ numbers_distinct cs ss [] fs a d = tt
 numbers_distinct cs ss (n ∷ ns) [] a d = absurd a
 numbers_distinct cs ss (n ∷ ns) (f ∷ fs) a d = (λ k. d.0 (column_of_number cs ss ns fs n f.column a.2 a.0 k), numbers_distinct cs ss ns fs a.2 d.1)
 
-same_names : (cs : List Column) (ss : List ColumnState) (n : ℕ) (s : ColumnState) → length ss ≡ length cs → map column_of (with_points cs (point_maps (set ss n s))) ≡ map column_of (with_points cs (point_maps ss))
+pub same_names : (cs : List Column) (ss : List ColumnState) (n : ℕ) (s : ColumnState) → length ss ≡ length cs → map column_of (with_points cs (point_maps (set ss n s))) ≡ map column_of (with_points cs (point_maps ss))
 same_names cs ss n s l =
     names_of cs (point_maps (set ss n s)) (length-map (set ss n s) (λ (t : ColumnState). t.points) ∙ length-set ss n s ∙ l) ∙ sym (names_of cs (point_maps ss) (length-map ss (λ (t : ColumnState). t.points) ∙ l))
-
--- all are put in, one after another
-pub all_put : (cs : List Column) (ss : List ColumnState) (ns : List ℕ) (fs : List Fact) → AllDistinct cs → length ss ≡ length cs → AllDistinct ns → AreAside cs ss ns fs
-    → PutsFacts (with_points cs (point_maps ss)) (with_points cs (point_maps (all_committed ss ns))) fs
-all_put cs ss [] [] d l once a = refl
-all_put cs ss [] (f ∷ fs) d l once a = absurd a
-all_put cs ss (n ∷ ns) [] d l once a = absurd a
-all_put cs ss (n ∷ ns) (f ∷ fs) d l once a =
-    let s' : ColumnState = committed (get_or ss n no_column) in
-    let ss' : List ColumnState = set ss n s' in (
-      with_points cs (point_maps ss'),
-      (same_names cs ss n s' l, one_committed cs ss n f d l a.0 a.1),
-      all_put cs ss' ns fs d (length-set ss n s' ∙ l) once.1 (aside_others cs ss ns fs n s' once.0 a.2),
-    )
 
 pub all_committed-length : (ss : List ColumnState) (ns : List ℕ) → length (all_committed ss ns) ≡ length ss
 all_committed-length ss [] = refl
@@ -131,7 +117,7 @@ line_columns p (f ∷ fields) d = (λ a. d.0 (text_among p f fields a), line_col
 
 -- ---- points are put in from the left to the right
 
-committed_is : (s t : ColumnState) → IfSome s.aside (λ (p : ℤ × ℤ). t.points ≡ finmap.insert s.points p.0 p.1) → IsSome s.aside → t.aside ≡ None → t ≡ committed s
+pub committed_is : (s t : ColumnState) → IfSome s.aside (λ (p : ℤ × ℤ). t.points ≡ finmap.insert s.points p.0 p.1) → IsSome s.aside → t.aside ≡ None → t ≡ committed s
 committed_is s t put is none =
     let points : t.points ≡ with_aside s.points s.aside =
     elim s.aside as (λ a. IfSome a (λ (p : ℤ × ℤ). t.points ≡ finmap.insert s.points p.0 p.1) → IsSome a → t.points ≡ with_aside s.points a) [
@@ -140,7 +126,7 @@ committed_is s t put is none =
     ] put is in
     λ i. record { points = points i; aside = none i }
 
-ready_others : (ss : List ColumnState) (ns : List ℕ) (n : ℕ) (s : ColumnState) → (Among n ns → ⊥) → AreReady ss ns → AreReady (set ss n s) ns
+pub ready_others : (ss : List ColumnState) (ns : List ℕ) (n : ℕ) (s : ColumnState) → (Among n ns → ⊥) → AreReady ss ns → AreReady (set ss n s) ns
 ready_others ss [] n s away r = tt
 ready_others ss (m ∷ ns) n s away r = (
   subst (λ l. m < l) (sym (length-set ss n s)) r.0,
@@ -300,3 +286,16 @@ columns_there cs ss ns [] a f k = absurd k
 columns_there cs ss [] (g ∷ fs) a f k = absurd a
 columns_there cs ss (n ∷ ns) (g ∷ fs) a f k =
     ⊎_elim {C = Among f.column cs} (λ e. subst (λ (x : Fact). Among x.column cs) (sym e) (at_among cs n g.column a.0)) (λ q. columns_there cs ss ns fs a.2 f q) k
+
+-- ---- columns without points
+
+facts_without : (made : List Column) → facts_of (map without_points made) ≡ []
+facts_without [] = refl
+facts_without (c ∷ cs) = facts_without cs
+
+facts-behind : (before after : List ColumnPoints) → facts_of (before ++ after) ≡ facts_of before ++ facts_of after
+facts-behind [] after = refl
+facts-behind (c ∷ cs) after = ap (λ fs. facts_at c.column c.points ++ fs) (facts-behind cs after) ∙ sym (append_assoc (facts_at c.column c.points) (facts_of cs) (facts_of after))
+
+pub same_facts : (before : List ColumnPoints) (made : List Column) → facts_of (with_columns before made) ≡ facts_of before
+same_facts before made = facts-behind before (map without_points made) ∙ ap (λ fs. facts_of before ++ fs) (facts_without made) ∙ append-nil (facts_of before)

@@ -30,11 +30,11 @@ in_column c (p ∷ points) f a =
     ⊎_elim {C = (f.column ≡ c) × Among (f.time, f.value) (p ∷ points)} (λ e. (ap (λ (x : Fact). x.column) e, inl (ap (λ (x : Fact). (x.time, x.value)) e)))
     (λ k. let r = in_column c points f k in (r.0, inr r.1)) a
 
-to_column : (c : Column) (points : List (ℤ × ℤ)) (p : ℤ × ℤ) → Among p points → Among (fact_at c p) (map (fact_at c) points)
+pub to_column : (c : Column) (points : List (ℤ × ℤ)) (p : ℤ × ℤ) → Among p points → Among (fact_at c p) (map (fact_at c) points)
 to_column c [] p a = absurd a
 to_column c (q ∷ points) p a = ⊎_elim {C = Among (fact_at c p) (map (fact_at c) (q ∷ points))} (λ e. inl (ap (fact_at c) e)) (λ k. inr (to_column c points p k)) a
 
-same_as : (c : Column) (f : Fact) → f.column ≡ c → fact_at c (f.time, f.value) ≡ f
+pub same_as : (c : Column) (f : Fact) → f.column ≡ c → fact_at c (f.time, f.value) ≡ f
 same_as c f e = λ i. record { column = sym e i; time = f.time; value = f.value }
 
 distinct_in : (c : Column) (points : List (ℤ × ℤ)) → AllDistinct points → AllDistinct (map (fact_at c) points)

@@ -1,23 +1,26 @@
 -- No cell comes to hold more facts than were accepted, and no more facts are kept than that.
-use Rattle.std.proofs.Common.{◌≡◌, ℕ, ◌+◌, ◌≤◌, ◌^◌, Bool, true, List, [], ◌∷◌, ◌++◌, length, filter, map, refl, ap, subst, inl, inr, ⊎_elim, arith}
+use Rattle.std.proofs.Common.{◌≡◌, ℕ, ℤ, ◌+◌, ◌≤◌, ◌^◌, Bool, true, false, cond, sym, ◌∙◌, List, [], ◌∷◌, ◌++◌, length, filter, map, refl, ap, subst, inl, inr, ⊎_elim, arith}
 use Rattle.std.specs.FinMap as finmap
 use Rattle.std.specs.FinMap.{get-empty}
-use Rattle.std.proofs.lemmas.List.{length-append}
+use Rattle.std.proofs.lemmas.List.{length-append, length-map}
 use Rattle.ts_core.specs.Members.{Among, AllDistinct}
 use Rattle.ts_core.specs.Facts.{Fact}
 use Rattle.ts_core.specs.Settings.{Rule, Settings}
-use Rattle.ts_core.specs.History.{History}
+use Rattle.ts_core.specs.History.{History, accepted}
 use Rattle.ts_core.specs.Latest.{latest_of}
-use Rattle.ts_core.specs.Aggregates.{empty_aggregate}
-use Rattle.ts_core.specs.Cells.{cell_cmp, is_in_cell}
+use Rattle.ts_core.specs.Aggregates.{Aggregate}
+use Rattle.ts_core.specs.Cells.{Cell, cell_cmp, cell_of, is_rolled, is_in_cell, total_of}
 use Rattle.ts_core.specs.Changes.{or_else}
 use Rattle.ts_core.specs.MergeLaws.{aggregate_laws}
-use Rattle.ts_core.specs.StoreStates.{ColumnPoints, StandsFor, facts_of}
-use Rattle.ts_core.specs.StoreData.{FrozenCells, StoreData, state_of}
-use Rattle.ts_core.specs.StoreMoves.{Puts, PutsFacts, HaveRoom}
+use Rattle.ts_core.specs.StoreStates.{ColumnPoints, CellParts, StandsFor, facts_of, rule_of, lowest_of}
+use Rattle.ts_core.specs.TwoParts.{with_live}
+use Rattle.ts_core.specs.StoreData.{CellMap, StoreData, no_parts, rules_of, state_of}
+use Rattle.ts_core.specs.StoreMoves.{Puts, refolded, put_cell, put_cells, PutsFacts, HaveRoom}
 use Rattle.ts_core.proofs.MembersLemmas.{Split, split_at, out_of_middle, Among-filter_was, Among-filter_passes, Among-filter_stays, AllDistinct-filter}
 use Rattle.ts_core.proofs.Cuts.{one_fact}
+use Rattle.ts_core.proofs.Freezing.{frozen_in, changed_as}
 use Rattle.ts_core.proofs.Folds.{fold-count}
+use Rattle.ts_core.proofs.Latests.{latest-was}
 use Rattle.ts_core.proofs.StateLemmas.{StandsFor-Holds}
 use Rattle.ts_core.proofs.StepStands.{few_accepted, count_few}
 use Rattle.ts_store.specs.CellCounts.{frozen_count, live_count, HoldFew}
@@ -43,45 +46,68 @@ puts_one p before after f put =
     (λ g a. ⊎_elim {C = Among g (f ∷ filter p before)} (λ e. inl e) (λ k. inr (Among-filter_stays p g before k.0 (Among-filter_passes p g after a))) (put.only g (Among-filter_was p g after a))) in
     omega (arith, l)
 
-puts_all : (p : Fact → Bool) (before after : List ColumnPoints) (fs : List Fact) → PutsFacts before after fs → length (filter p (facts_of after)) ≤ length (filter p (facts_of before)) + length fs
-puts_all p before after [] put = let e = ap (λ (cs : List ColumnPoints). length (filter p (facts_of cs))) put in omega (arith, e)
-puts_all p before after (f ∷ fs) put =
+puts_all : (p : Fact → Bool) (rs : List Rule) (before : List ColumnPoints) (ms : List CellMap) (after : List ColumnPoints) (ns : List CellMap) (fs : List Fact) → PutsFacts rs before ms after ns fs → length (filter p (facts_of after)) ≤ length (filter p (facts_of before)) + length fs
+puts_all p rs before ms after ns [] put = let e = ap (λ (cs : List ColumnPoints). length (filter p (facts_of cs))) put.0 in omega (arith, e)
+puts_all p rs before ms after ns (f ∷ fs) put =
     let one = puts_one p (facts_of before) (facts_of put.0) f put.1.1 in
-    let all = puts_all p put.0 after fs put.2 in
+    let all = puts_all p rs put.0 (put_cells rs f (facts_of put.0) ms) after ns fs put.2 in
     omega (arith, one, all)
 
 -- ---- the cells of each rule
 
--- facts are put in
-pub counts-put : (n : ℕ) (before after : List ColumnPoints) (fs : List Fact) → PutsFacts before after fs → (rs : List Rule) (ms : List FrozenCells) → HoldFew n before rs ms → HoldFew (n + length fs) after rs ms
-counts-put n before after fs put [] ms few = tt
-counts-put n before after fs put (r ∷ rs) [] few = tt
-counts-put n before after fs put (r ∷ rs) (m ∷ ms) few = (
-  λ k. let more = puts_all (is_in_cell r k) before after fs put in let all = few.0 k in omega (arith, more, all),
-  counts-put n before after fs put rs ms few.1,
+-- a fact that is put into its cell leaves the frozen parts
+frozen_put : (r : Rule) (f : Fact) (facts : List Fact) (m : CellMap) (k : Cell) → frozen_count (put_cell r f facts m) k ≡ frozen_count m k
+frozen_put r f facts m k =
+    elim (is_rolled r f) as (λ b. frozen_count (cond b (refolded r (cell_of r f) facts m) m) k ≡ frozen_count m k) [
+      | true ↦ ap (λ (a : Aggregate). a.count) (changed_as frozen_in (with_live (total_of r (cell_of r f) facts)) (λ a. refl) m (cell_of r f) k)
+      | false ↦ refl
+    ]
+
+counts-one : (n : ℕ) (before after : List ColumnPoints) (f : Fact) → Puts (facts_of before) (facts_of after) f → (rs : List Rule) (ms : List CellMap) → HoldFew n before rs ms → HoldFew (n + 1) after rs (put_cells rs f (facts_of after) ms)
+counts-one n before after f put [] ms few = tt
+counts-one n before after f put (r ∷ rs) [] few = tt
+counts-one n before after f put (r ∷ rs) (m ∷ ms) few = (
+  λ k. let more = puts_one (is_in_cell r k) (facts_of before) (facts_of after) f put in let same = frozen_put r f (facts_of after) m k in let all = few.0 k in omega (arith, more, same, all),
+  counts-one n before after f put rs ms few.1,
 )
 
+-- facts are put in
+pub counts-put : (n : ℕ) (rs : List Rule) (before : List ColumnPoints) (ms : List CellMap) (after : List ColumnPoints) (ns : List CellMap) (fs : List Fact) → PutsFacts rs before ms after ns fs → HoldFew n before rs ms → HoldFew (n + length fs) after rs ns
+counts-put n rs before ms after ns [] put few = subst (λ (k : ℕ). HoldFew k after rs ns) (let e : n ≡ n + 0 = omega arith in e) (subst (λ (cs : List ColumnPoints). HoldFew n cs rs ns) (sym put.0) (subst (HoldFew n before rs) (sym put.1) few))
+counts-put n rs before ms after ns (f ∷ fs) put few =
+    subst (λ (k : ℕ). HoldFew k after rs ns) (let e : n + 1 + length fs ≡ n + length (f ∷ fs) = omega arith in e)
+    (counts-put (n + 1) rs put.0 (put_cells rs f (facts_of put.0) ms) after ns fs put.2 (counts-one n before put.0 f put.1.1 rs ms few))
+
 -- columns and cells are made, without facts
-pub counts-grown : (n : ℕ) (before after : List ColumnPoints) → facts_of after ≡ facts_of before → (facts : List Fact) (rs : List Rule) (ms ns : List FrozenCells) → HaveRoom rs facts ms ns → HoldFew n before rs ms → HoldFew n after rs ns
-counts-grown n before after same facts [] ms ns room few = tt
-counts-grown n before after same facts (r ∷ rs) ms [] room few = tt
-counts-grown n before after same facts (r ∷ rs) [] (x ∷ ns) room few = absurd room
-counts-grown n before after same facts (r ∷ rs) (m ∷ ms) (x ∷ ns) room few = (
+pub counts-grown : (n : ℕ) (before after : List ColumnPoints) → facts_of after ≡ facts_of before → (facts : List Fact) (rs : List Rule) (lows : List ℤ) (ms ns : List CellMap) → length lows ≡ length rs → HaveRoom rs lows facts ms ns → HoldFew n before rs ms → HoldFew n after rs ns
+counts-grown n before after same facts [] lows ms ns l room few = tt
+counts-grown n before after same facts (r ∷ rs) lows ms [] l room few = tt
+counts-grown n before after same facts (r ∷ rs) lows [] (x ∷ ns) l room few = absurd room
+counts-grown n before after same facts (r ∷ rs) [] (m ∷ ms) (x ∷ ns) l room few = absurd (omega (arith, l))
+counts-grown n before after same facts (r ∷ rs) (low ∷ lows) (m ∷ ms) (x ∷ ns) l room few = (
   λ k.
-      let frozen : frozen_count x k ≡ frozen_count m k = ap (λ a. a.count) (room.0.parts k) in
+      let frozen : frozen_count x k ≡ frozen_count m k = ap (λ (a : CellParts). a.frozen.count) (room.0.parts k) in
       let live : live_count r k after ≡ live_count r k before = ap (λ fs. length (filter (is_in_cell r k) fs)) same in
       let all = few.0 k in
       omega (arith, frozen, live, all),
-  counts-grown n before after same facts rs ms ns room.1 few.1,
+  counts-grown n before after same facts rs lows ms ns (omega (arith, l)) room.1 few.1,
 )
 
 -- nothing is there yet
 pub counts-new : (rs : List Rule) → HoldFew 0 [] rs (map (λ (r : Rule). finmap.empty) rs)
 counts-new [] = tt
 counts-new (r ∷ rs) = (
-  λ k. let none : frozen_count finmap.empty k ≡ 0 = ap (λ o. (or_else empty_aggregate o).count) (get-empty cell_cmp k) in omega (arith, none),
+  λ k. let none : frozen_count finmap.empty k ≡ 0 = ap (λ o. (or_else no_parts o).frozen.count) (get-empty cell_cmp k) in omega (arith, none),
   counts-new rs,
 )
+
+-- ---- how many rules and low indices there are
+
+pub rules-length : (opening : Settings) (h : History) (k : StoreData) → StandsFor opening h (state_of k) → length (rules_of k.settings.rules k.marks.lows k.cells) ≡ length k.settings.rules
+rules-length opening h k st = sym (length-map (rules_of k.settings.rules k.marks.lows k.cells) rule_of) ∙ ap length st.rules
+
+pub lows-length : (opening : Settings) (h : History) (k : StoreData) → StandsFor opening h (state_of k) → length k.marks.lows ≡ length k.settings.rules
+lows-length opening h k st = sym (ap (λ (xs : List ℤ). length xs) st.lows) ∙ length-map (rules_of k.settings.rules k.marks.lows k.cells) lowest_of ∙ rules-length opening h k st
 
 -- ---- what a store keeps
 
@@ -99,3 +125,9 @@ facts-few opening h k st =
     let few = count_few opening h st.lawful (λ f. true) in
     let count = fold-count aggregate_laws one_fact (λ f. refl) (filter (λ (f : Fact). true) (latest_of h)) in
     omega (arith, some, few, count, ap length (all_pass (latest_of h)))
+
+pub facts-within : (opening : Settings) (h : History) (k : StoreData) → StandsFor opening h (state_of k) → length (facts_of k.columns) ≤ k.accepted
+facts-within opening h k st =
+    let held = StandsFor-Holds opening h (state_of k) st in
+    let some = length-within (facts_of k.columns) (accepted h) st.once (λ f a. latest-was (accepted h) f (held.only f a).0) in
+    omega (arith, some, st.accepted)

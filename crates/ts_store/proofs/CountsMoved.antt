@@ -3,13 +3,14 @@ use Rattle.std.proofs.Common.{◌≡◌, ℕ, ℤ, ◌+◌, ◌≤◌, ◌^◌, 
 use Rattle.ts_core.specs.Members.{Among, AllDistinct}
 use Rattle.ts_core.specs.Facts.{Column, Fact, same_text}
 use Rattle.ts_core.specs.Settings.{Rule}
-use Rattle.ts_core.specs.Aggregates.{aggregate_of_one}
+use Rattle.ts_core.specs.Aggregates.{Aggregate, aggregate_of_one}
 use Rattle.ts_core.specs.Cells.{Cell, same_cell, cell_of, is_in_cell}
 use Rattle.ts_core.specs.Changes.{changed}
 use Rattle.ts_core.specs.StoreStates.{ColumnPoints, column_of, fact_at, facts_at, facts_of}
-use Rattle.ts_core.specs.StoreData.{FrozenCells}
-use Rattle.ts_core.specs.StoreMoves.{frozen_with, frozen_points, frozen_column, frozen_all, points_below, kept_points}
-use Rattle.ts_core.proofs.Freezing.{gone_held}
+use Rattle.ts_core.specs.StoreData.{CellMap}
+use Rattle.ts_core.specs.StoreMoves.{frozen_with, frozen_points, refolded_points, moved_cells, all_moved, points_below, kept_points}
+use Rattle.ts_core.specs.TwoParts.{in_frozen}
+use Rattle.ts_core.proofs.Freezing.{gone_held, refolded_frozen}
 use Rattle.ts_core.proofs.Moves.{is_left}
 use Rattle.ts_core.proofs.RunSteps.{facts_of-left}
 use Rattle.ts_store.specs.CellCounts.{frozen_count, live_count, HoldFew}
@@ -18,20 +19,23 @@ use Rattle.ts_store.proofs.PointsFrozen.{frozen_most, first_in}
 
 -- ---- the frozen part
 
-points_most : (r : Rule) (c : Column) (ps : List (ℤ × ℤ)) (m : FrozenCells) (k : Cell) → same_text c.series.measurement r.measurement ≡ true → frozen_count (frozen_points r c ps m) k ≤ frozen_count m k + points_in_cell r c k ps
+points_most : (r : Rule) (c : Column) (ps : List (ℤ × ℤ)) (m : CellMap) (k : Cell) → same_text c.series.measurement r.measurement ≡ true → frozen_count (frozen_points r c ps m) k ≤ frozen_count m k + points_in_cell r c k ps
 points_most r c [] m k t = omega arith
 points_most r c (p ∷ ps) m k t =
     let q : Cell = cell_of r (fact_at c p) in
-    let n : FrozenCells = changed m q (frozen_with (aggregate_of_one p.0 p.1)) in
+    let n : CellMap = changed m q (in_frozen (frozen_with (aggregate_of_one p.0 p.1))) in
     let rest : frozen_count (frozen_points r c ps n) k ≤ frozen_count n k + points_in_cell r c k ps = points_most r c ps n k t in
     let one : frozen_count n k ≤ frozen_count m k + cond {A = ℕ} (same_cell k q) 1 0 = frozen_most m q (aggregate_of_one p.0 p.1) k in
     let first : points_in_cell r c k (p ∷ ps) ≡ cond {A = ℕ} (same_cell k q) 1 0 + points_in_cell r c k ps = first_in r c k p ps t in
     omega arith
 
-column_most : (r : Rule) (c : Column) (ps : List (ℤ × ℤ)) (m : FrozenCells) (k : Cell) → frozen_count (frozen_column r c ps m) k ≤ frozen_count m k + points_in_cell r c k ps
-column_most r c ps m k =
-    elim (same_text c.series.measurement r.measurement) as (λ b. same_text c.series.measurement r.measurement ≡ b → frozen_count (cond b (frozen_points r c ps m) m) k ≤ frozen_count m k + points_in_cell r c k ps) [
-      | true ↦ λ t. points_most r c ps m k t
+column_most : (r : Rule) (c : Column) (ps : List (ℤ × ℤ)) (facts : List Fact) (m : CellMap) (k : Cell) → frozen_count (moved_cells r c ps facts m) k ≤ frozen_count m k + points_in_cell r c k ps
+column_most r c ps facts m k =
+    elim (same_text c.series.measurement r.measurement) as (λ b. same_text c.series.measurement r.measurement ≡ b → frozen_count (cond b (refolded_points r c ps facts (frozen_points r c ps m)) m) k ≤ frozen_count m k + points_in_cell r c k ps) [
+      | true ↦ λ t.
+          let same : frozen_count (refolded_points r c ps facts (frozen_points r c ps m)) k ≡ frozen_count (frozen_points r c ps m) k = ap (λ (a : Aggregate). a.count) (refolded_frozen r c k facts ps (frozen_points r c ps m)) in
+          let most = points_most r c ps m k t in
+          omega (arith, same, most)
       | false ↦ λ t. omega arith
     ] refl
 
@@ -69,18 +73,18 @@ live_moved r k mark s cs once there =
 -- ---- under each rule
 
 module _ (n : ℕ) (mark : ℤ) (s : ColumnPoints) (cs : List ColumnPoints) (once : AllDistinct (map column_of cs)) (there : Among s cs) where
-  pub counts-fit : n ≤ 2 ^ 62 → (rs : List Rule) (ms : List FrozenCells) → HoldFew n cs rs ms → FreezeFit rs s.column (points_below mark s.points) ms
+  pub counts-fit : n ≤ 2 ^ 62 → (rs : List Rule) (ms : List CellMap) → HoldFew n cs rs ms → FreezeFit rs s.column (points_below mark s.points) ms
   counts-fit most [] ms few = tt
   counts-fit most (r ∷ rs) [] few = tt
   counts-fit most (r ∷ rs) (m ∷ ms) few = (λ k. let moved = live_moved r k mark s cs once there in let all = few.0 k in omega arith, counts-fit most rs ms few.1)
 
-  pub counts-moved : (rs : List Rule) (ms : List FrozenCells) → HoldFew n cs rs ms → HoldFew n (map (kept_points s.column mark) cs) rs (frozen_all rs s.column (points_below mark s.points) ms)
+  pub counts-moved : (rs : List Rule) (ms : List CellMap) → HoldFew n cs rs ms → HoldFew n (map (kept_points s.column mark) cs) rs (all_moved rs s.column (points_below mark s.points) (facts_of (map (kept_points s.column mark) cs)) ms)
   counts-moved [] ms few = tt
   counts-moved (r ∷ rs) [] few = tt
   counts-moved (r ∷ rs) (m ∷ ms) few = (
     λ k.
         let moved = live_moved r k mark s cs once there in
-        let frozen = column_most r s.column (points_below mark s.points) m k in
+        let frozen = column_most r s.column (points_below mark s.points) (facts_of (map (kept_points s.column mark) cs)) m k in
         let all = few.0 k in
         omega arith,
     counts-moved rs ms few.1,

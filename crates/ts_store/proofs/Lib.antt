@@ -20,6 +20,10 @@ pub mod CountsMoved
 pub mod CountsKept
 -- Seats, LiveCells: what a view lends
 pub mod ShownCells
+pub mod Refolds
+pub mod PointsPut
+pub mod CellsPut
+pub mod LanePoints
 pub mod LiveParts
 pub mod SeatLemmas
 -- StoreFaultTexts

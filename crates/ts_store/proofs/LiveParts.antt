@@ -26,7 +26,7 @@ use Rattle.ts_core.specs.Numbered.{IsAt, numbers_where_from}
 use Rattle.ts_core.proofs.NumberedLemmas.{at_among, same_at}
 use Rattle.ts_store.specs.ColumnsKept.{with_points, point_maps, no_column}
 use Rattle.ts_store.specs.Rollups.{RollupState, IsLaneOf, HaveLanes, lane_under, is_of_lane, columns_of_lane}
-use Rattle.ts_store.specs.LiveCells.{points_in}
+use Rattle.ts_store.specs.LivePoints.{points_in}
 
 -- ---- the cell of a point
 

@@ -9,8 +9,9 @@ use Rattle.ts_core.specs.Aggregates.{Aggregate, empty_aggregate, merged, aggrega
 use Rattle.ts_core.specs.MergeLaws.{aggregate_laws}
 use Rattle.ts_core.specs.Cells.{Cell, same_cell, cell_of, is_in_cell}
 use Rattle.ts_core.specs.Changes.{changed, or_else}
-use Rattle.ts_core.specs.StoreStates.{fact_at}
-use Rattle.ts_core.specs.StoreData.{FrozenCells}
+use Rattle.ts_core.specs.StoreStates.{CellParts, fact_at}
+use Rattle.ts_core.specs.TwoParts.{in_frozen}
+use Rattle.ts_core.specs.StoreData.{CellMap, no_parts}
 use Rattle.ts_core.specs.StoreMoves.{frozen_with, frozen_points}
 use Rattle.ts_core.proofs.Freezing.{frozen_with-fits}
 use Rattle.ts_core.proofs.PieceCells.{cells_total, exact_cells, same_cell-eq, same_cell-refl}
@@ -29,90 +30,96 @@ empty_behind a = aggregate_laws.comm a empty_aggregate ∙ aggregate_laws.unit a
 frozen_with-empty : (a : Aggregate) → frozen_with empty_aggregate a ≡ a
 frozen_with-empty a = elim (nat_lt (2 ^ 62) (a.count + 0)) as (λ b. cond b a (merged a empty_aggregate) ≡ a) [ true ↦ refl | false ↦ empty_behind a ]
 
+parts-empty : (a : CellParts) → in_frozen (frozen_with empty_aggregate) a ≡ a
+parts-empty a = λ i. record { frozen = frozen_with-empty a.frozen i; live = a.live }
+
 -- no points change nothing
-pub changed-empty : (m : FrozenCells) (q : Cell) → changed m q (frozen_with empty_aggregate) ≡ m
+pub changed-empty : (m : CellMap) (q : Cell) → changed m q (in_frozen (frozen_with empty_aggregate)) ≡ m
 changed-empty m q =
-    same_map cells_total exact_cells (changed m q (frozen_with empty_aggregate)) m (λ k.
-    get-changed m q (frozen_with empty_aggregate) k
-    ∙ elim (same_cell k q) as (λ b. same_cell k q ≡ b → cond b (option_map (frozen_with empty_aggregate) (finmap.get m q)) (finmap.get m k) ≡ finmap.get m k) [
-      | true ↦ λ e. elim (finmap.get m q) as (λ o. finmap.get m q ≡ o → option_map (frozen_with empty_aggregate) o ≡ finmap.get m k) [
+    same_map cells_total exact_cells (changed m q (in_frozen (frozen_with empty_aggregate))) m (λ k.
+    get-changed m q (in_frozen (frozen_with empty_aggregate)) k
+    ∙ elim (same_cell k q) as (λ b. same_cell k q ≡ b → cond b (option_map (in_frozen (frozen_with empty_aggregate)) (finmap.get m q)) (finmap.get m k) ≡ finmap.get m k) [
+      | true ↦ λ e. elim (finmap.get m q) as (λ o. finmap.get m q ≡ o → option_map (in_frozen (frozen_with empty_aggregate)) o ≡ finmap.get m k) [
         | None ↦ λ g. sym g ∙ ap (finmap.get m) (sym (same_cell-eq k q e))
-        | Some a ↦ λ g. ap Some (frozen_with-empty a) ∙ sym g ∙ ap (finmap.get m) (sym (same_cell-eq k q e))
+        | Some a ↦ λ g. ap Some (parts-empty a) ∙ sym g ∙ ap (finmap.get m) (sym (same_cell-eq k q e))
       ] refl
       | false ↦ λ e. refl
     ] refl)
 
 -- one part after another, where they fit
-changed-twice : (m : FrozenCells) (q : Cell) (part one : Aggregate) → frozen_count m q + part.count + one.count ≤ 2 ^ 62
-    → changed (changed m q (frozen_with part)) q (frozen_with one) ≡ changed m q (frozen_with (merged part one))
+changed-twice : (m : CellMap) (q : Cell) (part one : Aggregate) → frozen_count m q + part.count + one.count ≤ 2 ^ 62
+    → changed (changed m q (in_frozen (frozen_with part))) q (in_frozen (frozen_with one)) ≡ changed m q (in_frozen (frozen_with (merged part one)))
 changed-twice m q part one few =
     let both : Aggregate = merged part one in
-    let n : FrozenCells = changed m q (frozen_with part) in
-    same_map cells_total exact_cells (changed n q (frozen_with one)) (changed m q (frozen_with both)) (λ k.
-    get-changed n q (frozen_with one) k
-    ∙ elim (same_cell k q) as (λ b. same_cell k q ≡ b → cond b (option_map (frozen_with one) (finmap.get n q)) (finmap.get n k) ≡ finmap.get (changed m q (frozen_with both)) k) [
+    let n : CellMap = changed m q (in_frozen (frozen_with part)) in
+    same_map cells_total exact_cells (changed n q (in_frozen (frozen_with one))) (changed m q (in_frozen (frozen_with both))) (λ k.
+    get-changed n q (in_frozen (frozen_with one)) k
+    ∙ elim (same_cell k q) as (λ b. same_cell k q ≡ b → cond b (option_map (in_frozen (frozen_with one)) (finmap.get n q)) (finmap.get n k) ≡ finmap.get (changed m q (in_frozen (frozen_with both))) k) [
       | true ↦ λ e.
-          ap (option_map (frozen_with one)) (get-changed m q (frozen_with part) q ∙ ap (λ b. cond b (option_map (frozen_with part) (finmap.get m q)) (finmap.get m q)) (same_cell-refl q))
-          ∙ elim (finmap.get m q) as (λ o. (or_else empty_aggregate o).count + part.count + one.count ≤ 2 ^ 62 → option_map (frozen_with one) (option_map (frozen_with part) o) ≡ option_map (frozen_with both) o) [
+          ap (option_map (in_frozen (frozen_with one))) (get-changed m q (in_frozen (frozen_with part)) q ∙ ap (λ b. cond b (option_map (in_frozen (frozen_with part)) (finmap.get m q)) (finmap.get m q)) (same_cell-refl q))
+          ∙ elim (finmap.get m q) as (λ o. (or_else no_parts o).frozen.count + part.count + one.count ≤ 2 ^ 62 → option_map (in_frozen (frozen_with one)) (option_map (in_frozen (frozen_with part)) o) ≡ option_map (in_frozen (frozen_with both)) o) [
             | None ↦ λ f. refl
             | Some a ↦ λ f.
-                ap Some (ap (frozen_with one) (frozen_with-fits part a (omega arith)) ∙ frozen_with-fits one (merged a part) (omega arith) ∙ aggregate_laws.assoc a part one ∙ sym (frozen_with-fits both a (omega arith)))
+                let z : Aggregate = a.frozen in
+                let same : frozen_with one (frozen_with part z) ≡ frozen_with both z =
+                ap (λ (x : Aggregate). frozen_with one x) (frozen_with-fits part z (omega arith)) ∙ frozen_with-fits one (merged z part) (omega arith) ∙ aggregate_laws.assoc z part one ∙ sym (frozen_with-fits both z (omega arith)) in
+                λ i. Some (record { frozen = same i; live = a.live })
           ] few
-          ∙ sym (get-changed m q (frozen_with both) k ∙ ap (λ b. cond b (option_map (frozen_with both) (finmap.get m q)) (finmap.get m k)) e)
+          ∙ sym (get-changed m q (in_frozen (frozen_with both)) k ∙ ap (λ b. cond b (option_map (in_frozen (frozen_with both)) (finmap.get m q)) (finmap.get m k)) e)
       | false ↦ λ e.
-          get-changed m q (frozen_with part) k ∙ ap (λ b. cond b (option_map (frozen_with part) (finmap.get m q)) (finmap.get m k)) e
-          ∙ sym (get-changed m q (frozen_with both) k ∙ ap (λ b. cond b (option_map (frozen_with both) (finmap.get m q)) (finmap.get m k)) e)
+          get-changed m q (in_frozen (frozen_with part)) k ∙ ap (λ b. cond b (option_map (in_frozen (frozen_with part)) (finmap.get m q)) (finmap.get m k)) e
+          ∙ sym (get-changed m q (in_frozen (frozen_with both)) k ∙ ap (λ b. cond b (option_map (in_frozen (frozen_with both)) (finmap.get m q)) (finmap.get m k)) e)
     ] refl)
 
-joined_most : (part : Aggregate) (o : Option Aggregate) → (or_else empty_aggregate (option_map (frozen_with part) o)).count ≤ (or_else empty_aggregate o).count + part.count
+joined_most : (part : Aggregate) (o : Option CellParts) → (or_else no_parts (option_map (in_frozen (frozen_with part)) o)).frozen.count ≤ (or_else no_parts o).frozen.count + part.count
 joined_most part None = omega arith
-joined_most part (Some a) = elim (nat_lt (2 ^ 62) (a.count + part.count)) as (λ b. (cond b a (merged a part)).count ≤ a.count + part.count) [ true ↦ omega arith | false ↦ omega arith ]
+joined_most part (Some a) = elim (nat_lt (2 ^ 62) (a.frozen.count + part.count)) as (λ b. (cond b a.frozen (merged a.frozen part)).count ≤ a.frozen.count + part.count) [ true ↦ omega arith | false ↦ omega arith ]
 
 -- a cell gains no more than the part has
-pub frozen_most : (m : FrozenCells) (q : Cell) (part : Aggregate) (k : Cell) → frozen_count (changed m q (frozen_with part)) k ≤ frozen_count m k + cond (same_cell k q) part.count 0
+pub frozen_most : (m : CellMap) (q : Cell) (part : Aggregate) (k : Cell) → frozen_count (changed m q (in_frozen (frozen_with part))) k ≤ frozen_count m k + cond (same_cell k q) part.count 0
 frozen_most m q part k =
-    let after : FrozenCells = changed m q (frozen_with part) in
-    let is : finmap.get after k ≡ cond (same_cell k q) (option_map (frozen_with part) (finmap.get m q)) (finmap.get m k) = get-changed m q (frozen_with part) k in
-    let bound : (or_else empty_aggregate (cond (same_cell k q) (option_map (frozen_with part) (finmap.get m q)) (finmap.get m k))).count ≤ frozen_count m k + cond (same_cell k q) part.count 0 =
-    elim (same_cell k q) as (λ b. same_cell k q ≡ b → (or_else empty_aggregate (cond b (option_map (frozen_with part) (finmap.get m q)) (finmap.get m k))).count ≤ frozen_count m k + cond b part.count 0) [
+    let after : CellMap = changed m q (in_frozen (frozen_with part)) in
+    let is : finmap.get after k ≡ cond (same_cell k q) (option_map (in_frozen (frozen_with part)) (finmap.get m q)) (finmap.get m k) = get-changed m q (in_frozen (frozen_with part)) k in
+    let bound : (or_else no_parts (cond (same_cell k q) (option_map (in_frozen (frozen_with part)) (finmap.get m q)) (finmap.get m k))).frozen.count ≤ frozen_count m k + cond (same_cell k q) part.count 0 =
+    elim (same_cell k q) as (λ b. same_cell k q ≡ b → (or_else no_parts (cond b (option_map (in_frozen (frozen_with part)) (finmap.get m q)) (finmap.get m k))).frozen.count ≤ frozen_count m k + cond b part.count 0) [
       | true ↦ λ e.
           let same : frozen_count m k ≡ frozen_count m q = ap (frozen_count m) (same_cell-eq k q e) in
-          let most : (or_else empty_aggregate (option_map (frozen_with part) (finmap.get m q))).count ≤ frozen_count m q + part.count = joined_most part (finmap.get m q) in
+          let most : (or_else no_parts (option_map (in_frozen (frozen_with part)) (finmap.get m q))).frozen.count ≤ frozen_count m q + part.count = joined_most part (finmap.get m q) in
           omega arith
       | false ↦ λ e. omega arith
     ] refl in
-    subst (λ o. (or_else empty_aggregate o).count ≤ frozen_count m k + cond (same_cell k q) part.count 0) (sym is) bound
+    subst (λ o. (or_else no_parts o).frozen.count ≤ frozen_count m k + cond (same_cell k q) part.count 0) (sym is) bound
 
 -- ---- under the lanes of a rule, which stay
 
-pub lanes_stay : (before s t : RollupState) (m : FrozenCells) → s ≡ with_frozen s.grid.cells before → t ≡ with_frozen m s → t ≡ with_frozen t.grid.cells before
-lanes_stay before s t m e f = f ∙ ap (with_frozen m) e ∙ ap (λ (x : FrozenCells). with_frozen x before) (sym (ap (λ (x : RollupState). x.grid.cells) f))
+pub lanes_stay : (before s t : RollupState) (m : CellMap) → s ≡ with_frozen s.grid.cells before → t ≡ with_frozen m s → t ≡ with_frozen t.grid.cells before
+lanes_stay before s t m e f = f ∙ ap (with_frozen m) e ∙ ap (λ (x : CellMap). with_frozen x before) (sym (ap (λ (x : RollupState). x.grid.cells) f))
 
 pub frozen_in-lane : (before s : RollupState) (column n : ℕ) (r : Rule) (c : Column) (index : ℤ) (part : Aggregate) → s ≡ with_frozen s.grid.cells before → lane_at before column ≡ Some n → IsLaneOf r c before.grid.lanes (Some n)
-    → frozen_in s (lane_at s column) index part ≡ changed s.grid.cells (cell_at index (lane_under r c)) (frozen_with part)
+    → frozen_in s (lane_at s column) index part ≡ changed s.grid.cells (cell_at index (lane_under r c)) (in_frozen (frozen_with part))
 frozen_in-lane before s column n r c index part e at is =
     let lane : lane_at s column ≡ Some n = ap (λ (x : RollupState). lane_at x column) e ∙ at in
     let key : get_or s.grid.lanes n no_lane ≡ lane_under r c = ap (λ (x : RollupState). get_or x.grid.lanes n no_lane) e ∙ get_or_from_slice_get before.grid.lanes n (lane_under r c) no_lane is.1 in
-    ap (λ o. frozen_in s o index part) lane ∙ ap (λ l. changed s.grid.cells (cell_at index l) (frozen_with part)) key
+    ap (λ o. frozen_in s o index part) lane ∙ ap (λ l. changed s.grid.cells (cell_at index l) (in_frozen (frozen_with part))) key
 
 -- ---- points of a column, of which those of the last bucket are folded and not yet frozen
 
 module _ (r : Rule) (c : Column) where
   -- what is left gives the same end, and fits
-  pub record IsFolded (all : List (ℤ × ℤ)) (before : FrozenCells) (left : List (ℤ × ℤ)) (m : FrozenCells) (q : Cell) (part : Aggregate) : Type 0 where
-    pub same : frozen_points r c left (changed m q (frozen_with part)) ≡ frozen_points r c all before
+  pub record IsFolded (all : List (ℤ × ℤ)) (before : CellMap) (left : List (ℤ × ℤ)) (m : CellMap) (q : Cell) (part : Aggregate) : Type 0 where
+    pub same : frozen_points r c left (changed m q (in_frozen (frozen_with part))) ≡ frozen_points r c all before
     pub fit : (k : Cell) → frozen_count m k + cond (same_cell k q) part.count 0 + points_in_cell r c k left ≤ 2 ^ 62
 
-  pub folded-as : (all : List (ℤ × ℤ)) (before : FrozenCells) (left : List (ℤ × ℤ)) (m m' : FrozenCells) (q q' : Cell) (part part' : Aggregate) → m' ≡ m → q' ≡ q → part' ≡ part
+  pub folded-as : (all : List (ℤ × ℤ)) (before : CellMap) (left : List (ℤ × ℤ)) (m m' : CellMap) (q q' : Cell) (part part' : Aggregate) → m' ≡ m → q' ≡ q → part' ≡ part
       → IsFolded all before left m q part → IsFolded all before left m' q' part'
   folded-as all before left m m' q q' part part' d e f h =
-      subst (λ (x : FrozenCells). IsFolded all before left x q' part') (sym d) (subst (λ (x : Cell). IsFolded all before left m x part') (sym e) (subst (IsFolded all before left m q) (sym f) h))
+      subst (λ (x : CellMap). IsFolded all before left x q' part') (sym d) (subst (λ (x : Cell). IsFolded all before left m x part') (sym e) (subst (IsFolded all before left m q) (sym f) h))
 
   none_folded : (n : ℕ) (b : Bool) → n + cond b 0 0 ≡ n
   none_folded n true = omega arith
   none_folded n false = omega arith
 
-  pub folded-none : (ps : List (ℤ × ℤ)) (m : FrozenCells) (q : Cell) → FreezesFit r c ps m → IsFolded ps m ps m q empty_aggregate
+  pub folded-none : (ps : List (ℤ × ℤ)) (m : CellMap) (q : Cell) → FreezesFit r c ps m → IsFolded ps m ps m q empty_aggregate
   folded-none ps m q f = record {
     same = ap (frozen_points r c ps) (changed-empty m q);
     fit = λ k. let n = none_folded (frozen_count m k) (same_cell k q) in let h = f k in omega arith;
@@ -129,7 +136,7 @@ module _ (r : Rule) (c : Column) where
       ∙ elim (same_cell k q) as (λ b. length (cond b (p ∷ rest) rest) ≡ cond b 1 0 + length rest) [ true ↦ omega arith | false ↦ omega arith ]
 
   -- one more of the same bucket
-  pub folded-more : (all : List (ℤ × ℤ)) (before : FrozenCells) (p : ℤ × ℤ) (left : List (ℤ × ℤ)) (m : FrozenCells) (q : Cell) (part : Aggregate) → same_text c.series.measurement r.measurement ≡ true
+  pub folded-more : (all : List (ℤ × ℤ)) (before : CellMap) (p : ℤ × ℤ) (left : List (ℤ × ℤ)) (m : CellMap) (q : Cell) (part : Aggregate) → same_text c.series.measurement r.measurement ≡ true
       → cell_of r (fact_at c p) ≡ q → IsFolded all before (p ∷ left) m q part → IsFolded all before left m q (merged part (aggregate_of_one p.0 p.1))
   folded-more all before p left m q part t e f =
       let one : Aggregate = aggregate_of_one p.0 p.1 in
@@ -141,7 +148,7 @@ module _ (r : Rule) (c : Column) where
       let d : cond {A = ℕ} (same_cell q q) 1 0 ≡ 1 = ap (λ b. cond {A = ℕ} b 1 0) (same_cell-refl q) in
       omega arith in
       record {
-        same = ap (frozen_points r c left) (sym (changed-twice m q part one here) ∙ ap (λ z. changed (changed m q (frozen_with part)) z (frozen_with one)) (sym e)) ∙ f.same;
+        same = ap (frozen_points r c left) (sym (changed-twice m q part one here) ∙ ap (λ z. changed (changed m q (in_frozen (frozen_with part))) z (in_frozen (frozen_with one))) (sym e)) ∙ f.same;
         fit = λ k. elim (same_cell k q) as (λ b. frozen_count m k + cond b part.count 0 + cond b 1 0 + points_in_cell r c k left ≤ 2 ^ 62 → frozen_count m k + cond b (part.count + 1) 0 + points_in_cell r c k left ≤ 2 ^ 62) [
           | true ↦ λ h. omega arith
           | false ↦ λ h. omega arith
@@ -149,12 +156,12 @@ module _ (r : Rule) (c : Column) where
       }
 
   -- the first of another bucket
-  pub folded-next : (all : List (ℤ × ℤ)) (before : FrozenCells) (p : ℤ × ℤ) (left : List (ℤ × ℤ)) (m : FrozenCells) (q : Cell) (part : Aggregate) → same_text c.series.measurement r.measurement ≡ true
-      → IsFolded all before (p ∷ left) m q part → IsFolded all before left (changed m q (frozen_with part)) (cell_of r (fact_at c p)) (merged empty_aggregate (aggregate_of_one p.0 p.1))
+  pub folded-next : (all : List (ℤ × ℤ)) (before : CellMap) (p : ℤ × ℤ) (left : List (ℤ × ℤ)) (m : CellMap) (q : Cell) (part : Aggregate) → same_text c.series.measurement r.measurement ≡ true
+      → IsFolded all before (p ∷ left) m q part → IsFolded all before left (changed m q (in_frozen (frozen_with part))) (cell_of r (fact_at c p)) (merged empty_aggregate (aggregate_of_one p.0 p.1))
   folded-next all before p left m q part t f =
       let one : Aggregate = aggregate_of_one p.0 p.1 in
       let next : Cell = cell_of r (fact_at c p) in
       record {
-        same = ap (λ (a : Aggregate). frozen_points r c left (changed (changed m q (frozen_with part)) next (frozen_with a))) (aggregate_laws.unit one) ∙ f.same;
+        same = ap (λ (a : Aggregate). frozen_points r c left (changed (changed m q (in_frozen (frozen_with part))) next (in_frozen (frozen_with a)))) (aggregate_laws.unit one) ∙ f.same;
         fit = λ k. let h = f.fit k in let i = first_in k p left t in let n = frozen_most m q part k in omega arith;
       }

@@ -1,6 +1,6 @@
 -- What removing cells below low indices leaves.
 use Rattle.std.proofs.Common.{◌≡◌, ℕ, ℤ, ◌<◌, List, [], ◌∷◌, refl, sym, ◌∙◌, ap, ap₂, subst, inl, inr, arith}
-use Rattle.ts_core.specs.StoreData.{FrozenCells}
+use Rattle.ts_core.specs.StoreData.{CellMap}
 use Rattle.ts_cells.specs.Expiry.{Removes, IsAbove, LosesBelow}
 use Rattle.ts_store.specs.Rollups.{RollupState, with_frozen, cells_of}
 use Rattle.ts_store.specs.RollupSteps.{with_frozen_all, FirstLoses}
@@ -15,11 +15,11 @@ pub record IsExpired (low : ℤ) (n : ℕ) (s t : RollupState) : Type 0 where
   pub cells : t ≡ with_frozen t.grid.cells s
   pub below : LosesBelow low n s.grid.cells t.grid.cells
 
-none_gone : (low : ℤ) (n : ℕ) (m after : FrozenCells) → n ≡ 0 → Removes low n m after → after ≡ m
+none_gone : (low : ℤ) (n : ℕ) (m after : CellMap) → n ≡ 0 → Removes low n m after → after ≡ m
 none_gone low n m after e r = let none : Removes low 0 m after = subst (λ k. Removes low k m after) e r in none
 
 same_state : (low : ℤ) (n : ℕ) (s t : RollupState) → n ≡ 0 → IsExpired low n s t → t ≡ s
-same_state low n s t e x = x.cells ∙ ap (λ (m : FrozenCells). with_frozen m s) (none_gone low n s.grid.cells t.grid.cells e x.below.removed)
+same_state low n s t e x = x.cells ∙ ap (λ (m : CellMap). with_frozen m s) (none_gone low n s.grid.cells t.grid.cells e x.below.removed)
 
 pub lanes_first : (low : ℤ) (n : ℕ) (s t : RollupState) (ss all : List RollupState) → all ≡ s ∷ ss → IsExpired low n s t → t ∷ ss ≡ with_frozen_all (t.grid.cells ∷ cells_of ss) all
 lanes_first low n s t ss all e x = ap₂ (λ u us. u ∷ us) x.cells (same_lanes ss) ∙ sym (ap (with_frozen_all (t.grid.cells ∷ cells_of ss)) e)

@@ -5,7 +5,7 @@ use Rattle.std.proofs.Math.Seq.{map-set_same}
 use Rattle.std.proofs.lemmas.Bool.{eqb-true, eqb-false}
 use Rattle.std.proofs.lemmas.List.{append-nil, map-append, map-set, length-set, length_push, length-map, get_or-map, get_or-set_same, get_or-set_other}
 use Rattle.ts_core.specs.Members.{Among, AllDistinct}
-use Rattle.ts_core.specs.Aggregates.{Aggregate}
+use Rattle.ts_core.specs.StoreStates.{CellParts}
 use Rattle.ts_cells.specs.Grids.{Lane, Grid}
 use Rattle.ts_core.specs.Numbered.{Gains, numbers_where}
 use Rattle.ts_raw.proofs.NumbersLaws.{numbers_there}
@@ -55,7 +55,7 @@ module _ (ls : List ColumnList) (i : ℕ) (old new : ColumnList) (is : old ≡ g
   lists_same e = map-set_same (λ (v : ColumnList). v.items) ls i new old (e ∙ ap (λ (v : ColumnList). v.items) is)
 
   -- no list changes where its columns stay
-  pub list_roomed : (before after : Grid Aggregate) (lists : List ColumnList) → new.items ≡ old.items → KeepsLists before lists after ls → KeepsLists before lists after (set ls i new)
+  pub list_roomed : (before after : Grid CellParts) (lists : List ColumnList) → new.items ≡ old.items → KeepsLists before lists after ls → KeepsLists before lists after (set ls i new)
   list_roomed before after lists e k = record {
     each = length-set ls i new ∙ k.each;
     made = k.made;

@@ -6,7 +6,7 @@ use Rattle.ts_core.specs.Members.{Among}
 use Rattle.ts_core.specs.Facts.{Column, Fact}
 use Rattle.ts_core.specs.Settings.{Rule}
 use Rattle.ts_core.specs.StoreStates.{column_of}
-use Rattle.ts_core.specs.StoreData.{FrozenCells}
+use Rattle.ts_core.specs.StoreData.{CellMap}
 use Rattle.ts_core.specs.StoreMoves.{HaveRoom}
 use Rattle.ts_line.specs.Parts.{LinePart, Parts, fact_of, line_facts}
 use Rattle.ts_raw.specs.Columns.{ColumnState}
@@ -40,10 +40,10 @@ aside_at cs ss time (n ∷ ns) [] same a = absurd a
 aside_at cs ss time (n ∷ ns) (f ∷ fs) same a = (a.0, same f (inl refl), aside_at cs ss time ns fs (λ g k. same g (inr k)) a.2)
 
 -- room is made for those that are aside
-pub line_rooms : (rs : List Rule) (cs : List Column) (ss : List ColumnState) (p : Parts) (time : ℤ) (ns : List ℕ) (old : List FrozenCells) (us ts : List RollupState) → AreRollups rs cs us → AreAside cs ss ns (line_facts p) → time ≡ p.time
-    → cells_of us ≡ old → ts ≡ roomed_under rs time ns us → HaveRoom rs (line_facts p) old (cells_of ts)
-line_rooms rs cs ss p time ns old us ts h a at same made =
+pub line_rooms : (rs : List Rule) (lows : List ℤ) (cs : List Column) (ss : List ColumnState) (p : Parts) (time : ℤ) (ns : List ℕ) (old : List CellMap) (us ts : List RollupState) → AreRollups rs cs us → AreAside cs ss ns (line_facts p) → time ≡ p.time
+    → cells_of us ≡ old → ts ≡ roomed_under rs lows time ns us → HaveRoom rs lows (line_facts p) old (cells_of ts)
+line_rooms rs lows cs ss p time ns old us ts h a at same made =
     let fs : List Fact = line_facts p in
-    let rooms : HaveRoom rs fs (cells_of us) (cells_of (roomed_under rs p.time ns us)) = rooms_made rs cs p.time ns fs us h (aside_at cs ss p.time ns fs (line_time p p.fields) a) in
-    subst (λ (ms : List FrozenCells). HaveRoom rs fs ms (cells_of ts)) same
-    (subst (λ (xs : List RollupState). HaveRoom rs fs (cells_of us) (cells_of xs)) (sym (made ∙ ap (λ (t : ℤ). roomed_under rs t ns us) at)) rooms)
+    let rooms : HaveRoom rs lows fs (cells_of us) (cells_of (roomed_under rs lows p.time ns us)) = rooms_made rs lows cs p.time ns fs us h (aside_at cs ss p.time ns fs (line_time p p.fields) a) in
+    subst (λ (ms : List CellMap). HaveRoom rs lows fs ms (cells_of ts)) same
+    (subst (λ (xs : List RollupState). HaveRoom rs lows fs (cells_of us) (cells_of xs)) (sym (made ∙ ap (λ (t : ℤ). roomed_under rs lows t ns us) at)) rooms)

@@ -1,22 +1,24 @@
 -- Room for the cells of facts, made column after column.
-use Rattle.std.proofs.Common.{◌≡◌, Result, Ok, Err, OnErr, ℕ, zero, suc, ℤ, true, false, cond, List, [], ◌∷◌, length, get_or, Option, Some, None, refl, sym, ◌∙◌, ap, subst, inl, ⊎_elim, true≢false, arith}
+use Rattle.std.proofs.Common.{◌≡◌, ◌≤ℤ◌, ◌<ℤ◌, int_lt, Result, Ok, Err, OnErr, ℕ, zero, suc, ℤ, true, false, cond, List, [], ◌∷◌, length, get_or, Option, Some, None, refl, sym, ◌∙◌, ap, subst, inl, ⊎_elim, true≢false, arith}
 use Rattle.std.specs.FinMap as finmap
 use Rattle.std.specs.List.{slice_get}
 use Rattle.std.proofs.lemmas.Option.{get_or_from_slice_get, none-some, same_Some}
 use Rattle.ts_core.specs.Facts.{Column, Fact}
+use Rattle.ts_core.specs.Members.{Among}
 use Rattle.ts_core.specs.Settings.{Rule}
 use Rattle.ts_core.specs.Marks.{index_of}
-use Rattle.ts_core.specs.Aggregates.{empty_aggregate}
 use Rattle.ts_core.specs.Cells.{Cell, cell_of, is_rolled, same_cell}
 use Rattle.ts_core.specs.Changes.{or_else}
-use Rattle.ts_core.specs.StoreData.{FrozenCells}
+use Rattle.ts_core.specs.StoreData.{CellMap, no_parts}
 use Rattle.ts_core.specs.StoreMoves.{HasRoom, HaveRoom}
+use Rattle.std.proofs.lemmas.Int.{ints}
+use Rattle.ts_core.proofs.Comparisons.{lt_from, lt_not, lt_true}
 use Rattle.ts_core.proofs.PieceCells.{same_cell-eq, same_cell-refl}
 use Rattle.ts_cells.specs.CellChanges.{roomy}
 use Rattle.ts_cells.specs.Grids.{Lane, no_lane, cell_at, cell_in}
 use Rattle.ts_cells.proofs.GridMoves.{get-roomy}
 use Rattle.ts_store.specs.Rollups.{RollupState, cells_of, lane_under, IsLaneOf, HaveLanes, AreRollups, with_frozen, roomed_in, lane_at}
-use Rattle.ts_store.specs.Rooms.{roomed_for, roomed_under, KeepLanes}
+use Rattle.ts_store.specs.Rooms.{roomed_for, roomed_from, roomed_under, KeepLanes}
 
 -- the facts are of the columns of these numbers, and of one time
 abbrev pub AreAt : List Column → ℤ → List ℕ → List Fact → Type 0
@@ -27,62 +29,69 @@ AreAt cs time (n ∷ ns) (f ∷ fs) = (slice_get cs n ≡ Some f.column) × (f.t
 
 -- ---- in one map
 
-pub room_same : (r : Rule) (m : FrozenCells) → HasRoom r [] m m
-room_same r m = record { there = λ f a. absurd a; stays = λ k e. e; parts = λ k. refl }
+pub room_same : (r : Rule) (low : ℤ) (m : CellMap) → HasRoom r low [] m m
+room_same r low m = record { there = λ f a. absurd a; stays = λ k e. e; parts = λ k. refl; above = λ k l. refl }
 
-pub room_then : (r : Rule) (fs : List Fact) (m n o : FrozenCells) → HasRoom r [] m n → HasRoom r fs n o → HasRoom r fs m o
-room_then r fs m n o a b = record { there = b.there; stays = λ k e. a.stays k (b.stays k e); parts = λ k. b.parts k ∙ a.parts k }
+pub room_then : (r : Rule) (low : ℤ) (fs : List Fact) (m n o : CellMap) → HasRoom r low [] m n → HasRoom r low fs n o → HasRoom r low fs m o
+room_then r low fs m n o a b = record { there = b.there; stays = λ k e. a.stays k (b.stays k e); parts = λ k. b.parts k ∙ a.parts k; above = λ k l. b.above k l ∙ a.above k l }
 
-room_both : (r : Rule) (f : Fact) (fs : List Fact) (m n o : FrozenCells) → HasRoom r (f ∷ []) m n → HasRoom r fs n o → HasRoom r (f ∷ fs) m o
-room_both r f fs m n o a b = record {
-  there = λ g k rolled none. ⊎_elim {C = ⊥} (λ e. a.there g (inl e) rolled (b.stays (cell_of r g) none)) (λ q. b.there g q rolled none) k;
+pub room_both : (r : Rule) (low : ℤ) (f : Fact) (fs : List Fact) (m n o : CellMap) → HasRoom r low (f ∷ []) m n → HasRoom r low fs n o → HasRoom r low (f ∷ fs) m o
+room_both r low f fs m n o a b = record {
+  there = λ g k rolled l none. ⊎_elim {C = ⊥} (λ e. a.there g (inl e) rolled l (b.stays (cell_of r g) none)) (λ q. b.there g q rolled l none) k;
   stays = λ k e. a.stays k (b.stays k e);
   parts = λ k. b.parts k ∙ a.parts k;
+  above = λ k l. b.above k l ∙ a.above k l;
 }
 
 -- room for a cell
-roomy_room : (r : Rule) (m : FrozenCells) (c : Cell) → HasRoom r [] m (roomy m c empty_aggregate)
-roomy_room r m c =
-    let at : (k : Cell) → finmap.get (roomy m c empty_aggregate) k ≡ cond (same_cell k c) (Some (or_else empty_aggregate (finmap.get m c))) (finmap.get m k) = λ k. get-roomy m c empty_aggregate k in
+roomy_room : (r : Rule) (low : ℤ) (m : CellMap) (c : Cell) → low ≤ℤ c.index → HasRoom r low [] m (roomy m c no_parts)
+roomy_room r low m c above =
+    let at : (k : Cell) → finmap.get (roomy m c no_parts) k ≡ cond (same_cell k c) (Some (or_else no_parts (finmap.get m c))) (finmap.get m k) = λ k. get-roomy m c no_parts k in
     record {
       there = λ f a. absurd a;
-      stays = λ k none. elim (same_cell k c) as (λ b. cond b (Some (or_else empty_aggregate (finmap.get m c))) (finmap.get m k) ≡ None → finmap.get m k ≡ None) [
+      stays = λ k none. elim (same_cell k c) as (λ b. cond b (Some (or_else no_parts (finmap.get m c))) (finmap.get m k) ≡ None → finmap.get m k ≡ None) [
         | true ↦ λ e. cc
         | false ↦ λ e. e
       ] (sym (at k) ∙ none);
-      parts = λ k. ap (or_else empty_aggregate) (at k) ∙ elim (same_cell k c) as (λ b. same_cell k c ≡ b → or_else empty_aggregate (cond b (Some (or_else empty_aggregate (finmap.get m c))) (finmap.get m k)) ≡ or_else empty_aggregate (finmap.get m k)) [
-        | true ↦ λ e. ap (λ q. or_else empty_aggregate (finmap.get m q)) (sym (same_cell-eq k c e))
+      parts = λ k. ap (or_else no_parts) (at k) ∙ elim (same_cell k c) as (λ b. same_cell k c ≡ b → or_else no_parts (cond b (Some (or_else no_parts (finmap.get m c))) (finmap.get m k)) ≡ or_else no_parts (finmap.get m k)) [
+        | true ↦ λ e. ap (λ q. or_else no_parts (finmap.get m q)) (sym (same_cell-eq k c e))
+        | false ↦ λ e. refl
+      ] refl;
+      above = λ k l. at k ∙ elim (same_cell k c) as (λ b. same_cell k c ≡ b → cond b (Some (or_else no_parts (finmap.get m c))) (finmap.get m k) ≡ finmap.get m k) [
+        | true ↦ λ e. let same : k.index ≡ c.index = ap (λ (x : Cell). x.index) (same_cell-eq k c e) in absurd (let n : ⊥ = omega (arith, ints, above, l, same) in n)
         | false ↦ λ e. refl
       ] refl;
     }
 
-roomy_there : (m : FrozenCells) (c : Cell) → finmap.get (roomy m c empty_aggregate) c ≡ None → ⊥
+roomy_there : (m : CellMap) (c : Cell) → finmap.get (roomy m c no_parts) c ≡ None → ⊥
 roomy_there m c none =
-    let some : Some (or_else empty_aggregate (finmap.get m c)) ≡ None = sym (get-roomy m c empty_aggregate c ∙ ap (λ b. cond b (Some (or_else empty_aggregate (finmap.get m c))) (finmap.get m c)) (same_cell-refl c)) ∙ none in
+    let some : Some (or_else no_parts (finmap.get m c)) ≡ None = sym (get-roomy m c no_parts c ∙ ap (λ b. cond b (Some (or_else no_parts (finmap.get m c))) (finmap.get m c)) (same_cell-refl c)) ∙ none in
     cc
 
 -- ---- under a rule
 
-pub roomed_room : (r : Rule) (s : RollupState) (o : Option ℕ) (index : ℤ) → HasRoom r [] s.grid.cells (roomed_in s o index)
-roomed_room r s None index = room_same r s.grid.cells
-roomed_room r s (Some l) index = roomy_room r s.grid.cells (cell_in s.grid.lanes index l)
+pub roomed_room : (r : Rule) (low : ℤ) (s : RollupState) (o : Option ℕ) (index : ℤ) → low ≤ℤ index → HasRoom r low [] s.grid.cells (roomed_in s o index)
+roomed_room r low s None index above = room_same r low s.grid.cells
+roomed_room r low s (Some l) index above = roomy_room r low s.grid.cells (cell_in s.grid.lanes index l) above
 
 -- of the lane of a column, for its facts
-lane_room : (r : Rule) (s : RollupState) (o : Option ℕ) (f : Fact) → IsLaneOf r f.column s.grid.lanes o → HasRoom r (f ∷ []) s.grid.cells (roomed_in s o (index_of r f.time))
-lane_room r s None f other = record {
-  there = λ g k rolled none. ⊎_elim {C = ⊥} (λ e. true≢false (sym rolled ∙ ap (is_rolled r) e ∙ other)) (λ q. q) k;
+lane_room : (r : Rule) (low : ℤ) (s : RollupState) (o : Option ℕ) (f : Fact) → low ≤ℤ index_of r f.time → IsLaneOf r f.column s.grid.lanes o → HasRoom r low (f ∷ []) s.grid.cells (roomed_in s o (index_of r f.time))
+lane_room r low s None f above other = record {
+  there = λ g k rolled l none. ⊎_elim {C = ⊥} (λ e. true≢false (sym rolled ∙ ap (is_rolled r) e ∙ other)) (λ q. q) k;
   stays = λ k e. e;
   parts = λ k. refl;
+  above = λ k l. refl;
 }
-lane_room r s (Some l) f at =
+lane_room r low s (Some l) f above at =
     let cell : Cell = cell_in s.grid.lanes (index_of r f.time) l in
     let same : cell ≡ cell_of r f = ap (cell_at (index_of r f.time)) (get_or_from_slice_get s.grid.lanes l (lane_under r f.column) no_lane at.1) in
-    let room : HasRoom r [] s.grid.cells (roomy s.grid.cells cell empty_aggregate) = roomy_room r s.grid.cells cell in
+    let room : HasRoom r low [] s.grid.cells (roomy s.grid.cells cell no_parts) = roomy_room r low s.grid.cells cell above in
     record {
-      there = λ g k rolled none. ⊎_elim {C = ⊥}
-          (λ e. roomy_there s.grid.cells cell (ap (finmap.get (roomy s.grid.cells cell empty_aggregate)) (same ∙ sym (ap (cell_of r) e)) ∙ none)) (λ q. q) k;
+      there = λ g k rolled low none. ⊎_elim {C = ⊥}
+          (λ e. roomy_there s.grid.cells cell (ap (finmap.get (roomy s.grid.cells cell no_parts)) (same ∙ sym (ap (cell_of r) e)) ∙ none)) (λ q. q) k;
       stays = room.stays;
       parts = room.parts;
+      above = room.above;
     }
 
 -- the lane of a column of a number
@@ -92,40 +101,75 @@ lane_known r lanes (d ∷ cs) [] n c h at = absurd h
 lane_known r lanes (d ∷ cs) (o ∷ os) zero c h at = subst (λ (x : Column). IsLaneOf r x lanes o) (same_Some d c at) h.0
 lane_known r lanes (d ∷ cs) (o ∷ os) (suc n) c h at = lane_known r lanes cs os n c h.1 at
 
-all_roomed : (r : Rule) (cs : List Column) (time : ℤ) (ns : List ℕ) (fs : List Fact) (s : RollupState) → HaveLanes r s.grid.lanes cs s.lanes → AreAt cs time ns fs
-    → HasRoom r fs s.grid.cells (roomed_for (index_of r time) ns s).grid.cells
-all_roomed r cs time [] [] s h a = room_same r s.grid.cells
-all_roomed r cs time [] (f ∷ fs) s h a = absurd a
-all_roomed r cs time (n ∷ ns) [] s h a = absurd a
-all_roomed r cs time (n ∷ ns) (f ∷ fs) s h a =
+all_roomed : (r : Rule) (low : ℤ) (cs : List Column) (time : ℤ) (ns : List ℕ) (fs : List Fact) (s : RollupState) → low ≤ℤ index_of r time → HaveLanes r s.grid.lanes cs s.lanes → AreAt cs time ns fs
+    → HasRoom r low fs s.grid.cells (roomed_for (index_of r time) ns s).grid.cells
+all_roomed r low cs time [] [] s above h a = room_same r low s.grid.cells
+all_roomed r low cs time [] (f ∷ fs) s above h a = absurd a
+all_roomed r low cs time (n ∷ ns) [] s above h a = absurd a
+all_roomed r low cs time (n ∷ ns) (f ∷ fs) s above h a =
     let t : RollupState = with_frozen (roomed_in s (lane_at s n) (index_of r time)) s in
-    let one : HasRoom r (f ∷ []) s.grid.cells t.grid.cells =
-    subst (λ (z : ℤ). HasRoom r (f ∷ []) s.grid.cells (roomed_in s (lane_at s n) (index_of r z))) a.1 (lane_room r s (lane_at s n) f (lane_known r s.grid.lanes cs s.lanes n f.column h a.0)) in
-    room_both r f fs s.grid.cells t.grid.cells (roomed_for (index_of r time) ns t).grid.cells one (all_roomed r cs time ns fs t h a.2)
+    let its : low ≤ℤ index_of r f.time = subst (λ (z : ℤ). low ≤ℤ index_of r z) (sym a.1) above in
+    let one : HasRoom r low (f ∷ []) s.grid.cells t.grid.cells =
+    subst (λ (z : ℤ). HasRoom r low (f ∷ []) s.grid.cells (roomed_in s (lane_at s n) (index_of r z))) a.1 (lane_room r low s (lane_at s n) f its (lane_known r s.grid.lanes cs s.lanes n f.column h a.0)) in
+    room_both r low f fs s.grid.cells t.grid.cells (roomed_for (index_of r time) ns t).grid.cells one (all_roomed r low cs time ns fs t above h a.2)
+
+time_at : (cs : List Column) (time : ℤ) (ns : List ℕ) (fs : List Fact) → AreAt cs time ns fs → (f : Fact) → Among f fs → f.time ≡ time
+time_at cs time ns [] a f k = absurd k
+time_at cs time [] (g ∷ fs) a f k = absurd a
+time_at cs time (n ∷ ns) (g ∷ fs) a f k = ⊎_elim {C = f.time ≡ time} (λ e. ap (λ (x : Fact). x.time) e ∙ a.1) (λ q. time_at cs time ns fs a.2 f q) k
+
+-- below the low index none is needed
+none_roomed : (r : Rule) (low : ℤ) (cs : List Column) (time : ℤ) (ns : List ℕ) (fs : List Fact) (m : CellMap) → index_of r time <ℤ low → AreAt cs time ns fs → HasRoom r low fs m m
+none_roomed r low cs time ns fs m below a = record {
+  there = λ f k rolled l none. let same : index_of r f.time ≡ index_of r time = ap (index_of r) (time_at cs time ns fs a f k) in let n : ⊥ = omega (arith, ints, below, l, same) in n;
+  stays = λ k e. e;
+  parts = λ k. refl;
+  above = λ k l. refl;
+}
+
+from_roomed : (r : Rule) (low : ℤ) (cs : List Column) (time : ℤ) (ns : List ℕ) (fs : List Fact) (s : RollupState) → HaveLanes r s.grid.lanes cs s.lanes → AreAt cs time ns fs
+    → HasRoom r low fs s.grid.cells (roomed_from low (index_of r time) ns s).grid.cells
+from_roomed r low cs time ns fs s h a =
+    elim (int_lt (index_of r time) low) as (λ b. int_lt (index_of r time) low ≡ b → HasRoom r low fs s.grid.cells (cond b s (roomed_for (index_of r time) ns s)).grid.cells) [
+      | true ↦ λ e. none_roomed r low cs time ns fs s.grid.cells (lt_from (index_of r time) low e) a
+      | false ↦ λ e. all_roomed r low cs time ns fs s (lt_not (index_of r time) low e) h a
+    ] refl
 
 -- ---- under each rule
 
-pub rooms_same : (rs : List Rule) (ms : List FrozenCells) → HaveRoom rs [] ms ms
-rooms_same rs [] = tt
-rooms_same [] (m ∷ ms) = tt
-rooms_same (r ∷ rs) (m ∷ ms) = (room_same r m, rooms_same rs ms)
+pub rooms_same : (rs : List Rule) (lows : List ℤ) (ms : List CellMap) → HaveRoom rs lows [] ms ms
+rooms_same rs lows [] = tt
+rooms_same [] lows (m ∷ ms) = tt
+rooms_same (r ∷ rs) [] (m ∷ ms) = tt
+rooms_same (r ∷ rs) (low ∷ lows) (m ∷ ms) = (room_same r low m, rooms_same rs lows ms)
 
-pub rooms_made : (rs : List Rule) (cs : List Column) (time : ℤ) (ns : List ℕ) (fs : List Fact) (ss : List RollupState) → AreRollups rs cs ss → AreAt cs time ns fs
-    → HaveRoom rs fs (cells_of ss) (cells_of (roomed_under rs time ns ss))
-rooms_made [] cs time ns fs [] h a = tt
-rooms_made [] cs time ns fs (s ∷ ss) h a = absurd h
-rooms_made (r ∷ rs) cs time ns fs [] h a = absurd h
-rooms_made (r ∷ rs) cs time ns fs (s ∷ ss) h a = (all_roomed r cs time ns fs s h.0 a, rooms_made rs cs time ns fs ss h.1 a)
+unruled : (lows : List ℤ) (fs : List Fact) (ms : List CellMap) → HaveRoom [] lows fs ms ms
+unruled lows fs [] = tt
+unruled lows fs (m ∷ ms) = tt
 
--- without rules, and without what is kept for them, nothing changes
-pub no_rules : (rs : List Rule) (time : ℤ) (ns : List ℕ) (ss : List RollupState) → length rs ≡ 0 → ss ≡ roomed_under rs time ns ss
-no_rules [] time ns ss e = refl
-no_rules (r ∷ rs) time ns ss e = absurd (omega arith)
+pub rooms_made : (rs : List Rule) (lows : List ℤ) (cs : List Column) (time : ℤ) (ns : List ℕ) (fs : List Fact) (ss : List RollupState) → AreRollups rs cs ss → AreAt cs time ns fs
+    → HaveRoom rs lows fs (cells_of ss) (cells_of (roomed_under rs lows time ns ss))
+rooms_made [] lows cs time ns fs [] h a = tt
+rooms_made [] lows cs time ns fs (s ∷ ss) h a = absurd h
+rooms_made (r ∷ rs) lows cs time ns fs [] h a = absurd h
+rooms_made (r ∷ rs) [] cs time ns fs (s ∷ ss) h a = tt
+rooms_made (r ∷ rs) (low ∷ lows) cs time ns fs (s ∷ ss) h a = (from_roomed r low cs time ns fs s h.0 a, rooms_made rs lows cs time ns fs ss h.1 a)
 
-pub no_rollups : (rs : List Rule) (time : ℤ) (ns : List ℕ) (ss : List RollupState) → length ss ≡ 0 → ss ≡ roomed_under rs time ns ss
-no_rollups [] time ns ss e = refl
-no_rollups (r ∷ rs) time ns [] e = refl
-no_rollups (r ∷ rs) time ns (s ∷ ss) e = absurd (omega arith)
+-- without rules, low indices, or what is kept, nothing changes
+pub no_rules : (rs : List Rule) (lows : List ℤ) (time : ℤ) (ns : List ℕ) (ss : List RollupState) → length rs ≡ 0 → ss ≡ roomed_under rs lows time ns ss
+no_rules [] lows time ns ss e = refl
+no_rules (r ∷ rs) lows time ns ss e = absurd (omega arith)
+
+pub no_lows : (rs : List Rule) (lows : List ℤ) (time : ℤ) (ns : List ℕ) (ss : List RollupState) → length lows ≡ 0 → ss ≡ roomed_under rs lows time ns ss
+no_lows [] lows time ns ss e = refl
+no_lows (r ∷ rs) [] time ns ss e = refl
+no_lows (r ∷ rs) (low ∷ lows) time ns ss e = absurd (omega arith)
+
+pub no_rollups : (rs : List Rule) (lows : List ℤ) (time : ℤ) (ns : List ℕ) (ss : List RollupState) → length ss ≡ 0 → ss ≡ roomed_under rs lows time ns ss
+no_rollups [] lows time ns ss e = refl
+no_rollups (r ∷ rs) [] time ns ss e = refl
+no_rollups (r ∷ rs) (low ∷ lows) time ns [] e = refl
+no_rollups (r ∷ rs) (low ∷ lows) time ns (s ∷ ss) e = absurd (omega arith)
 
 pub lanes_same : (ss : List RollupState) → KeepLanes ss ss
 lanes_same [] = tt
@@ -145,31 +189,51 @@ rollups_stay (r ∷ rs) cs (s ∷ ss) (t ∷ ts) h k = (
 -- ---- step by step
 
 -- room for one column more
-pub next_roomed : (r : Rule) (s t u : RollupState) (index : ℤ) (n : ℕ) → u ≡ with_frozen (roomed_in t (lane_at t n) index) t → t ≡ with_frozen t.grid.cells s → HasRoom r [] s.grid.cells t.grid.cells
-    → (u ≡ with_frozen u.grid.cells s) × HasRoom r [] s.grid.cells u.grid.cells
-next_roomed r s t u index n made kept room =
+pub next_roomed : (r : Rule) (low : ℤ) (s t u : RollupState) (index : ℤ) (n : ℕ) → low ≤ℤ index → u ≡ with_frozen (roomed_in t (lane_at t n) index) t → t ≡ with_frozen t.grid.cells s → HasRoom r low [] s.grid.cells t.grid.cells
+    → (u ≡ with_frozen u.grid.cells s) × HasRoom r low [] s.grid.cells u.grid.cells
+next_roomed r low s t u index n above made kept room =
     let cells : u.grid.cells ≡ roomed_in t (lane_at t n) index = ap (λ (x : RollupState). x.grid.cells) made in (
       made ∙ ap (with_frozen (roomed_in t (lane_at t n) index)) kept ∙ ap (λ m. with_frozen m s) (sym cells),
-      subst (HasRoom r [] s.grid.cells) (sym cells) (room_then r [] s.grid.cells t.grid.cells (roomed_in t (lane_at t n) index) room (roomed_room r t (lane_at t n) index)),
+      subst (HasRoom r low [] s.grid.cells) (sym cells) (room_then r low [] s.grid.cells t.grid.cells (roomed_in t (lane_at t n) index) room (roomed_room r low t (lane_at t n) index above)),
     )
 
 -- without memory for the first rule
-pub room_begins : (r : Rule) (rs rs' : List Rule) (s t : RollupState) (ss ss' : List RollupState) → rs' ≡ r ∷ rs → ss' ≡ s ∷ ss → HasRoom r [] s.grid.cells t.grid.cells
-    → HaveRoom rs' [] (cells_of ss') (cells_of (t ∷ ss))
-room_begins r rs rs' s t ss ss' e f room =
-    subst (λ (qs : List Rule). HaveRoom qs [] (cells_of ss') (cells_of (t ∷ ss))) (sym e)
-    (subst (λ (us : List RollupState). HaveRoom (r ∷ rs) [] (cells_of us) (cells_of (t ∷ ss))) (sym f) (room, rooms_same rs (cells_of ss)))
+pub room_begins : (r : Rule) (low : ℤ) (rs rs' : List Rule) (lows lows' : List ℤ) (s t : RollupState) (ss ss' : List RollupState) → rs' ≡ r ∷ rs → lows' ≡ low ∷ lows → ss' ≡ s ∷ ss → HasRoom r low [] s.grid.cells t.grid.cells
+    → HaveRoom rs' lows' [] (cells_of ss') (cells_of (t ∷ ss))
+room_begins r low rs rs' lows lows' s t ss ss' e d f room =
+    subst (λ (qs : List Rule). HaveRoom qs lows' [] (cells_of ss') (cells_of (t ∷ ss))) (sym e)
+    (subst (λ (ls : List ℤ). HaveRoom (r ∷ rs) ls [] (cells_of ss') (cells_of (t ∷ ss))) (sym d)
+    (subst (λ (us : List RollupState). HaveRoom (r ∷ rs) (low ∷ lows) [] (cells_of us) (cells_of (t ∷ ss))) (sym f) (room, rooms_same rs lows (cells_of ss))))
 
-pub kept_rooms : (r : Rule) (index : ℤ) (ns : List ℕ) (s : RollupState) → HasRoom r [] s.grid.cells (roomed_for index ns s).grid.cells
-kept_rooms r index [] s = room_same r s.grid.cells
-kept_rooms r index (n ∷ ns) s =
-    room_then r [] s.grid.cells (roomed_in s (lane_at s n) index) (roomed_for index (n ∷ ns) s).grid.cells (roomed_room r s (lane_at s n) index) (kept_rooms r index ns (with_frozen (roomed_in s (lane_at s n) index) s))
+pub kept_rooms : (r : Rule) (low index : ℤ) (ns : List ℕ) (s : RollupState) → low ≤ℤ index → HasRoom r low [] s.grid.cells (roomed_for index ns s).grid.cells
+kept_rooms r low index [] s above = room_same r low s.grid.cells
+kept_rooms r low index (n ∷ ns) s above =
+    room_then r low [] s.grid.cells (roomed_in s (lane_at s n) index) (roomed_for index (n ∷ ns) s).grid.cells (roomed_room r low s (lane_at s n) index above) (kept_rooms r low index ns (with_frozen (roomed_in s (lane_at s n) index) s) above)
+
+kept_from : (r : Rule) (low index : ℤ) (ns : List ℕ) (s : RollupState) → HasRoom r low [] s.grid.cells (roomed_from low index ns s).grid.cells
+kept_from r low index ns s =
+    elim (int_lt index low) as (λ b. int_lt index low ≡ b → HasRoom r low [] s.grid.cells (cond b s (roomed_for index ns s)).grid.cells) [
+      | true ↦ λ e. room_same r low s.grid.cells
+      | false ↦ λ e. kept_rooms r low index ns s (lt_not index low e)
+    ] refl
 
 -- without memory for a rule behind the first
-pub room_stays : {T E : Type 0} (result : Result T E) (r : Rule) (rs rs' : List Rule) (time : ℤ) (ns : List ℕ) (s t : RollupState) (ss ss' ts : List RollupState) → rs' ≡ r ∷ rs → ss' ≡ s ∷ ss → t ≡ roomed_for (index_of r time) ns s
-    → OnErr result (HaveRoom rs [] (cells_of ss) (cells_of ts)) → OnErr result (HaveRoom rs' [] (cells_of ss') (cells_of (t ∷ ts)))
-room_stays (Ok x) r rs rs' time ns s t ss ss' ts e f made rooms = tt
-room_stays (Err x) r rs rs' time ns s t ss ss' ts e f made rooms =
-    subst (λ (qs : List Rule). HaveRoom qs [] (cells_of ss') (cells_of (t ∷ ts))) (sym e)
-    (subst (λ (us : List RollupState). HaveRoom (r ∷ rs) [] (cells_of us) (cells_of (t ∷ ts))) (sym f)
-    (subst (λ (u : RollupState). HasRoom r [] s.grid.cells u.grid.cells) (sym made) (kept_rooms r (index_of r time) ns s), rooms))
+pub room_stays : {T E : Type 0} (result : Result T E) (r : Rule) (low : ℤ) (rs rs' : List Rule) (lows lows' : List ℤ) (time : ℤ) (ns : List ℕ) (s t : RollupState) (ss ss' ts : List RollupState) → rs' ≡ r ∷ rs → lows' ≡ low ∷ lows → ss' ≡ s ∷ ss
+    → t ≡ roomed_from low (index_of r time) ns s → OnErr result (HaveRoom rs lows [] (cells_of ss) (cells_of ts)) → OnErr result (HaveRoom rs' lows' [] (cells_of ss') (cells_of (t ∷ ts)))
+room_stays (Ok x) r low rs rs' lows lows' time ns s t ss ss' ts e d f made rooms = tt
+room_stays (Err x) r low rs rs' lows lows' time ns s t ss ss' ts e d f made rooms =
+    subst (λ (qs : List Rule). HaveRoom qs lows' [] (cells_of ss') (cells_of (t ∷ ts))) (sym e)
+    (subst (λ (ls : List ℤ). HaveRoom (r ∷ rs) ls [] (cells_of ss') (cells_of (t ∷ ts))) (sym d)
+    (subst (λ (us : List RollupState). HaveRoom (r ∷ rs) (low ∷ lows) [] (cells_of us) (cells_of (t ∷ ts))) (sym f)
+    (subst (λ (u : RollupState). HasRoom r low [] s.grid.cells u.grid.cells) (sym made) (kept_from r low (index_of r time) ns s), rooms)))
+
+-- by the low index
+pub roomed_above : (low index : ℤ) (ns : List ℕ) (s : RollupState) → low ≤ℤ index → roomed_from low index ns s ≡ roomed_for index ns s
+roomed_above low index ns s above =
+    elim (int_lt index low) as (λ b. int_lt index low ≡ b → cond b s (roomed_for index ns s) ≡ roomed_for index ns s) [
+      | true ↦ λ e. let below : index <ℤ low = lt_from index low e in absurd (let n : ⊥ = omega (arith, ints, above, below) in n)
+      | false ↦ λ e. refl
+    ] refl
+
+pub roomed_below : (low index : ℤ) (ns : List ℕ) (s : RollupState) → index <ℤ low → roomed_from low index ns s ≡ s
+roomed_below low index ns s below = ap (λ b. cond b s (roomed_for index ns s)) (lt_true index low below)

@@ -71,7 +71,7 @@ points-at (c ∷ cs) (m ∷ ms) (suc n) a b l there = points-at cs ms n a b (ome
 
 -- ---- no rules
 
-pub none-shown : (cs : List ColumnPoints) (rs : List Rule) (lows : List ℤ) → map totals_in (rules_of cs rs lows []) ≡ []
+pub none-shown : (cs : List ColumnPoints) (rs : List Rule) (lows : List ℤ) → map totals_in (rules_of rs lows []) ≡ []
 none-shown cs [] lows = refl
 none-shown cs (r ∷ rs) [] = refl
 none-shown cs (r ∷ rs) (low ∷ lows) = refl

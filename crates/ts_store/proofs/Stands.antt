@@ -8,7 +8,7 @@ use Rattle.std.proofs.lemmas.Int.{ints}
 use Rattle.std.proofs.lemmas.Cmp.{tied_itself}
 use Rattle.std.proofs.lemmas.Bool.{or_right}
 use Rattle.std.proofs.lemmas.Option.{none-some}
-use Rattle.std.proofs.lemmas.List.{append-nil, append_assoc, length-append, length-map, take-map, drop-map, take-append-le}
+use Rattle.std.proofs.lemmas.List.{append-nil, length-append, length-map, take-map, drop-map, take-append-le}
 use Rattle.ts_core.specs.Members.{Among, AllDistinct}
 use Rattle.ts_core.specs.Facts.{Text, Series, Column, Fact, series_cmp, is_within}
 use Rattle.ts_core.specs.Settings.{Rule, Settings}
@@ -18,9 +18,10 @@ use Rattle.ts_core.specs.Latest.{latest_of}
 use Rattle.ts_core.specs.Marks.{Marks, marks_of}
 use Rattle.ts_core.specs.RawFacts.{same_column, raw_facts, is_waiting, kept_from}
 use Rattle.ts_core.specs.StoreStates.{ColumnPoints, StandsFor, column_of, fact_at, facts_at, facts_of}
-use Rattle.ts_core.specs.StoreData.{FrozenCells, StoreData, state_of, new_data}
+use Rattle.ts_core.specs.StoreData.{CellMap, StoreData, state_of, new_data, AreLive}
 use Rattle.ts_core.proofs.StoreNew.{new_stands_for}
-use Rattle.ts_core.specs.StoreMoves.{PutsFacts, HaveRoom}
+use Rattle.ts_core.specs.StoreMoves.{put_cells, PutsFacts, HaveRoom}
+use Rattle.ts_core.proofs.LivesKept.{no_live, lives_line, lives_grow}
 use Rattle.ts_core.proofs.Ids.{series_total, exact_series, equal_of}
 use Rattle.ts_core.proofs.MembersLemmas.{Among-left, Among-right, Among-map, Among-filter_passes, Among-filter_was, Among-filter_stays, AllDistinct-filter}
 use Rattle.ts_core.proofs.Folds.{length-same}
@@ -36,9 +37,9 @@ use Rattle.ts_core.specs.SettingsFaults.{unless, settings_fault}
 use Rattle.ts_line.specs.Parts.{LinePart, Parts, series_of, fact_of, line_facts as line_facts}
 use Rattle.ts_core.specs.Numbered.{IsAt}
 use Rattle.ts_core.proofs.NumberedLemmas.{at_among}
-use Rattle.ts_store.specs.ColumnsKept.{Held, AreKnown}
+use Rattle.ts_store.specs.ColumnsKept.{Held}
 use Rattle.ts_store.specs.PointsRead.{points_between, AreLatestOf}
-use Rattle.ts_store.specs.Registered.{new_columns, without_points, with_columns}
+use Rattle.ts_store.specs.Registered.{new_columns, with_columns}
 use Rattle.ts_store.specs.declared.fault.WriteFault.{WriteFault}
 use Rattle.ts_store.specs.declared.fault.WriteFault.TheVariants.{BelowRawMark, TooManySeries, TooManyFacts}
 use Rattle.ts_store.specs.Refusals.{is_registered, is_too_many, write_fault}
@@ -46,10 +47,11 @@ use Rattle.ts_store.specs.OpenRuns.{Run, waiting_in, kept_data, IsKept}
 use Rattle.ts_store.specs.CellCounts.{HoldFew}
 use Rattle.ts_store.specs.Rollups.{new_rollup, AreRollups, cells_of}
 use Rattle.ts_store.specs.LinesInColumns.{PutsLine, GrowsForLine}
+use Rattle.ts_store.specs.LivePuts.{StayLive}
 use Rattle.ts_store.specs.LinesPut.{Accepts, Leaves}
-use Rattle.ts_store.proofs.ColumnsAside.{names_with}
+use Rattle.ts_store.proofs.ColumnsAside.{names_with, same_facts}
 use Rattle.ts_store.proofs.ColumnsLemmas.{in_column}
-use Rattle.ts_store.proofs.CountsKept.{counts-put, counts-grown, counts-new}
+use Rattle.ts_store.proofs.CountsKept.{counts-put, counts-grown, counts-new, lows-length}
 
 -- ---- columns that wait
 
@@ -94,17 +96,6 @@ waiting_more (Some run) before after made more within =
 
 -- ---- columns without points
 
-facts_without : (made : List Column) → facts_of (map without_points made) ≡ []
-facts_without [] = refl
-facts_without (c ∷ cs) = facts_without cs
-
-facts-behind : (before after : List ColumnPoints) → facts_of (before ++ after) ≡ facts_of before ++ facts_of after
-facts-behind [] after = refl
-facts-behind (c ∷ cs) after = ap (λ fs. facts_at c.column c.points ++ fs) (facts-behind cs after) ∙ sym (append_assoc (facts_at c.column c.points) (facts_of cs) (facts_of after))
-
-same_facts : (before : List ColumnPoints) (made : List Column) → facts_of (with_columns before made) ≡ facts_of before
-same_facts before made = facts-behind before (map without_points made) ∙ ap (λ fs. facts_of before ++ fs) (facts_without made) ∙ append-nil (facts_of before)
-
 names_stay : (before : List ColumnPoints) (made : List Column) (c : Column) → Among c (map column_of before) → Among c (map column_of (with_columns before made))
 names_stay before made c a = subst (Among c) (sym (names_with before made)) (Among-left c (map column_of before) made a)
 
@@ -115,7 +106,7 @@ new_rollups (r ∷ rs) = (tt, new_rollups rs)
 
 new_cells : (rs : List Rule) → cells_of (replicate (length rs) new_rollup) ≡ map (λ (r : Rule). finmap.empty) rs
 new_cells [] = refl
-new_cells (r ∷ rs) = ap (λ (ms : List FrozenCells). finmap.empty ∷ ms) (new_cells rs)
+new_cells (r ∷ rs) = ap (λ (ms : List CellMap). finmap.empty ∷ ms) (new_cells rs)
 
 -- no columns, under these rules
 abbrev pub held_new : Settings → Held
@@ -134,43 +125,57 @@ kept_new settings marks held well m h =
       rollups = subst (λ (x : Held). AreRollups rs (map column_of x.columns) x.rollups) (sym h) (new_rollups rs);
       few = tt;
       counts = subst (λ (x : Held). HoldFew 0 x.columns rs (cells_of x.rollups)) (sym h) (subst (λ ms. HoldFew 0 [] rs ms) (sym (new_cells rs)) (counts-new rs));
+      live = subst (λ (x : Held). AreLive x.columns rs (cells_of x.rollups)) (sym h) (subst (λ ms. AreLive [] rs ms) (sym (new_cells rs)) (no_live [] rs));
       reached = record { opening = settings; history = []; stands = stands };
     }
 
--- a store of these parts, in which these columns wait
-abbrev waits : Settings → Marks → ℕ → Held → Option Run → List Column → StoreData
-waits settings marks n held run waiting = record {
+-- a store of these parts
+abbrev data_of : Settings → Marks → ℕ → Option Run → List Series → List ColumnPoints → List CellMap → StoreData
+data_of settings marks n run series columns ms = record {
+  settings = settings;
+  marks = marks;
+  running = is_some run;
+  waiting = waiting_in run columns;
+  series = series;
+  columns = columns;
+  accepted = n;
+  cells = ms;
+}
+
+-- in which these columns wait
+abbrev waits : Settings → Marks → ℕ → Option Run → List Column → List Series → List ColumnPoints → List CellMap → StoreData
+waits settings marks n run waiting series columns ms = record {
   settings = settings;
   marks = marks;
   running = is_some run;
   waiting = waiting;
-  series = held.series;
-  columns = held.columns;
+  series = series;
+  columns = columns;
   accepted = n;
-  cells = cells_of held.rollups;
+  cells = ms;
 }
 
 -- a store that has only grown
-grown_stands : (opening : Settings) (h : History) (settings : Settings) (marks : Marks) (n : ℕ) (before after : Held) (run : Option Run) (made : List Column) (facts : List Fact)
-    → after.columns ≡ with_columns before.columns made → AreKnown after → HaveRoom settings.rules facts (cells_of before.rollups) (cells_of after.rollups) → IsWithin run before.columns
-    → StandsFor opening h (state_of (kept_data settings marks n before run)) → StandsFor opening h (state_of (kept_data settings marks n after run))
-grown_stands opening h settings marks n before after run made facts e known room within st =
-    let more : NamesMore before.columns after.columns made = ap (map column_of) e ∙ names_with before.columns made in
-    subst (λ ws. StandsFor opening h (state_of (waits settings marks n after run ws))) (sym (waiting_more run before.columns after.columns made more within))
-    (grows opening h (kept_data settings marks n before run) after.series after.columns (cells_of after.rollups) facts st known.once
-    (λ c a. subst (λ (cs : List ColumnPoints). Among c (map column_of cs)) (sym e) (names_stay before.columns made c a)) known.registered (ap facts_of e ∙ same_facts before.columns made) room)
+grown_stands : (opening : Settings) (h : History) (settings : Settings) (marks : Marks) (n : ℕ) (before : Held) (run : Option Run) (made : List Column) (facts : List Fact) (series : List Series) (columns : List ColumnPoints) (ms : List CellMap)
+    → columns ≡ with_columns before.columns made → AllDistinct (map column_of columns) → ((c : Column) → Among c (map column_of columns) → Among c.series series) → HaveRoom settings.rules marks.lows facts (cells_of before.rollups) ms → IsWithin run before.columns
+    → StandsFor opening h (state_of (kept_data settings marks n before run)) → StandsFor opening h (state_of (data_of settings marks n run series columns ms))
+grown_stands opening h settings marks n before run made facts series columns ms e once registered room within st =
+    let more : NamesMore before.columns columns made = ap (map column_of) e ∙ names_with before.columns made in
+    subst (λ ws. StandsFor opening h (state_of (waits settings marks n run ws series columns ms))) (sym (waiting_more run before.columns columns made more within))
+    (grows opening h (kept_data settings marks n before run) series columns ms facts st once
+    (λ c a. subst (λ (cs : List ColumnPoints). Among c (map column_of cs)) (sym e) (names_stay before.columns made c a)) registered (ap facts_of e ∙ same_facts before.columns made) room)
 
 -- after out of memory
-pub left_by : (settings : Settings) (marks : Marks) (n : ℕ) (before after : Held) (run : Option Run) (p : Parts) → IsKept (kept_data settings marks n before run) before run → GrowsForLine settings.rules before after p
+pub left_by : (settings : Settings) (marks : Marks) (n : ℕ) (before after : Held) (run : Option Run) (p : Parts) → IsKept (kept_data settings marks n before run) before run → GrowsForLine settings.rules marks.lows before after p
     → Leaves (kept_data settings marks n before run) (kept_data settings marks n after run) p
 left_by settings marks n before after run p kept g = record {
-  history = λ opening h st. grown_stands opening h settings marks n before after run g.columns.made [] g.columns.columns g.known g.rooms kept.few st;
+  history = λ opening h st. grown_stands opening h settings marks n before run g.columns.made [] after.series after.columns (cells_of after.rollups) g.columns.columns g.known.once g.known.registered g.rooms kept.few st;
   series = g.series;
   columns = g.columns;
 }
 
 -- the store is as it was between two calls
-pub kept_left : (settings : Settings) (marks : Marks) (n : ℕ) (before after : Held) (run : Option Run) (p : Parts) → IsKept (kept_data settings marks n before run) before run → GrowsForLine settings.rules before after p
+pub kept_left : (settings : Settings) (marks : Marks) (n : ℕ) (before after : Held) (run : Option Run) (p : Parts) → IsKept (kept_data settings marks n before run) before run → GrowsForLine settings.rules marks.lows before after p
     → IsKept (kept_data settings marks n after run) after run
 kept_left settings marks n before after run p kept g =
     let made : List Column = g.columns.made in
@@ -178,15 +183,16 @@ kept_left settings marks n before after run p kept g =
     record {
       rollups = g.rollups;
       few = within_more run before.columns after.columns made (ap (map column_of) g.columns.columns ∙ names_with before.columns made) kept.few;
-      counts = counts-grown n before.columns after.columns (ap facts_of g.columns.columns ∙ same_facts before.columns made) [] settings.rules (cells_of before.rollups) (cells_of after.rollups) g.rooms kept.counts;
+      counts = counts-grown n before.columns after.columns (ap facts_of g.columns.columns ∙ same_facts before.columns made) [] settings.rules marks.lows (cells_of before.rollups) (cells_of after.rollups) (lows-length reached.opening reached.history (kept_data settings marks n before run) reached.stands) g.rooms kept.counts;
+      live = lives_grow reached.opening reached.history (kept_data settings marks n before run) after.columns (cells_of after.rollups) [] reached.stands (ap facts_of g.columns.columns ∙ same_facts before.columns made) g.rooms kept.live;
       reached = record { opening = reached.opening; history = reached.history; stands = (left_by settings marks n before after run p kept g).history reached.opening reached.history reached.stands };
     }
 
 -- ---- a line
 
-puts_names : (before after : List ColumnPoints) (fs : List Fact) → PutsFacts before after fs → map column_of after ≡ map column_of before
-puts_names before after [] p = ap (map column_of) p
-puts_names before after (f ∷ fs) p = puts_names p.0 after fs p.2 ∙ p.1.0
+puts_names : (rs : List Rule) (before : List ColumnPoints) (ms : List CellMap) (after : List ColumnPoints) (ns : List CellMap) (fs : List Fact) → PutsFacts rs before ms after ns fs → map column_of after ≡ map column_of before
+puts_names rs before ms after ns [] p = ap (map column_of) p.0
+puts_names rs before ms after ns (f ∷ fs) p = puts_names rs p.0 (put_cells rs f (facts_of p.0) ms) after ns fs p.2 ∙ p.1.0
 
 waiting_among : (c : Column) (ds : List Column) → is_waiting ds c ≡ true → Among c ds
 waiting_among c [] e = absurd (true≢false (sym e))
@@ -209,63 +215,70 @@ column_new before facts f a =
     ] refl)
 
 -- where room was made for facts, it is there
-room_there : (rs : List Rule) (facts : List Fact) (ms ns : List FrozenCells) → HaveRoom rs facts ms ns → HaveRoom rs facts ns ns
-room_there rs facts [] [] room = tt
-room_there rs facts [] (n ∷ ns) room = absurd room
-room_there rs facts (m ∷ ms) [] room = absurd room
-room_there [] facts (m ∷ ms) (n ∷ ns) room = tt
-room_there (r ∷ rs) facts (m ∷ ms) (n ∷ ns) room = (record { there = room.0.there; stays = λ k e. e; parts = λ k. refl }, room_there rs facts ms ns room.1)
+room_there : (rs : List Rule) (lows : List ℤ) (facts : List Fact) (ms ns : List CellMap) → HaveRoom rs lows facts ms ns → HaveRoom rs lows facts ns ns
+room_there rs lows facts [] [] room = tt
+room_there rs lows facts [] (n ∷ ns) room = absurd room
+room_there rs lows facts (m ∷ ms) [] room = absurd room
+room_there [] lows facts (m ∷ ms) (n ∷ ns) room = tt
+room_there (r ∷ rs) [] facts (m ∷ ms) (n ∷ ns) room = tt
+room_there (r ∷ rs) (low ∷ lows) facts (m ∷ ms) (n ∷ ns) room = (record { there = room.0.there; stays = λ k e. e; parts = λ k. refl; above = λ k l. refl }, room_there rs lows facts ms ns room.1)
 
 -- the columns of a line are made, and its facts put
-line_names : (before after : List ColumnPoints) (fs : List Fact) → PutsFacts (with_columns before (new_columns (map column_of before) fs)) after fs → NamesMore before after (new_columns (map column_of before) fs)
-line_names before after fs puts =
+line_names : (rs : List Rule) (before : List ColumnPoints) (ms : List CellMap) (after : List ColumnPoints) (ns : List CellMap) (fs : List Fact) → PutsFacts rs (with_columns before (new_columns (map column_of before) fs)) ms after ns fs → NamesMore before after (new_columns (map column_of before) fs)
+line_names rs before ms after ns fs puts =
     let made : List Column = new_columns (map column_of before) fs in
-    puts_names (with_columns before made) after fs puts ∙ names_with before made
+    puts_names rs (with_columns before made) ms after ns fs puts ∙ names_with before made
 
--- the parts of a store with the columns of a line made, before its facts are put
-abbrev made_for : Held → Held → List Fact → Held
-made_for before after fs = record { series = after.series; columns = with_columns before.columns (new_columns (map column_of before.columns) fs); rollups = after.rollups }
-
-write_stands : (opening : Settings) (h : History) (settings : Settings) (marks : Marks) (n : ℕ) (before after : Held) (run : Option Run) (p : Parts) → PutsLine settings.rules before after p → AllByRecursion (MayBeTaken marks.raw) (line_facts p)
+write_stands : (opening : Settings) (h : History) (settings : Settings) (marks : Marks) (n : ℕ) (before after : Held) (run : Option Run) (p : Parts) → PutsLine settings.rules marks.lows before after p → AllByRecursion (MayBeTaken marks.raw) (line_facts p)
     → n + length (line_facts p) ≤ 2 ^ 62 → IsWithin run before.columns → StandsFor opening h (state_of (kept_data settings marks n before run))
     → StandsFor opening (Line (line_facts p) ∷ h) (state_of (kept_data settings marks (n + length (line_facts p)) after run))
 write_stands opening h settings marks n before after run p put taken few within st =
     let fs : List Fact = line_facts p in
     let made : List Column = new_columns (map column_of before.columns) fs in
-    let mid : Held = made_for before after fs in
-    let names : map column_of after.columns ≡ map column_of mid.columns = puts_names mid.columns after.columns fs put.facts in
-    let grown : StandsFor opening h (state_of (kept_data settings marks n mid run)) =
-    grown_stands opening h settings marks n before mid run made fs refl (record { once = subst AllDistinct names put.known.once; registered = λ c a. put.known.registered c (subst (Among c) (sym names) a) }) put.rooms within st in
+    let columns : List ColumnPoints = with_columns before.columns made in
+    let names : map column_of after.columns ≡ map column_of columns = puts_names settings.rules columns put.roomy after.columns (cells_of after.rollups) fs put.facts in
+    let grown : StandsFor opening h (state_of (data_of settings marks n run after.series columns put.roomy)) =
+    grown_stands opening h settings marks n before run made fs after.series columns put.roomy refl (subst AllDistinct names put.known.once) (λ c a. put.known.registered c (subst (Among c) (sym names) a)) put.rooms within st in
     let mark : marks.raw ≡ raw_mark opening h = ap (λ (m : Marks). m.raw) st.marks in
     let more = length_before fs (accepted h) in
-    let none : NamesMore mid.columns after.columns [] = names ∙ sym (append-nil (map column_of mid.columns)) in
-    subst (λ ws. StandsFor opening (Line fs ∷ h) (state_of (waits settings marks (n + length fs) after run ws)))
-    (sym (waiting_more run mid.columns after.columns [] none (within_more run before.columns mid.columns made (names_with before.columns made) within)))
-    (line_put opening h (kept_data settings marks n mid run) after.columns fs (cells_of after.rollups) grown (room_there settings.rules fs (cells_of before.rollups) (cells_of after.rollups) put.rooms)
+    let none : NamesMore columns after.columns [] = names ∙ sym (append-nil (map column_of columns)) in
+    subst (λ ws. StandsFor opening (Line fs ∷ h) (state_of (waits settings marks (n + length fs) run ws after.series after.columns (cells_of after.rollups))))
+    (sym (waiting_more run columns after.columns [] none (within_more run before.columns columns made (names_with before.columns made) within)))
+    (line_put opening h (data_of settings marks n run after.series columns put.roomy) after.columns fs (cells_of before.rollups) (cells_of after.rollups) grown put.rooms
     (λ f a. column_new before.columns fs f a) put.facts (st.lawful, subst (λ (m : ℤ). AllByRecursion (MayBeTaken m) fs) mark taken, omega (arith, st.accepted, more, few)))
 
-pub accepted_by : (settings : Settings) (marks : Marks) (n : ℕ) (before after : Held) (run : Option Run) (p : Parts) → IsKept (kept_data settings marks n before run) before run → PutsLine settings.rules before after p
+pub accepted_by : (settings : Settings) (marks : Marks) (n : ℕ) (before after : Held) (run : Option Run) (p : Parts) → IsKept (kept_data settings marks n before run) before run → PutsLine settings.rules marks.lows before after p
     → AllByRecursion (MayBeTaken marks.raw) (line_facts p) → n + length (line_facts p) ≤ 2 ^ 62 → Accepts (kept_data settings marks n before run) (kept_data settings marks (n + length (line_facts p)) after run) p
 accepted_by settings marks n before after run p kept put taken few =
     let fs : List Fact = line_facts p in
     record {
       history = λ opening h st. write_stands opening h settings marks n before after run p put taken few kept.few st;
       series = put.series;
-      columns = puts_names (with_columns before.columns (new_columns (map column_of before.columns) fs)) after.columns fs put.facts;
+      columns = puts_names settings.rules (with_columns before.columns (new_columns (map column_of before.columns) fs)) put.roomy after.columns (cells_of after.rollups) fs put.facts;
     }
 
+-- live parts stay those of the raw facts, when room is made
+pub stay_live : (settings : Settings) (marks : Marks) (n : ℕ) (before : Held) (run : Option Run) → IsKept (kept_data settings marks n before run) before run → StayLive settings.rules marks.lows before.columns (cells_of before.rollups)
+stay_live settings marks n before run kept = λ facts ms room.
+    let reached = kept.reached in
+    lives_grow reached.opening reached.history (kept_data settings marks n before run) before.columns ms facts reached.stands refl room kept.live
+
 -- the store is again what it is between two calls
-pub kept_accepted : (settings : Settings) (marks : Marks) (n : ℕ) (before after : Held) (run : Option Run) (p : Parts) → IsKept (kept_data settings marks n before run) before run → PutsLine settings.rules before after p
+pub kept_accepted : (settings : Settings) (marks : Marks) (n : ℕ) (before after : Held) (run : Option Run) (p : Parts) → IsKept (kept_data settings marks n before run) before run → PutsLine settings.rules marks.lows before after p
     → AllByRecursion (MayBeTaken marks.raw) (line_facts p) → n + length (line_facts p) ≤ 2 ^ 62 → IsKept (kept_data settings marks (n + length (line_facts p)) after run) after run
 kept_accepted settings marks n before after run p kept put taken few =
     let fs : List Fact = line_facts p in
     let made : List Column = new_columns (map column_of before.columns) fs in
+    let columns : List ColumnPoints = with_columns before.columns made in
     let reached = kept.reached in
+    let same : facts_of columns ≡ facts_of before.columns = same_facts before.columns made in
+    let roomy : AreLive columns settings.rules put.roomy = lives_grow reached.opening reached.history (kept_data settings marks n before run) columns put.roomy fs reached.stands same put.rooms kept.live in
     record {
       rollups = put.rollups;
-      few = within_more run before.columns after.columns made (line_names before.columns after.columns fs put.facts) kept.few;
-      counts = counts-put n (with_columns before.columns made) after.columns fs put.facts settings.rules (cells_of after.rollups)
-          (counts-grown n before.columns (with_columns before.columns made) (same_facts before.columns made) fs settings.rules (cells_of before.rollups) (cells_of after.rollups) put.rooms kept.counts);
+      few = within_more run before.columns after.columns made (line_names settings.rules before.columns put.roomy after.columns (cells_of after.rollups) fs put.facts) kept.few;
+      counts = counts-put n settings.rules columns put.roomy after.columns (cells_of after.rollups) fs put.facts
+          (counts-grown n before.columns columns same fs settings.rules marks.lows (cells_of before.rollups) put.roomy (lows-length reached.opening reached.history (kept_data settings marks n before run) reached.stands) put.rooms kept.counts);
+      live = lives_line settings.rules fs columns after.columns put.roomy (cells_of after.rollups) (subst AllDistinct (sym same) reached.stands.once) put.facts roomy;
       reached = record { opening = reached.opening; history = Line fs ∷ reached.history; stands = (accepted_by settings marks n before after run p kept put taken few).history reached.opening reached.history reached.stands };
     }
 

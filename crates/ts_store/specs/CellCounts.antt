@@ -3,26 +3,25 @@
 use Rattle.std.specs.Prelude.{ℕ, ◌+◌, ◌≤◌, List, [], ◌∷◌, length, filter}
 use Rattle.std.specs.FinMap as finmap
 use Rattle.ts_core.specs.Settings.{Rule}
-use Rattle.ts_core.specs.Aggregates.{empty_aggregate}
 use Rattle.ts_core.specs.Cells.{Cell, is_in_cell}
 use Rattle.ts_core.specs.Changes.{or_else}
 use Rattle.ts_core.specs.StoreStates.{ColumnPoints, facts_of}
-use Rattle.ts_core.specs.StoreData.{FrozenCells}
+use Rattle.ts_core.specs.StoreData.{CellMap, no_parts}
 
 -- in its frozen part
-abbrev pub frozen_count : FrozenCells → Cell → ℕ
-frozen_count m k = (or_else empty_aggregate (finmap.get m k)).count
+abbrev pub frozen_count : CellMap → Cell → ℕ
+frozen_count m k = (or_else no_parts (finmap.get m k)).frozen.count
 
 -- of the raw facts of columns
 abbrev pub live_count : Rule → Cell → List ColumnPoints → ℕ
 live_count r k columns = length (filter (is_in_cell r k) (facts_of columns))
 
 -- each cell of a rule holds at most n facts
-abbrev pub HoldsFew : ℕ → List ColumnPoints → Rule → FrozenCells → Type 0
+abbrev pub HoldsFew : ℕ → List ColumnPoints → Rule → CellMap → Type 0
 HoldsFew n columns r m = (k : Cell) → frozen_count m k + live_count r k columns ≤ n
 
 -- so for each rule
-abbrev pub HoldFew : ℕ → List ColumnPoints → List Rule → List FrozenCells → Type 0
+abbrev pub HoldFew : ℕ → List ColumnPoints → List Rule → List CellMap → Type 0
 HoldFew n columns [] ms = Unit {0}
 HoldFew n columns (r ∷ rs) [] = Unit {0}
 HoldFew n columns (r ∷ rs) (m ∷ ms) = HoldsFew n columns r m × HoldFew n columns rs ms

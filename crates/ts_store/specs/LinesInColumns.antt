@@ -1,10 +1,11 @@
 -- What a line leaves in columns and in what is kept for rules: its facts are put, or there was no memory. (Own rules.)
-use Rattle.std.specs.Prelude.{◌≡◌, ℕ, List, [], map, Result, OnOk}
+use Rattle.std.specs.Prelude.{◌≡◌, ℕ, ℤ, List, [], map, Result, OnOk}
 use Rattle.std.specs.List.{AllByRecursion}
 use Rattle.ts_core.specs.Settings.{Rule}
 use Rattle.ts_core.specs.Times.{least_time}
 use Rattle.ts_core.specs.History.{MayBeTaken}
 use Rattle.ts_core.specs.StoreStates.{column_of}
+use Rattle.ts_core.specs.StoreData.{CellMap}
 use Rattle.ts_core.specs.StoreMoves.{PutsFacts, HaveRoom}
 use Rattle.ts_line.specs.Parts.{Parts, series_of, line_facts}
 use Rattle.ts_core.specs.Numbered.{Gains}
@@ -24,20 +25,22 @@ pub record SetsAside {E : Type 0} (p : Parts) (before : Indexed) (states : List 
   pub held : IsHeld after states'
   pub series : after.series ≡ before.series
 
--- under these rules the line's series is registered, its new columns are made, there is room for its facts in cells, and they are put:
--- facts that may be taken from the least time on
-pub record PutsLine (rules : List Rule) (old new : Held) (p : Parts) : Type 0 where
+-- under these rules the line's series is registered, its new columns are made, there is room for its facts in cells from low indices on,
+-- and they are put, into columns and cells: facts that may be taken from the least time on
+pub record PutsLine (rules : List Rule) (lows : List ℤ) (old new : Held) (p : Parts) : Type 0 where
   pub series : Gains old.series new.series (series_of p)
-  pub facts : PutsFacts (with_columns old.columns (new_columns (map column_of old.columns) (line_facts p))) new.columns (line_facts p)
+  -- the cells before the first fact is put
+  pub roomy : List CellMap
+  pub facts : PutsFacts rules (with_columns old.columns (new_columns (map column_of old.columns) (line_facts p))) roomy new.columns (cells_of new.rollups) (line_facts p)
   pub taken : AllByRecursion (MayBeTaken least_time) (line_facts p)
   pub known : AreKnown new
   pub rollups : AreRollups rules (map column_of new.columns) new.rollups
-  pub rooms : HaveRoom rules (line_facts p) (cells_of old.rollups) (cells_of new.rollups)
+  pub rooms : HaveRoom rules lows (line_facts p) (cells_of old.rollups) roomy
 
 -- without memory the series may be registered, and the first of the new columns and cells made
-pub record GrowsForLine (rules : List Rule) (old new : Held) (p : Parts) : Type 0 where
+pub record GrowsForLine (rules : List Rule) (lows : List ℤ) (old new : Held) (p : Parts) : Type 0 where
   pub series : MayGain old.series new.series (series_of p)
   pub columns : MakesFirst old.columns new.columns (line_facts p)
   pub known : AreKnown new
   pub rollups : AreRollups rules (map column_of new.columns) new.rollups
-  pub rooms : HaveRoom rules [] (cells_of old.rollups) (cells_of new.rollups)
+  pub rooms : HaveRoom rules lows [] (cells_of old.rollups) (cells_of new.rollups)

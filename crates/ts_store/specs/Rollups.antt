@@ -7,11 +7,13 @@ use Rattle.ts_core.specs.Members.{AllDistinct}
 use Rattle.ts_core.specs.Facts.{Column, same_text}
 use Rattle.ts_core.specs.Tags.{tag_values}
 use Rattle.ts_core.specs.Settings.{Rule}
-use Rattle.ts_core.specs.Aggregates.{Aggregate, empty_aggregate}
+use Rattle.ts_core.specs.Aggregates.{Aggregate}
 use Rattle.ts_core.specs.Changes.{changed}
+use Rattle.ts_core.specs.TwoParts.{coded_parts, in_frozen, in_live, with_live}
+use Rattle.ts_core.specs.StoreStates.{CellParts}
 use Rattle.ts_core.specs.StoreMoves.{frozen_with}
 use Rattle.ts_core.specs.StoreCodes.{coded_aggregate}
-use Rattle.ts_core.specs.StoreData.{FrozenCells}
+use Rattle.ts_core.specs.StoreData.{CellMap, no_parts}
 use Rattle.ts_cells.specs.CellChanges.{roomy}
 use Rattle.ts_cells.specs.Grids.{Lane, Grid, cell_in, coded_grid}
 use Rattle.ts_core.specs.Numbered.{IsAt, numbers_where}
@@ -20,7 +22,7 @@ use Rattle.ts_store.specs.ColumnLists.{ColumnList, lists_in}
 -- the cells of a rule; of each column the lane, none where the column is of another measurement; and that of a column which
 -- may be made next, for which there is room
 pub record RollupState : Type 0 where
-  pub grid : Grid Aggregate
+  pub grid : Grid CellParts
   pub lanes : List (Option ℕ)
   pub next : Option (Option ℕ)
 
@@ -28,8 +30,8 @@ pub record RollupState : Type 0 where
 abbrev pub new_rollup : RollupState
 new_rollup = record { grid = record { lanes = []; cells = finmap.empty }; lanes = []; next = None }
 
--- the frozen parts of each rule
-abbrev pub cells_of : List RollupState → List FrozenCells
+-- the cells of each rule
+abbrev pub cells_of : List RollupState → List CellMap
 cells_of states = map (λ (s : RollupState). s.grid.cells) states
 
 -- ---- lanes
@@ -93,7 +95,7 @@ Extends before after = (more : List Lane) × (after ≡ before ++ more)
 
 -- what is left by a call that asks for a lane, and makes it where it isn't there: each lane once, with a list of columns; no list
 -- changes, and no cell
-pub record KeepsLists (before : Grid Aggregate) (lists : List ColumnList) (after : Grid Aggregate) (lists' : List ColumnList) : Type 0 where
+pub record KeepsLists (before : Grid CellParts) (lists : List ColumnList) (after : Grid CellParts) (lists' : List ColumnList) : Type 0 where
   pub each : length lists' ≡ length after.lanes
   pub made : Extends before.lanes after.lanes
   pub once : AllDistinct before.lanes → AllDistinct after.lanes
@@ -134,26 +136,38 @@ with_next s = record { grid = s.grid; lanes = joined_lane s.lanes s.next; next =
 -- ---- cells
 
 -- other cells under the same lanes
-abbrev pub with_frozen : FrozenCells → RollupState → RollupState
+abbrev pub with_frozen : CellMap → RollupState → RollupState
 with_frozen m s = record { grid = record { lanes = s.grid.lanes; cells = m }; lanes = s.lanes; next = s.next }
 
 -- with room for the cell of a bucket in a lane, where there is one
-abbrev pub roomed_in : RollupState → Option ℕ → ℤ → FrozenCells
+abbrev pub roomed_in : RollupState → Option ℕ → ℤ → CellMap
 roomed_in s None index = s.grid.cells
-roomed_in s (Some l) index = roomy s.grid.cells (cell_in s.grid.lanes index l) empty_aggregate
+roomed_in s (Some l) index = roomy s.grid.cells (cell_in s.grid.lanes index l) no_parts
 
--- a part merged into the cell of a bucket in a lane, where there is one
-abbrev pub frozen_in : RollupState → Option ℕ → ℤ → Aggregate → FrozenCells
+-- a part merged into the frozen part of the cell of a bucket in a lane, where there is one
+abbrev pub frozen_in : RollupState → Option ℕ → ℤ → Aggregate → CellMap
 frozen_in s None index part = s.grid.cells
-frozen_in s (Some l) index part = changed s.grid.cells (cell_in s.grid.lanes index l) (frozen_with part)
+frozen_in s (Some l) index part = changed s.grid.cells (cell_in s.grid.lanes index l) (in_frozen (frozen_with part))
+
+-- a part merged into the live part of a cell
+abbrev pub added_in : RollupState → ℕ → ℤ → Aggregate → CellMap
+added_in s l index part = changed s.grid.cells (cell_in s.grid.lanes index l) (in_live (frozen_with part))
+
+-- another live part for a cell
+abbrev pub corrected_in : RollupState → ℕ → ℤ → Aggregate → CellMap
+corrected_in s l index live = changed s.grid.cells (cell_in s.grid.lanes index l) (with_live live)
 
 -- the lane of the column of a number
 abbrev pub lane_at : RollupState → ℕ → Option ℕ
 lane_at s n = get_or s.lanes n None
 
+-- the live part of a cell
+abbrev pub live_part : CellParts → Aggregate
+live_part p = p.live
+
 -- ---- codes
 
 abbrev pub coded_rollup : Coded RollupState
 coded_rollup =
-    code_by (Grid Aggregate × (List (Option ℕ) × Option (Option ℕ))) (coded× (coded_grid coded_aggregate) (coded× (coded_list (coded_option coded_ℕ)) (coded_option (coded_option coded_ℕ))))
+    code_by (Grid CellParts × (List (Option ℕ) × Option (Option ℕ))) (coded× (coded_grid (coded_parts coded_aggregate)) (coded× (coded_list (coded_option coded_ℕ)) (coded_option (coded_option coded_ℕ))))
     (λ s. (s.grid, (s.lanes, s.next))) (λ p. record { grid = p.0; lanes = p.1.0; next = p.1.1 }) (λ _. refl)

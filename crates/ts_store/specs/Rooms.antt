@@ -1,5 +1,5 @@
 -- Room that is made for the cells of points of columns at one time. (Own rules.)
-use Rattle.std.specs.Prelude.{◌≡◌, ℕ, ℤ, List, [], ◌∷◌}
+use Rattle.std.specs.Prelude.{◌≡◌, ℕ, ℤ, int_lt, List, [], ◌∷◌, if◌then◌else◌}
 use Rattle.ts_core.specs.Settings.{Rule}
 use Rattle.ts_core.specs.Marks.{index_of}
 use Rattle.ts_store.specs.Rollups.{RollupState, with_frozen, roomed_in, lane_at}
@@ -9,11 +9,16 @@ abbrev pub roomed_for : ℤ → List ℕ → RollupState → RollupState
 roomed_for index [] s = s
 roomed_for index (n ∷ ns) s = roomed_for index ns (with_frozen (roomed_in s (lane_at s n) index) s)
 
+-- from a low index on
+abbrev pub roomed_from : ℤ → ℤ → List ℕ → RollupState → RollupState
+roomed_from low index ns s = if int_lt index low then s else roomed_for index ns s
+
 -- so under each rule, in its bucket of a time
-abbrev pub roomed_under : List Rule → ℤ → List ℕ → List RollupState → List RollupState
-roomed_under [] time ns ss = ss
-roomed_under (r ∷ rs) time ns [] = []
-roomed_under (r ∷ rs) time ns (s ∷ ss) = roomed_for (index_of r time) ns s ∷ roomed_under rs time ns ss
+abbrev pub roomed_under : List Rule → List ℤ → ℤ → List ℕ → List RollupState → List RollupState
+roomed_under [] lows time ns ss = ss
+roomed_under (r ∷ rs) [] time ns ss = ss
+roomed_under (r ∷ rs) (low ∷ lows) time ns [] = []
+roomed_under (r ∷ rs) (low ∷ lows) time ns (s ∷ ss) = roomed_from low (index_of r time) ns s ∷ roomed_under rs lows time ns ss
 
 -- of each rule nothing but its cells may have changed
 abbrev pub KeepLanes : List RollupState → List RollupState → Type 0

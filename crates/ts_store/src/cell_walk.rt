@@ -1,16 +1,13 @@
 //! Cells as a view shows them.
-ghost use Rattle.std.specs.Prelude.{◌≡◌, ◌+◌, ◌<◌, ◌≤◌, ◌^◌, pos, ◌≤ℤ◌, length, map};
+ghost use Rattle.std.specs.Prelude.{◌≡◌, map};
 ghost use Rattle.std.specs.Iterator.{YieldsFirst, item_count};
-ghost use Rattle.ts_core.specs.Aggregates.{merged, aggregate_of_points};
-ghost use Rattle.ts_store.specs.LiveCells.{walked_cell, walked_cells, cells_of_rule, IsWhole, AreWhole, IsRuled};
+ghost use Rattle.ts_store.specs.LiveCells.{walked_cells, cells_of_rule, AreWhole, IsRuled};
 
 use crate::column_facts::ColumnFacts;
-use crate::rollup::Rollup;
 use std::alloc::Allocator;
 use std::marker::Model;
-use ts_cells::{Kept, Walk};
+use ts_cells::{Parts, Walk};
 use ts_core::{Agg, Partial, Rule};
-use ts_raw::{Column, PlainColumn, Points};
 
 /// A cell with the total of its facts. The group is the values of the rule's kept tags.
 #[derive(Drop)]
@@ -47,14 +44,10 @@ impl<'a, A: Allocator> CellSeen<'a, A> {
     }
 }
 
-/// Cells of a rollup that are left to give, seen as the list of them. The live part of each is folded from the points of its own
-/// columns.
+/// Cells of a rollup that are left to give, seen as the list of them, each with the total of both its parts.
 #[derive(Drop)]
 struct RollupCells<'a, A: Allocator> {
-    rule: &'a Rule<A>,
-    rollup: &'a Rollup<A>,
-    columns: &'a [PlainColumn<A>],
-    left: Walk<'a, Agg, A>,
+    left: Walk<'a, Parts<Agg>, A>,
 }
 
 impl<'a, A: Allocator> Model for RollupCells<'a, A> {
@@ -64,9 +57,9 @@ impl<'a, A: Allocator> Model for RollupCells<'a, A> {
 
     ghost Value = { List CellTotal };
 
-    ghost view = { λ w. walked_cells w.rule.now w.rollup.now w.columns.now w.left };
+    ghost view = { λ w. walked_cells w.left };
 
-    ghost invariant = { λ w. AreWhole w.rule.now w.rollup.now w.columns.now w.left };
+    ghost invariant = { λ w. AreWhole w.left };
 }
 
 /// Cells of a slice that are left to give, seen as the list of them.
@@ -107,37 +100,6 @@ impl<'a, A: Allocator> Model for CellWalk<'a, A> {
     ghost view = { λ w. cells_left w.left };
 }
 
-/// An aggregate with points merged in.
-fn with_points(total: Agg, points: Points<'_>) -> Agg
-    requires { total.count + length points ≤ 2 ^ 62 }
-    ensures { result ≡ merged total (aggregate_of_points points.entry) }
-{
-    let mut all = total;
-    for (time, value) in points {
-        all = all.merge(Agg::single(time, value));
-    }
-    all
-}
-
-/// What the facts of a cell add up to: its frozen part with the points of its columns in its bucket.
-fn total_of<A: Allocator + Copy>(
-    rule: &Rule<A>,
-    rollup: &Rollup<A>,
-    columns: &[PlainColumn<A>],
-    kept: &Kept<'_, Agg, A>,
-) -> Agg
-    requires interval { pos 1 ≤ℤ rule.now.interval }
-    requires whole { IsWhole rule.now rollup.now columns.now kept.now }
-    ensures { result ≡ (walked_cell rule.now rollup.now columns.now kept.now).total }
-{
-    let mut total = kept.part;
-    for column in rollup.columns_of(kept.lane) {
-        let points = columns[column.number()].bucket(&kept.index, rule.interval(), rule.offset());
-        total = with_points(total, points);
-    }
-    total
-}
-
 impl<'a, A: Allocator> CellWalk<'a, A> {
     /// These cells, for a view of another kind than a store.
     pub fn lent(cells: &'a [CellSeen<'a, A>]) -> CellWalk<'a, A>
@@ -148,23 +110,13 @@ impl<'a, A: Allocator> CellWalk<'a, A> {
         }
     }
 
-    /// The cells of a rollup, each with the points of its columns.
-    fn of(
-        rule: &'a Rule<A>,
-        rollup: &'a Rollup<A>,
-        columns: &'a [PlainColumn<A>],
-        left: Walk<'a, Agg, A>,
-    ) -> CellWalk<'a, A>
-        requires { AreWhole rule.now rollup.now columns.now left }
-        ensures { result ≡ walked_cells rule.now rollup.now columns.now left.entry }
+    /// The cells of a walk over a rollup.
+    fn of(left: Walk<'a, Parts<Agg>, A>) -> CellWalk<'a, A>
+        requires { AreWhole left }
+        ensures { result ≡ walked_cells left.entry }
     {
         CellWalk {
-            left: Left::Rollup(RollupCells {
-                rule,
-                rollup,
-                columns,
-                left,
-            }),
+            left: Left::Rollup(RollupCells { left }),
         }
     }
 }
@@ -174,7 +126,7 @@ impl<A: Allocator + Copy> ColumnFacts<A> {
     /// index, field and group.
     pub(crate) fn cell_walk<'a>(
         &'a self,
-        rule: &'a Rule<A>,
+        rule: &Rule<A>,
         number: usize,
         from: &i128,
         to: &i128,
@@ -182,9 +134,7 @@ impl<A: Allocator + Copy> ColumnFacts<A> {
         requires { IsRuled self.now rule.now number }
         ensures { result ≡ cells_of_rule self.now rule.now number from.now to.now }
     {
-        let rollup = &self.rollups[number];
-        let columns = self.columns.as_slice();
-        CellWalk::of(rule, rollup, columns, rollup.walk(from, to))
+        CellWalk::of(self.rollups[number].walk(from, to))
     }
 }
 
@@ -197,12 +147,11 @@ impl<'a, A: Allocator + Copy> Iterator for RollupCells<'a, A> {
 
     fn next(&mut self) -> Option<CellSeen<'a, A>> {
         let kept = self.left.next()?;
-        let total = total_of(self.rule, self.rollup, self.columns, &kept);
         Some(CellSeen {
             index: kept.index,
             field: kept.field,
             group: kept.group,
-            total,
+            total: kept.part.frozen.merge(kept.part.live),
         })
     }
 }

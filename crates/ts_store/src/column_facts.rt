@@ -3,18 +3,20 @@ ghost use Rattle.std.specs.Prelude.{◌≡◌, ◌≤◌, ◌<◌, ◌+◌, ◌*
 ghost use Rattle.std.specs.List.{AllByRecursion};
 ghost use Rattle.ts_core.specs.Facts.{is_of};
 ghost use Rattle.ts_core.specs.StoreStates.{facts_of as facts_in};
-ghost use Rattle.ts_line.specs.Parts.{series_of};
+ghost use Rattle.ts_line.specs.Parts.{series_of, line_facts};
+ghost use Rattle.ts_store.specs.LivePuts.{StayLive};
 ghost use Rattle.ts_raw.specs.Columns.{AreTimed};
 ghost use Rattle.ts_raw.specs.PlainColumns.{IsRising};
 ghost use Rattle.ts_store.specs.Refusals.{is_too_many};
 ghost use Rattle.ts_store.specs.Seats.{seats_where, points_at};
 ghost use Rattle.ts_store.specs.LinesInColumns.{PutsLine, GrowsForLine};
-ghost use Rattle.ts_store.specs.Rollups.{new_rollup, AreRollups};
+ghost use Rattle.ts_store.specs.Rollups.{new_rollup, AreRollups, cells_of};
 ghost use Rattle.ts_core.specs.StoreStates.{column_of};
 
 use crate::column_reads::{held_points, raw_points, raw_range};
-use crate::columns::{commit_all, prepare_line};
+use crate::columns::prepare_line;
 use crate::columns_seen::Columns;
+use crate::putting::put_points;
 use crate::rollup::{Rollup, new_rollups};
 use crate::rooms::make_rooms;
 use std::alloc::{AllocError, Allocator};
@@ -66,11 +68,12 @@ impl<A: Allocator + Copy> ColumnFacts<A> {
         self.index.series_count() >= SERIES_LIMIT && self.index.lookup(key).is_none()
     }
 
-    /// Puts the facts of a line in, each in place of the one of its id. All room is taken before the first:
-    /// after a refusal there is at most the series more, columns without points, and cells without facts.
+    /// Puts the facts of a line in, each in place of the one of its id, and into the cells of the rules that roll it up. All room is
+    /// taken before the first: after a refusal there is at most the series more, columns without points, and cells without facts.
     pub(crate) fn put_line<L: Allocator>(
         &mut self,
         rules: &[Rule<A>],
+        lows: &[i128],
         line: &Line<'_, L>,
         key: &KeyRef<'_>,
     ) -> Result<(), AllocError>
@@ -78,8 +81,10 @@ impl<A: Allocator + Copy> ColumnFacts<A> {
         requires few { is_too_many self.old.series (series_of line.now) ≡ false }
         requires rollups { AreRollups rules.now (map column_of self.old.columns) self.old.rollups }
         requires intervals { AllByRecursion (λ r. pos 1 ≤ℤ r.interval) rules.now }
-        ensures ok { OnOk result (PutsLine rules.now self.old self.new line.now) }
-        ensures err { OnErr result (GrowsForLine rules.now self.old self.new line.now) }
+        requires live { StayLive rules.now lows.now self.old.columns (cells_of self.old.rollups) }
+        requires fit { length (facts_in self.old.columns) + length (line_facts line.now) ≤ 2 ^ 62 }
+        ensures ok { OnOk result (PutsLine rules.now lows.now self.old self.new line.now) }
+        ensures err { OnErr result (GrowsForLine rules.now lows.now self.old self.new line.now) }
     {
         let series = match self.index.register(key) {
             Ok(series) => series,
@@ -98,11 +103,19 @@ impl<A: Allocator + Copy> ColumnFacts<A> {
         )?;
         make_rooms(
             rules,
+            lows,
             self.rollups.as_mut_slice(),
             self.touched.as_slice(),
             line.time(),
         )?;
-        commit_all(&mut self.columns, self.touched.as_slice());
+        put_points(
+            &mut self.columns,
+            rules,
+            self.rollups.as_mut_slice(),
+            self.touched.as_slice(),
+            line.fields(),
+            line.time(),
+        );
         Ok(())
     }
 

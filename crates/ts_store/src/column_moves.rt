@@ -10,7 +10,7 @@ ghost use Rattle.ts_store.specs.RollupSteps.{with_frozen_all, held_with, FreezeF
 ghost use Rattle.ts_store.specs.WholeRuns.{AreAbove};
 
 use crate::column_facts::ColumnFacts;
-use crate::freezing::freeze_all;
+use crate::freezing::move_all;
 use crate::rollup::Rollup;
 use std::alloc::Allocator;
 use ts_core::{Rule, Time};
@@ -43,7 +43,8 @@ impl<A: Allocator + Copy> ColumnFacts<A> {
         self.columns.len()
     }
 
-    /// Moves a column: its points below the mark are frozen under each rule, and leave it. It takes no memory.
+    /// Moves a column: its points below the mark are frozen under each rule, and leave it, and the live parts of their cells are
+    /// what is left. It takes no memory.
     pub(crate) fn move_column(&mut self, rules: &[Rule<A>], column: usize, mark: Time)
         requires intervals { AllByRecursion (λ r. pos 1 ≤ℤ r.interval) rules.now }
         requires rollups { AreRollups rules.now (map column_of self.old.columns) self.old.rollups }
@@ -51,9 +52,9 @@ impl<A: Allocator + Copy> ColumnFacts<A> {
         requires few { length (facts_of self.old.columns) ≤ 2 ^ 62 }
         ensures { (s : ColumnPoints) → IsAt self.old.columns column s → FreezeFit rules.now s.column (points_below mark s.points) (cells_of self.old.rollups) → self.new ≡ held_moved rules.now s mark self.old }
     {
-        let points = &mut self.columns[column];
-        freeze_all(rules, self.rollups.as_mut_slice(), column, points, mark);
-        points.drop_below(mark);
+        let columns = self.columns.as_slice();
+        move_all(rules, self.rollups.as_mut_slice(), columns, column, mark);
+        self.columns[column].drop_below(mark);
     }
 
     /// Removes cells below a low index, of the first rule that has such: 256, or all where there are fewer. It answers whether

@@ -4,7 +4,7 @@ ghost use Rattle.std.specs.List.{AllByRecursion};
 ghost use Rattle.ts_line.specs.Parts.{series_of};
 ghost use Rattle.ts_raw.specs.Indexed.{column_in};
 ghost use Rattle.ts_core.specs.Numbered.{IsAt};
-ghost use Rattle.ts_store.specs.ColumnsKept.{no_column, point_maps, with_point_aside, all_committed, AreReady, IsColumnFor, IsHeld};
+ghost use Rattle.ts_store.specs.ColumnsKept.{no_column, point_maps, with_point_aside, IsColumnFor, IsHeld};
 ghost use Rattle.ts_store.specs.LinesInColumns.{SetsAside};
 ghost use Rattle.ts_store.specs.Rollups.{AreRollups, KeepCells, HaveNext, with_next, cells_of};
 ghost use Rattle.ts_core.specs.Members.{Among};
@@ -117,19 +117,6 @@ fn prepare_at<A: Allocator + Copy>(
     columns[column.number()].prepare(time, value)?;
     touched.push(column)?;
     Ok(())
-}
-
-/// Puts in what is aside in the columns of these numbers. It takes no memory.
-pub(crate) fn commit_all<A: Allocator + Copy>(
-    columns: &mut Vec<PlainColumn<A>, A>,
-    numbers: &[ColumnId],
-)
-    requires { AreReady columns.old.items numbers.now }
-    ensures { columns.new.items ≡ all_committed columns.old.items numbers.now }
-{
-    for number in numbers {
-        columns[number.number()].commit();
-    }
 }
 
 /// Sets the points of a line aside, each in its column, and answers the columns.

@@ -1,13 +1,18 @@
-//! Points of a column, frozen into the cells of rules.
-ghost use Rattle.std.specs.Prelude.{◌≡◌, ◌<◌, ◌≤◌, ◌^◌, pos, ◌≤ℤ◌, ℕ, List, Some, length};
+//! Points of a column, moved from the live to the frozen parts of cells.
+ghost use Rattle.std.specs.Prelude.{◌≡◌, ◌<◌, ◌≤◌, ◌^◌, pos, ◌≤ℤ◌, ℕ, List, Some, true, length, get_or};
 ghost use Rattle.std.specs.FinMap as finmap;
 ghost use Rattle.std.specs.List.{AllByRecursion};
 ghost use Rattle.ts_core.specs.Facts.{Column};
-ghost use Rattle.ts_core.specs.StoreMoves.{frozen_points, frozen_column, frozen_all, points_below};
+ghost use Rattle.ts_core.specs.StoreMoves.{frozen_points, refolded_points, moved_cells, all_moved, points_below};
 ghost use Rattle.ts_core.specs.Numbered.{IsAt};
 ghost use Rattle.ts_store.specs.Rollups.{IsLaneOf, AreRollups, lane_at, with_frozen, cells_of};
-ghost use Rattle.ts_store.specs.RollupSteps.{FreezesFit, FreezeFit, with_frozen_all};
+ghost use Rattle.ts_core.specs.Members.{AllDistinct};
+ghost use Rattle.ts_store.specs.ColumnsKept.{no_column};
+ghost use Rattle.ts_store.specs.LivePuts.{IsOver};
+ghost use Rattle.ts_store.specs.PointsRead.{number_of_points};
+ghost use Rattle.ts_store.specs.RollupSteps.{FreezesFit, FreezeFit, facts_left, with_frozen_all};
 
+use crate::live_parts::lane_left;
 use crate::rollup::Rollup;
 use std::alloc::Allocator;
 use ts_core::{Agg, Partial, Rule, Time, index_of};
@@ -40,41 +45,84 @@ fn freeze_points<A: Allocator + Copy>(
     rollup.freeze(column, &bucket, folded);
 }
 
-/// Freezes the points of a column below a mark under a rule, where that rolls the column up.
-fn freeze_column<A: Allocator + Copy>(
-    rule: &Rule<A>,
-    rollup: &mut Rollup<A>,
-    column: usize,
-    points: &PlainColumn<A>,
-    mark: Time,
-)
-    requires interval { pos 1 ≤ℤ rule.now.interval }
-    requires column { column < length rollup.old.lanes }
-    requires few { finmap.len points.now.points ≤ 2 ^ 62 }
-    ensures { (c : Column) → IsLaneOf rule.now c rollup.old.grid.lanes (lane_at rollup.old column) → FreezesFit rule.now c (points_below mark (finmap.entries points.now.points)) rollup.old.grid.cells → rollup.new ≡ with_frozen (frozen_column rule.now c (points_below mark (finmap.entries points.now.points)) rollup.old.grid.cells) rollup.old }
+/// Whether an index is that of the last bucket.
+fn is_last(last: &Option<i128>, index: &i128) -> bool
+    ensures { (result ≡ true) → last.now ≡ Some index.now }
 {
-    if rollup.rolls(column) {
-        freeze_points(rule, rollup, column, points.below(mark));
+    match last {
+        Some(bucket) => bucket == index,
+        None => false,
     }
 }
 
-/// Freezes the points of a column below a mark under each rule. It takes no memory.
-pub(crate) fn freeze_all<A: Allocator + Copy>(
+/// Folds the live parts of the cells of a column's points below a mark anew, without these points.
+fn refold_points<A: Allocator + Copy>(
+    rule: &Rule<A>,
+    rollup: &mut Rollup<A>,
+    columns: &[PlainColumn<A>],
+    column: usize,
+    mark: Time,
+)
+    requires interval { pos 1 ≤ℤ rule.now.interval }
+    requires column { column < length columns.now }
+    requires each { length rollup.old.lanes ≡ length columns.now }
+    requires few { number_of_points columns.now ≤ 2 ^ 62 }
+    ensures lanes { rollup.new ≡ with_frozen rollup.new.grid.cells rollup.old }
+    ensures cells { (cs : List Column) (c : Column) (l : ℕ) → lane_at rollup.old column ≡ Some l → IsOver rule.now cs columns.now rollup.old → IsAt cs column c → rollup.new.grid.cells ≡ refolded_points rule.now c (points_below mark (finmap.entries (get_or columns.now column no_column).points)) (facts_left mark c cs columns.now) rollup.old.grid.cells }
+{
+    let Some(lane) = rollup.lane_of(column) else {
+        return;
+    };
+    let mut last = None;
+    for (time, _) in columns[column].below(mark) {
+        let index = index_of(rule, i128::from(time.nanos()));
+        if !is_last(&last, &index) {
+            let live = lane_left(rule, rollup, columns, lane, &index, column, mark);
+            rollup.correct(&index, lane, live);
+            last = Some(index);
+        }
+    }
+}
+
+/// Moves the points of a column below a mark under a rule, where that rolls the column up: they are frozen, and the live parts
+/// of their cells are what is left.
+fn move_points<A: Allocator + Copy>(
+    rule: &Rule<A>,
+    rollup: &mut Rollup<A>,
+    columns: &[PlainColumn<A>],
+    column: usize,
+    mark: Time,
+)
+    requires interval { pos 1 ≤ℤ rule.now.interval }
+    requires column { column < length columns.now }
+    requires each { length rollup.old.lanes ≡ length columns.now }
+    requires few { number_of_points columns.now ≤ 2 ^ 62 }
+    ensures { (cs : List Column) (c : Column) → IsOver rule.now cs columns.now rollup.old → IsAt cs column c → FreezesFit rule.now c (points_below mark (finmap.entries (get_or columns.now column no_column).points)) rollup.old.grid.cells → rollup.new ≡ with_frozen (moved_cells rule.now c (points_below mark (finmap.entries (get_or columns.now column no_column).points)) (facts_left mark c cs columns.now) rollup.old.grid.cells) rollup.old }
+{
+    if rollup.rolls(column) {
+        freeze_points(rule, rollup, column, columns[column].below(mark));
+        refold_points(rule, rollup, columns, column, mark);
+    }
+}
+
+/// Moves the points of a column below a mark under each rule. It takes no memory.
+pub(crate) fn move_all<A: Allocator + Copy>(
     rules: &[Rule<A>],
     rollups: &mut [Rollup<A>],
+    columns: &[PlainColumn<A>],
     column: usize,
-    points: &PlainColumn<A>,
     mark: Time,
 )
     requires intervals { AllByRecursion (λ r. pos 1 ≤ℤ r.interval) rules.now }
-    requires column { AllByRecursion (λ s. column < length s.lanes) rollups.old }
-    requires few { finmap.len points.now.points ≤ 2 ^ 62 }
-    ensures { (cs : List Column) (c : Column) → AreRollups rules.now cs rollups.old → IsAt cs column c → FreezeFit rules.now c (points_below mark (finmap.entries points.now.points)) (cells_of rollups.old) → rollups.new ≡ with_frozen_all (frozen_all rules.now c (points_below mark (finmap.entries points.now.points)) (cells_of rollups.old)) rollups.old }
+    requires column { column < length columns.now }
+    requires each { AllByRecursion (λ s. length s.lanes ≡ length columns.now) rollups.old }
+    requires few { number_of_points columns.now ≤ 2 ^ 62 }
+    ensures { (cs : List Column) (c : Column) → length columns.now ≡ length cs → AllDistinct cs → AreRollups rules.now cs rollups.old → IsAt cs column c → FreezeFit rules.now c (points_below mark (finmap.entries (get_or columns.now column no_column).points)) (cells_of rollups.old) → rollups.new ≡ with_frozen_all (all_moved rules.now c (points_below mark (finmap.entries (get_or columns.now column no_column).points)) (facts_left mark c cs columns.now) (cells_of rollups.old)) rollups.old }
 {
     if let Some((rule, rules)) = rules.split_first() {
         if let Some((rollup, rollups)) = rollups.split_first_mut() {
-            freeze_column(rule, rollup, column, points, mark);
-            freeze_all(rules, rollups, column, points, mark);
+            move_points(rule, rollup, columns, column, mark);
+            move_all(rules, rollups, columns, column, mark);
         }
     }
 }

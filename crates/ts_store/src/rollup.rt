@@ -1,19 +1,20 @@
 //! What is kept for a rollup rule: its cells, the lane of each column, and the columns of each lane.
-ghost use Rattle.std.specs.Prelude.{◌≡◌, ◌<◌, length, replicate, map, IsSome, is_some, IfOk, OnOk, OnErr};
+ghost use Rattle.std.specs.Prelude.{◌≡◌, ◌<◌, length, replicate, map, IsSome, is_some, IfSome, option_map, IfOk, OnOk, OnErr};
+ghost use Rattle.std.specs.FinMap as finmap;
 ghost use Rattle.std.specs.List.{AllByRecursion};
 ghost use Rattle.ts_core.specs.Members.{AllDistinct};
 ghost use Rattle.ts_core.specs.Tags.{tag_values};
 ghost use Rattle.ts_cells.specs.Expiry.{LosesBelow};
 ghost use Rattle.ts_core.specs.Numbered.{IsAt};
-ghost use Rattle.ts_cells.specs.Grids.{lane_of, lane_named, lent_texts};
+ghost use Rattle.ts_cells.specs.Grids.{lane_of, lane_named, lent_texts, cell_in};
 ghost use Rattle.ts_cells.specs.Walks.{entry_of, entries_within};
 ghost use Rattle.ts_store.specs.ColumnLists.{HasPlaceAt};
-ghost use Rattle.ts_store.specs.Rollups.{new_rollup, KeepsLists, KeepsCells, HasNext, with_next, with_frozen, roomed_in, frozen_in, lane_at, columns_of_lane};
+ghost use Rattle.ts_store.specs.Rollups.{new_rollup, KeepsLists, KeepsCells, HasNext, with_next, with_frozen, roomed_in, frozen_in, added_in, corrected_in, live_part, lane_at, columns_of_lane};
 
 use crate::lane_columns::LaneColumns;
 use std::alloc::{AllocError, Allocator};
 use std::marker::Model;
-use ts_cells::{Cells, LaneId, Walk};
+use ts_cells::{Cells, LaneId, Parts, Walk};
 use ts_core::{Agg, Key, Rule, reserve_eighth};
 use ts_raw::ColumnId;
 
@@ -170,8 +171,8 @@ impl<A: Allocator + Copy> Rollup<A> {
         }
     }
 
-    /// Merges a part into the cell of a column in a bucket, where that is there and the counts fit together. It
-    /// takes no memory.
+    /// Merges a part into the frozen part of the cell of a column in a bucket, where that is there and the counts fit
+    /// together. It takes no memory.
     pub(crate) fn freeze(&mut self, column: usize, index: &i128, part: Agg)
         requires { column < length self.old.lanes }
         ensures { self.new ≡ with_frozen (frozen_in self.old (lane_at self.old column) index.now part) self.old }
@@ -181,12 +182,47 @@ impl<A: Allocator + Copy> Rollup<A> {
         }
     }
 
+    /// Merges a part into the live part of the cell of a bucket in a lane, where that is there and the counts fit
+    /// together. It takes no memory.
+    pub(crate) fn add(&mut self, index: &i128, lane: LaneId, part: Agg)
+        requires { lane < length self.old.grid.lanes }
+        ensures { self.new ≡ with_frozen (added_in self.old lane index.now part) self.old }
+    {
+        self.cells.add(index, lane, part);
+    }
+
+    /// Puts another live part in place of that of the cell of a bucket in a lane, where that is there. It takes no memory.
+    pub(crate) fn correct(&mut self, index: &i128, lane: LaneId, live: Agg)
+        requires { lane < length self.old.grid.lanes }
+        ensures { self.new ≡ with_frozen (corrected_in self.old lane index.now live) self.old }
+    {
+        self.cells.correct(index, lane, live);
+    }
+
+    /// The live part of the cell of a bucket in a lane, where that is there.
+    pub(crate) fn live(&self, index: &i128, lane: LaneId) -> Option<Agg>
+        requires { lane < length self.now.grid.lanes }
+        ensures { result ≡ option_map live_part (finmap.get self.now.grid.cells (cell_in self.now.grid.lanes index.now lane)) }
+    {
+        let parts = self.cells.get(index, lane)?;
+        Some(parts.live)
+    }
+
     /// Whether the rule rolls a column up.
     pub(crate) fn rolls(&self, column: usize) -> bool
         requires { column < length self.now.lanes }
         ensures { result ≡ is_some (lane_at self.now column) }
     {
         self.lanes[column].is_some()
+    }
+
+    /// The lane of a column, none where the rule doesn't roll it up.
+    pub(crate) fn lane_of(&self, column: usize) -> Option<LaneId>
+        requires { column < length self.now.lanes }
+        ensures lane { result ≡ lane_at self.now column }
+        ensures inside { IfSome result (λ l. l < length self.now.grid.lanes) }
+    {
+        self.lanes[column]
     }
 
     /// Removes cells below an index: 256, or all where there are fewer. It answers how many.
@@ -200,16 +236,16 @@ impl<A: Allocator + Copy> Rollup<A> {
     /// The columns of a lane, in the order of making.
     pub(crate) fn columns_of(&self, lane: LaneId) -> &[ColumnId]
         requires { lane < length self.now.grid.lanes }
-        ensures { result.now ≡ columns_of_lane lane self.now }
+        ensures columns { result.now ≡ columns_of_lane lane self.now }
+        ensures once { AllDistinct self.now.grid.lanes }
     {
         self.columns[lane.number() as usize].as_slice()
     }
 
     /// The cells from an index on, before another, in order of index, field and group. It takes no memory.
-    pub(crate) fn walk(&self, from: &i128, to: &i128) -> Walk<'_, Agg, A>
+    pub(crate) fn walk(&self, from: &i128, to: &i128) -> Walk<'_, Parts<Agg>, A>
         ensures entries { map entry_of result ≡ entries_within from.now to.now self.now.grid.cells }
         ensures lanes { AllByRecursion (λ k. IsAt self.now.grid.lanes k.lane (lane_of k.cell)) result }
-        ensures once { AllDistinct self.now.grid.lanes }
     {
         self.cells.walk(from, to)
     }

@@ -4,16 +4,18 @@ ghost use Rattle.std.specs.List.{AllByRecursion};
 ghost use Rattle.ts_core.specs.Marks.{index_of};
 ghost use Rattle.ts_core.specs.StoreMoves.{HasRoom, HaveRoom};
 ghost use Rattle.ts_store.specs.Rollups.{with_frozen, cells_of};
-ghost use Rattle.ts_store.specs.Rooms.{roomed_for, roomed_under, KeepLanes};
+ghost use Rattle.ts_store.specs.Rooms.{roomed_from, roomed_under, KeepLanes};
 
 use crate::rollup::Rollup;
 use std::alloc::{AllocError, Allocator};
 use ts_core::{Rule, Time, index_of};
 use ts_raw::ColumnId;
 
-/// Makes room under a rule for the cells of points of columns at one time. Without memory some of them may be made.
+/// Makes room under a rule for the cells of points of columns at one time, where that is not below the low index. Without memory
+/// some of them may be made.
 fn make_rooms_of<A: Allocator + Copy>(
     rule: &Rule<A>,
+    low: &i128,
     rollup: &mut Rollup<A>,
     touched: &[ColumnId],
     time: Time,
@@ -21,20 +23,24 @@ fn make_rooms_of<A: Allocator + Copy>(
     requires interval { pos 1 ≤ℤ rule.now.interval }
     requires inside { AllByRecursion (λ n. n < length rollup.old.lanes) touched.now }
     ensures lanes { rollup.new ≡ with_frozen rollup.new.grid.cells rollup.old }
-    ensures ok { OnOk result (rollup.new ≡ roomed_for (index_of rule.now time) touched.now rollup.old) }
-    ensures err { OnErr result (HasRoom rule.now [] rollup.old.grid.cells rollup.new.grid.cells) }
+    ensures ok { OnOk result (rollup.new ≡ roomed_from low.now (index_of rule.now time) touched.now rollup.old) }
+    ensures err { OnErr result (HasRoom rule.now low.now [] rollup.old.grid.cells rollup.new.grid.cells) }
 {
     let index = index_of(rule, i128::from(time.nanos()));
+    if index < *low {
+        return Ok(());
+    }
     for column in touched {
         rollup.make_room(*column, &index)?;
     }
     Ok(())
 }
 
-/// Makes room under each rule for the cells of points of columns at one time. Without memory some of them may be
-/// made.
+/// Makes room under each rule for the cells of points of columns at one time, from its low index on. Without memory some of
+/// them may be made.
 pub(crate) fn make_rooms<A: Allocator + Copy>(
     rules: &[Rule<A>],
+    lows: &[i128],
     rollups: &mut [Rollup<A>],
     touched: &[ColumnId],
     time: Time,
@@ -42,17 +48,18 @@ pub(crate) fn make_rooms<A: Allocator + Copy>(
     requires intervals { AllByRecursion (λ r. pos 1 ≤ℤ r.interval) rules.now }
     requires inside { AllByRecursion (λ s. AllByRecursion (λ n. n < length s.lanes) touched.now) rollups.old }
     ensures lanes { KeepLanes rollups.old rollups.new }
-    ensures ok { OnOk result (rollups.new ≡ roomed_under rules.now time touched.now rollups.old) }
-    ensures err { OnErr result (HaveRoom rules.now [] (cells_of rollups.old) (cells_of rollups.new)) }
+    ensures ok { OnOk result (rollups.new ≡ roomed_under rules.now lows.now time touched.now rollups.old) }
+    ensures err { OnErr result (HaveRoom rules.now lows.now [] (cells_of rollups.old) (cells_of rollups.new)) }
 {
-    match rules.split_first() {
-        None => Ok(()),
-        Some((rule, rules)) => match rollups.split_first_mut() {
-            None => Ok(()),
-            Some((rollup, rollups)) => {
-                make_rooms_of(rule, rollup, touched, time)?;
-                make_rooms(rules, rollups, touched, time)
-            }
-        },
-    }
+    let Some((rule, rules)) = rules.split_first() else {
+        return Ok(());
+    };
+    let Some((low, lows)) = lows.split_first() else {
+        return Ok(());
+    };
+    let Some((rollup, rollups)) = rollups.split_first_mut() else {
+        return Ok(());
+    };
+    make_rooms_of(rule, low, rollup, touched, time)?;
+    make_rooms(rules, lows, rollups, touched, time)
 }

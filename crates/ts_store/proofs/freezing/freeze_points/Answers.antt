@@ -5,9 +5,10 @@ use Rattle.ts_core.specs.Aggregates.{Aggregate, empty_aggregate, merged, aggrega
 use Rattle.ts_core.specs.Cells.{Cell, cell_of}
 use Rattle.ts_core.specs.Changes.{changed}
 use Rattle.ts_core.specs.Settings.{Rule}
-use Rattle.ts_core.specs.StoreData.{FrozenCells}
+use Rattle.ts_core.specs.StoreData.{CellMap}
 use Rattle.ts_core.specs.StoreMoves.{frozen_with}
 use Rattle.ts_core.specs.StoreStates.{fact_at}
+use Rattle.ts_core.specs.TwoParts.{in_frozen}
 use Rattle.ts_cells.specs.Grids.{cell_at}
 use Rattle.ts_store.specs.Rollups.{RollupState, lane_under, lane_at, with_frozen, frozen_in}
 use Rattle.ts_store.proofs.PointsFrozen.{IsFolded, folded-as, folded-none, folded-more, folded-next, lanes_stay, frozen_in-lane}
@@ -18,7 +19,7 @@ pub loop-time-init : goal.loop-time-init
 loop-time-init g c =
     let none : c.empty-folded.result ≡ empty_aggregate = c.empty-folded.ensures in
     let all : c.into_iter-time-iterator.result ≡ c.args.points = c.into_iter-time-iterator.ensures.into_iter_gives in
-    let m : FrozenCells = c.args.rollup.now.grid.cells in
+    let m : CellMap = c.args.rollup.now.grid.cells in
     record {
       lanes = refl;
       few = let count : c.empty-folded.result.count ≡ 0 = ap (λ (a : Aggregate). a.count) none in subst (λ (ps : List (ℤ × ℤ)). c.empty-folded.result.count + length ps ≤ 2 ^ 62) (sym all) (omega arith);
@@ -34,7 +35,7 @@ loop-time-preserved g c =
     let p : ℤ × ℤ = (c.in-Some.time, c.in-Some.value) in
     let one : Aggregate = aggregate_of_one c.in-Some.time c.in-Some.value in
     let all : List (ℤ × ℤ) = c.args.points in
-    let before : FrozenCells = c.args.rollup.now.grid.cells in
+    let before : CellMap = c.args.rollup.now.grid.cells in
     let old : RollupState = c.loop-time.rollup in
     let folded : Aggregate = c.loop-time.folded in
     let rest : List (ℤ × ℤ) = c.next.new.self in
@@ -50,7 +51,7 @@ loop-time-preserved g c =
       | then-index-bucket w ↦
           let nothing : c.if-index-bucket.folded ≡ empty_aggregate = w.folded-is ∙ w.empty-folded-then-index-bucket.ensures in
           let none : c.if-index-bucket.folded.count ≡ 0 = ap (λ (a : Aggregate). a.count) nothing in
-          let cells : FrozenCells = frozen_in old (lane_at old c.args.column) bucket folded in
+          let cells : CellMap = frozen_in old (lane_at old c.args.column) bucket folded in
           let next : c.if-index-bucket.rollup ≡ with_frozen cells old = w.rollup-is ∙ w.freeze.ensures in
           record {
             lanes = lanes_stay c.args.rollup.now old c.if-index-bucket.rollup cells c.loop-time.invariant.lanes next;
@@ -59,9 +60,9 @@ loop-time-preserved g c =
                 let q : Cell = cell_at bucket (lane_under r d) in
                 let h : IsFolded r d all before (p ∷ rest) old.grid.cells q folded =
                 subst (λ (ps : List (ℤ × ℤ)). IsFolded r d all before ps old.grid.cells q folded) left (c.loop-time.invariant.cells d n at lane fit) in
-                let frozen : c.if-index-bucket.rollup.grid.cells ≡ changed old.grid.cells q (frozen_with folded) =
+                let frozen : c.if-index-bucket.rollup.grid.cells ≡ changed old.grid.cells q (in_frozen (frozen_with folded)) =
                 ap (λ (s : RollupState). s.grid.cells) next ∙ frozen_in-lane c.args.rollup.now old c.args.column n r d bucket folded c.loop-time.invariant.lanes at lane in
-                folded-as r d all before rest (changed old.grid.cells q (frozen_with folded)) c.if-index-bucket.rollup.grid.cells (cell_of r (fact_at d p)) (cell_at (to_z w128 c.if-index-bucket.bucket-bits) (lane_under r d))
+                folded-as r d all before rest (changed old.grid.cells q (in_frozen (frozen_with folded))) c.if-index-bucket.rollup.grid.cells (cell_of r (fact_at d p)) (cell_at (to_z w128 c.if-index-bucket.bucket-bits) (lane_under r d))
                 (merged empty_aggregate one) c.merge-folded.result frozen (ap (λ i. cell_at i (lane_under r d)) (w.bucket-is ∙ index)) (merge ∙ ap (λ a. merged a one) nothing)
                 (folded-next r d all before p rest old.grid.cells q folded lane.0 h);
           }

@@ -4,8 +4,8 @@ use Rattle.ts_store.specs.ColumnLists.{lists_in}
 use Rattle.ts_store.specs.Rollups.{RollupState, columns_of_lane}
 use Rattle.ts_store.proofs.rollup.Rollup.columns_of.Goals as goal
 
-pub returns : goal.returns
-returns g c =
+pub returns-clause-columns : goal.returns-clause-columns
+returns-clause-columns g c =
     let vs = c.self.inside.columns.items in
     let within : c.number.result < length vs =
     omega (arith, c.number.ensures, c.requires, c.self.invariant.each, length-map vs (λ v. v.items), ap (λ (s : RollupState). length s.grid.lanes) c.self.view_is) in

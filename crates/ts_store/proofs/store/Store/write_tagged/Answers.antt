@@ -10,8 +10,10 @@ use Rattle.ts_store.specs.LinesInColumns.{PutsLine, GrowsForLine}
 use Rattle.ts_store.specs.LinesPut.{Accepts, Leaves}
 use Rattle.ts_store.specs.OpenRuns.{IsKept, kept_data}
 use Rattle.ts_store.specs.Refusals.{write_fault}
-use Rattle.ts_store.specs.Rollups.{AreRollups}
-use Rattle.ts_store.proofs.Stands.{series_from, accepted_by, left_by, kept_left, kept_accepted, not_refused, taken_from}
+use Rattle.ts_store.specs.LivePuts.{StayLive}
+use Rattle.ts_store.specs.Rollups.{AreRollups, cells_of}
+use Rattle.ts_store.proofs.CountsKept.{facts-within}
+use Rattle.ts_store.proofs.Stands.{series_from, accepted_by, left_by, kept_left, kept_accepted, not_refused, taken_from, stay_live}
 use Rattle.ts_store.proofs.store.Store.write_tagged.Goals as goal
 
 pub refusal-requires : goal.refusal-requires
@@ -37,18 +39,35 @@ put_line-requires-clause-rollups g c =
     let facts = c.self.inside.facts in
     subst (λ (rs : List Rule). AreRollups rs (map column_of facts.columns) facts.rollups) (sym c.rules.ensures.value) c.self.invariant.rollups
 
+pub put_line-requires-clause-live : goal.put_line-requires-clause-live
+put_line-requires-clause-live g c =
+    let before = c.self.inside in
+    subst (λ (rs : List Rule). StayLive rs c.lows.result.now before.facts.columns (cells_of before.facts.rollups)) (sym c.rules.ensures.value)
+    (subst (λ (ls : List ℤ). StayLive before.settings.rules ls before.facts.columns (cells_of before.facts.rollups)) (sym c.lows.ensures) (stay_live before.settings before.marks before.accepted before.facts before.run c.self.invariant))
+
+pub put_line-requires-clause-fit : goal.put_line-requires-clause-fit
+put_line-requires-clause-fit g c =
+    let before = c.self.inside in
+    let line : Parts = c.args.line.now in
+    let none : write_fault before.marks.raw before.facts.series before.accepted line ≡ None = ap (λ (k : StoreData). write_fault k.marks.raw k.series k.accepted line) c.self.view_is ∙ sym c.refusal.ensures ∙ c.in_default.is in
+    let welcome = not_refused before.marks.raw before.facts.series before.accepted line none in
+    let reached = c.self.invariant.reached in
+    let held = facts-within reached.opening reached.history (kept_data before.settings before.marks before.accepted before.facts before.run) reached.stands in
+    let few = welcome.few in
+    omega (arith, held, few)
+
 pub invariant_of-self : goal.invariant_of-self
 invariant_of-self g c =
     let before = c.self.inside in
     let line : Parts = c.args.line.now in
-    let grows : GrowsForLine before.settings.rules before.facts c.put_line.new.self line = subst (λ (rs : List Rule). GrowsForLine rs before.facts c.put_line.new.self line) c.rules.ensures.value c.in_err-put_line.ensures.err in
+    let grows : GrowsForLine before.settings.rules before.marks.lows before.facts c.put_line.new.self line = subst (λ (ls : List ℤ). GrowsForLine before.settings.rules ls before.facts c.put_line.new.self line) c.lows.ensures (subst (λ (rs : List Rule). GrowsForLine rs c.lows.result.now before.facts c.put_line.new.self line) c.rules.ensures.value c.in_err-put_line.ensures.err) in
     kept_left before.settings before.marks before.accepted before.facts c.put_line.new.self before.run line c.self.invariant grows
 
 pub returns-in_err-put_line : goal.returns-in_err-put_line
 returns-in_err-put_line g c =
     let before = c.self.inside in
     let line : Parts = c.args.line.now in
-    let grows : GrowsForLine before.settings.rules before.facts c.put_line.new.self line = subst (λ (rs : List Rule). GrowsForLine rs before.facts c.put_line.new.self line) c.rules.ensures.value c.in_err-put_line.ensures.err in
+    let grows : GrowsForLine before.settings.rules before.marks.lows before.facts c.put_line.new.self line = subst (λ (ls : List ℤ). GrowsForLine before.settings.rules ls before.facts c.put_line.new.self line) c.lows.ensures (subst (λ (rs : List Rule). GrowsForLine rs c.lows.result.now before.facts c.put_line.new.self line) c.rules.ensures.value c.in_err-put_line.ensures.err) in
     let p = err_from_is_err_and c.from_residual.result c.from_residual.ensures.1 in
     record {
       ok = search rules;
@@ -79,7 +98,7 @@ invariant_of-self-2 g c =
     let none : write_fault before.marks.raw before.facts.series before.accepted line ≡ None = ap (λ (k : StoreData). write_fault k.marks.raw k.series k.accepted line) c.self.view_is ∙ sym c.refusal.ensures ∙ c.in_default.is in
     let welcome = not_refused before.marks.raw before.facts.series before.accepted line none in
     let many : length c.fields.result.now ≡ length (line_facts line) = ap (λ (l : List (LinePart × ℤ)). length l) c.fields.ensures.value ∙ sym (length-map line.fields (fact_of line)) in
-    let put : PutsLine before.settings.rules before.facts c.put_line.new.self line = subst (λ (rs : List Rule). PutsLine rs before.facts c.put_line.new.self line) c.rules.ensures.value c.in_ok-put_line.ensures.ok in
+    let put : PutsLine before.settings.rules before.marks.lows before.facts c.put_line.new.self line = subst (λ (ls : List ℤ). PutsLine before.settings.rules ls before.facts c.put_line.new.self line) c.lows.ensures (subst (λ (rs : List Rule). PutsLine rs c.lows.result.now before.facts c.put_line.new.self line) c.rules.ensures.value c.in_ok-put_line.ensures.ok) in
     let taken = taken_from before.marks.raw line welcome.late put.taken in
     subst (λ (n : ℕ). IsKept (kept_data before.settings before.marks (before.accepted + n) c.put_line.new.self before.run) c.put_line.new.self before.run) (sym many)
     (kept_accepted before.settings before.marks before.accepted before.facts c.put_line.new.self before.run line c.self.invariant put taken welcome.few)
@@ -91,7 +110,7 @@ returns g c =
     let none : write_fault before.marks.raw before.facts.series before.accepted line ≡ None = ap (λ (k : StoreData). write_fault k.marks.raw k.series k.accepted line) c.self.view_is ∙ sym c.refusal.ensures ∙ c.in_default.is in
     let welcome = not_refused before.marks.raw before.facts.series before.accepted line none in
     let many : length c.fields.result.now ≡ length (line_facts line) = ap (λ (l : List (LinePart × ℤ)). length l) c.fields.ensures.value ∙ sym (length-map line.fields (fact_of line)) in
-    let put : PutsLine before.settings.rules before.facts c.put_line.new.self line = subst (λ (rs : List Rule). PutsLine rs before.facts c.put_line.new.self line) c.rules.ensures.value c.in_ok-put_line.ensures.ok in
+    let put : PutsLine before.settings.rules before.marks.lows before.facts c.put_line.new.self line = subst (λ (ls : List ℤ). PutsLine before.settings.rules ls before.facts c.put_line.new.self line) c.lows.ensures (subst (λ (rs : List Rule). PutsLine rs c.lows.result.now before.facts c.put_line.new.self line) c.rules.ensures.value c.in_ok-put_line.ensures.ok) in
     let taken = taken_from before.marks.raw line welcome.late put.taken in
     record {
       ok =

@@ -1,6 +1,6 @@
 use Rattle.std.proofs.Common.{subst}
 use Rattle.ts_store.specs.OpenRuns.{IsReached}
-use Rattle.ts_store.proofs.ShownCells.{lows-length}
+use Rattle.ts_store.proofs.CountsKept.{lows-length}
 use Rattle.ts_store.proofs.store.StoreView.marks.Goals as goal
 
 pub returns-clause-lows : goal.returns-clause-lows

@@ -1,6 +1,6 @@
 use Rattle.std.proofs.Common.{◌≡◌, ◌+◌, ◌≤◌, ◌^◌, length}
 use Rattle.ts_core.specs.Aggregates.{merged, aggregate_of_points}
-use Rattle.ts_store.proofs.cell_walk.with_points.Given as goal
+use Rattle.ts_store.proofs.live_parts.with_points.Given as goal
 
 abbrev pub invariant-loop-time : goal.invariant-loop-time
 invariant-loop-time l = record {

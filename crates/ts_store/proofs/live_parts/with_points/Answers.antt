@@ -1,7 +1,7 @@
 use Rattle.std.proofs.Common.{◌≡◌, ℤ, ◌∷◌, ◌∙◌, ap, sym, length, rules, arith}
 use Rattle.ts_core.specs.Aggregates.{Aggregate, merged, aggregate_of_one, aggregate_of_points}
 use Rattle.ts_store.proofs.LiveParts.{point_more, points_none}
-use Rattle.ts_store.proofs.cell_walk.with_points.Goals as goal
+use Rattle.ts_store.proofs.live_parts.with_points.Goals as goal
 
 pub merge-all-requires : goal.merge-all-requires
 merge-all-requires c =
