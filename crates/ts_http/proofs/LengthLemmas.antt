@@ -1,0 +1,50 @@
+-- The length of a body, as `parse` reads it.
+use Rattle.std.proofs.Common.{◌≡◌, ℕ, ◌<◌, ◌≤◌, true, [], ◌∷◌, length, ◌&&◌, refl, arith}
+use Rattle.std.proofs.lemmas.Bool.{and_parts, ltb-true, leb-true}
+use Rattle.std.proofs.lemmas.Str.Ascii.{IsAscii-nil, IsAscii-cons}
+use Rattle.std.proofs.lemmas.Str.Parse.{digits_value_short, numerals_by_value, tells_digits}
+use Rattle.std.proofs.lemmas.Bool.Decides.{nat_tests}
+use Rattle.std.proofs.lemmas.Str.{IsUtf8-from_ascii}
+use Rattle.std.specs.Prelude.{IsAscii, nat_lt, nat_le}
+use Rattle.std.specs.Str.{IsUtf8}
+use Rattle.std.specs.Char.{is_ascii_digit}
+use Rattle.std.specs.List.{list_all}
+use Rattle.std.specs.Str.Parse.{IsNumeral, AllDigits, without_leading_plus, digits_value}
+use Rattle.ts_core.specs.Facts.{Text}
+use Rattle.ts_line.proofs.NumberLemmas.{all_digits, digit_not_plus}
+use Rattle.ts_http.specs.Requests.{is_length}
+
+record Digits (value : Text) : Type 0 where
+  some : 0 < length value
+  few : length value ≤ 18
+  digits : list_all is_ascii_digit value ≡ true
+
+digits_of : (value : Text) → is_length value ≡ true → Digits value
+digits_of value e =
+    let a = and_parts (nat_lt 0 (length value)) (nat_le (length value) 18 && list_all is_ascii_digit value) e in
+    let b = and_parts (nat_le (length value) 18) (list_all is_ascii_digit value) a.1 in
+    record { some = ltb-true 0 (length value) a.0; few = leb-true (length value) 18 b.0; digits = b.1 }
+
+no_plus : (value : Text) → list_all is_ascii_digit value ≡ true → without_leading_plus value ≡ value
+no_plus [] e = refl
+no_plus (c ∷ cs) e =
+    let p = and_parts (is_ascii_digit c) (list_all is_ascii_digit cs) e in
+    rw (digit_not_plus c p.0) refl
+
+small : (c : ℕ) → is_ascii_digit c ≡ true → c < 128
+small c e = grind (arith, nat_tests)
+
+digits_ascii : (value : Text) → list_all is_ascii_digit value ≡ true → IsAscii value
+digits_ascii [] e = IsAscii-nil
+digits_ascii (c ∷ cs) e =
+    let p = and_parts (is_ascii_digit c) (list_all is_ascii_digit cs) e in
+    IsAscii-cons c cs (small c p.0) (digits_ascii cs p.1)
+
+pub length_is_text : (value : Text) → is_length value ≡ true → IsUtf8 value
+length_is_text value e = IsUtf8-from_ascii value (digits_ascii value (digits_of value e).digits)
+
+pub length_parses : (value : Text) → is_length value ≡ true → IsNumeral 10 (without_leading_plus value) × (digits_value 10 (without_leading_plus value) < 18446744073709551616)
+length_parses value e =
+    let d = digits_of value e in
+    let all = all_digits value d.digits in
+    rw (no_plus value d.digits) ((d.some, all), omega (arith, digits_value_short (numerals_by_value (AllDigits 10) tells_digits) value 18 all d.few))

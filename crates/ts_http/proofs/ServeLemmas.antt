@@ -1,0 +1,164 @@
+-- The steps of serving a request, put together.
+use Rattle.std.proofs.Common.{◌≡◌, ⊎_elim, ℕ, ℤ, ◌+◌, ◌≤◌, List, [], ◌∷◌, ◌++◌, length, take, drop, map, Bool, false, Option, Some, None, Result, Ok, Err, refl, sym, ap, ◌∙◌, subst, arith, append-nil}
+use Rattle.std.specs.List.{AllByRecursion}
+use Rattle.std.specs.Io.KnownBytes.{Consumes, Appends}
+use Rattle.std.proofs.lemmas.List.Elements.{recursion_from_All}
+use Rattle.httparse.specs.Grammar.{RequestHead}
+use Rattle.httparse.specs.Spans.{IsHeaderWithin, IsRequestWithin, IsRequestAt, header_bytes, span_bytes}
+use Rattle.httparse.specs.declared.spans.HeaderSpan.{HeaderSpan}
+use Rattle.httparse.specs.declared.spans.RequestSpans.{RequestSpans}
+use Rattle.ts_core.specs.Facts.{Text}
+use Rattle.ts_core.specs.Devices.{Input}
+use Rattle.ts_core.specs.StoreData.{StoreData}
+use Rattle.httparse.proofs.GrammarLemmas.{ReadsRequest-append}
+use Rattle.ts_core.specs.Devices.{Output}
+use Rattle.ts_http.specs.Acts.{Acts}
+use Rattle.ts_http.specs.Heads.{IsWhole, ReadsHead, Nothing}
+use Rattle.ts_http.specs.Reading.{request_of}
+use Rattle.ts_http.specs.Requests.{path_of, query_of, route_of, method_of, fields_of, refused, body_length}
+use Rattle.ts_http.specs.Requested.{Refuses, Wants, Asks, is_head, route_in, method_in, refused_in, is_taken}
+use Rattle.ts_http.specs.Served.{Serves, IsServed, request_turns}
+use Rattle.ts_http.specs.ServeSteps.{ActedOn, IsSent}
+use Rattle.ts_http.specs.declared.refusal.Refusal.{Refusal}
+use Rattle.ts_http.specs.declared.refusal.Refusal.TheVariants as refusals
+use Rattle.ts_http.specs.declared.route.Method.{Method}
+use Rattle.ts_http.specs.declared.serve.IoFault.{IoFault}
+use Rattle.ts_http.specs.declared.serve.IoFault.TheVariants.{Reader, Writer}
+use Rattle.ts_http.specs.declared.serve.Served.{Served}
+use Rattle.ts_http.specs.declared.serve.Served.TheVariants as served
+use Rattle.ts_http.specs.Batches.{State, IsIn}
+use Rattle.ts_http.specs.Outcomes.{WritesAs, QueriesAs, ActsAs, reply_of}
+use Rattle.ts_http.specs.declared.outcome.Outcome.{Outcome}
+use Rattle.ts_http.specs.declared.outcome.Outcome.TheVariants as outcomes
+use Rattle.ts_http.specs.declared.route.Route.{Route}
+use Rattle.ts_http.specs.declared.route.Route.TheVariants as to
+
+-- ---- what a request does, by its path
+
+pub acted_write : (now : ℤ) (query body : Text) (old new : StoreData) (o : Outcome) → WritesAs now query body old o new → ActsAs now to.Write query body old o new
+acted_write now query body old new o w = λ s i. let d = w s i in (d.0, Acts.writes (reply_of false o) d.0 d.1, d.2)
+
+pub acted_query : (now : ℤ) (query body : Text) (k : StoreData) (o : Outcome) → QueriesAs now query body k o → ActsAs now to.Query query body k o k
+acted_query now query body k o q = λ s i. (s, Acts.queries (reply_of false o) (q s i), i)
+
+pub acted_ping : (now : ℤ) (query body : Text) (k : StoreData) → ActsAs now to.Ping query body k outcomes.Done k
+acted_ping now query body k = λ s i. (s, Acts.pings, i)
+
+-- ---- spans within what came
+
+header_within : (n m : ℕ) (h : HeaderSpan) → n ≤ m → IsHeaderWithin n h → IsHeaderWithin m h
+header_within n m h le w = ((w.0.0, omega (arith, w.0.1, le)), (w.1.0, omega (arith, w.1.1, le)))
+
+spans_by_parts : (n m : ℕ) (hs : List HeaderSpan) → n ≤ m → AllByRecursion (IsHeaderWithin n) hs → AllByRecursion (IsHeaderWithin m) hs
+spans_by_parts n m [] le all = tt
+spans_by_parts n m (h ∷ hs) le all = (header_within n m h le all.0, spans_by_parts n m hs le all.1)
+
+pub spans_within : (came : Text) (spans : List HeaderSpan) (found : RequestSpans) → IsRequestWithin came spans found → AllByRecursion (IsHeaderWithin (length came)) (take found.headers spans)
+spans_within came spans found w = spans_by_parts found.len (length came) (take found.headers spans) w.section.len_fits (recursion_from_All (IsHeaderWithin found.len) (take found.headers spans) w.section.headers_fit)
+
+-- ---- what was asked
+
+refusal_served : (now : ℤ) (s : State) (bytes : Text) (route : Route) (old new : StoreData) (o : Outcome) (r : Refusal) → IsIn s old → o ≡ outcomes.Refused r → new ≡ old → Asks bytes (Refuses r route false)
+    → (s' : State) × Serves now s bytes (served.Reply (reply_of false o).0 route) (reply_of false o).1 s' × IsIn s' new
+refusal_served now s bytes route old new o r i oe ne asks = (s, subst (λ (p : Outcome). Serves now s bytes (served.Reply (reply_of false p).0 route) (reply_of false p).1 s) (sym oe) (Serves.refuses r route false asks), subst (IsIn s) (sym ne) i)
+
+module _ (came : Text) (spans : List HeaderSpan) (found : RequestSpans) (head : RequestHead) (at : IsRequestAt came spans found head) where
+  -- a head that is refused
+  pub asks_refused : (bytes rest : Text) (route : Route) (method : Method) (r : Refusal) → IsWhole bytes head rest
+      → route ≡ route_of (path_of (span_bytes came found.path)) → method ≡ method_of (span_bytes came found.method)
+      → refused route method (map (header_bytes came) (take found.headers spans)) ≡ Some r → Asks bytes (Refuses r route (is_head method))
+  asks_refused bytes rest route method r whole er em e =
+      let route_is : route ≡ route_in head = er ∙ ap (λ t. route_of (path_of t)) at.path in
+      let method_is : method ≡ method_in head = em ∙ ap method_of at.method in
+      let why : refused_in head r = sym (λ i. refused (route_is i) (method_is i) (at.fields i)) ∙ e in
+      subst (λ q. Asks bytes (Refuses r q (is_head method))) (sym route_is) (subst (λ m. Asks bytes (Refuses r (route_in head) (is_head m))) (sym method_is) (Asks.refuses head rest r whole why))
+
+  -- a head that is taken, and what became of what is behind it
+  pub asks_taken : (bytes rest : Text) (now : ℤ) (route : Route) (method : Method) (query : Text) (len : ℕ) (old new : StoreData) (o : Outcome) (s : State) → IsWhole bytes head rest
+      → route ≡ route_of (path_of (span_bytes came found.path)) → method ≡ method_of (span_bytes came found.method) → query ≡ query_of (span_bytes came found.path)
+      → refused route method (map (header_bytes came) (take found.headers spans)) ≡ None → len ≡ body_length method (map (header_bytes came) (take found.headers spans))
+      → ActedOn now route query rest len old o new → IsIn s old
+      → (s' : State) × Serves now s bytes (served.Reply (reply_of false o).0 route) (reply_of false o).1 s' × IsIn s' new
+  asks_taken bytes rest now route method query len old new o s whole er em eq e size acted i =
+      let route_is : route ≡ route_in head = er ∙ ap (λ t. route_of (path_of t)) at.path in
+      let method_is : method ≡ method_in head = em ∙ ap method_of at.method in
+      let query_is : query ≡ query_of head.target = eq ∙ ap query_of at.path in
+      let taken : is_taken head = sym (λ j. refused (route_is j) (method_is j) (at.fields j)) ∙ e in
+      let len_is : len ≡ body_length (method_in head) (fields_of head) = size ∙ (λ j. body_length (method_is j) (at.fields j)) in
+      ⊎_elim {C = (s' : State) × Serves now s bytes (served.Reply (reply_of false o).0 route) (reply_of false o).1 s' × IsIn s' new}
+      (λ w.
+      let d = w.4 s i in
+      let asks : Asks bytes (Wants route query w.0) = subst (λ q. Asks bytes (Wants q query w.0)) (sym route_is) (subst (λ q. Asks bytes (Wants (route_in head) q w.0)) (sym query_is) (Asks.wants head rest w.0 w.1 whole taken w.2 (w.3 ∙ len_is))) in
+      (d.0, Serves.acts route query w.0 (reply_of false o) d.0 asks d.1, d.2))
+      (λ w. ⊎_elim {C = (s' : State) × Serves now s bytes (served.Reply (reply_of false o).0 route) (reply_of false o).1 s' × IsIn s' new}
+      (λ cut.
+      let asks : Asks bytes (Refuses refusals.BodyEndsEarly route false) = subst (λ q. Asks bytes (Refuses refusals.BodyEndsEarly q false)) (sym route_is) (Asks.cut head rest whole taken (omega (arith, cut.0, len_is))) in
+      refusal_served now s bytes route old new o refusals.BodyEndsEarly i cut.1 cut.2 asks)
+      (λ want.
+      let asks : Asks bytes (Refuses refusals.OutOfMemory route false) = subst (λ q. Asks bytes (Refuses refusals.OutOfMemory q false)) (sym route_is) (Asks.wants_memory head rest whole taken) in
+      refusal_served now s bytes route old new o refusals.OutOfMemory i want.0 want.1 asks)
+      w)
+      acted
+
+-- ---- a head, whatever follows what came
+
+pub whole_more : (came more bytes rest : Text) (spans : List HeaderSpan) (found : RequestSpans) (h : RequestHead) → IsRequestAt came spans found h → IsWhole bytes h rest → IsWhole (came ++ more) h (drop found.len came ++ more)
+whole_more came more bytes rest spans found h at w = record { reads = ReadsRequest-append came h (drop found.len came) more at.reads; short = w.short; few = w.few }
+
+-- ---- what a call promises
+
+nothing_sent : (old : Option Text) → Appends old old []
+nothing_sent None = tt
+nothing_sent (Some xs) = sym (append-nil xs)
+
+abbrev pub Given : Type 0
+Given = Result Served IoFault
+
+abbrev pub failed_by : IoFault → Given
+failed_by f = Err f
+
+not_writer : failed_by Reader ≡ failed_by Writer → ⊥
+not_writer e = absurd cc
+
+pub read_failed : (now : ℤ) (old new : StoreData) (source source' : Input) (sink : Output) (result : Result Served IoFault) → result ≡ Err Reader → new ≡ old → source'.failures ≡ source.failures + 1 → source'.turns ≤ source.turns + request_turns
+    → IsServed now old source sink result new source' sink
+read_failed now old new source source' sink result e same f t = subst (λ (r : Result Served IoFault). IsServed now old source sink r new source' sink) (sym e) record {
+  answered = tt;
+  begun = λ b. absurd cc;
+  unread = λ _. (same, refl);
+  reader = f;
+  writer = omega arith;
+  turns = t;
+}
+
+pub nothing_served : (now : ℤ) (old : StoreData) (source source' : Input) (sink : Output) (came : Text) → Consumes source.remaining source'.remaining came → ReadsHead (request_of came source') Nothing → source'.failures ≡ source.failures → source'.turns ≤ source.turns + request_turns
+    → IsServed now old source sink (Ok served.Nothing) old source' sink
+nothing_served now old source source' sink came c h f t = record {
+  answered = (came, c, λ s i. ([], s, Serves.nothing (Asks.nothing h), i, nothing_sent sink.contents));
+  begun = λ b. absurd cc;
+  unread = λ b. absurd cc;
+  reader = omega (arith, f);
+  writer = omega arith;
+  turns = t;
+}
+
+pub sent_told : (now : ℤ) (old new : StoreData) (source source' : Input) (sink sink' : Output) (o : Outcome) (route : Route) (to_head : Bool) (came : Text) (result : Result Served IoFault) → IsSent o route to_head sink result sink' → Consumes source.remaining source'.remaining came
+    → ((s : State) → IsIn s old → (s' : State) × Serves now s (request_of came source') (served.Reply (reply_of to_head o).0 route) (reply_of to_head o).1 s' × IsIn s' new)
+    → source'.failures ≡ source.failures → source'.turns ≤ source.turns + request_turns → IsServed now old source sink result new source' sink'
+sent_told now old new source source' sink sink' o route to_head came (Ok x) sent c did f t = record {
+  answered = (came, c, λ s i. let d = did s i in ((reply_of to_head o).1, d.0, subst (λ (v : Served). Serves now s (request_of came source') v (reply_of to_head o).1 d.0) (sym sent.ok.0) d.1, d.2, sent.ok.1));
+  begun = λ b. absurd cc;
+  unread = λ b. absurd cc;
+  reader = omega (arith, f);
+  writer = omega (arith, sent.failures);
+  turns = t;
+}
+sent_told now old new source source' sink sink' o route to_head came (Err Writer) sent c did f t = record {
+  answered = tt;
+  begun = λ _. (came, c, (served.Reply (reply_of to_head o).0 route, λ s i. let d = did s i in ((reply_of to_head o).1, d.0, d.1, d.2, sent.err)));
+  unread = λ b. absurd cc;
+  reader = omega (arith, f);
+  writer = omega (arith, sent.failures);
+  turns = t;
+}
+sent_told now old new source source' sink sink' o route to_head came (Err Reader) sent c did f t = absurd (not_writer sent.writer)

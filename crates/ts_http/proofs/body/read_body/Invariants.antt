@@ -1,0 +1,16 @@
+use Rattle.std.proofs.Common.{◌≡◌, ◌+◌, ◌-◌, ◌≤◌, ◌++◌, length, take}
+use Rattle.std.specs.Io.KnownBytes.{Consumes}
+use Rattle.ts_core.specs.Facts.{Text}
+use Rattle.ts_http.proofs.body.read_body.Given as goal
+
+abbrev pub invariant-loop-have : goal.invariant-loop-have
+invariant-loop-have g l = record {
+  within : l.have ≤ length l.body;
+  size : length l.body ≡ length l.initial.body;
+  came : (got : Text) × (take l.have l.body ≡ take l.initial.have l.initial.body ++ got) × (l.have ≡ l.initial.have + length got) × Consumes l.initial.source.remaining l.source.remaining got;
+  failures : l.source.failures ≡ l.initial.source.failures;
+  turns : l.source.turns + l.initial.have ≤ l.initial.source.turns + l.have;
+}
+
+abbrev pub decreases-loop-have : goal.decreases-loop-have
+decreases-loop-have g l = length l.initial.body - l.have

@@ -1,0 +1,49 @@
+use Rattle.std.proofs.Common.{rules, ◌≡◌, length, ◌+◌, ◌<◌, take, unwrap_or, [], arith, sym, ◌∙◌, subst}
+use Rattle.std.proofs.lemmas.List.{length-take-le}
+use Rattle.ts_http.specs.Heads.{head_limit, IsUnfinished}
+use Rattle.ts_http.proofs.ReadLemmas.{more_came, none_came}
+use Rattle.ts_http.proofs.HeadLemmas.{front_told, too_long_told, end_told}
+use Rattle.ts_http.proofs.head.read_head.Goals as goal
+
+pub returns-then-more-eq0 : goal.returns-then-more-eq0
+returns-then-more-eq0 g c =
+    let i = c.loop-count.invariant in
+    let r = c.in_ok-more.ensures in
+    let count = c.loop-count.count in
+    let none = c.if-more-eq0.true in
+    let same : take count c.read_behind.new.room ≡ take count c.loop-count.room = r.kept in
+    record {
+      within = omega (arith, i.within, r.size);
+      bytes = none_came _ _ _ count c.in_ok-more.more c.loop-count.room c.read_behind.new.room none i.came r.came;
+      head = end_told (take count c.read_behind.new.room) count c.read_behind.new.source c.loop-count.spans c.at_end.result (length-take-le count c.read_behind.new.room (omega (arith, i.within, r.size))) (omega (arith, c.loop-count-test.true, i.room)) (λ some. subst IsUnfinished (sym same) (i.unfinished some)) (r.end none) c.at_end.ensures.none c.at_end.ensures.some;
+      failures = search rules;
+      turns = omega (arith, r.turns, i.turns, c.loop-count-test.true, i.room);
+    }
+
+pub returns-in-Some : goal.returns-in-Some
+returns-in-Some g c =
+    let i = c.loop-count.invariant in
+    let r = c.in_ok-more.ensures in
+    let count = c.loop-count.count + c.in_ok-more.more in
+    let came = take count c.read_behind.new.room in
+    let some : 0 < c.in_ok-more.more = omega (arith, c.if-more-eq0.false) in
+    record {
+      within = omega (arith, r.within, r.size);
+      bytes = more_came _ _ _ c.loop-count.count c.in_ok-more.more c.loop-count.room c.read_behind.new.room i.came r.came;
+      head = front_told came (unwrap_or c.read_behind.new.source.remaining []) c.look.new.spans c.in-Some.head (omega (arith, length-take-le count c.read_behind.new.room (omega (arith, r.within, r.size)), r.within, i.room)) (c.look.ensures.spans ∙ i.spans) c.in-Some.ensures.front;
+      failures = omega (arith, r.failures, i.failures);
+      turns = omega (arith, r.turns, i.turns, r.within, i.room, some);
+    }
+
+pub returns : goal.returns
+returns g c =
+    let i = c.loop-count.invariant in
+    let count = c.loop-count.count in
+    let size : length (take count c.loop-count.room) ≡ head_limit = length-take-le count c.loop-count.room i.within ∙ omega (arith, i.room, c.loop-count-test.false, i.within) in
+    record {
+      within = i.within;
+      bytes = i.came;
+      head = too_long_told (take count c.loop-count.room) (unwrap_or c.loop-count.source.remaining []) c.loop-count.spans size (i.unfinished (omega (arith, i.room, c.loop-count-test.false)));
+      failures = omega (arith, i.failures);
+      turns = omega (arith, i.turns, i.room, i.within);
+    }

@@ -1,0 +1,104 @@
+-- What a request does, and what it is answered. (InfluxData 1.8, API reference: /ping, /query, /write. Own rules: parameters that aren't named
+-- here mean nothing, and each path examines its own in this order.)
+use Rattle.std.specs.Prelude.{◌≡◌, ℕ, ℤ, Bool, true, false, List, [], ◌∷◌, ◌++◌, length, codes, if◌then◌else◌, Option, Some, None}
+use Rattle.std.specs.Str.{IsUtf8}
+use Rattle.ts_core.specs.Facts.{Text, same_text}
+use Rattle.ts_core.specs.TimeUnits.{precision_of}
+use Rattle.ts_core.specs.declared.time_unit.TimeUnit.{TimeUnit}
+use Rattle.ts_core.specs.declared.time_unit.TimeUnit.TheVariants.{Nanoseconds}
+use Rattle.ts_reply.specs.Answering.{IsReply}
+use Rattle.ts_reply.specs.Explaining.{IsExplanation}
+use Rattle.ts_reply.specs.Epochs.{epoch_of}
+use Rattle.ts_reply.specs.declared.epoch.Epoch.{Epoch}
+use Rattle.ts_reply.specs.declared.epoch.Epoch.TheVariants as epochs
+use Rattle.ts_http.specs.Batches.{State, TakesLines, StopsAtLine, body_lines, refusals_of, partial_text}
+use Rattle.ts_http.specs.HttpReplies.{reply_text, error_text, refusal_status, refusal_reply}
+use Rattle.ts_http.specs.Parameters.{parameters, first_named}
+use Rattle.ts_http.specs.declared.refusal.Refusal.{Refusal}
+use Rattle.ts_http.specs.declared.refusal.Refusal.TheVariants.{BodyNotText, BadPrecision, BadEpoch, BadExplain, MissingQuery, OutOfMemory}
+use Rattle.ts_http.specs.declared.route.Route.{Route}
+use Rattle.ts_http.specs.declared.route.Route.TheVariants as to
+use Rattle.ts_http.specs.declared.status.Status.{Status}
+use Rattle.ts_http.specs.declared.status.Status.TheVariants as status
+
+-- a reply: its status and its bytes
+abbrev pub Replied : Type 0
+Replied = Status × Text
+
+-- a refusal of a request whose body was read; no such one is by HEAD
+abbrev pub refusing : Refusal → Replied
+refusing r = (refusal_status r, refusal_reply false r)
+
+-- all is done
+abbrev pub done_reply : Replied
+done_reply = (status.NoContent, reply_text status.NoContent [] None)
+
+abbrev pub bad_reply : Text → Replied
+bad_reply body = (status.BadRequest, reply_text status.BadRequest [] (Some body))
+
+abbrev pub answer_reply : Bool → Text → Replied
+answer_reply true body = (status.Success, reply_text status.Success [] (Some body))
+answer_reply false body = bad_reply body
+
+-- ---- /write
+
+-- without one, timestamps are in nanoseconds
+abbrev pub precision_asked : Option Text → Option TimeUnit
+precision_asked None = Some Nanoseconds
+precision_asked (Some name) = precision_of name
+
+abbrev pub precision_in : Text → Option TimeUnit
+precision_in query = precision_asked (first_named (codes "precision") (parameters query))
+
+-- what is told of lines, of which these were refused
+abbrev pub batch_reply : List (ℕ × Text) → Replied
+batch_reply [] = done_reply
+batch_reply (first ∷ others) = bad_reply (error_text (partial_text first (length (first ∷ others))))
+
+-- ---- /query
+
+-- without one, times are texts
+abbrev pub epoch_asked : Option Text → Option Epoch
+epoch_asked None = Some epochs.Text
+epoch_asked (Some name) = if same_text name (codes "text") then None else epoch_of name
+
+-- whether plans are asked for
+abbrev pub explain_asked : Option Text → Option Bool
+explain_asked None = Some false
+explain_asked (Some value) =
+    if same_text value (codes "0") then Some false
+    else if same_text value (codes "1") then Some true
+    else None
+
+-- the parameters of the target, and behind them those of the body
+abbrev pub value_in : Text → Text → Text → Option Text
+value_in name query body = first_named name (parameters query ++ parameters body)
+
+-- ---- both
+
+-- From `old` a request may be answered so, and leave that.
+module _ (now : ℤ) (old : State) (query body : Text) where
+  pub data Writes : Replied → State → Type 0 where
+    not_text : (IsUtf8 body → ⊥) → Writes (refusing BodyNotText) old
+    bad_precision : IsUtf8 body → precision_in query ≡ None → Writes (refusing BadPrecision) old
+    wants_memory : IsUtf8 body → Writes (refusing OutOfMemory) old
+    writes : (precision : TimeUnit) (outcomes : List (Option Text)) (new : State) → IsUtf8 body → precision_in query ≡ Some precision → TakesLines precision now old (body_lines body) outcomes new → Writes (batch_reply (refusals_of outcomes)) new
+    -- the lines before one for which there was no memory are written
+    stops : (precision : TimeUnit) (new : State) → IsUtf8 body → precision_in query ≡ Some precision → StopsAtLine precision now old (body_lines body) new → Writes (refusing OutOfMemory) new
+
+  pub data Queries : Replied → Type 0 where
+    not_text : (IsUtf8 body → ⊥) → Queries (refusing BodyNotText)
+    bad_epoch : IsUtf8 body → epoch_asked (value_in (codes "epoch") query body) ≡ None → Queries (refusing BadEpoch)
+    bad_explain : (epoch : Epoch) → IsUtf8 body → epoch_asked (value_in (codes "epoch") query body) ≡ Some epoch → explain_asked (value_in (codes "explain") query body) ≡ None → Queries (refusing BadExplain)
+    missing : (epoch : Epoch) (explain : Bool) → IsUtf8 body → epoch_asked (value_in (codes "epoch") query body) ≡ Some epoch → explain_asked (value_in (codes "explain") query body) ≡ Some explain → value_in (codes "q") query body ≡ None → Queries (refusing MissingQuery)
+    wants_memory : IsUtf8 body → Queries (refusing OutOfMemory)
+    answers : (epoch : Epoch) (text : Text) (good : Bool) (answer : Text) → IsUtf8 body → epoch_asked (value_in (codes "epoch") query body) ≡ Some epoch → explain_asked (value_in (codes "explain") query body) ≡ Some false → value_in (codes "q") query body ≡ Some text
+        → IsReply old.opening old.history now text (value_in (codes "cert") query body) epoch good answer → Queries (answer_reply good answer)
+    explains : (epoch : Epoch) (text : Text) (good : Bool) (answer : Text) → IsUtf8 body → epoch_asked (value_in (codes "epoch") query body) ≡ Some epoch → explain_asked (value_in (codes "explain") query body) ≡ Some true → value_in (codes "q") query body ≡ Some text
+        → IsExplanation old.opening old.history now text good answer → Queries (answer_reply good answer)
+
+-- What a request does that isn't refused by its head, and whose body was read.
+pub data Acts (now : ℤ) (old : State) (query body : Text) : Route → Replied → State → Type 0 where
+  pings : Acts now old query body to.Ping done_reply old
+  writes : (reply : Replied) (new : State) → Writes now old query body reply new → Acts now old query body to.Write reply new
+  queries : (reply : Replied) → Queries now old query body reply → Acts now old query body to.Query reply old

@@ -1,0 +1,144 @@
+-- What the head of a request asks for, and why it may be refused before its body is read.
+-- (InfluxData 1.8, API reference: /ping, /query, /write. RFC 9110: methods, Content-Length, Content-Encoding; names of fields don't mind
+-- case. Own rules: no chunked bodies, bodies of 1,048,576 bytes at most, and the order in which all this is examined.)
+use Rattle.std.specs.Prelude.{ℕ, nat_lt, nat_le, Bool, true, false, not, ◌&&◌, ◌||◌, ◌==◌, List, [], ◌∷◌, length, map, codes, if◌then◌else◌, Option, None}
+use Rattle.std.specs.List.{list_any, list_all, before_first, after_first}
+use Rattle.std.specs.Char.{is_ascii_digit, to_ascii_lowercase}
+use Rattle.std.specs.Str.Parse.{digits_value}
+use Rattle.httparse.specs.Grammar.{RequestHead}
+use Rattle.httparse.specs.Spans.{name_and_value}
+use Rattle.ts_core.specs.Facts.{Text, same_text}
+use Rattle.ts_core.specs.SettingsFaults.{unless}
+use Rattle.ts_http.specs.declared.route.Route.{Route}
+use Rattle.ts_http.specs.declared.route.Route.TheVariants as to
+use Rattle.ts_http.specs.declared.route.Method.{Method}
+use Rattle.ts_http.specs.declared.route.Method.TheVariants as by
+use Rattle.ts_http.specs.declared.refusal.Refusal.{Refusal}
+use Rattle.ts_http.specs.declared.refusal.Refusal.TheVariants.{NotFound, MethodNotAllowed, LengthRequired, BadLength, BodyTooLarge, EncodingNotSupported}
+
+-- ---- the target: a path, and parameters behind a question mark
+
+abbrev pub is_question : ℕ → Bool
+is_question b = b == 63
+
+abbrev pub path_of : Text → Text
+path_of = before_first is_question
+
+abbrev pub query_of : Text → Text
+query_of = after_first is_question
+
+unfoldable pub route_of : Text → Route
+route_of path =
+    if same_text path (codes "/write") then to.Write
+    else if same_text path (codes "/query") then to.Query
+    else if same_text path (codes "/ping") then to.Ping
+    else to.Other
+
+unfoldable pub method_of : Text → Method
+method_of name =
+    if same_text name (codes "GET") then by.Get
+    else if same_text name (codes "HEAD") then by.Head
+    else if same_text name (codes "POST") then by.Post
+    else by.Other
+
+-- the methods of each path
+abbrev pub is_allowed : Route → Method → Bool
+is_allowed to.Write by.Post = true
+is_allowed to.Query by.Get = true
+is_allowed to.Query by.Post = true
+is_allowed to.Ping by.Get = true
+is_allowed to.Ping by.Head = true
+is_allowed route method = false
+
+-- and how a reply tells them
+abbrev pub allowed_methods : Route → Text
+allowed_methods to.Write = codes "POST"
+allowed_methods to.Query = codes "GET, POST"
+allowed_methods to.Ping = codes "GET, HEAD"
+allowed_methods to.Other = []
+
+abbrev pub is_post : Method → Bool
+is_post by.Post = true
+is_post method = false
+
+abbrev pub is_known : Route → Bool
+is_known to.Other = false
+is_known route = true
+
+abbrev pub is_write : Route → Bool
+is_write to.Write = true
+is_write route = false
+
+-- ---- fields: names and values
+
+abbrev pub Fields : Type 0
+Fields = List (Text × Text)
+
+abbrev pub same_ignoring_case : Text → Text → Bool
+same_ignoring_case a b = same_text (map to_ascii_lowercase a) (map to_ascii_lowercase b)
+
+abbrev pub is_named : Text → Text × Text → Bool
+is_named name field = same_ignoring_case field.0 name
+
+abbrev pub has_field : Text → Fields → Bool
+has_field name fields = list_any (is_named name) fields
+
+-- the values of the fields of a name
+abbrev pub values_of : Text → Fields → List Text
+values_of name [] = []
+values_of name (field ∷ fields) = if is_named name field then field.1 ∷ values_of name fields else values_of name fields
+
+-- ---- the length of the body
+
+abbrev pub body_limit : ℕ
+body_limit = 1048576
+
+-- 1 to 18 digits
+abbrev pub is_length : Text → Bool
+is_length value = nat_lt 0 (length value) && (nat_le (length value) 18 && list_all is_ascii_digit value)
+
+-- at most one length is told, and of this form
+abbrev pub is_good_length : List Text → Bool
+is_good_length [] = true
+is_good_length (value ∷ []) = is_length value
+is_good_length (value ∷ other ∷ others) = false
+
+-- a body of which no length is told is empty
+abbrev pub length_told : List Text → ℕ
+length_told [] = 0
+length_told (value ∷ others) = digits_value 10 value
+
+abbrev pub lengths_of : Fields → List Text
+lengths_of fields = values_of (codes "content-length") fields
+
+abbrev pub is_told : List Text → Bool
+is_told [] = false
+is_told (value ∷ values) = true
+
+-- the body is coded
+abbrev pub is_coded : Text × Text → Bool
+is_coded field = is_named (codes "content-encoding") field && not (same_ignoring_case field.1 (codes "identity"))
+
+-- why the body of a POST isn't read
+abbrev pub body_refused : Route → Fields → Option Refusal
+body_refused route fields =
+    unless (not (has_field (codes "transfer-encoding") fields) && (not (is_write route) || is_told (lengths_of fields))) LengthRequired
+    (unless (is_good_length (lengths_of fields)) BadLength
+    (unless (nat_le (length_told (lengths_of fields)) body_limit) BodyTooLarge
+    (unless (not (list_any is_coded fields)) EncodingNotSupported None)))
+
+-- ---- a head
+
+abbrev pub fields_of : RequestHead → Fields
+fields_of head = map name_and_value head.fields
+
+-- why a head is refused; what is first in this order is told
+abbrev pub refused : Route → Method → Fields → Option Refusal
+refused route method fields =
+    unless (is_known route) NotFound
+    (unless (is_allowed route method) (MethodNotAllowed route)
+    (if is_post method then body_refused route fields else None))
+
+-- how many bytes of a body are read
+abbrev pub body_length : Method → Fields → ℕ
+body_length method fields = if is_post method then length_told (lengths_of fields) else 0

@@ -1,0 +1,43 @@
+-- The steps of serving one request, as the code takes them. (Own rules.)
+use Rattle.std.specs.Prelude.{◌≡◌, ◌⊎◌, ◌<◌, ◌≤◌, ◌+◌, ℕ, ℤ, Bool, [], ◌++◌, length, unwrap_or, Some, None, Result, Ok, Err, IfOk, OnErr}
+use Rattle.std.specs.Io.KnownBytes.{Consumes, Appends}
+use Rattle.ts_core.specs.Facts.{Text}
+use Rattle.ts_core.specs.Devices.{Input, Output, AppendsFront, one_if_err}
+use Rattle.ts_core.specs.StoreData.{StoreData}
+use Rattle.ts_http.specs.Outcomes.{ActsAs, reply_of}
+use Rattle.ts_http.specs.Requests.{Fields, refused, body_length, body_limit}
+use Rattle.ts_http.specs.declared.outcome.Outcome.{Outcome}
+use Rattle.ts_http.specs.declared.outcome.Outcome.TheVariants.{Refused}
+use Rattle.ts_http.specs.declared.refusal.Refusal.{Refusal}
+use Rattle.ts_http.specs.declared.refusal.Refusal.TheVariants.{BodyEndsEarly, OutOfMemory}
+use Rattle.ts_http.specs.declared.route.Route.{Route}
+use Rattle.ts_http.specs.declared.route.Method.{Method}
+use Rattle.ts_http.specs.declared.serve.IoFault.{IoFault}
+use Rattle.ts_http.specs.declared.serve.IoFault.TheVariants.{Writer}
+use Rattle.ts_http.specs.declared.serve.Served.{Served}
+use Rattle.ts_http.specs.declared.serve.Served.TheVariants as served
+
+-- how long the body is, or why the head is refused
+abbrev pub IsLengthAnswer : Route → Method → Fields → Result ℕ Refusal → Type 0
+IsLengthAnswer route method fields (Ok n) = (refused route method fields ≡ None) × (n ≡ body_length method fields) × (n ≤ body_limit)
+IsLengthAnswer route method fields (Err r) = refused route method fields ≡ Some r
+
+-- what became of these bytes behind a head, which begin with a body of that length
+abbrev pub ActedOn : ℤ → Route → Text → Text → ℕ → StoreData → Outcome → StoreData → Type 0
+ActedOn now route query rest len old outcome new =
+    ((body : Text) × (others : Text) × (rest ≡ body ++ others) × (length body ≡ len) × ActsAs now route query body old outcome new)
+    ⊎ (((length rest < len) × (outcome ≡ Refused BodyEndsEarly) × (new ≡ old))
+    ⊎ ((outcome ≡ Refused OutOfMemory) × (new ≡ old)))
+
+pub record IsActedOn {E : Type 0} (now : ℤ) (route : Route) (query behind : Text) (len : ℕ) (old : StoreData) (source : Input) (result : Result Outcome E) (new : StoreData) (source' : Input) : Type 0 where
+  pub acted : IfOk result (λ outcome. (got : Text) × Consumes source.remaining source'.remaining got × ActedOn now route query (behind ++ (got ++ unwrap_or source'.remaining [])) len old outcome new)
+  pub unread : OnErr result (new ≡ old)
+  pub failures : source'.failures ≡ source.failures + one_if_err result
+  pub turns : source'.turns ≤ source.turns + len
+
+-- a reply is sent, or a beginning of it
+pub record IsSent (outcome : Outcome) (route : Route) (to_head : Bool) (old : Output) (result : Result Served IoFault) (new : Output) : Type 0 where
+  pub ok : IfOk result (λ s. (s ≡ served.Reply (reply_of to_head outcome).0 route) × Appends old.contents new.contents (reply_of to_head outcome).1)
+  pub err : OnErr result (AppendsFront old.contents new.contents (reply_of to_head outcome).1)
+  pub writer : OnErr result (result ≡ Err Writer)
+  pub failures : new.failures ≡ old.failures + one_if_err result

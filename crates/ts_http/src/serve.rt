@@ -1,0 +1,229 @@
+//! One request: it is read whole, done, and answered.
+ghost use Rattle.std.specs.Prelude.{◌≡◌, ◌≤◌, length, map, drop, false, true};
+ghost use Rattle.std.specs.List.{AllByRecursion};
+ghost use Rattle.httparse.specs.Spans.{IsHeaderWithin, IsRequestWithin, header_bytes, span_bytes};
+ghost use Rattle.ts_core.specs.Devices.{one_if_err};
+ghost use Rattle.ts_http.specs.Heads.{head_limit};
+ghost use Rattle.ts_http.specs.Requests.{path_of, query_of, route_of, method_of, is_known, body_limit, refused, body_length};
+ghost use Rattle.ts_http.specs.Outcomes.{ActsAs, reply_of};
+ghost use Rattle.ts_http.specs.ServeSteps.{IsLengthAnswer, IsActedOn, IsSent};
+ghost use Rattle.ts_http.specs.Served.{IsServed};
+
+use crate::body::{Body, take_body};
+use crate::fields::body_of;
+use crate::head::{FIELD_LIMIT, HEAD_LIMIT, HeadRead, read_head};
+use crate::outcome::Outcome;
+use crate::querying::{Form, query};
+use crate::reading::ReadFailed;
+use crate::refusal::Refusal;
+use crate::route::{Method, Route};
+use crate::status::Status;
+use crate::writing::write;
+use httparse::spans::{EMPTY_HEADER_SPAN, HeaderSpan, RequestSpans};
+use std::alloc::Global;
+use std::io::{Read, Write};
+use ts_core::{Refused, Sink, Source, Time};
+use ts_store::Store;
+
+/// How a request was served.
+#[derive(Clone, Copy, Debug, PartialEq, Eq)]
+pub enum Served {
+    /// There was no request.
+    Nothing,
+    /// It was answered.
+    Reply { status: Status, route: Route },
+}
+
+/// Why a request was not served.
+#[derive(Clone, Copy, Debug, PartialEq, Eq)]
+pub enum IoFault {
+    /// The reader failed (number 101). Nothing was done.
+    Reader,
+    /// The writer failed (number 102). What was asked is done, and a beginning of the reply went out.
+    Writer,
+}
+
+impl From<ReadFailed> for IoFault {
+    ghost use Rattle.std.specs.Prelude.{◌≡◌};
+    ghost use Rattle.ts_http.specs.declared.serve.IoFault.TheVariants.{Reader};
+
+    ghost from_gives = { λ _ e. e ≡ Reader };
+
+    fn from(_e: ReadFailed) -> IoFault {
+        IoFault::Reader
+    }
+}
+
+impl From<Refused> for IoFault {
+    ghost use Rattle.std.specs.Prelude.{◌≡◌};
+    ghost use Rattle.ts_http.specs.declared.serve.IoFault.TheVariants.{Writer};
+
+    ghost from_gives = { λ _ e. e ≡ Writer };
+
+    fn from(_e: Refused) -> IoFault {
+        IoFault::Writer
+    }
+}
+
+/// A head in the bytes that came, and what it asks for.
+#[derive(Clone, Copy, Drop)]
+struct Asked<'a> {
+    route: Route,
+    method: Method,
+    query: &'a [u8],
+    behind: &'a [u8],
+}
+
+/// What stands before the question mark of a target, and behind it.
+fn split_target(target: &[u8]) -> (&[u8], &[u8])
+    ensures path { result.0.now ≡ path_of target.now }
+    ensures query { result.1.now ≡ query_of target.now }
+{
+    match target.iter().position(|byte| *byte == b'?') {
+        Some(at) => (&target[..at], &target[at + 1..]),
+        None => (target, b""),
+    }
+}
+
+/// What a head asks for.
+fn asked_by<'a>(came: &'a [u8], found: &RequestSpans) -> Asked<'a>
+    requires method { (found.now.method.start ≤ found.now.method.end) × (found.now.method.end ≤ length came.now) }
+    requires path { (found.now.path.start ≤ found.now.path.end) × (found.now.path.end ≤ length came.now) }
+    requires len { found.now.len ≤ length came.now }
+    ensures route { result.route ≡ route_of (path_of (span_bytes came.entry.now found.now.path)) }
+    ensures method { result.method ≡ method_of (span_bytes came.entry.now found.now.method) }
+    ensures query { result.query.now ≡ query_of (span_bytes came.entry.now found.now.path) }
+    ensures behind { result.behind.now ≡ drop found.now.len came.entry.now }
+{
+    let (path, query) = split_target(found.path.of(came));
+    Asked {
+        route: Route::of(path),
+        method: Method::of(found.method.of(came)),
+        query,
+        behind: &came[found.len..],
+    }
+}
+
+/// How many bytes of a body are to be read, or why the head is refused.
+fn body_len(
+    came: &[u8],
+    spans: &[HeaderSpan],
+    route: Route,
+    method: Method,
+) -> Result<usize, Refusal>
+    requires { AllByRecursion (IsHeaderWithin (length came.now)) spans.now }
+    ensures { IsLengthAnswer route method (map (header_bytes came.now) spans.now) result }
+{
+    if route == Route::Other {
+        return Err(Refusal::NotFound);
+    }
+    if !route.allows(method) {
+        return Err(Refusal::MethodNotAllowed(route));
+    }
+    if method == Method::Post {
+        return body_of(came, spans, route);
+    }
+    Ok(0)
+}
+
+/// Does what is asked.
+fn act(
+    alloc: Global,
+    store: &mut Store<Global>,
+    now: Time,
+    asked: &Asked<'_>,
+    body: &[u8],
+) -> Outcome
+    requires known { is_known asked.now.route ≡ true }
+    requires body { length body.now ≤ body_limit }
+    ensures { ActsAs now asked.now.route asked.now.query.now body.now store.old result store.new }
+{
+    match asked.route {
+        Route::Write => write(alloc, store, now, asked.query, body),
+        Route::Query => query(
+            alloc,
+            store,
+            now,
+            &Form {
+                query: asked.query,
+                body,
+            },
+        ),
+        Route::Ping => Outcome::Done,
+        Route::Other => unreachable!(),
+    }
+}
+
+/// Reads the body, and does what is asked.
+fn act_on_body<R: Read>(
+    alloc: Global,
+    store: &mut Store<Global>,
+    now: Time,
+    asked: &Asked<'_>,
+    len: usize,
+    source: &mut Source<R>,
+) -> Result<Outcome, ReadFailed>
+    requires known { is_known asked.now.route ≡ true }
+    requires len { len ≤ body_limit }
+    ensures { IsActedOn now asked.now.route asked.now.query.now asked.now.behind.now len store.old source.old result store.new source.new }
+{
+    match take_body(alloc, asked.behind, len, source)? {
+        Body::Whole(body) => Ok(act(alloc, store, now, asked, &body)),
+        Body::Cut => Ok(Outcome::Refused(Refusal::BodyEndsEarly)),
+        Body::NoMemory => Ok(Outcome::Refused(Refusal::OutOfMemory)),
+    }
+}
+
+/// Sends a reply, to HEAD or not, and tells how the request was served.
+fn reply<W: Write>(
+    outcome: &Outcome,
+    route: Route,
+    to_head: bool,
+    sink: &mut Sink<W>,
+) -> Result<Served, IoFault>
+    ensures { IsSent outcome.now route to_head sink.old result sink.new }
+{
+    match outcome.send(to_head, sink) {
+        Ok(()) => Ok(Served::Reply {
+            status: outcome.status(),
+            route,
+        }),
+        Err(_) => Err(IoFault::Writer),
+    }
+}
+
+/// Serves one request at a moment: it is read whole, done, and answered.
+pub fn serve_one<R: Read, W: Write>(
+    alloc: Global,
+    store: &mut Store<Global>,
+    now: Time,
+    source: &mut Source<R>,
+    sink: &mut Sink<W>,
+) -> Result<Served, IoFault>
+    ensures { IsServed now store.old source.old sink.old result store.new source.new sink.new }
+{
+    let mut room = [0; HEAD_LIMIT];
+    let mut spans = [EMPTY_HEADER_SPAN; FIELD_LIMIT];
+    let (count, head) = read_head(source, &mut room, &mut spans)?;
+    match head {
+        HeadRead::Nothing => Ok(Served::Nothing),
+        HeadRead::Fault(fault) => {
+            let refused = Outcome::Refused(Refusal::Head(fault));
+            reply(&refused, Route::Other, false, sink)
+        }
+        HeadRead::Whole(found) => {
+            let came = &room[..count];
+            let asked = asked_by(came, &found);
+            match body_len(came, &spans[..found.headers], asked.route, asked.method) {
+                Ok(len) => {
+                    let outcome = act_on_body(alloc, store, now, &asked, len, source)?;
+                    reply(&outcome, asked.route, false, sink)
+                }
+                Err(refusal) => {
+                    let refused = Outcome::Refused(refusal);
+                    reply(&refused, asked.route, asked.method.is_head(), sink)
+                }
+            }
+        }
+    }
+}
