@@ -15,6 +15,8 @@ pub mod GatheringLemmas
 pub mod CertificateTextLemmas
 pub mod MarksTextLemmas
 pub mod FaultTableLemmas
+-- Requests
+pub mod RequestLemmas
 -- CommandLines
 pub mod CommandLineLaws
 pub mod CommandLineLemmas

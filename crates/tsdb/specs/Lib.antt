@@ -12,6 +12,7 @@ pub mod RunFaults
 pub mod CommandLines
 pub mod RunOutcomes
 pub mod Calls
+pub mod Requests
 -- What the code inside promises itself; nobody needs them to know what a script prints.
 pub mod CommandParts
 pub mod Counted

@@ -84,7 +84,7 @@ fn replay<R: Read, W: Write>(alloc: Global, source: &mut Source<R>, sink: &mut S
 }
 
 /// Prints what clap has to say of the command line.
-fn tell_error(rt: &(impl Print + Eprint), error: &Error) -> Told
+pub fn tell_error(rt: &(impl Print + Eprint), error: &Error) -> Told
     ensures { IsToldAs (told_of_kind (kind_of error.now)) result }
 {
     match told_by(error) {

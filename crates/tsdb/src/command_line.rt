@@ -10,7 +10,7 @@ use std::convert::AsStr;
 
 const VERSION: &str = "0.1.0";
 
-const ABOUT: &str = "A time series database of integers, run by scripts";
+const ABOUT: &str = "A time series database of integers, run by scripts and over HTTP";
 
 const SCRIPTS: &str = "\
 Scripts have one command a line; blank lines and lines that begin with # are skipped.
@@ -48,7 +48,8 @@ Example:
 
 prints ok, ok and 1.
 
-`tsdb faults` prints what the number of each fault means, `tsdb faults N` that of N.";
+`tsdb faults` prints what the number of each fault means, `tsdb faults N` that of N.
+`tsdb serve SETTINGS IMAGE PORT REQUESTS` answers HTTP requests; `tsdb serve --help` says more.";
 
 /// What became of a command line that asks for no replay; its exit status shows it.
 #[derive(Clone, Copy, Drop)]

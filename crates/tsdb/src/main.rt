@@ -1,6 +1,8 @@
-//! The program `tsdb`: it runs scripts from standard input (`tsdb replay`) and prints what faults mean (`tsdb faults`). It stands on
-//! ts_reply, ts_store and what these stand on. It promises, on `engine::run` and `call::answer_words`: what it prints is what the definitions of
-//! specs/ say of the script and of the words of the call, from the bytes read to the bytes written; and where a device fails, a beginning of it.
+//! The program `tsdb`: it runs scripts from standard input (`tsdb replay`), serves HTTP requests (`tsdb serve`) and prints what faults mean
+//! (`tsdb faults`). It stands on ts_reply, ts_http, ts_store and what these stand on. It promises, on `engine::run` and `call::answer_words`:
+//! what it prints is what the definitions of specs/ say of the script and of the words of the call, from the bytes read to the bytes written;
+//! and where a device fails, a beginning of it. On `requests::serve_on`: a store goes by requests as ts_http defines them. What sockets, the
+//! clock and the settings file give has no contract.
 //!
 //! ```text
 //! printf 'write cpu v=5i 1\ncount cpu v 0 10\n' | tsdb replay     prints ok and 1
@@ -27,24 +29,28 @@ mod moment;
 mod opening;
 mod outcome;
 mod reply;
+mod requests;
 mod run_fault;
+mod serve_line;
+mod service;
 
 use call::{answer_words, read_words};
+use serve_line::is_serve;
+use service::{end, serve};
 use std::io;
 use std::process::ExitCode;
 use ts_core::{Sink, Source};
 
 fn main(rt: HostRuntime) -> ExitCode {
-    let outcome = match read_words(&rt) {
-        Ok(words) => {
-            let mut source = Source::new(rt.reader());
-            let mut sink = Sink::new(io::writer(&rt));
-            answer_words(&rt, words.as_slice(), &mut source, &mut sink)
-        }
-        Err(outcome) => outcome,
+    let words = match read_words(&rt) {
+        Ok(words) => words,
+        Err(outcome) => return end(&rt, outcome),
     };
-    if let Some(line) = outcome.error_line() {
-        let _ = eprintln!(rt; "{line}");
+    if is_serve(words.as_slice()) {
+        return serve(&rt, &words[1..]);
     }
-    outcome.exit_code()
+    let mut source = Source::new(rt.reader());
+    let mut sink = Sink::new(io::writer(&rt));
+    let outcome = answer_words(&rt, words.as_slice(), &mut source, &mut sink);
+    end(&rt, outcome)
 }

@@ -1,0 +1,23 @@
+-- What becomes of a store by HTTP requests, one after another. (Own rule.)
+use Rattle.std.specs.Prelude.{◌≡◌, ℤ, List, [], ◌∷◌}
+use Rattle.ts_core.specs.Facts.{Text}
+use Rattle.ts_core.specs.StoreData.{StoreData}
+use Rattle.ts_http.specs.Batches.{State, IsIn}
+use Rattle.ts_http.specs.Served.{Serves}
+use Rattle.ts_http.specs.declared.serve.Served.{Served}
+
+-- one request: at which moment it was served, its bytes, how it was served, and the whole of its reply
+pub record Request : Type 0 where
+  pub now : ℤ
+  pub bytes : Text
+  pub served : Served
+  pub reply : Text
+
+-- From `old` these requests, the newest first, may leave that.
+abbrev pub Leave : List Request → State → State → Type 0
+Leave [] old new = new ≡ old
+Leave (r ∷ rs) old new = (mid : State) × Leave rs old mid × Serves r.now mid r.bytes r.served r.reply new
+
+-- From each state that a store was in, some requests may leave the one that it is in.
+abbrev pub WentBy : StoreData → StoreData → Type 0
+WentBy old new = (s : State) → IsIn s old → (rs : List Request) × (s' : State) × Leave rs s s' × IsIn s' new
