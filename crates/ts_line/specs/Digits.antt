@@ -1,4 +1,4 @@
--- Digits and what they are, at places of a line. (Own rule.)
+-- Digits in a line and their values. (Own rule.)
 use Rattle.std.specs.Prelude.{◌≡◌, ◌≤◌, ◌<◌, ◌+◌, ℕ, ℤ, pos, true, length, drop, slice_index, slice_range}
 use Rattle.std.specs.Char.{is_ascii_digit}
 use Rattle.std.specs.List.{list_all}
@@ -6,14 +6,14 @@ use Rattle.std.specs.Str.Parse.{digits_value}
 use Rattle.ts_core.specs.Facts.{Text}
 use Rattle.ts_line.specs.Values.{is_value_end}
 
--- what stands from one place to another is digits, perhaps none, and they are the number
+-- the bytes from `from` to `end` are digits, possibly none, and their value is the number
 pub record AreDigits (line : Text) (from end number : ℕ) : Type 0 where
   pub order : from ≤ end
   pub within : end ≤ length line
   pub digits : list_all is_ascii_digit (slice_range line from end) ≡ true
   pub value : number ≡ digits_value 10 (slice_range line from end)
 
--- the digits from one place to another and an `i` behind them are a value of no more than 63 bits
+-- the bytes from `first` to `end` are digits, an `i` follows them, and their value has at most 63 bits
 pub record IsShortInteger (line : Text) (first end : ℕ) (n : ℤ) : Type 0 where
   pub some : first < end
   pub within : end < length line

@@ -1,5 +1,5 @@
--- That a backslash directly before a byte takes its meaning away is the same as reading escapes in pairs from left
--- to right, since nothing escapes a backslash. (InfluxData 1.8, line protocol reference, special characters.)
+-- Two readings of escapes agree: testing for a backslash directly before a byte, and reading pairs from left to right.
+-- This holds since nothing escapes a backslash. (InfluxData 1.8, line protocol reference, special characters.)
 use Rattle.std.proofs.Common.{◌≡◌, ℕ, ◌+◌, Bool, true, false, cond, ◌&&◌, [], ◌∷◌, refl, sym, ap, ◌∙◌, arith}
 use Rattle.std.proofs.Math.Bool.{and-false, and-true}
 use Rattle.std.proofs.lemmas.Bool.Decides.{nat_tests}
@@ -9,29 +9,29 @@ use Rattle.ts_line.specs.declared.scan.Stops.TheVariants.{Space, Comma, Equals, 
 use Rattle.ts_line.specs.Scan.{is_backslash, is_stop, is_escaped, ends, part_len}
 use Rattle.ts_line.specs.PartTexts.{unescaped}
 
--- the byte may be escaped in such a part
+-- the byte may be escaped in a part with these delimiters
 abbrev pub is_escapable : Stops → ℕ → Bool
 is_escapable Plain byte = false
 is_escapable stops byte = is_stop stops byte
 
--- how many bytes a part has, where a backslash and a byte that may be escaped are passed over as a pair
+-- length in bytes of a part, if a backslash and an escapable byte are skipped as a pair
 abbrev pub pair_len : Stops → Text → ℕ
 pair_len stops [] = 0
 pair_len stops (b ∷ []) = cond (is_stop stops b) 0 1
 pair_len stops (b ∷ c ∷ bs) = cond (is_stop stops b) 0 (cond (is_backslash b && is_escapable stops c) (pair_len stops bs + 2) (pair_len stops (c ∷ bs) + 1))
 
--- the text that a part spells, where such a pair is its second byte
+-- text of a part, if each such pair gives its second byte
 abbrev pub pair_text : Stops → Text → Text
 pair_text stops [] = []
 pair_text stops (b ∷ []) = b ∷ []
 pair_text stops (b ∷ c ∷ bs) = cond (is_backslash b && is_stop stops c) (c ∷ pair_text stops bs) (b ∷ pair_text stops (c ∷ bs))
 
--- both ways of reading are one
+-- both readings give the same lengths and texts
 pub record ReadsPairs : Type 0 where
   pub lengths : (stops : Stops) (text : Text) → part_len stops 0 text ≡ pair_len stops text
   pub texts : (stops : Stops) (raw : Text) → unescaped stops raw ≡ pair_text stops raw
 
--- ---- what may be escaped is no backslash, and in a part with escapes it is what ends the part
+-- ---- an escapable byte is no backslash; in a part with escapes it is a delimiter
 
 stop_is_other : (stops : Stops) (b : ℕ) → is_stop stops b ≡ true → is_backslash b ≡ false
 stop_is_other Space b e = grind (arith, nat_tests)
@@ -45,12 +45,12 @@ unescaped_behind Comma before e = e
 unescaped_behind Equals before e = e
 unescaped_behind Plain before e = refl
 
--- only a backslash before the first byte matters
+-- of the byte before the first, only a backslash matters
 pub len_from : (stops : Stops) (before : ℕ) (bs : Text) → is_backslash before ≡ false → part_len stops before bs ≡ part_len stops 0 bs
 len_from stops before [] e = refl
 len_from stops before (b ∷ bs) e = rw (unescaped_behind stops before e, unescaped_behind stops 0 refl) refl
 
--- a stop behind a backslash ends a part exactly where it may not be escaped
+-- after any byte, a delimiter that isn't escapable ends a part
 ends_behind : (stops : Stops) (b c : ℕ) → is_escapable stops c ≡ false → ends stops b c ≡ is_stop stops c
 ends_behind Space b c n = rw n refl
 ends_behind Comma b c n = rw n refl

@@ -1,4 +1,4 @@
--- What a line is refused by, in the table of all faults, and its text. (Own rules.)
+-- Codes and messages of the errors of a line. (Own rules.)
 use Rattle.std.specs.Prelude.{ℕ}
 use Rattle.ts_core.specs.Facts.{Text}
 use Rattle.ts_core.specs.declared.fault_code.FaultCode.{FaultCode}
@@ -9,8 +9,8 @@ use Rattle.ts_line.specs.declared.fault.LineFaultKind.{LineFaultKind}
 use Rattle.ts_line.specs.declared.fault.LineFaultKind.TheVariants.{NoMeasurement, BadTag, RepeatedTagKey, NoField, BadField, FieldType, IntegerRange, BadTimestamp, TimestampRange, OverLimit, ReservedKey}
 use Rattle.ts_line.specs.declared.fault.LineFault.{LineFault}
 
--- The place is that of a byte, counted from 0 in the line: the first of the tag, the field or the timestamp that is at fault;
--- what else it is, `LineFaultKind` says of each.
+-- `at` is a byte offset in the line, from 0: of the first byte of the tag, field or timestamp in error.
+-- `LineFaultKind` states it for each kind.
 abbrev pub fault_at : LineFaultKind → ℕ → LineFault
 fault_at kind at = record { kind = kind; at = at }
 

@@ -11,7 +11,7 @@ use Rattle.ts_line.specs.PartTexts.{piece_at}
 use Rattle.ts_line.specs.ReadSteps.{◌>>=◌}
 use Rattle.ts_line.specs.Values.{value_begun_at}
 
--- the field that begins at `start`, and its end
+-- the field at `start`, and the offset after it
 unfoldable pub next_field : Text → ℕ → Result ((LinePart × ℤ) × ℕ) LineFault
 next_field line start =
     let key_end = end_of Equals line start in
@@ -20,17 +20,17 @@ next_field line start =
     (if bytes_eq key.text (codes "time") then Err (fault_at ReservedKey start) else
     (value_begun_at start line (key_end + 1) >>= λ v. Ok ((key, v.0), v.1)))
 
--- the place of the first field of a name, where the first field is at `at`
+-- index of the first field with this name; `at` is the index of the list's head
 abbrev pub place_from : ℕ → Text → List (LinePart × ℤ) → Option ℕ
 place_from at name [] = None
 place_from at name (f ∷ fs) = if bytes_eq f.0.text name then Some at else place_from (at + 1) name fs
 
--- a field behind others. A name that stands already keeps its place, and has the last value
+-- the fields with one more: a new name is appended, and a known name keeps its index and takes the new value
 abbrev pub with_field : List (LinePart × ℤ) → LinePart × ℤ → List (LinePart × ℤ)
 with_field [] f = f ∷ []
 with_field (g ∷ gs) f = if bytes_eq g.0.text f.0.text then ((g.0, f.1) ∷ gs) else (g ∷ with_field gs f)
 
--- the fields from `at` on, with commas between them, put behind others, and the end of the last; so many are taken
+-- the comma-separated fields from `at`, inserted into `before`, and the offset after the last; at most n of them
 unfoldable pub fields_at : ℕ → List (LinePart × ℤ) → Text → ℕ → Result (List (LinePart × ℤ) × ℕ) LineFault
 fields_at zero before line at = Err (fault_at OverLimit at)
 fields_at (suc n) before line at = next_field line at >>= λ f.

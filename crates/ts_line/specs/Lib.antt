@@ -1,4 +1,4 @@
--- what public contracts and laws cite
+-- cited by public contracts and laws
 pub mod Parts
 pub mod FaultText
 pub mod Numbers
@@ -13,7 +13,7 @@ pub mod EscapeLaws
 pub mod Spelling
 pub mod Readings
 pub mod Spans
--- what only models and proofs of the code need
+-- used only by models and proofs of the code
 pub mod Sorting
 pub mod NameMarks
 pub mod StepsPut

@@ -1,17 +1,18 @@
--- Parts with the texts that they spell.
--- (InfluxData 1.8, line protocol reference, special characters. Own: a backslash before anything else is itself, and nothing escapes the backslash.)
+-- Parts of a line with their unescaped texts.
+-- (InfluxData 1.8, line protocol reference, special characters. Own: a backslash before anything else is itself, and
+-- nothing escapes the backslash.)
 use Rattle.std.specs.Prelude.{ℕ, [], ◌∷◌, slice_range, Bool, false, ◌&&◌, if◌then◌else◌}
 use Rattle.ts_core.specs.Facts.{Text}
 use Rattle.ts_line.specs.declared.scan.Stops.{Stops}
 use Rattle.ts_line.specs.Parts.{LinePart}
 use Rattle.ts_line.specs.Scan.{is_backslash, is_stop}
 
--- the first byte is one that may be escaped in such a part: those are the bytes that end it
+-- the first byte is escapable, that is, a delimiter
 abbrev pub begins_escapable : Stops → Text → Bool
 begins_escapable stops [] = false
 begins_escapable stops (b ∷ bs) = is_stop stops b
 
--- without the backslashes that escape a byte
+-- the text without its escaping backslashes
 abbrev pub unescaped : Stops → Text → Text
 unescaped stops [] = []
 unescaped stops (b ∷ bs) = if is_backslash b && begins_escapable stops bs then unescaped stops bs else b ∷ unescaped stops bs

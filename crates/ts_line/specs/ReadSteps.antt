@@ -1,21 +1,21 @@
--- What a step of the reader gives: a value, or the first fault. (Own rules.)
+-- The result of a parser's step: a value, or the first error. (Own rules.)
 use Rattle.std.specs.Prelude.{◌≡◌, Result, Ok, Err, ⊤}
 use Rattle.ts_line.specs.declared.fault.LineFault.{LineFault}
 use Rattle.ts_line.specs.declared.fault.ReadLineError.{ReadLineError}
 use Rattle.ts_line.specs.declared.fault.ReadLineError.TheVariants as errors
 
--- a step that may find a fault, and the next one
+-- a step that may fail, and the next one
 infixl 10 ◌>>=◌
 abbrev pub ◌>>=◌ : {A B : Type 0} → Result A LineFault → (A → Result B LineFault) → Result B LineFault
 (Ok x) >>= f = f x
 (Err e) >>= f = Err e
 
--- what a call found, unless it ran out of memory
+-- a failing call returns the step's error, unless it ran out of memory
 abbrev pub FailsIfRoom : {Y : Type 0} → ReadLineError → Result Y LineFault → Type 0
 FailsIfRoom errors.OutOfMemory read = ⊤
 FailsIfRoom (errors.Fault f) read = read ≡ Err f
 
--- what a call returned, seen by `view`, unless it ran out of memory
+-- a call returns the step's result, seen through `view`, unless it ran out of memory
 abbrev pub GivesIfRoom : {X Y : Type 0} → (X → Y) → Result X ReadLineError → Result Y LineFault → Type 0
 GivesIfRoom view (Ok x) read = read ≡ Ok (view x)
 GivesIfRoom view (Err e) read = FailsIfRoom e read

@@ -1,4 +1,4 @@
--- How a line is spelled: the grammar of a line, from its parts to its text.
+-- The grammar of a line, from its parts to its text.
 -- (InfluxData 1.8, line protocol reference, syntax, whitespace, special characters; own limits.)
 use Rattle.std.specs.Prelude.{◌≡◌, ◌⊎◌, ℕ, ℤ, ◌+◌, ◌≤◌, ◌*ℤ◌, Bool, true, not, ◌&&◌, ◌==◌, List, [], ◌∷◌, ◌++◌, length, map, codes, FitsSigned}
 use Rattle.std.specs.Int.{w64}
@@ -18,12 +18,12 @@ use Rattle.ts_line.specs.Fields.{with_field}
 abbrev pub are_spaces : Text → Bool
 are_spaces text = list_all (λ b. b == 32) text
 
--- behind a byte: each byte that ends such a part stands behind a backslash, and the last byte is no backslash
+-- after the byte `before`: each delimiter follows a backslash, and the last byte is no backslash
 abbrev pub is_closed : Stops → ℕ → Text → Bool
 is_closed stops before [] = not (is_escaped stops before)
 is_closed stops before (b ∷ bs) = not (ends stops before b) && is_closed stops b bs
 
--- a part as it is written
+-- a part as written in a line
 pub record IsWrittenPart (stops : Stops) (raw : Text) : Type 0 where
   pub some : 1 ≤ length raw
   pub closed : is_closed stops 0 raw ≡ true
@@ -37,7 +37,7 @@ abbrev pub tags_text : List (Text × Text) → Text
 tags_text [] = []
 tags_text (t ∷ ts) = codes "," ++ (t.0 ++ (codes "=" ++ (t.1 ++ tags_text ts)))
 
--- the tags, where the comma of the first stands at `at`
+-- the tags, if the comma of the first is at offset `at`
 abbrev pub tags_from : ℕ → List (Text × Text) → List (LinePart × LinePart)
 tags_from at [] = []
 tags_from at (t ∷ ts) =
@@ -61,18 +61,18 @@ more_fields_text (f ∷ fs) = codes "," ++ (field_spelling f ++ more_fields_text
 abbrev pub IsWrittenField : Text × Text → Type 0
 IsWrittenField f = IsWrittenPart Equals f.0 × (unescaped Equals f.0 ≡ codes "time" → ⊥) × (is_number f.1 ≡ true) × FitsSigned w64 (signed_digits_value 10 f.1)
 
--- a field that starts there
+-- a field whose first byte is at offset `at`
 abbrev pub field_from : ℕ → Text × Text → LinePart × ℤ
 field_from at f = (written_piece Equals at f.0, signed_digits_value 10 f.1)
 
--- more fields behind others, where the comma of the first stands at `at`; of one name the last value counts
+-- `before` with more fields, if the comma of the first is at offset `at`; of one name the last value counts
 abbrev pub with_fields : List (LinePart × ℤ) → ℕ → List (Text × Text) → List (LinePart × ℤ)
 with_fields before at [] = before
 with_fields before at (f ∷ fs) = with_fields (with_field before (field_from (at + 1) f)) (at + 1 + length (field_spelling f)) fs
 
 -- ---- the whole line
 
--- spaces and a number of units, which is a time
+-- spaces and a number of units; their product is a valid time
 pub record IsStamp (unit : ℤ) (stamp : Text) (time : ℤ) : Type 0 where
   pub gap : Text
   pub number : Text
@@ -82,11 +82,11 @@ pub record IsStamp (unit : ℤ) (stamp : Text) (time : ℤ) : Type 0 where
   pub counted : time ≡ signed_digits_value 10 number *ℤ unit
   pub valid : IsTime time
 
--- what follows the fields is the time, and nothing stands for the moment at hand
+-- the text after the fields states the time; an empty one means `now`
 abbrev pub SaysTime : ℤ → ℤ → Text → ℤ → Type 0
 SaysTime unit now stamp time = ((stamp ≡ []) × (time ≡ now)) ⊎ IsStamp unit stamp time
 
--- the text is the spelling of these parts
+-- the text is a spelling of these parts
 pub record IsSpelling (unit now : ℤ) (source : Text) (parts : Parts) : Type 0 where
   pub before : Text
   pub measurement : Text
@@ -104,7 +104,7 @@ pub record IsSpelling (unit now : ℤ) (source : Text) (parts : Parts) : Type 0 
   pub after_is : are_spaces after ≡ true
   pub return_is : (return ≡ []) ⊎ (return ≡ 13 ∷ [])
   pub measurement_is : IsWrittenPart Comma measurement
-  -- such a line is a comment
+  -- a line that begins with `#` is a comment
   pub no_comment : (rest : Text) → measurement ≡ codes "#" ++ rest → ⊥
   pub tags_are : AreTags tags
   pub keys_once : AllDistinct (map tag_key tags)

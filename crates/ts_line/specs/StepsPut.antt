@@ -1,4 +1,4 @@
--- What the reader does with the field or the tag that comes next: it is put among those before it. (Own rule.)
+-- One step of the parser: it inserts the next field or tag into those before it. (Own rule.)
 use Rattle.std.specs.Prelude.{◌≤◌, ℕ, ℤ, ◌+◌, List, [], ◌∷◌, ◌++◌, length, Bool, Result, Ok, Err, IfOk}
 use Rattle.std.specs.Str.{IsCharBoundary}
 use Rattle.ts_core.specs.Cursors.{IsPlaceFrom}
@@ -11,18 +11,18 @@ use Rattle.ts_line.specs.TagParts.{next_tag}
 use Rattle.ts_line.specs.Fields.{next_field, with_field}
 use Rattle.ts_line.specs.NameMarks.{AreMarked, AreKeysMarked}
 
--- what was read and where it ends, put among others by `put`
+-- applies `put` to the parsed item and keeps the offset after it
 abbrev pub put_by : {X Y : Type 0} → (X → Y) → Result (X × ℕ) LineFault → Result (Y × ℕ) LineFault
 put_by put (Ok read) = Ok (put read.0, read.1)
 put_by put (Err fault) = Err fault
 
--- a call that puts the field that begins at `start` among others: what they are after it, with the marks of their names
+-- a call inserts the field at `start` into `before`, which gives `after` and sets the slots of its names
 pub record PutsNextField (before after : List (LinePart × ℤ)) (marks : List Bool) (line : Text) (start : ℕ) (result : Result ℕ ReadLineError) : Type 0 where
   pub value : GivesIfRoom (λ end. (after, end)) result (put_by (with_field before) (next_field line start))
   pub marked : IfOk result (λ _. AreMarked marks after)
   pub boundary : IfOk result (λ end. IsCharBoundary line end)
 
--- a call that appends the tag that begins at `start` to others: what they are after it, with the marks of their keys
+-- a call appends the tag at `start` to `before`, which gives `after` and sets the slots of its keys
 pub record PushesNextTag (before after : List (LinePart × LinePart)) (marks : List Bool) (line : Text) (start : ℕ) (result : Result ℕ ReadLineError) : Type 0 where
   pub value : GivesIfRoom (λ end. (after, end)) result (put_by (λ tag. before ++ tag ∷ []) (next_tag before line start))
   pub marked : IfOk result (λ _. AreKeysMarked marks after)

@@ -11,7 +11,7 @@ use Rattle.ts_line.specs.Scan.{end_of}
 use Rattle.ts_line.specs.PartTexts.{piece_at}
 use Rattle.ts_line.specs.ReadSteps.{◌>>=◌}
 
--- a key and a value, neither empty, with one equals sign between them, and the end of the tag
+-- a key and a value, neither empty, with one equals sign between them, and the offset after the tag
 unfoldable pub pair_at : Text → ℕ → Result ((LinePart × LinePart) × ℕ) LineFault
 pair_at line start =
     let key_end = end_of Equals line start in
@@ -23,15 +23,15 @@ pair_at line start =
 abbrev pub has_key : List (LinePart × LinePart) → Text → Bool
 has_key tags key = list_any (λ t. bytes_eq t.0.text key) tags
 
--- the tag that begins at `start`, behind others
+-- the tag at `start`, after the tags `before`
 unfoldable pub next_tag : List (LinePart × LinePart) → Text → ℕ → Result ((LinePart × LinePart) × ℕ) LineFault
 next_tag before line start = pair_at line start >>= λ t.
     if nat_le 64 (length before) then Err (fault_at OverLimit start) else
     (if bytes_eq t.0.0.text (codes "time") then Err (fault_at ReservedKey start) else
     (if has_key before t.0.0.text then Err (fault_at RepeatedTagKey start) else Ok t))
 
--- The tags from `at` on, each behind a comma, put behind others, and the end of the last. So many are looked at:
--- no more than 64 are taken, and the one behind them is a fault.
+-- The tags from `at`, each after a comma, appended to `before`, and the offset after the last. At most n are tried: 64
+-- may be taken, and the 65th is an error.
 unfoldable pub tags_at : ℕ → List (LinePart × LinePart) → Text → ℕ → Result (List (LinePart × LinePart) × ℕ) LineFault
 tags_at zero before line at = Ok (before, at)
 tags_at (suc n) before line at =

@@ -1,4 +1,5 @@
--- The values of fields, by their shape. (InfluxData 1.8, line protocol reference, data types and format; the store takes integers alone.)
+-- Field values, classified by their form. (InfluxData 1.8, line protocol reference, data types and format; the store
+-- takes integers alone.)
 use Rattle.std.specs.Prelude.{ℕ, ℤ, ◌+◌, ◌-◌, [], ◌∷◌, length, take, drop, Bool, true, false, not, ◌&&◌, ◌||◌, ◌==◌, if◌then◌else◌, slice_index, slice_range, Option, Some, None, Result, Ok, Err, bytes_eq, codes}
 use Rattle.std.specs.Char.{is_ascii_digit}
 use Rattle.ts_core.specs.Facts.{Text}
@@ -10,9 +11,9 @@ use Rattle.ts_line.specs.Numbers.{are_digits, is_number, without_minus, whole_of
 use Rattle.ts_line.specs.Scan.{end_of}
 use Rattle.ts_line.specs.ReadSteps.{◌>>=◌}
 
--- ---- shapes
+-- ---- forms
 
--- this text and one more byte
+-- a text that satisfies `is_front`, and one more byte
 abbrev pub ends_in : ℕ → (Text → Bool) → Text → Bool
 ends_in last is_front text = not (length text == 0) && slice_index text (length text - 1) == last && is_front (take (length text - 1) text)
 
@@ -26,12 +27,12 @@ unfoldable pub is_boolean : Text → Bool
 is_boolean text = bytes_eq text (codes "t") || bytes_eq text (codes "T") || bytes_eq text (codes "true") || bytes_eq text (codes "True") || bytes_eq text (codes "TRUE")
     || bytes_eq text (codes "f") || bytes_eq text (codes "F") || bytes_eq text (codes "false") || bytes_eq text (codes "False") || bytes_eq text (codes "FALSE")
 
--- what stands behind the digits that a text begins with, of which there is one or more
+-- the rest after one or more leading digits
 abbrev pub behind_digits : Bool → Text → Option Text
 behind_digits some [] = if some then Some [] else None
 behind_digits some (b ∷ bs) = if is_ascii_digit b then behind_digits true bs else (if some then Some (b ∷ bs) else None)
 
--- a point and digits, or nothing (own: digits must stand behind the point, though the reference also shows `1.e+78`)
+-- skips a point and digits, or nothing (own: digits must follow the point, though the reference also shows `1.e+78`)
 abbrev pub behind_fraction : Text → Option Text
 behind_fraction [] = Some []
 behind_fraction (b ∷ bs) = if b == 46 then behind_digits false bs else Some (b ∷ bs)
@@ -40,7 +41,7 @@ abbrev pub without_sign : Text → Text
 without_sign [] = []
 without_sign (b ∷ bs) = if b == 43 || b == 45 then bs else (b ∷ bs)
 
--- an `e` and digits, perhaps behind a sign, or nothing
+-- an `e` and digits, with or without a sign before them, or nothing
 abbrev pub is_exponent : Text → Bool
 is_exponent [] = true
 is_exponent (b ∷ bs) = (b == 101 || b == 69) && are_digits (without_sign bs)
@@ -52,8 +53,8 @@ then_is (Some rest) is_rest = is_rest rest
 abbrev pub is_float : Text → Bool
 is_float text = then_is (behind_digits false (without_minus text)) (λ rest. then_is (behind_fraction rest) is_exponent)
 
--- What stands behind a text in double quotes, from behind its first quote on. A backslash and a quote or a
--- backslash directly behind it are passed over as a pair.
+-- The rest after a string's closing quote, from the byte after its opening quote. A backslash followed by a quote or a
+-- backslash is skipped as a pair.
 abbrev pub behind_quotes : Bool → Text → Option Text
 behind_quotes escaped [] = None
 behind_quotes escaped (b ∷ bs) =
@@ -71,13 +72,13 @@ abbrev pub integer_by : ℕ → Option ℤ → Result ℤ LineFault
 integer_by start None = Err (fault_at IntegerRange start)
 integer_by start (Some n) = Ok n
 
--- the value of a field that starts there; it is an integer, or a fault
+-- the value of the field at `start`: an integer, or an error
 unfoldable pub value_said : ℕ → Text → Result ℤ LineFault
 value_said start text =
     if is_integer text then integer_by start (whole_of (take (length text - 1) text)) else
     (if is_unsigned text || is_boolean text || is_float text then Err (fault_at FieldType start) else Err (fault_at BadField start))
 
--- the value that begins at `at`, and its end
+-- the value at `at` of the field at `start`, and the offset after it
 unfoldable pub value_begun_at : ℕ → Text → ℕ → Result (ℤ × ℕ) LineFault
 value_begun_at start line at =
     if slice_index line at == 34

@@ -1,4 +1,4 @@
-//! Why a line is refused.
+//! Errors of a line: their kinds, their byte offsets and their texts.
 ghost use Rattle.std.specs.Prelude.{◌≡◌, ◌≤◌, length};
 ghost use Rattle.ts_core.specs.FaultTexts.{IsAppended};
 ghost use Rattle.ts_line.specs.FaultText.{fault_at, line_fault_code, line_fault_text};
@@ -8,53 +8,53 @@ use std::alloc::{AllocError, AllocFailed, Allocator};
 use thiserror::Error;
 use ts_core::{FaultCode, FaultDetail};
 
-/// What is wrong with a line.
+/// Kind of error in a line.
 #[derive(Clone, Copy, Debug, PartialEq, Eq)]
 pub enum LineFaultKind {
-    /// The measurement is empty (number 11). The place is where it would begin.
+    /// Empty measurement. `at` is the offset where it would begin.
     NoMeasurement,
-    /// A tag has no equals sign, more than one, or an empty side (number 12). The place is the tag's first byte.
+    /// Tag without an equals sign, with more than one, or with an empty key or value. `at` is the tag's first byte.
     BadTag,
-    /// A tag key stands a second time (number 13). The place is the first byte of the later tag.
+    /// Tag key that an earlier tag of the line has too. `at` is the first byte of the later tag.
     RepeatedTagKey,
-    /// No field is there (number 14). The place is right behind the measurement and its tags.
+    /// Line without a field. `at` is the offset after the measurement and its tags.
     NoField,
-    /// A field isn't of the form (number 15). The place is the field's first byte.
+    /// Malformed field. `at` is the field's first byte.
     BadField,
-    /// A field is a float, a string, a boolean or unsigned (number 16). The place is the field's first byte.
+    /// Field whose value is a float, a string, a boolean or an unsigned integer. `at` is the field's first byte.
     FieldType,
-    /// An integer doesn't fit 64 bits (number 17). The place is the first byte of its field.
+    /// Integer that doesn't fit in 64 bits. `at` is the first byte of its field.
     IntegerRange,
-    /// The timestamp is no number (number 18). The place is the timestamp's first byte.
+    /// Timestamp that isn't a number. `at` is the timestamp's first byte.
     BadTimestamp,
-    /// The timestamp isn't a valid time (number 19). The place is the timestamp's first byte.
+    /// Timestamp outside the valid times. `at` is the timestamp's first byte.
     TimestampRange,
-    /// The line or its key part is too long, or its tags or its fields are too many (number 20). The place is the first
-    /// byte past the limit, or the first byte of the first tag or field past it.
+    /// Line, series key, number of tags or number of fields over its limit. `at` is the first byte after the limit, or
+    /// the first byte of the first tag or field that is too many.
     OverLimit,
-    /// A tag key or a field key is `time` (number 21). The place is the first byte of that tag or field.
+    /// Tag or field whose key is `time`. `at` is the first byte of that tag or field.
     ReservedKey,
 }
 
-/// Why a line is refused, and where.
+/// Error in a line, with its byte offset.
 #[derive(Clone, Copy, Debug, PartialEq, Eq, Error)]
 #[error("{}, at byte {at}", .kind.code().words())]
 pub struct LineFault {
-    /// What is wrong.
+    /// Kind of error.
     pub kind: LineFaultKind,
-    /// The place in the text that `read_line` was given: of a byte, counted from 0, or of the end where no byte is left.
+    /// Byte offset, from 0, in the text passed to `read_line`; the text's length if the error is at its end.
     pub at: usize,
 }
 
 impl LineFaultKind {
-    /// The fault at that place.
+    /// Returns this kind as an error at a byte offset.
     pub(crate) fn at(self, at: usize) -> LineFault
         ensures { result ≡ fault_at self at }
     {
         LineFault { kind: self, at }
     }
 
-    /// The fault in the table of all faults.
+    /// Returns the code of this kind in the common table of faults.
     pub fn code(self) -> FaultCode
         ensures { result ≡ line_fault_code self }
     {
@@ -75,7 +75,8 @@ impl LineFaultKind {
 }
 
 impl LineFault {
-    /// Appends its text, or a beginning of it out of memory. Where the room is there, it takes none.
+    /// Appends the message to `text`. When out of memory, `text` may end in part of the message. Does not allocate if
+    /// `text` has the capacity; a message has at most 32 bytes.
     #[tactic(auto, using(crate::proofs::FaultLemmas::line_fault_text_short), unfolding(crate::specs::FaultText::line_fault_text))]
     pub fn text_to<A: Allocator>(&self, text: &mut String<A>) -> Result<(), AllocError>
         ensures appended { IsAppended (line_fault_text self.now) text.old text.new result }
@@ -85,13 +86,13 @@ impl LineFault {
     }
 }
 
-/// Why no line was read.
+/// Error of `read_line`.
 #[derive(Clone, Copy, Debug, PartialEq, Eq, Error)]
 pub enum ReadLineError {
-    /// The text is at fault.
+    /// Error in the text.
     #[error(transparent)]
     Fault(LineFault),
-    /// No memory was found.
+    /// Out of memory.
     #[error("out of memory")]
     OutOfMemory,
 }

@@ -1,4 +1,4 @@
-//! The fields of a line are read: 1 to 256 names, each with the value that it has last.
+//! Parses the fields of a line: 1 to 256. A repeated name takes its last value.
 ghost use Rattle.std.specs.Prelude.{◌≡◌, ◌<◌, length, [], Ok, IfOk, IfSome, OnOk};
 ghost use Rattle.std.specs.Str.{IsCharBoundary};
 ghost use Rattle.ts_line.specs.ReadSteps.{GivesIfRoom};
@@ -16,14 +16,14 @@ use crate::value::value_begun_at;
 use std::alloc::{AllocError, Allocator};
 use ts_core::{after, byte_at};
 
-/// A line has no more fields than this.
+/// Limit on the fields of a line, repeated names included.
 const FIELD_LIMIT: usize = 256;
 
-/// Room for so many fields is taken at first.
+/// Initial capacity of the field list.
 const FIELDS_AT_FIRST: usize = 16;
 
-/// The field that begins at `start`, and its end, where no escape stands in its name and its value is an integer of few
-/// digits: it is read in one pass. None where something else stands there.
+/// Fast path: parses the field at `start` if its name has no escape and its value is an integer of at most 19 digits.
+/// Returns the field and the offset after it, or `None` for anything else.
 #[tactic(auto, using(crate::proofs::PieceLemmas::plain_text), unfolding(crate::specs::Fields::next_field))]
 fn plain<'a, A: Allocator>(line: &'a str, start: usize) -> Option<(Field<'a, A>, usize)>
     requires { IsCharBoundary line.now start }
@@ -42,7 +42,7 @@ fn plain<'a, A: Allocator>(line: &'a str, start: usize) -> Option<(Field<'a, A>,
     Some((Field::new(Part::plain(start, name), value), end))
 }
 
-/// The field that begins at `start`, and its end.
+/// Parses the field at `start`; returns it and the offset after it.
 #[tactic(auto, unfolding(crate::specs::Fields::next_field))]
 fn next<'a, A: Allocator + Copy>(
     alloc: A,
@@ -65,7 +65,7 @@ fn next<'a, A: Allocator + Copy>(
     Ok((Field::new(key, value), end))
 }
 
-/// The place of the first field of a name.
+/// Returns the index of the field with this name (linear search).
 fn place_of<A: Allocator>(fields: &[Field<'_, A>], name: &str) -> Option<usize>
     ensures value { result ≡ place_from 0 name.now fields.now }
     ensures bound { IfSome result (λ at. at < length fields.now) }
@@ -78,7 +78,7 @@ fn place_of<A: Allocator>(fields: &[Field<'_, A>], name: &str) -> Option<usize>
     None
 }
 
-/// Puts a field behind others, or its value in place of the one of its name.
+/// Appends a field, or replaces the value of the field with its name.
 fn put<'a, A: Allocator>(
     fields: &mut Vec<Field<'a, A>, A>,
     field: Field<'a, A>,
@@ -95,7 +95,7 @@ fn put<'a, A: Allocator>(
     Ok(())
 }
 
-/// Puts the field that begins at `start` among others, whatever stands there: its end.
+/// Slow path of `put_next`: parses any field at `start`, inserts it and returns the offset after it.
 #[cold]
 fn put_any<'a, A: Allocator + Copy>(
     alloc: A,
@@ -114,8 +114,8 @@ fn put_any<'a, A: Allocator + Copy>(
     Ok(end)
 }
 
-/// Puts the field that begins at `start` among others: its end. Each name has its mark; a name whose place bears no mark
-/// is new.
+/// Parses the field at `start`, inserts it into `fields` and returns the offset after it. `marks` is a filter over the
+/// names so far: an unset slot means a new name.
 fn put_next<'a, A: Allocator + Copy>(
     alloc: A,
     fields: &mut Vec<Field<'a, A>, A>,
@@ -138,7 +138,8 @@ fn put_next<'a, A: Allocator + Copy>(
     put_any(alloc, fields, marks, line, start)
 }
 
-/// The fields from `start` on, with commas between them, and the end of the last.
+/// Parses the comma-separated fields from `start`; returns them and the offset after the last. Fails with `OverLimit`
+/// at the 257th field.
 pub fn fields<'a, A: Allocator + Copy>(
     alloc: A,
     line: &'a str,

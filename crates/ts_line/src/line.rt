@@ -1,4 +1,4 @@
-//! What a line says, part by part, each with its span; and its tags in byte order of their keys.
+//! A parsed line: its parts with their spans, and its tags sorted by key.
 ghost use Rattle.std.specs.Prelude.{◌≡◌, ◌<◌, ◌≤◌, ◌+◌, [], length, map, MatchResult};
 ghost use Rattle.arrayvec.specs.ArrayVec.{array_vec_len};
 ghost use Rattle.std.specs.Cow.{cow_str_bytes};
@@ -16,11 +16,10 @@ use std::cmp::Ordering;
 use std::marker::Model;
 use ts_core::Time;
 
-/// A line has no more tags than this.
+/// Limit on the tags of a line.
 pub(crate) const TAG_LIMIT: usize = 64;
 
-/// A part of a line. Its bytes are borrowed from the line; so is the text that they spell, but where an
-/// escape stands in it.
+/// Part of a line. Borrows from the line; only a part with an escape owns its text.
 #[derive(Drop)]
 pub struct Part<'a, A: Allocator> {
     start: usize,
@@ -38,35 +37,35 @@ impl<'a, A: Allocator> Model for Part<'a, A> {
 }
 
 impl<'a, A: Allocator> Part<'a, A> {
-    /// A part that spells a text.
+    /// Creates a part from its byte offset, its bytes in the line and its unescaped text.
     pub(crate) fn new(start: usize, raw: &'a str, text: CowStr<'a, A>) -> Self
         ensures { result ≡ record { start = start; raw = raw.now; text = cow_str_bytes text.entry } }
     {
         Part { start, raw, text }
     }
 
-    /// A part that spells its own bytes.
+    /// Creates a part without escapes: its text is its bytes.
     pub(crate) fn plain(start: usize, raw: &'a str) -> Self
         ensures { result ≡ record { start = start; raw = raw.now; text = raw.now } }
     {
         Part::new(start, raw, CowStr::Borrowed(raw))
     }
 
-    /// Where it starts, in bytes from the line's first.
+    /// Returns the byte offset of the part in the line.
     pub fn start(&self) -> usize
         ensures { result ≡ self.now.start }
     {
         self.start
     }
 
-    /// Its bytes in the line.
+    /// Returns the bytes of the part as written in the line.
     pub fn raw(&self) -> &'a str
         ensures { result.now ≡ self.now.raw }
     {
         self.raw
     }
 
-    /// The text that it spells.
+    /// Returns the part's text, with escapes resolved.
     pub fn text(&self) -> &str
         ensures { result.now ≡ self.now.text }
     {
@@ -74,7 +73,7 @@ impl<'a, A: Allocator> Part<'a, A> {
     }
 }
 
-/// A tag of a line: its key and its value.
+/// Tag of a line: a key and a value.
 #[derive(Drop)]
 pub struct Tag<'a, A: Allocator> {
     key: Part<'a, A>,
@@ -96,14 +95,14 @@ impl<'a, A: Allocator> Tag<'a, A> {
         Tag { key, value }
     }
 
-    /// Its key.
+    /// Returns the key.
     pub fn key(&self) -> &Part<'a, A>
         ensures { result.now ≡ self.now.0 }
     {
         &self.key
     }
 
-    /// Its value.
+    /// Returns the value.
     pub fn value(&self) -> &Part<'a, A>
         ensures { result.now ≡ self.now.1 }
     {
@@ -111,7 +110,7 @@ impl<'a, A: Allocator> Tag<'a, A> {
     }
 }
 
-/// A field of a line: its name and its value.
+/// Field of a line: a name and a value.
 #[derive(Drop)]
 pub struct Field<'a, A: Allocator> {
     name: Part<'a, A>,
@@ -134,21 +133,21 @@ impl<'a, A: Allocator> Field<'a, A> {
         Field { name, value }
     }
 
-    /// Its name.
+    /// Returns the name.
     pub fn name(&self) -> &Part<'a, A>
         ensures { result.now ≡ self.now.0 }
     {
         &self.name
     }
 
-    /// Its value.
+    /// Returns the value.
     pub fn value(&self) -> i64
         ensures { result ≡ self.now.1 }
     {
         self.value
     }
 
-    /// Takes the value of another field.
+    /// Replaces the value by another field's.
     pub(crate) fn take_value(&mut self, newer: &Field<'_, A>)
         ensures { self.new ≡ (self.old.0, newer.now.1) }
     {
@@ -156,7 +155,7 @@ impl<'a, A: Allocator> Field<'a, A> {
     }
 }
 
-/// What a line says.
+/// A parsed line: measurement, tags, fields and time.
 #[derive(Drop)]
 pub struct Line<'a, A: Allocator> {
     measurement: Part<'a, A>,
@@ -196,14 +195,14 @@ impl<'a, A: Allocator> Line<'a, A> {
         }
     }
 
-    /// The measurement.
+    /// Returns the measurement.
     pub fn measurement(&self) -> &Part<'a, A>
         ensures { result.now ≡ self.now.measurement }
     {
         &self.measurement
     }
 
-    /// The tags, in the order of the line.
+    /// Returns the tags as ordered in the line: at most 64.
     pub fn tags(&self) -> &[Tag<'a, A>]
         ensures value { result.now ≡ self.now.tags }
         ensures few { length result.now ≤ 64 }
@@ -211,7 +210,7 @@ impl<'a, A: Allocator> Line<'a, A> {
         self.tags.as_slice()
     }
 
-    /// The fields, in the order in which their names first stand in the line.
+    /// Returns the fields, ordered by where their names first appear in the line: 1 to 256, with distinct names.
     pub fn fields(&self) -> &[Field<'a, A>]
         ensures value { result.now ≡ self.now.fields }
         ensures some { 1 ≤ length result.now }
@@ -221,15 +220,16 @@ impl<'a, A: Allocator> Line<'a, A> {
         self.fields.as_slice()
     }
 
-    /// The time: the line's own, or the moment at hand where it has none.
+    /// Returns the time: the line's timestamp, or `now` if it has none.
     pub fn time(&self) -> Time
         ensures { result ≡ self.now.time }
     {
         self.time
     }
 
-    /// Puts the texts of the tags with their values in an array, in byte order of the keys. It takes no memory. Nearly all
-    /// lines have room in few places, and an array is filled with blanks first, so take a small one where it serves.
+    /// Writes the tags as (key, value) pairs into `pairs`, sorted by key in byte order. Does not allocate. `pairs` must
+    /// be empty and have room for all tags. Creating an `ArrayVec` blanks all of it, so pass a small one if the line
+    /// has few tags.
     pub fn tags_by_key<'b, const N: usize>(&'b self, pairs: &mut ArrayVec<(&'b str, &'b str), N>)
         requires none { pairs.old.items ≡ [] }
         requires room { length self.now.tags ≤ N }
@@ -243,7 +243,7 @@ impl<'a, A: Allocator> Line<'a, A> {
         }
     }
 
-    /// Puts the texts of the tags with their values in byte order of the keys.
+    /// Inserts the tags into `pairs` one by one in key order (insertion sort).
     #[cold]
     fn put_all<'b, const N: usize>(&'b self, pairs: &mut ArrayVec<(&'b str, &'b str), N>)
         requires none { pairs.old.items ≡ [] }
@@ -259,7 +259,7 @@ impl<'a, A: Allocator> Line<'a, A> {
     }
 }
 
-/// Whether each tag's key comes before the next one's in byte order.
+/// Returns true if the tag keys strictly ascend in byte order.
 fn rise<A: Allocator>(tags: &[Tag<'_, A>]) -> bool
     ensures { result ≡ rise (map tag_texts tags.now) }
 {
@@ -273,7 +273,7 @@ fn rise<A: Allocator>(tags: &[Tag<'_, A>]) -> bool
     true
 }
 
-/// Appends the texts of tags with their values.
+/// Appends the tags as (key, value) pairs.
 fn push_all<'a, A: Allocator, const N: usize>(
     pairs: &mut ArrayVec<(&'a str, &'a str), N>,
     tags: &'a [Tag<'_, A>],
@@ -287,7 +287,8 @@ fn push_all<'a, A: Allocator, const N: usize>(
     }
 }
 
-/// The place of the pair of a key, or where it would go.
+/// Searches pairs sorted by key (linear search). Returns `Ok` with the key's index, or `Err` with the index to insert
+/// it at.
 fn place_of(pairs: &[(&str, &str)], key: &str) -> Result<usize, usize>
     ensures value { result ≡ key_place_from 0 key.now (lent_pairs pairs.now) }
     ensures bound { MatchResult result (λ at. at < length pairs.now) (λ at. at ≤ length pairs.now) }
@@ -302,7 +303,7 @@ fn place_of(pairs: &[(&str, &str)], key: &str) -> Result<usize, usize>
     Err(pairs.len())
 }
 
-/// Puts a pair in its place by its key.
+/// Inserts a pair into pairs sorted by key, or replaces the value of its key.
 fn put<'a, const N: usize>(
     pairs: &mut ArrayVec<(&'a str, &'a str), N>,
     key: &'a str,

@@ -1,10 +1,10 @@
-//! Marks of names, by which most names of a line are known to be new without a look at the others.
+//! A 64-slot filter over names that spares most names the search for duplicates.
 ghost use Rattle.std.specs.Prelude.{◌≡◌, ◌<◌};
 ghost use Rattle.ts_line.specs.NameMarks.{slot_of};
 
 use ts_core::byte_at;
 
-/// Where the mark of a name is: most names of a line differ in their length or in their last two bytes.
+/// Hashes a name to its slot of the filter. Most names of a line differ in length or in their last two bytes.
 pub(crate) fn slot_of(name: &str) -> usize
     ensures value { result ≡ slot_of name.now }
     ensures bound { result < 64 }

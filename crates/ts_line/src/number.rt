@@ -1,4 +1,4 @@
-//! Numbers as text, and the times that they stand for.
+//! Parses numbers and timestamps.
 ghost use Rattle.std.specs.Prelude.{◌≡◌, ◌≤ℤ◌, pos, true, Some};
 ghost use Rattle.std.specs.Char.{is_ascii_digit};
 ghost use Rattle.std.specs.List.{list_all};
@@ -7,7 +7,7 @@ ghost use Rattle.ts_line.specs.Lines.{time_of};
 
 use ts_core::Time;
 
-/// A text without its minus.
+/// Returns the text without a leading minus.
 pub fn after_minus(text: &[u8]) -> &[u8]
     ensures { result.now ≡ without_minus text.now }
 {
@@ -17,7 +17,7 @@ pub fn after_minus(text: &[u8]) -> &[u8]
     }
 }
 
-/// Whether the text is one or more digits.
+/// Returns true if the text is one or more digits.
 pub fn are_digits(text: &[u8]) -> bool
     ensures { result ≡ are_digits text.now }
 {
@@ -30,7 +30,7 @@ fn has_digits_alone(bytes: &[u8]) -> bool
     bytes.iter().all(|byte| byte.is_ascii_digit())
 }
 
-/// Whether the text is digits, perhaps behind a minus.
+/// Returns true if the text is one or more digits, with or without a leading minus.
 #[tactic(auto, unfolding(crate::specs::Numbers::is_number))]
 pub fn is_number(text: &[u8]) -> bool
     ensures { result ≡ is_number text.now }
@@ -38,7 +38,7 @@ pub fn is_number(text: &[u8]) -> bool
     are_digits(after_minus(text))
 }
 
-/// The value of a number, where it has 64 bits.
+/// Parses a number; returns `None` if it doesn't fit in 64 bits.
 pub fn whole(text: &str) -> Option<i64>
     requires { is_number text.now ≡ true }
     ensures { result ≡ whole_of text.now }
@@ -49,7 +49,7 @@ pub fn whole(text: &str) -> Option<i64>
     }
 }
 
-/// The time that a number of units stands for, each of so many nanoseconds; none where it isn't a valid time.
+/// Parses a timestamp in units of `unit` nanoseconds. Returns `None` if it isn't a valid time.
 #[tactic(auto, unfolding(crate::specs::Lines::time_of))]
 pub fn moment(text: &str, unit: i64) -> Option<Time>
     requires number { is_number text.now ≡ true }
@@ -60,7 +60,8 @@ pub fn moment(text: &str, unit: i64) -> Option<Time>
     time_of(text, number, unit)
 }
 
-/// The time that the number of a text stands for, of so many nanoseconds each unit; none where it isn't a valid time.
+/// Converts `number` units of `unit` nanoseconds to a time. Returns `None` if it isn't a valid time. `text` is the text
+/// of `number`; only the contract uses it.
 #[tactic(auto, unfolding(crate::specs::Lines::time_of))]
 pub(crate) fn time_of(text: &str, number: i64, unit: i64) -> Option<Time>
     requires number { Some number ≡ whole_of text.now }

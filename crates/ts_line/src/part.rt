@@ -1,4 +1,4 @@
-//! Parts with the texts that they spell.
+//! Builds parts and resolves their escapes.
 ghost use Rattle.std.specs.Prelude.{◌≡◌, ◌<◌, ◌+◌, ◌&&◌, length, IfOk, slice_index, slice_range, drop, string_bytes};
 ghost use Rattle.std.specs.Cow.{cow_str_bytes};
 ghost use Rattle.std.specs.List.{list_any};
@@ -13,7 +13,7 @@ use std::alloc::{AllocError, Allocator};
 use std::borrow::CowStr;
 use ts_core::after;
 
-/// The part of a line from `start` to an end.
+/// Returns the part of the line from `start` to `end`. Allocates only if it has an escape.
 pub fn part_at<'a, A: Allocator>(
     alloc: A,
     line: &'a str,
@@ -31,7 +31,7 @@ pub fn part_at<'a, A: Allocator>(
     Ok(Part::new(start, raw, text))
 }
 
-/// The text that a part spells.
+/// Returns the text of a part, with escapes resolved. Allocates only if `has_escape`.
 #[tactic(auto, using(crate::proofs::PieceLemmas::plain_text))]
 fn spelled<'a, A: Allocator>(
     alloc: A,
@@ -48,7 +48,7 @@ fn spelled<'a, A: Allocator>(
     Ok(CowStr::Owned(unescaped(alloc, raw, stops)?))
 }
 
-/// Whether a backslash stands there that escapes a byte.
+/// Returns true if the byte at `at` is a backslash that escapes the next byte.
 fn is_escape_at(bytes: &[u8], at: usize, stops: Stops) -> bool
     requires { at < length bytes.now }
     ensures { result ≡ (is_backslash (slice_index bytes.now at) && begins_escapable stops (drop (at + 1) bytes.now)) }
@@ -59,7 +59,7 @@ fn is_escape_at(bytes: &[u8], at: usize, stops: Stops) -> bool
     }
 }
 
-/// A text without the backslashes that escape a byte.
+/// Copies a text without its escaping backslashes.
 #[cold]
 fn unescaped<A: Allocator>(alloc: A, raw: &str, stops: Stops) -> Result<String<A>, AllocError>
     ensures { IfOk result (λ s. string_bytes s ≡ unescaped stops raw.now) }

@@ -1,4 +1,4 @@
-//! `read_line`: a line is read from left to right, up to its first fault.
+//! `read_line`: parses a line from left to right, up to its first error.
 ghost use Rattle.std.specs.Prelude.{◌≡◌, ◌<◌, ◌≤◌, true, length, IfOk, IfSome};
 ghost use Rattle.std.specs.Str.{IsCharBoundary};
 ghost use Rattle.ts_line.specs.EscapeLaws.{ReadsPairs};
@@ -19,30 +19,31 @@ use crate::tag::tags;
 use std::alloc::Allocator;
 use ts_core::{Time, TimeUnit, byte_at};
 
-/// A line has no more bytes than this.
+/// Limit on the bytes of a line.
 const LINE_LIMIT: usize = 65_536;
 
-/// A measurement with its tags has no more bytes than this.
+/// Limit on the bytes of a series key: the measurement with its tags.
 const KEY_LIMIT: usize = 4_096;
 
-/// Reads a line without its line feed: its parts, or `None` for a comment or a blank line.
-/// A timestamp counts units of `precision`; without one the time is `now`.
+/// Parses a line given without its line feed. Returns its parts, or `None` for a comment or a blank line.
+/// A timestamp counts units of `precision`; without one, the time is `now`.
+/// On an error in the text, returns the first one with its byte offset; on allocation failure, `OutOfMemory`.
 pub fn read_line<A: Allocator + Copy>(
     alloc: A,
     text: &str,
     precision: TimeUnit,
     now: Time,
 ) -> Result<Option<Line<'_, A>>, ReadLineError>
-    // no line, its parts, or its first fault, exactly
+    // exactly no line, its parts or its first error
     ensures value { GivesIfRoom (λ o. o) result (line_of (nanoseconds_of precision) now text.now) }
 
-    // what is read is spelled so, and what is spelled so is read
+    // round trip: a line that is read is a spelling of its parts, and each spelling of parts is read as these parts
     ensures spelled { IsReadAsSpelled (nanoseconds_of precision) now text.now result }
 
-    // each part is the slice of the text at its span, one behind the other
+    // each part is the slice of the text at its span, and the parts follow one another
     ensures spans { IfOk result (λ o. IfSome o (λ p. ArePlaced text.now 0 (pieces_of p))) }
 
-    // a backslash directly before a byte counts as escapes in pairs do
+    // testing for a backslash directly before a byte agrees with reading escapes in pairs
     ensures pairs { ReadsPairs }
 {
     whole_line(alloc, text, precision, now)
@@ -68,7 +69,7 @@ fn whole_line<A: Allocator + Copy>(
     Ok(Some(parts(alloc, line, start, precision, now)?))
 }
 
-/// Whether a space stands there that no backslash escapes.
+/// Returns true if the byte at `at` is an unescaped space.
 #[tactic(auto, unfolding(crate::specs::Lines::is_bare_space))]
 fn is_bare_space(line: &str, at: usize) -> bool
     requires { at < length line.now }
@@ -78,7 +79,7 @@ fn is_bare_space(line: &str, at: usize) -> bool
     byte_at(line, at) == b' ' && (at == 0 || byte_at(line, at - 1) != b'\\')
 }
 
-/// How many of the first bytes are left without the bare spaces at their end.
+/// Returns the length of the first `from` bytes without trailing unescaped spaces.
 #[tactic(auto, using(crate::proofs::LineLemmas::trimmed_step))]
 fn end_without_spaces(line: &str, from: usize) -> usize
     requires { IsCharBoundary line.now from }
@@ -92,7 +93,7 @@ fn end_without_spaces(line: &str, from: usize) -> usize
     end
 }
 
-/// How many bytes are left without one carriage return at the end.
+/// Returns the length of the text without one trailing carriage return.
 fn end_without_return(source: &str) -> usize
     ensures value { result ≡ without_return source.now }
     ensures boundary { IsCharBoundary source.now result }
@@ -103,7 +104,7 @@ fn end_without_return(source: &str) -> usize
     }
 }
 
-/// The bytes that are read.
+/// Strips one trailing carriage return, then trailing unescaped spaces.
 #[tactic(auto, unfolding(crate::specs::Lines::content))]
 fn content(source: &str) -> &str
     ensures { result.now ≡ content source.now }
@@ -112,7 +113,7 @@ fn content(source: &str) -> &str
     &source[..end]
 }
 
-/// The measurement that begins at `start`, and its end.
+/// Parses the measurement at `start`; returns it and the offset after it. Fails with `OverLimit` or `NoMeasurement`.
 #[tactic(auto, using(crate::proofs::LineLemmas::short_key), unfolding(crate::specs::Lines::measurement_at))]
 fn measurement<'a, A: Allocator>(
     alloc: A,
@@ -135,7 +136,7 @@ fn measurement<'a, A: Allocator>(
     Ok((part_at(alloc, line, start, end, Stops::Comma)?, end.at))
 }
 
-/// The time behind the fields, or the moment at hand.
+/// Parses the timestamp after the fields; returns `now` if there is none.
 #[tactic(auto, unfolding(crate::specs::Lines::time_at))]
 fn time(line: &str, at: usize, precision: TimeUnit, now: Time) -> Result<Time, LineFault>
     requires { IsCharBoundary line.now at }
@@ -157,7 +158,7 @@ fn time(line: &str, at: usize, precision: TimeUnit, now: Time) -> Result<Time, L
     moment(number, precision.nanoseconds()).ok_or(LineFaultKind::TimestampRange.at(start))
 }
 
-/// The parts of a line from `start` on.
+/// Parses the measurement, tags, fields and timestamp from `start`.
 #[tactic(auto, unfolding(crate::specs::Lines::parts_at))]
 fn parts<A: Allocator + Copy>(
     alloc: A,

@@ -1,4 +1,4 @@
-//! Where the parts of a line end.
+//! Finds the ends of the parts of a line.
 ghost use Rattle.std.specs.Prelude.{◌≡◌, ◌≤◌, ◌||◌, false, length, slice_range};
 ghost use Rattle.std.specs.List.{list_any};
 ghost use Rattle.std.specs.Str.{IsCharBoundary};
@@ -7,29 +7,29 @@ ghost use Rattle.ts_line.specs.Scan.{is_backslash, is_stop, ends, end_of, spaces
 
 use ts_core::after;
 
-/// Which bytes end a part.
+/// Set of delimiters: the bytes that end a part.
 #[derive(Clone, Copy, Debug, PartialEq, Eq)]
 pub enum Stops {
-    /// A space that no backslash escapes.
+    /// An unescaped space.
     Space,
-    /// A comma or a space that no backslash escapes.
+    /// An unescaped comma or space.
     Comma,
-    /// A comma, an equals sign or a space that no backslash escapes.
+    /// An unescaped comma, equals sign or space.
     Equals,
-    /// A comma or a space.
+    /// A comma or space, escaped or not.
     Plain,
 }
 
-/// The end of a part, and whether an escape stands in the part.
+/// End of a part, and whether the part has an escape.
 #[derive(Clone, Copy, Debug)]
 pub struct End {
-    /// The place of the byte that ends the part, or the end of the line.
+    /// Offset of the delimiter after the part, or of the end of the line.
     pub at: usize,
-    /// Whether a byte that ends such a part stands in it, escaped.
+    /// True if the part has an escaped delimiter.
     pub has_escape: bool,
 }
 
-/// Whether a byte is one of those that end a part.
+/// Returns true if the byte is a delimiter.
 pub fn is_stop(stops: Stops, byte: u8) -> bool
     ensures { result ≡ is_stop stops byte }
 {
@@ -40,10 +40,10 @@ pub fn is_stop(stops: Stops, byte: u8) -> bool
     }
 }
 
-/// A bit for each of a backslash, a space, a comma and an equals sign, by its rest by 64.
+/// Bit set of the backslash, space, comma and equals sign, indexed by the byte modulo 64.
 const MARKS: u64 = 1 << 28 | 1 << 32 | 1 << 44 | 1 << 61;
 
-/// Whether a byte may be a backslash or end a part. A few others are let through; most bytes are passed over by this one test.
+/// Cheap pre-test: never false for a backslash or a delimiter, but true for a few other bytes.
 fn may_be_mark(byte: u8) -> bool
     ensures stops { (stops : Stops) → result ≡ false → is_stop stops byte ≡ false }
     ensures backslash { result ≡ false → is_backslash byte ≡ false }
@@ -51,21 +51,21 @@ fn may_be_mark(byte: u8) -> bool
     (MARKS >> (byte % 64)) & 1 == 1
 }
 
-/// Whether a byte is a backslash or one of those that end a part.
+/// Returns true if the byte is a backslash or a delimiter.
 fn is_mark(stops: Stops, byte: u8) -> bool
     ensures { result ≡ (is_backslash byte || is_stop stops byte) }
 {
     may_be_mark(byte) && (byte == b'\\' || is_stop(stops, byte))
 }
 
-/// Whether a part ends at a byte, behind another.
+/// Returns true if `byte` ends a part when it follows `before`.
 fn is_end(stops: Stops, before: u8, byte: u8) -> bool
     ensures { result ≡ ends stops before byte }
 {
     is_stop(stops, byte) && (before != b'\\' || matches!(stops, Stops::Plain))
 }
 
-/// The end of the part that begins at `from`, in which a backslash stands.
+/// Slow path of `end_at`, for a part with a backslash.
 #[tactic(auto, using(crate::proofs::ScanLemmas::part_len_step, crate::proofs::ScanLemmas::part_len_end, crate::proofs::ScanLemmas::ends_ascii), unfolding(crate::specs::Scan::end_of))]
 #[cold]
 fn escaped_end_at(line: &str, from: usize, stops: Stops) -> End
@@ -90,7 +90,7 @@ fn escaped_end_at(line: &str, from: usize, stops: Stops) -> End
     End { at, has_escape }
 }
 
-/// The end of the part that begins at `from`.
+/// Returns the end of the part that begins at `from`.
 #[tactic(auto, using(crate::proofs::ScanLemmas::stop_ascii, crate::proofs::ScanLemmas::bare_end, crate::proofs::ScanLemmas::part_len_end), unfolding(crate::specs::Scan::end_of))]
 pub fn end_at(line: &str, from: usize, stops: Stops) -> End
     requires { from ≤ length line.now }
@@ -116,7 +116,7 @@ pub fn end_at(line: &str, from: usize, stops: Stops) -> End
     }
 }
 
-/// The first place from `from` on that has no space.
+/// Returns the offset of the first byte from `from` that isn't a space.
 #[tactic(auto, using(crate::proofs::ScanLemmas::spaces_step, crate::proofs::ScanLemmas::spaces_past), unfolding(crate::specs::Scan::spaces_end))]
 pub fn after_spaces(line: &str, from: usize) -> usize
     requires { IsCharBoundary line.now from }

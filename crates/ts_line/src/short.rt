@@ -1,4 +1,4 @@
-//! Numbers of few digits, read in one pass.
+//! One-pass parsers for short numbers.
 ghost use Rattle.std.specs.Prelude.{◌≡◌, ◌≤◌, ◌<◌, length, slice_range, true, Ok, Some, IfSome, ℕ};
 ghost use Rattle.ts_core.specs.Cursors.{IsPlaceFrom};
 ghost use Rattle.ts_line.specs.Digits.{AreDigits, IsShortInteger};
@@ -8,10 +8,10 @@ ghost use Rattle.ts_line.specs.Values.{value_begun_at};
 use crate::value::is_value_end;
 use ts_core::{after, byte_at};
 
-/// So many digits fit 64 bits, whichever they are.
+/// Number of digits that always fit in a `u64`.
 const DIGIT_LIMIT: usize = 19;
 
-/// The digits from `from` on, 19 at most: their number, and their end.
+/// Parses up to 19 digits at `from`; returns their value and the offset after them.
 fn digits_at(line: &str, from: usize) -> (u64, usize)
     requires { from ≤ length line.now }
     ensures digits { AreDigits line.now from result.1 result.0 }
@@ -31,8 +31,8 @@ fn digits_at(line: &str, from: usize) -> (u64, usize)
     (number, at)
 }
 
-/// The digits and the `i` that a value without a sign is, where they begin at `first`: their number, and the place of
-/// the `i`. None where there are more than 19, or the number has more than 63 bits, or something else stands there.
+/// Parses an unsigned integer such as `42i` at `first`; returns its value and the offset of the `i`. Returns `None` for
+/// more than 19 digits, for a value over 63 bits and for anything else.
 fn unsigned_integer(line: &str, first: usize) -> Option<(i64, usize)>
     requires { first ≤ length line.now }
     ensures { IfSome result (λ x. IsShortInteger line.now first x.1 x.0) }
@@ -48,8 +48,8 @@ fn unsigned_integer(line: &str, first: usize) -> Option<(i64, usize)>
     Some((number, end))
 }
 
-/// The integer of at most 19 digits that begins at `at`, and the place behind its `i`; none where something else
-/// stands there, or an integer of more digits.
+/// Parses an integer value such as `-42i` at `at`; returns it and the offset after the `i`. Returns `None` for more
+/// than 19 digits and for anything else.
 pub(crate) fn short_integer(line: &str, at: usize) -> Option<(i64, usize)>
     requires { at ≤ length line.now }
     ensures value { IfSome result (λ x. (start : ℕ) → value_begun_at start line.now at ≡ Ok x) }
@@ -63,7 +63,8 @@ pub(crate) fn short_integer(line: &str, at: usize) -> Option<(i64, usize)>
     Some((number, after(line, end)))
 }
 
-/// The number that the line ends in from `start` on, where it has no sign, at most 19 digits and 63 bits.
+/// Parses the rest of the line from `start` as a number. Returns `None` if it has a sign, more than 19 digits or more
+/// than 63 bits, or isn't a number.
 pub(crate) fn short_number(line: &str, start: usize) -> Option<i64>
     requires { start ≤ length line.now }
     ensures number { IfSome result (λ n. is_number (slice_range line.now start (length line.now)) ≡ true) }

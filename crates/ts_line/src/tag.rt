@@ -1,4 +1,4 @@
-//! The tags of a line are read: up to 64, no key twice.
+//! Parses the tags of a line: at most 64, with distinct keys.
 ghost use Rattle.std.specs.Prelude.{◌≡◌, ◌<◌, ◌≤◌, ◌+◌, length, [], Ok, IfOk, IfSome, bytes_eq, codes, false};
 ghost use Rattle.std.specs.Str.{IsCharBoundary};
 ghost use Rattle.ts_core.specs.Cursors.{IsPlaceFrom};
@@ -15,17 +15,18 @@ use crate::scan::{Stops, end_at};
 use std::alloc::Allocator;
 use ts_core::{after, byte_at};
 
-/// Room for so many tags is taken at first.
+/// Initial capacity of the tag list.
 const TAGS_AT_FIRST: usize = 8;
 
-/// Whether a tag has a key.
+/// Returns true if one of the tags has this key.
 fn has_key<A: Allocator>(tags: &[Tag<'_, A>], key: &str) -> bool
     ensures { result ≡ has_key tags.now key.now }
 {
     tags.iter().any(|tag| tag.key().text() == key)
 }
 
-/// The tag that begins at `start`, and its end, where no escape stands in it. None where something else stands there.
+/// Fast path: parses the tag at `start` if it has no escape. Returns the tag and the offset after it, or `None` for
+/// anything else.
 #[tactic(auto, using(crate::proofs::PieceLemmas::plain_text), unfolding(crate::specs::TagParts::pair_at))]
 fn plain<'a, A: Allocator>(line: &'a str, start: usize) -> Option<(Tag<'a, A>, usize)>
     requires { IsCharBoundary line.now start }
@@ -51,7 +52,8 @@ fn plain<'a, A: Allocator>(line: &'a str, start: usize) -> Option<(Tag<'a, A>, u
     Some((tag, value_end.at))
 }
 
-/// The tag that begins at `start`, behind others, and its end.
+/// Parses the tag at `start`, after the tags `before`; returns it and the offset after it. Fails with `BadTag`,
+/// `OverLimit`, `ReservedKey` or `RepeatedTagKey`.
 #[tactic(auto, unfolding(crate::specs::TagParts::pair_at, crate::specs::TagParts::next_tag))]
 fn next<'a, A: Allocator + Copy>(
     alloc: A,
@@ -87,7 +89,7 @@ fn next<'a, A: Allocator + Copy>(
     Ok((Tag::new(key, value), value_end.at))
 }
 
-/// Appends the tag that begins at `start` to others, whatever stands there: its end.
+/// Slow path of `push_next`: parses any tag at `start`, appends it and returns the offset after it.
 #[cold]
 fn push_any<'a, A: Allocator + Copy>(
     alloc: A,
@@ -106,8 +108,8 @@ fn push_any<'a, A: Allocator + Copy>(
     Ok(end)
 }
 
-/// Appends the tag that begins at `start` to others: its end. Each key has its mark; a key whose place bears no mark is
-/// new.
+/// Parses the tag at `start`, appends it to `tags` and returns the offset after it. `marks` is a filter over the keys
+/// so far: an unset slot means a new key.
 fn push_next<'a, A: Allocator + Copy>(
     alloc: A,
     tags: &mut Vec<Tag<'a, A>, A>,
@@ -130,7 +132,7 @@ fn push_next<'a, A: Allocator + Copy>(
     push_any(alloc, tags, marks, line, start)
 }
 
-/// The tags from `start` on, each behind a comma, and the end of the last.
+/// Parses the tags from `start`, each after a comma; returns them and the offset after the last.
 pub fn tags<'a, A: Allocator + Copy>(
     alloc: A,
     line: &'a str,

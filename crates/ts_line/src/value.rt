@@ -1,4 +1,4 @@
-//! The values of fields, recognized by their shape.
+//! Parses field values and classifies those of other types.
 ghost use Rattle.std.specs.Prelude.{◌≡◌, IfOk, option_map, if◌then◌else◌, false};
 ghost use Rattle.std.specs.Str.{IsCharBoundary};
 ghost use Rattle.ts_core.specs.Cursors.{IsPlaceFrom};
@@ -30,7 +30,7 @@ fn is_boolean(text: &str) -> bool
     )
 }
 
-/// What stands behind the digits that a text begins with, of which there is one or more.
+/// Skips one or more digits; returns the rest, or `None` if there is no digit.
 #[tactic(auto, using(crate::proofs::ValueLemmas::digits_step, crate::proofs::ValueLemmas::digits_end))]
 fn behind_digits(text: &[u8]) -> Option<&[u8]>
     ensures { option_map (λ rest. rest.now) result ≡ behind_digits false text.now }
@@ -87,7 +87,8 @@ fn is_float(text: &[u8]) -> bool
     }
 }
 
-/// What stands behind a text in double quotes, from behind its first quote on.
+/// Skips a string, from the byte after its opening quote; returns the rest after its closing quote, or `None` if it is
+/// unclosed.
 #[tactic(auto, using(crate::proofs::ValueLemmas::quotes_step, crate::proofs::ValueLemmas::quotes_end))]
 fn behind_quotes(text: &[u8]) -> Option<&[u8]>
     ensures { option_map (λ rest. rest.now) result ≡ behind_quotes false text.now }
@@ -113,7 +114,8 @@ pub(crate) fn is_value_end(text: &[u8]) -> bool
     matches!(text, [] | [b',' | b' ', ..])
 }
 
-/// The value of a field that starts there.
+/// Parses the whole text as the value of the field at offset `start`. Fails at `start` with `IntegerRange`, `FieldType`
+/// or `BadField`.
 #[tactic(auto, unfolding(crate::specs::Values::value_said))]
 fn value_said(start: usize, text: &str) -> Result<i64, LineFault>
     ensures { result ≡ value_said start text.now }
@@ -131,7 +133,8 @@ fn value_said(start: usize, text: &str) -> Result<i64, LineFault>
     Err(LineFaultKind::BadField.at(start))
 }
 
-/// The fault of a field whose value is a text in double quotes.
+/// Returns the error of a field whose value begins with a double quote: `FieldType` if it is a string, else `BadField`.
+/// `text` begins after the quote.
 fn quoted(start: usize, text: &[u8]) -> LineFault
     ensures { result ≡ (if then_is (behind_quotes false text.now) is_value_end then fault_at LineFaultKind.FieldType start else fault_at LineFaultKind.BadField start) }
 {
@@ -141,7 +144,7 @@ fn quoted(start: usize, text: &[u8]) -> LineFault
     }
 }
 
-/// The value that begins at `at`, of a field that starts there, and its end.
+/// Parses the value at `at` of the field at `start`; returns it and the offset after it. Errors are at `start`.
 #[tactic(auto, unfolding(crate::specs::Values::value_begun_at))]
 pub fn value_begun_at(start: usize, line: &str, at: usize) -> Result<(i64, usize), LineFault>
     requires { IsCharBoundary line.now at }
