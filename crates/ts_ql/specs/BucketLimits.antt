@@ -1,11 +1,11 @@
--- What each query has: how many buckets there may be, and when the first may start. (Own rules.)
+-- Limits of every query: the number of its buckets, and the start of the first. (Own rules.)
 use Rattle.std.specs.Prelude.{◌≤◌, ◌≤ℤ◌, ◌<ℤ◌, length}
 use Rattle.ts_core.specs.Buckets.{bucket_start}
 use Rattle.ts_core.specs.Times.{least_time}
 use Rattle.ts_core.specs.Queries.{Query, IsQuery}
 use Rattle.ts_core.specs.Answers.{bucket_in, buckets_in}
 
--- where the range isn't empty its first bucket starts at a valid time, and at most 10,000 buckets meet it
+-- if the range isn't empty, its first bucket starts at a valid time, and at most 10,000 buckets intersect it
 pub record IsLimited (q : Query) : Type 0 where
   pub query : IsQuery q
   pub start : q.from <ℤ q.to → least_time ≤ℤ bucket_start (bucket_in q q.from) q.interval q.offset

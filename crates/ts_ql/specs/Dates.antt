@@ -1,12 +1,13 @@
--- Moments that texts in quotes stand for, in UTC.
--- (InfluxData 1.8, InfluxQL reference, dates & times: YYYY-MM-DD, YYYY-MM-DD HH:MM:SS.nnnnnnnnn, RFC 3339. Own rule: Z or none.)
+-- Timestamps in quotes, in UTC.
+-- (InfluxData 1.8, InfluxQL reference, dates & times: YYYY-MM-DD, YYYY-MM-DD HH:MM:SS.nnnnnnnnn, RFC 3339. Own rule: Z
+-- or none.)
 use Rattle.std.specs.Prelude.{ℕ, ℤ, pos, ◌+◌, ◌-◌, ◌*◌, ◌+ℤ◌, ◌*ℤ◌, [], ◌∷◌, length, drop, take, slice_index, slice_range, Bool, ◌&&◌, ◌||◌, ◌==◌, nat_lt, nat_le, if◌then◌else◌, Option, Some, None, option_and_then, option_map}
 use Rattle.std.specs.Char.{is_ascii_digit}
 use Rattle.jiff_core.specs.Calendar.{days_in_month, days_from_civil}
 use Rattle.ts_core.specs.Facts.{Text}
 use Rattle.ts_ql.specs.Literals.{within}
 
--- digits after a number; none where a byte is no digit, or past 64 bits
+-- digits that continue the number n; none if a byte is no digit, or past 64 bits
 abbrev pub digits_after : ℕ → Text → Option ℕ
 digits_after n [] = Some n
 digits_after n (b ∷ bs) =
@@ -22,7 +23,7 @@ abbrev pub is_date : ℕ → ℕ → ℕ → Bool
 is_date year month day =
     nat_le year 9999 && nat_le 1 month && nat_le month 12 && nat_le 1 day && nat_le day (days_in_month (pos year) month)
 
--- the beginning of a day, in nanoseconds of the Unix epoch
+-- midnight of a day, in nanoseconds of the Unix epoch
 unfoldable pub midnight : ℕ → ℕ → ℕ → Option ℤ
 midnight year month day = if is_date year month day then Some (days_from_civil (pos year) month day *ℤ pos 86400000000000) else None
 
@@ -36,7 +37,7 @@ date_of text =
 
 -- ---- times of a day
 
--- how many nanoseconds the last of so many places after the point counts
+-- weight in nanoseconds of the last of n decimal places of a second
 unfoldable pub place_value : ℕ → ℕ
 place_value places =
     if places == 1 then 100000000 else if places == 2 then 10000000 else if places == 3 then 1000000
@@ -56,7 +57,7 @@ clock_nanos hour minute second nanos =
     if nat_lt hour 24 && nat_lt minute 60 && nat_lt second 60
     then Some (((hour * 60 + minute) * 60 + second) * 1000000000 + nanos) else None
 
--- HH:MM:SS and a fraction or none
+-- HH:MM:SS, with or without a fraction
 unfoldable pub time_of_day : Text → Option ℕ
 time_of_day text =
     if nat_le 8 (length text) && slice_index text 2 == 58 && slice_index text 5 == 58
@@ -66,14 +67,14 @@ time_of_day text =
 
 -- ---- both
 
--- the text without a Z at its end
+-- the text without a trailing Z
 unfoldable pub without_zone : Text → Text
 without_zone text = if slice_index text (length text - 1) == 90 then take (length text - 1) text else text
 
 abbrev pub later : Option ℤ → Option ℕ → Option ℤ
 later date clock = option_and_then (λ day. option_map (λ nanos. day +ℤ pos nanos) clock) date
 
--- a date alone, or a date and a time of day with `T` or a space between them and `Z` or nothing behind
+-- a date alone; or a date, `T` or a space, and a time of day with or without `Z`
 unfoldable pub moment_told : Text → Option ℤ
 moment_told text =
     if nat_le (length text) 10 then date_of text

@@ -1,4 +1,4 @@
--- What the machine has read of a statement.
+-- State of a statement being parsed.
 -- (InfluxData 1.8, InfluxQL: the basic SELECT statement and its clauses.)
 use Rattle.ts_ql.specs.declared.filling.Filling.{Filling}
 use Rattle.ts_ql.specs.declared.moment.Moment.{Moment}
@@ -11,7 +11,7 @@ use Rattle.ts_ql.specs.SelectSteps.{Selected, selected, empty_selection}
 use Rattle.ts_ql.specs.Statements.{Meaning}
 use Rattle.ts_ql.specs.WhereSteps.{Filtered, filtered, empty_filter}
 
--- what has been read of a statement
+-- a partially parsed statement: the state of each clause
 pub record Drafted : Type 0 where
   pub selection : Selected
   pub filter : Filtered
@@ -40,7 +40,7 @@ empty_draft = record {
   filling = no_fill;
 }
 
--- what it means so far
+-- its meaning so far
 abbrev pub meaning : Drafted → Meaning
 meaning d = record {
   columns = d.selection.columns;

@@ -1,4 +1,4 @@
--- The units of durations, by the first two bytes of their names.
+-- Duration units, identified by the first two bytes of their names.
 -- (InfluxData 1.8, InfluxQL reference, literals: durations.)
 use Rattle.std.specs.Prelude.{ℕ, unsigned_abs, Option, Some, None}
 use Rattle.ts_core.specs.declared.time_unit.TimeUnit.{TimeUnit}
@@ -12,10 +12,10 @@ abbrev pub begun_nanoseconds : Option (TimeUnit × ℕ) → ℕ
 begun_nanoseconds None = 1
 begun_nanoseconds (Some begun) = unsigned_abs (nanoseconds_of begun.0)
 
--- how many bytes the unit has that begins with this byte before that one; 0 where none begins
+-- length in bytes of the unit that begins with these two bytes; 0 if none does
 unfoldable pub unit_len : ℕ → ℕ → ℕ
 unit_len byte next = begun_len (unit_begun byte next)
 
--- how many nanoseconds the unit has that begins with this byte before that one; the nanosecond where none begins
+-- nanoseconds of the unit that begins with these two bytes; 1 if none does
 unfoldable pub nanoseconds_of_unit : ℕ → ℕ → ℕ
 nanoseconds_of_unit byte next = begun_nanoseconds (unit_begun byte next)

@@ -1,5 +1,5 @@
--- The grammar: the trees of a text, and what each spells from left to right.
--- (InfluxData 1.8, InfluxQL reference: notation, queries, statements, clauses. Own rule: what the profile leaves out.)
+-- The grammar: the trees of a text, and the tokens that each spells from left to right.
+-- (InfluxData 1.8, InfluxQL reference: notation, queries, statements, clauses. Own rule: what is unsupported.)
 --
 --   text      = statement ending
 --   ending    = [ ";" ] | ";" statement ending
@@ -14,8 +14,8 @@
 --   item      = time "(" duration [ "," [ "-" ] duration ] ")" | tag [ "::" TAG ]
 --   option    = NULL | NONE | PREVIOUS | [ "-" ] integer
 --
--- Each `spell_` below is one rule: what a tree spells, before the rest. Between the tokens stands what is examined there: the fault
--- of what has been read, if it has one.
+-- Each `spell_` function is one rule: the tokens of a tree, followed by the rest. Checks are placed between the tokens;
+-- each gives the error, if any, of the part before it.
 use Rattle.std.specs.Prelude.{◌≡◌, List, Bool, true, false, Option}
 use Rattle.ts_core.specs.Facts.{Text}
 use Rattle.ts_ql.specs.declared.moment.Comparison.{Comparison}
@@ -28,19 +28,19 @@ use Rattle.ts_ql.specs.Words.{is_time}
 
 -- ---- tokens
 
--- a sort of tokens
+-- a class of tokens
 pub data Sort : Type 0 where
-  -- the keyword, in any case
+  -- this keyword, in any case
   Keyword : Text → Sort
-  -- the word, which may also be a name, in any case
+  -- this word, in any case; it may also be a name
   Word : Text → Sort
-  -- a name, in quotes or without
+  -- a name, quoted or not
   Name : Sort
-  -- a name that isn't the column of time
+  -- a name other than the time column
   Tag : Sort
-  -- the column of time
+  -- the time column
   Time : Sort
-  -- all tokens of a kind: punctuation, operators, literals
+  -- all tokens of one kind: punctuation, operators, literals
   Of : Kind → Sort
 
 abbrev pub is_name : Kind → Bool
@@ -48,7 +48,7 @@ is_name kinds.Word = true
 is_name kinds.QuotedName = true
 is_name kind = false
 
--- the token is of the sort
+-- the token belongs to the class
 abbrev pub Is : Sort → Lexeme → Type 0
 Is (Keyword word) t = (t.kind ≡ kinds.Keyword) × (is_word word t.text ≡ true)
 Is (Word word) t = (t.kind ≡ kinds.Word) × (is_word word t.text ≡ true)
@@ -57,7 +57,7 @@ Is Tag t = (is_name t.kind ≡ true) × (is_time t.kind t.text ≡ false)
 Is Time t = is_time t.kind t.text ≡ true
 Is (Of kind) t = t.kind ≡ kind
 
--- what stands in a spelling: a token of a sort, this very token of a sort, or what is examined
+-- an item of a spelling: any token of a class, one given token of a class, or a check
 pub data Item : Type 0 where
   Any : Sort → Item
   This : Sort → Lexeme → Item
@@ -77,10 +77,10 @@ pub record Call : Type 0 where
 
 pub data FromClause : Type 0 where
   Measurement : Lexeme → FromClause
-  -- a subquery begins, which the profile leaves out
+  -- a subquery begins; it is unsupported
   Subquery : Lexeme → FromClause
 
--- an integer counts nanoseconds; a duration has units
+-- an integer is a number of nanoseconds; a duration has units
 pub data Measure : Type 0 where
   Count : Measure
   Duration : Measure
@@ -89,11 +89,11 @@ pub data Base : Type 0 where
   Number : Measure → Lexeme → Base
   -- a minus and a number
   Negative : Lexeme → Measure → Lexeme → Base
-  -- a date in quotes
+  -- a timestamp in quotes
   Quoted : Lexeme → Base
   Now : Lexeme → Base
 
--- plus or minus a duration
+-- adds or subtracts a duration
 pub record Change : Type 0 where
   pub less : Bool
   pub by : Lexeme
@@ -104,12 +104,12 @@ pub record Instant : Type 0 where
 
 pub data Cond : Type 0 where
   Compare : Lexeme → Comparison → Instant → Cond
-  -- a tag, cast as one or not, that has a value or differs from it
+  -- a tag, with or without a cast to tag, that equals a value or differs from it
   Match : Lexeme → Bool → Bool → Lexeme → Cond
   Group : Lexeme → Cond → Cond
   And : Cond → Cond → Cond
 
--- a duration behind a minus or none
+-- a number, with or without a minus
 pub record Signed : Type 0 where
   pub minus : Option Lexeme
   pub number : Lexeme

@@ -1,4 +1,4 @@
--- What each token means in GROUP BY and FILL.
+-- Effect of each token in GROUP BY and FILL.
 -- (InfluxData 1.8, InfluxQL: the GROUP BY clause, GROUP BY time intervals, the offset interval, fill().)
 use Rattle.std.specs.Prelude.{ℕ, ℤ, pos, int_le, List, [], true, false, Option, Some, None, Result, Ok, Err, if◌then◌else◌, codes}
 use Rattle.ts_core.specs.Facts.{Text}
@@ -16,7 +16,7 @@ use Rattle.ts_ql.specs.Literals.{is_word, literal, text_spelled}
 use Rattle.ts_ql.specs.Tokens.{Lexeme}
 use Rattle.ts_ql.specs.Words.{is_time}
 
--- what has been read: the buckets of time, the place of the offset's first token, and the tags in byte order, each once
+-- state of the clause: the buckets, the text offset of the bucket offset's first token, and the sorted set of tags
 pub record Grouped : Type 0 where
   pub buckets : Option Buckets
   pub first : ℕ
@@ -31,7 +31,7 @@ empty_groups = record { buckets = None; first = 0; tags = [] }
 abbrev pub Grouping : Type 0
 Grouping = Result (Place × Grouped) Fault
 
--- the column that an item begins with: a second time(..) can't follow
+-- a `time` that begins an item; there can't be a second time(..)
 abbrev pub time_item : Lexeme → Grouped → Option Buckets → Grouping
 time_item t g None = Ok (places.TimeOpen, g)
 time_item t g (Some buckets) = Err (unexpected t)
@@ -46,7 +46,7 @@ with_interval t g None = Err (OutOfRange t.start)
 with_interval t g (Some interval) =
     if int_le (pos 1) interval then Ok (places.IntervalEnd, record g { buckets = of_interval interval }) else Err (OutOfRange t.start)
 
--- an offset whose first token stands at `first`
+-- a bucket offset whose first token is at `first`
 abbrev pub with_offset : ℕ → Grouped → Option ℤ → Grouping
 with_offset first g None = Err (OutOfRange first)
 with_offset first g (Some offset) = Ok (places.OffsetEnd, record g { buckets = moved offset g.buckets })
@@ -77,7 +77,7 @@ group_step place t g = grouping_at place t.kind t g
 abbrev pub FillStep : Type 0
 FillStep = Result (Place × Filling) Fault
 
--- fill with a number whose first token stands at `first`
+-- fill with a number whose first token is at `first`
 abbrev pub with_number : ℕ → Filling → Option ℤ → FillStep
 with_number first f None = Err (OutOfRange first)
 with_number first f (Some n) = Ok (places.FillClose, record f { fill = fills.Number n })
@@ -101,6 +101,6 @@ fill_at place kind t f = Err (unexpected t)
 unfoldable pub fill_step : Place → Lexeme → Filling → FillStep
 fill_step place t f = fill_at place t.kind t f
 
--- nulls, where no option is written
+-- the default: null
 abbrev pub no_fill : Filling
 no_fill = record { fill = fills.Null; first = 0 }

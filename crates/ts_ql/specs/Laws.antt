@@ -1,5 +1,5 @@
--- What the tokens of a text say: its queries, or its first fault.
--- (InfluxData 1.8, InfluxQL reference: queries. Own rule: the first fault, with the tokens before it the beginning of a text.)
+-- The queries that the tokens of a text mean, or their first error.
+-- (InfluxData 1.8, InfluxQL reference: queries. Own rule: the tokens before the first error begin some valid text.)
 use Rattle.std.specs.Prelude.{◌≡◌, ◌⊎◌, ℤ, List, [], ◌∷◌, ◌++◌, length, map, nat_lt, Bool, true, false, Some, None, Result, Ok, Err, ⊤}
 use Rattle.std.specs.Str.Parse.{AllDigits, digits_value}
 use Rattle.ts_core.specs.Facts.{Text}
@@ -15,23 +15,23 @@ use Rattle.ts_ql.specs.Productions.{spell}
 use Rattle.ts_ql.specs.Tokenizing.{tokens_of}
 use Rattle.ts_ql.specs.Tokens.{Lexeme}
 
--- tokens can be found for the spelling
+-- there are tokens for the spelling
 abbrev pub CanBeWritten : List Item → Type 0
 CanBeWritten [] = ⊤
 CanBeWritten (Any sort ∷ rest) = ((t : Lexeme) × Is sort t) × CanBeWritten rest
 CanBeWritten (This sort l ∷ rest) = Is sort l × CanBeWritten rest
 CanBeWritten (Examine fault ∷ rest) = CanBeWritten rest
 
--- how far tokens go in a spelling
+-- how far tokens reach into a spelling
 pub data Reach : Type 0 where
-  -- more must follow, and can
+  -- not to its end, but it can be completed
   Within : Reach
   -- to its end
   Whole : Reach
-  -- to a fault of what they say
+  -- to a failed check
   At : Fault → Reach
 
--- the tokens are those of the spelling, one by one, and nothing that they say is at fault
+-- the tokens are those of the spelling, one by one, up to `reach`; no check before that fails
 abbrev pub Reads : List Item → List Lexeme → Reach → Type 0
 Reads [] [] reach = reach ≡ Whole
 Reads [] (t ∷ ts) reach = ⊥
@@ -43,21 +43,21 @@ Reads (Examine None ∷ rest) ts reach = Reads rest ts reach
 Reads (Examine (Some fault) ∷ rest) [] reach = reach ≡ At fault
 Reads (Examine (Some fault) ∷ rest) (t ∷ ts) reach = ⊥
 
--- some tree spells the tokens, and its statements say these queries
+-- some tree spells the tokens, and its statements mean these queries
 abbrev pub Says : ℤ → List Lexeme → List Select → Type 0
 Says now ts queries = (script : Script) × Reads (spell now script) ts Whole × (sayings now script ≡ map Ok queries)
 
--- some text begins with the tokens, and nothing that they say is at fault
+-- the tokens begin some text without an error
 abbrev pub MayBecome : ℤ → List Lexeme → Type 0
 MayBecome now ts = (script : Script) × (Reads (spell now script) ts Within ⊎ Reads (spell now script) ts Whole)
 
--- some tree begins with the tokens before that one, or with these and that one, and then what has been read is at fault
+-- some tree spells the tokens before this one, or these with this one, and then its next check fails with this error
 abbrev pub HasFault : ℤ → List Lexeme → Lexeme → Fault → Type 0
 HasFault now before token fault =
     (script : Script) × (Reads (spell now script) before (At fault) ⊎ Reads (spell now script) (before ++ token ∷ []) (At fault))
 
--- the first fault: the tokens before some token may go on to be a text, and with that token they may not; the fault is what was examined
--- there, if that is at fault, or else that no text goes on so
+-- The first error: the tokens before some token begin a valid text, but not with that token added. The error is that of
+-- the check that fails there, if any, or else that the token is unexpected.
 pub record IsFirstFault (now : ℤ) (ts : List Lexeme) (fault : Fault) : Type 0 where
   pub before : List Lexeme
   pub token : Lexeme
@@ -68,7 +68,7 @@ pub record IsFirstFault (now : ℤ) (ts : List Lexeme) (fault : Fault) : Type 0 
   pub examined : (other : Fault) → HasFault now before token other → fault ≡ other
   pub known : HasFault now before token fault ⊎ (fault ≡ unexpected token)
 
--- ---- texts: of 65,536 bytes at most
+-- ---- texts: at most 65,536 bytes
 
 abbrev pub SaysUnless : Bool → ℤ → Text → List Select → Type 0
 SaysUnless true now text queries = ⊥
@@ -78,11 +78,11 @@ abbrev pub IsFaultIf : Bool → ℤ → Text → Fault → Type 0
 IsFaultIf true now text fault = fault ≡ Syntax 65536
 IsFaultIf false now text fault = IsFirstFault now (tokens_of text) fault
 
--- the text says these queries, at this moment
+-- the text means these queries at time `now`
 abbrev pub TextSays : ℤ → Text → List Select → Type 0
 TextSays now text queries = SaysUnless (nat_lt 65536 (length text)) now text queries
 
--- the first fault of the text
+-- the first error of the text
 abbrev pub TextFault : ℤ → Text → Fault → Type 0
 TextFault now text fault = IsFaultIf (nat_lt 65536 (length text)) now text fault
 
@@ -90,33 +90,33 @@ abbrev pub Explained : ℤ → Text → ParseError → Type 0
 Explained now text errors.OutOfMemory = ⊤
 Explained now text (errors.Fault fault) = TextFault now text (as_fault fault)
 
--- what was returned, seen by `view`, is what the text says or its first fault, unless memory ran out
+-- a call returned, seen through `view`, the queries of the text or its first error, unless it ran out of memory
 abbrev pub Tells : {X : Type 0} → (X → List Select) → ℤ → Text → Result X ParseError → Type 0
 Tells view now text (Ok x) = TextSays now text (view x)
 Tells view now text (Err e) = Explained now text e
 
 -- ---- the laws
 
--- what was returned, seen by `view`, unless memory ran out
+-- a call returned, seen through `view`, what the text means, unless it ran out of memory
 pub record ReadsText {X : Type 0} (view : X → List Select) (now : ℤ) (text : Text) (result : Result X ParseError) : Type 0 where
   pub tells : Tells view now text result
-  -- who says queries is read as them
+  -- a text that means queries is parsed as these
   pub queries : (queries : List Select) → TextSays now text queries → Gives view result (Ok queries)
-  -- who has a first fault is refused for it
+  -- a text with a first error is refused with it
   pub fault : (fault : Fault) → TextFault now text fault → Gives view result (Err fault)
 
--- each text says queries or has a first fault, not both, and one of them alone
+-- each text means queries or has a first error, never both, and just one of them
 pub record IsDecided (now : ℤ) (text : Text) : Type 0 where
   pub some : ((queries : List Select) × TextSays now text queries) ⊎ ((fault : Fault) × TextFault now text fault)
   pub not_both : (queries : List Select) (fault : Fault) → TextSays now text queries → TextFault now text fault → ⊥
   pub one_meaning : (queries others : List Select) → TextSays now text queries → TextSays now text others → queries ≡ others
   pub one_fault : (fault other : Fault) → TextFault now text fault → TextFault now text other → fault ≡ other
 
--- a duration is the sum of its terms, each number times its unit
+-- a duration is the sum of its terms, each a number times its unit
 unfoldable pub DurationsCount : Type 0
 DurationsCount = (terms : List Term) → AreTerms terms → magnitude (spelled terms) ≡ total terms
 
--- digits count in tens
+-- an integer is the decimal value of its digits
 unfoldable pub IntegersCount : Type 0
 IntegersCount = (digits : Text) → AllDigits 10 digits → magnitude digits ≡ digits_value 10 digits
 

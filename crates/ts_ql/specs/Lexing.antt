@@ -1,4 +1,4 @@
--- How a token is found from a place on.
+-- The first token from an offset on.
 -- (InfluxData 1.8, InfluxQL reference: letters, digits, identifiers, strings, integers, durations, operators.)
 use Rattle.std.specs.Prelude.{ℕ, ◌+◌, ◌-◌, [], ◌∷◌, drop, length, slice_index, slice_range, Bool, true, false, ◌&&◌, ◌||◌, ◌==◌, nat_lt, if◌then◌else◌, Option, Some, None}
 use Rattle.std.specs.Char.{is_ascii_alphabetic, is_ascii_digit}
@@ -13,13 +13,14 @@ use Rattle.ts_ql.specs.Words.{is_keyword}
 
 -- ---- runs of bytes
 
--- space, tab, line feed and carriage return part tokens; names have letters, digits and `_`
+-- space, tab, line feed and carriage return separate tokens; names consist of letters, digits and `_`
 abbrev pub is_in : Class → ℕ → Bool
 is_in Space byte = byte == 32 || byte == 9 || byte == 10 || byte == 13
 is_in Name byte = is_ascii_alphabetic byte || byte == 95 || is_ascii_digit byte
 is_in Digit byte = is_ascii_digit byte
 
--- the place of the first of these bytes, which stand from `at` on, that isn't in the class, or their end
+-- offset of the first of these bytes that isn't in the class, or the offset after them; `at` is the offset of their
+-- first
 abbrev pub run_end : Class → ℕ → Text → ℕ
 run_end class at [] = at
 run_end class at (b ∷ bs) = if is_in class b then run_end class (at + 1) bs else at
@@ -27,13 +28,13 @@ run_end class at (b ∷ bs) = if is_in class b then run_end class (at + 1) bs el
 unfoldable pub end_of_run : Class → Text → ℕ → ℕ
 end_of_run class text from = run_end class from (drop from text)
 
--- ---- texts in quotes
+-- ---- strings in quotes
 
--- `\\`, `\n`, `\"` and `\'` alone are escapes
+-- the only escapes are `\\`, `\n`, `\"` and `\'`
 abbrev pub is_escape_byte : ℕ → Bool
 is_escape_byte byte = byte == 92 || byte == 110 || byte == 34 || byte == 39
 
--- the place of the closing quote; none where another byte is escaped, or where no quote closes
+-- offset of the closing quote; none if the string is unclosed or has another escape
 abbrev pub closing : ℕ → Bool → ℕ → Text → Option ℕ
 closing quote escaped at [] = None
 closing quote true at (b ∷ bs) = if is_escape_byte b then closing quote false (at + 1) bs else None
@@ -44,8 +45,8 @@ closing_quote quote text from = closing quote false from (drop from text)
 
 -- ---- durations
 
--- the end of the last number with its unit, of which the last so far ends at `last`; these bytes stand from `at` on,
--- and `counting` says that digits stand directly before them
+-- The offset after the last number with its unit. `last` is that offset so far, `at` is the offset of these bytes, and
+-- `counting` is true after a digit.
 abbrev pub parts_end : ℕ → Bool → ℕ → Text → ℕ
 parts_end last counting at [] = last
 parts_end last counting at (b ∷ bs) =
@@ -53,7 +54,7 @@ parts_end last counting at (b ∷ bs) =
     else if counting then (if unit_len b (slice_index bs 0) == 0 then last else parts_end (at + unit_len b (slice_index bs 0)) false (at + 1) bs)
     else if nat_lt at last then parts_end last false (at + 1) bs else last
 
--- the end of the duration that begins there, or the place itself
+-- offset after the duration at `from`, or `from` if there is none
 unfoldable pub duration_end : Text → ℕ → ℕ
 duration_end text from = parts_end from false from (drop from text)
 
@@ -95,18 +96,18 @@ abbrev pub double_at : Text → ℕ → Option Kind → Kind × ℕ
 double_at text start None = single_at text start (single (slice_index text start))
 double_at text start (Some kind) = (kind, start + 2)
 
--- an operator, the longest that stands there
+-- the longest operator at `start`
 unfoldable pub operator_at : Text → ℕ → Kind × ℕ
 operator_at text start = double_at text start (double (slice_index text start) (slice_index text (start + 1)))
 
--- a number: a duration, or digits that no letter and no point follows
+-- a number: a duration, or digits without a letter or a point after them
 unfoldable pub number_at : Text → ℕ → Kind × ℕ
 number_at text start =
     if nat_lt start (duration_end text start) then (kinds.Duration, duration_end text start)
     else if is_ascii_alphabetic (slice_index text (end_of_run Digit text start)) || slice_index text (end_of_run Digit text start) == 46 then (kinds.Bad, length text)
     else (kinds.Integer, end_of_run Digit text start)
 
--- a text in quotes; a name in quotes isn't empty
+-- a string in quotes; a quoted name isn't empty
 abbrev pub closed_at : Text → ℕ → ℕ → Option ℕ → Kind × ℕ
 closed_at text quote start None = (kinds.Bad, length text)
 closed_at text quote start (Some close) =
@@ -115,7 +116,7 @@ closed_at text quote start (Some close) =
 unfoldable pub quoted_at : Text → ℕ → Kind × ℕ
 quoted_at text start = closed_at text (slice_index text start) start (closing_quote (slice_index text start) text (start + 1))
 
--- the kind of the token that begins there, and its end
+-- the kind of the token at `start`, and the offset after it
 unfoldable pub shape_at : Text → ℕ → Kind × ℕ
 shape_at text start =
     if length text == start then (kinds.End, start)
@@ -124,13 +125,13 @@ shape_at text start =
     else if slice_index text start == 34 || slice_index text start == 39 then quoted_at text start
     else operator_at text start
 
--- whether a token of the kind stands in quotes
+-- a token of this kind is in quotes
 abbrev pub is_quoted : Kind → Bool
 is_quoted kinds.QuotedName = true
 is_quoted kinds.Literal = true
 is_quoted kind = false
 
--- the text of a token from one place to another
+-- the token's bytes without quotes
 abbrev pub token_text : Text → ℕ → Kind × ℕ → Text
 token_text text start shape = if is_quoted shape.0 then slice_range text (start + 1) (shape.1 - 1) else slice_range text start shape.1
 
@@ -148,6 +149,6 @@ shaped text start shape = record {
   text = token_text text start shape;
 }
 
--- the first token from a place on
+-- the first token from an offset on
 unfoldable pub token_at : Text → ℕ → Lexeme
 token_at text from = shaped text (end_of_run Space text from) (shape_at text (end_of_run Space text from))

@@ -1,4 +1,5 @@
--- What the public contracts and the laws cite: tokens, the grammar, what its trees spell and mean, and what a text says.
+-- Cited by public contracts and laws: tokens, the grammar, the spelling and meaning of its trees, and the meaning of a
+-- text.
 pub mod Tokens
 pub mod DurationUnits
 pub mod Lexing
@@ -17,7 +18,7 @@ pub mod Meanings
 pub mod Productions
 pub mod Laws
 pub mod Counting
--- What only the proofs of the code need: where tokens end, and the machine that reads a text token by token.
+-- Used only by proofs of the code: where tokens end, and the state machine that parses a text.
 pub mod Shapes
 pub mod SelectSteps
 pub mod MomentSteps

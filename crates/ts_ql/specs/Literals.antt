@@ -1,5 +1,6 @@
--- What literals mean: numbers, durations, and texts in quotes.
--- (InfluxData 1.8, InfluxQL reference, literals: integers, durations, strings. Own rule: the four escapes, and the ranges.)
+-- Values of literals: numbers, durations and strings.
+-- (InfluxData 1.8, InfluxQL reference, literals: integers, durations, strings. Own rule: the four escapes, and the
+-- ranges.)
 use Rattle.std.specs.Prelude.{ℕ, ℤ, pos, neg_ℤ, ◌+◌, ◌-◌, ◌*◌, [], ◌∷◌, List, Bool, true, false, nat_lt, nat_le, ◌==◌, if◌then◌else◌, Option, Some, None, slice_index, encode_utf8_all}
 use Rattle.std.specs.Char.{is_ascii_digit}
 use Rattle.std.specs.Str.{chars, str_eq_ignore_ascii_case}
@@ -8,7 +9,7 @@ use Rattle.ts_ql.specs.DurationUnits.{nanoseconds_of_unit}
 
 -- ---- numbers
 
--- the numbers with their units added up, after a total and a number so far; a number without a unit counts as it is.
+-- the sum of numbers times their units, continued from a total and a number; a number without a unit is added unchanged
 -- (The second byte of a unit has no number before it, and adds nothing.)
 abbrev pub units_added_up : ℕ → ℕ → Text → ℕ
 units_added_up total number [] = total + number
@@ -16,7 +17,7 @@ units_added_up total number (b ∷ bs) =
     if is_ascii_digit b then units_added_up total (number * 10 + (b - 48)) bs
     else units_added_up (total + number * nanoseconds_of_unit b (slice_index bs 0)) 0 bs
 
--- what an integer counts, or how many nanoseconds a duration has
+-- the value of an integer, or the nanoseconds of a duration
 unfoldable pub magnitude : Text → ℕ
 magnitude text = units_added_up 0 0 text
 
@@ -29,26 +30,26 @@ abbrev pub signed : Bool → ℕ → Option ℤ
 signed true n = if nat_le n 9223372036854775808 then Some (neg_ℤ (pos n)) else None
 signed false n = if nat_lt n 9223372036854775808 then Some (pos n) else None
 
--- the value of a literal behind a minus or none, where it has 64 bits
+-- the value of a literal with or without a minus, if it fits in 64 bits
 unfoldable pub literal : Bool → Text → Option ℤ
 literal negative text = signed negative (magnitude text)
 
--- ---- texts
+-- ---- strings
 
--- the character that a backslash and this one spell
+-- the character for an escape, given the character after the backslash
 abbrev pub escape : ℕ → ℕ
 escape c = if c == 110 then 10 else c
 
--- the characters that these spell, the first of them escaped or not
+-- the characters with their escapes resolved; `escaped` is true after a backslash
 abbrev pub characters_spelled : Bool → List ℕ → List ℕ
 characters_spelled escaped [] = []
 characters_spelled true (c ∷ cs) = escape c ∷ characters_spelled false cs
 characters_spelled false (c ∷ cs) = if c == 92 then characters_spelled true cs else c ∷ characters_spelled false cs
 
--- the text that a text with its escapes spells
+-- the string with its escapes resolved
 unfoldable pub text_spelled : Text → Text
 text_spelled text = encode_utf8_all (characters_spelled false (chars text))
 
--- the word in any case
+-- the word, in any case
 abbrev pub is_word : Text → Text → Bool
 is_word word text = str_eq_ignore_ascii_case text word

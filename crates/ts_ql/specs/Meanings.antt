@@ -1,5 +1,6 @@
--- What trees mean.
--- (InfluxData 1.8, InfluxQL: SELECT, AS, FROM, WHERE, time syntax, GROUP BY time intervals and tags, fill(). Own rule: sums are exact.)
+-- Meanings of trees.
+-- (InfluxData 1.8, InfluxQL: SELECT, AS, FROM, WHERE, time syntax, GROUP BY time intervals and tags, fill(). Own rule:
+-- sums are exact.)
 use Rattle.std.specs.Prelude.{ℕ, ℤ, pos, ◌+ℤ◌, ◌-ℤ◌, List, [], ◌∷◌, ◌++◌, Bool, true, false, Option, Some, None, Result}
 use Rattle.std.specs.Option.{unwrap_or}
 use Rattle.ts_core.specs.Facts.{Text}
@@ -19,7 +20,7 @@ use Rattle.ts_ql.specs.Statements.{Meaning, statement_said}
 use Rattle.ts_ql.specs.Tokens.{Lexeme}
 use Rattle.ts_ql.specs.Words.{function_called, named}
 
--- nothing has been said
+-- the meaning of no statement yet
 abbrev pub no_meaning : Meaning
 no_meaning = record { columns = []; field = None; measurement = []; conditions = []; range = unbounded; buckets = None; tags = []; fill = fills.Null }
 
@@ -28,7 +29,7 @@ no_meaning = record { columns = []; field = None; measurement = []; conditions =
 abbrev pub function_of : Lexeme → Function
 function_of l = unwrap_or (function_called l.text) functions.Count
 
--- a column has the name of AS, or its function's
+-- a column is named by AS, or else by its function
 abbrev pub projection_of : Function → Option Lexeme → Projection
 projection_of f None = record { function = f; name = function_name f }
 projection_of f (Some alias) = record { function = f; name = named alias }
@@ -52,9 +53,9 @@ measured (Subquery l) = []
 abbrev pub after_from : Meaning → FromClause → Meaning
 after_from p source = record p { measurement = measured source }
 
--- ---- moments
+-- ---- time expressions
 
--- where a moment begins
+-- offset of a time expression
 abbrev pub base_start : Base → ℕ
 base_start (Number m l) = l.start
 base_start (Negative minus m l) = minus.start
@@ -78,11 +79,11 @@ abbrev pub changed_all : ℤ → List Change → ℤ
 changed_all total [] = total
 changed_all total (c ∷ cs) = changed_all (total_after total c) cs
 
--- nanoseconds of the Unix epoch
+-- value of a time expression, in nanoseconds of the Unix epoch
 abbrev pub told_by : ℤ → Instant → ℤ
 told_by now i = changed_all (unwrap_or (base_value now i.base) (pos 0)) i.changes
 
--- ---- WHERE: conditions hold all together, so parentheses mean nothing
+-- ---- WHERE: all conditions must hold, so parentheses mean nothing
 
 abbrev pub conditions_after : List Condition → Cond → List Condition
 conditions_after before (Compare l c i) = before
@@ -90,7 +91,7 @@ conditions_after before (Match tag cast differs value) = before ++ record { tag 
 conditions_after before (Group opener c) = conditions_after before c
 conditions_after before (And a b) = conditions_after (conditions_after before a) b
 
--- the greatest lower bound and the least upper one
+-- the greatest lower bound and the least upper bound
 abbrev pub range_after : ℤ → Range → Cond → Range
 range_after now r (Compare l c i) = bounded c (told_by now i) r
 range_after now r (Match tag cast differs value) = r
@@ -128,7 +129,7 @@ abbrev pub offset_by : Option Buckets → Option Signed → Option Buckets
 offset_by b None = b
 offset_by b (Some s) = moved (unwrap_or (signed_value s) (pos 0)) b
 
--- tags stand in byte order, each once
+-- tags are sorted in byte order, without duplicates
 abbrev pub after_dimension : Meaning → Dimension → Meaning
 after_dimension p (Every time interval offset) = record p { buckets = offset_by (buckets_of (literal false interval.text)) offset }
 after_dimension p (ByTag tag cast) = record p { tags = with_text (named tag) p.tags }
@@ -157,7 +158,7 @@ abbrev pub statement_meaning : ℤ → Statement → Meaning
 statement_meaning now s =
     after_fill (after_group (after_filter now (after_from (after_calls (after_call no_meaning s.first) s.more) s.source) s.filter) s.group) s.fill
 
--- what a statement of these parts says, and those behind it
+-- results of a statement with this meaning and of those after it
 abbrev pub said_all : ℤ → ℕ → Meaning → Ending → List (Result Select Fault)
 said_all now start p Stop = statement_said start now p ∷ []
 said_all now start p Close = statement_said start now p ∷ []

@@ -1,4 +1,4 @@
--- What each token means in a comparison with time, and the range that comes of it.
+-- Effect of each token in a time comparison, and the resulting range.
 -- (InfluxData 1.8, InfluxQL: time syntax, absolute and relative time. Own rule: sums are exact.)
 use Rattle.std.specs.Prelude.{ℕ, ℤ, pos, ◌+◌, ◌≤◌, ◌^◌, unsigned_abs, ◌+ℤ◌, ◌-ℤ◌, int_le, ◌&&◌, true, false, Option, Some, None, Result, Ok, Err, if◌then◌else◌, codes}
 use Rattle.ts_core.specs.Times.{least_time, greatest_time}
@@ -19,21 +19,21 @@ use Rattle.ts_ql.specs.Tokens.{Lexeme}
 abbrev pub Timing : Type 0
 Timing = Result (Place × Moment) Fault
 
--- a moment that begins at `first` with this value
+-- a time expression at offset `first` with this value
 abbrev pub based : ℕ → Moment → Option ℤ → Timing
 based first m None = Err (OutOfRange first)
 based first m (Some value) = Ok (places.AfterMoment, record m { first = first; total = value })
 
--- the sum has room for a duration more in 128 bits
+-- one more duration can be added to the sum without overflow of 128 bits
 abbrev pub HasRoomForMore : ℤ → Moment → Type 0
 HasRoomForMore now m = unsigned_abs m.total ≤ 2 ^ 126 + unsigned_abs now
 
--- a moment with a duration more
+-- adds a duration
 abbrev pub later_by : Lexeme → Moment → Option ℤ → Timing
 later_by t m None = Err (OutOfRange t.start)
 later_by t m (Some value) = Ok (places.AfterMoment, record m { total = m.total +ℤ value })
 
--- a moment with a duration less
+-- subtracts a duration
 abbrev pub earlier_by : Lexeme → Moment → Option ℤ → Timing
 earlier_by t m None = Err (OutOfRange t.start)
 earlier_by t m (Some value) = Ok (places.AfterMoment, record m { total = m.total -ℤ value })
@@ -66,12 +66,12 @@ moment_at now place kind t m = Err (unexpected t)
 unfoldable pub moment_step : ℤ → Place → Lexeme → Moment → Timing
 moment_step now place t m = moment_at now place t.kind t m
 
--- ---- the end of a moment
+-- ---- the end of a time expression
 
 abbrev pub no_moment : Moment
 no_moment = record { comparison = comparisons.Equal; first = 0; total = pos 0 }
 
--- a moment that has been read whole is a valid time
+-- a complete time expression is a valid time
 abbrev pub moment_time : Moment → Result ℤ Fault
 moment_time m = if int_le least_time m.total && int_le m.total greatest_time then Ok m.total else Err (OutOfRange m.first)
 
@@ -79,6 +79,6 @@ abbrev pub bounded_by : Comparison → Range → Result ℤ Fault → Result Ran
 bounded_by c r (Ok time) = Ok (bounded c time r)
 bounded_by c r (Err fault) = Err fault
 
--- the range once a moment has been read whole
+-- the range after a complete time expression
 unfoldable pub settled : Moment → Range → Result Range Fault
 settled m r = bounded_by m.comparison r (moment_time m)

@@ -1,5 +1,5 @@
--- What trees spell, with what is examined as they are read.
--- (InfluxData 1.8, InfluxQL reference: queries, statements, clauses, literals. Own rule: what is examined, and its faults.)
+-- Tokens that trees spell, with the checks between them.
+-- (InfluxData 1.8, InfluxQL reference: queries, statements, clauses, literals. Own rule: the checks and their errors.)
 use Rattle.std.specs.Prelude.{ℕ, ℤ, pos, int_le, ◌+◌, List, [], ◌∷◌, Bool, true, false, nat_le, nat_lt, ◌&&◌, Option, Some, None, Result, Ok, Err, if◌then◌else◌, codes, bytes_eq}
 use Rattle.std.specs.Option.{unwrap_or}
 use Rattle.ts_core.specs.Facts.{Text}
@@ -18,9 +18,9 @@ use Rattle.ts_ql.specs.Statements.{Meaning, statement_said}
 use Rattle.ts_ql.specs.Tokens.{Lexeme}
 use Rattle.ts_ql.specs.Words.{function_called, named}
 
--- ---- what is examined
+-- ---- checks
 
--- a function is one of seven, without quotes
+-- a function is one of seven, unquoted
 abbrev pub known_function : Lexeme → Option Function → Option Fault
 known_function l None = Some (left_out l)
 known_function l (Some f) = None
@@ -32,21 +32,21 @@ function_fault_at kind l = Some (left_out l)
 abbrev pub function_fault : Lexeme → Option Fault
 function_fault l = function_fault_at l.kind l
 
--- all functions are of one field
+-- all functions are applied to one field
 abbrev pub field_fault : Option Text → Lexeme → Option Fault
 field_fault None l = None
 field_fault (Some field) l = if bytes_eq field (named l) then None else Some (left_out l)
 
--- a literal whose first token stands at `first` has 64 bits
+-- a literal whose first token is at `first` fits in 64 bits
 abbrev pub literal_fault : ℕ → Option ℤ → Option Fault
 literal_fault first None = Some (OutOfRange first)
 literal_fault first (Some value) = None
 
--- what is added or taken away has 64 bits
+-- a duration that is added or subtracted fits in 64 bits
 abbrev pub change_fault : Change → Option Fault
 change_fault c = literal_fault c.by.start (literal false c.by.text)
 
--- a moment is a valid time
+-- a time expression is a valid time
 abbrev pub time_fault : ℕ → ℤ → Option Fault
 time_fault first total = if int_le least_time total && int_le total greatest_time then None else Some (OutOfRange first)
 
@@ -54,12 +54,12 @@ time_fault first total = if int_le least_time total && int_le total greatest_tim
 abbrev pub depth_fault : ℕ → Lexeme → Option Fault
 depth_fault depth opener = if nat_lt depth 32 then None else Some (left_out opener)
 
--- there is one time(..) at most
+-- there is at most one time(..)
 abbrev pub again_fault : Option Buckets → Lexeme → Option Fault
 again_fault None time = None
 again_fault (Some buckets) time = Some (unexpected time)
 
--- an interval has a nanosecond or more, and 64 bits
+-- an interval is at least 1 nanosecond, and fits in 64 bits
 abbrev pub interval_fault_of : ℕ → Option ℤ → Option Fault
 interval_fault_of at None = Some (OutOfRange at)
 interval_fault_of at (Some interval) = if int_le (pos 1) interval then None else Some (OutOfRange at)
@@ -120,7 +120,7 @@ abbrev pub sign_of : Bool → Kind
 sign_of true = kinds.Minus
 sign_of false = kinds.Plus
 
--- what changes a total, of a moment that begins at `first`; the moment is examined when it has been read whole
+-- the durations added to a total; the time expression begins at `first` and is checked when it is complete
 abbrev pub spell_changes : ℕ → ℤ → List Change → List Item → List Item
 spell_changes first total [] rest = Examine (time_fault first total) ∷ rest
 spell_changes first total (c ∷ cs) rest =
@@ -144,7 +144,7 @@ abbrev pub equality : Bool → Kind
 equality false = kinds.Equals
 equality true = kinds.Differs
 
--- a condition inside so many open parentheses
+-- a condition inside `depth` open parentheses
 abbrev pub spell_cond : ℤ → ℕ → Cond → List Item → List Item
 spell_cond now depth (Compare l c i) rest = This Time l ∷ Any (Of (kind_of_comparison c)) ∷ spell_instant now i rest
 spell_cond now depth (Match tag cast differs value) rest =
@@ -197,18 +197,18 @@ spell_fill (Some option) rest = Any (Word (codes "fill")) ∷ Any (Of kinds.Open
 
 -- ---- statements
 
--- what has been said before GROUP BY
+-- the meaning of a statement up to FROM
 abbrev pub parts_to_source : Statement → Meaning
 parts_to_source s = after_from (after_calls (after_call no_meaning s.first) s.more) s.source
 
--- a statement after so many others
+-- a statement after `before` others
 abbrev pub spell_statement : ℤ → ℕ → Statement → List Item → List Item
 spell_statement now before s rest =
     This (Keyword (codes "select")) s.select ∷ Examine (count_fault before s.select)
     ∷ spell_call None s.first (spell_calls (after_call no_meaning s.first) s.more (Any (Keyword (codes "from"))
     ∷ spell_from s.source (spell_filter now s.filter (spell_group (after_filter now (parts_to_source s) s.filter) s.group (spell_fill s.fill rest)))))
 
--- the end of a statement of these parts, which is examined there as a whole
+-- the end of a statement with this meaning, which is checked there as a whole
 abbrev pub spell_ending : ℤ → ℕ → ℕ → Meaning → Ending → List Item
 spell_ending now before start p Stop = Any (Of kinds.End) ∷ Examine (fault_in (statement_said start now p)) ∷ []
 spell_ending now before start p Close =

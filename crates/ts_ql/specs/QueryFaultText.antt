@@ -1,4 +1,4 @@
--- The faults of texts of queries in the table of all faults, and their texts. (Own rules.)
+-- Codes and messages of the errors of InfluxQL texts. (Own rules.)
 use Rattle.ts_core.specs.Facts.{Text}
 use Rattle.ts_core.specs.declared.fault_code.FaultCode.{FaultCode}
 use Rattle.ts_core.specs.declared.fault_code.FaultCode.TheVariants as coded
@@ -17,7 +17,7 @@ query_fault_code (TooManyStatements at) = coded.TooManyStatements
 query_fault_code (TooManyBuckets at) = coded.TooManyBuckets
 query_fault_code (BucketBeforeLeastTime at) = coded.BucketBeforeLeastTime
 
--- its place in the text, and behind it what the profile leaves out
+-- byte offset, followed by the unsupported text if that is the error
 abbrev pub query_fault_detail : Fault → Text
 query_fault_detail (Syntax at) = at_place at
 query_fault_detail (OutOfProfile at token) = at_token at token

@@ -1,4 +1,4 @@
--- Why a text says no queries: the first fault with its offset.
+-- Errors of InfluxQL texts: the first error with its byte offset.
 -- (Own rule.)
 use Rattle.std.specs.Prelude.{◌≡◌, ℕ, if◌then◌else◌, Option, Some, None, Result, Ok, Err}
 use Rattle.ts_core.specs.Facts.{Text}
@@ -11,21 +11,21 @@ use Rattle.ts_ql.specs.Tokens.{Lexeme}
 use Rattle.ts_ql.specs.Words.{is_foreign}
 
 pub data Fault : Type 0 where
-  -- 71: no text of the profile goes on so
+  -- no supported text continues with this token
   Syntax : ℕ → Fault
-  -- 72: what the profile leaves out, as it is written
+  -- unsupported, as written
   OutOfProfile : ℕ → Text → Fault
-  -- 73: no lower bound of time
+  -- no lower time bound
   NoLowerBound : ℕ → Fault
-  -- 74: a literal or a moment out of its range
+  -- a literal or a time expression outside its range
   OutOfRange : ℕ → Fault
-  -- 75: two columns of one name, or one called time
+  -- two columns of one name, or one named `time`
   RepeatedColumn : ℕ → Fault
-  -- 76: a statement more than 16
+  -- a 17th statement
   TooManyStatements : ℕ → Fault
-  -- 77: more than 10,000 buckets
+  -- more than 10,000 buckets
   TooManyBuckets : ℕ → Fault
-  -- 78: the first bucket starts before the least time
+  -- the first bucket starts before the least time
   BucketBeforeLeastTime : ℕ → Fault
 
 abbrev pub fault_of_kind : QlFaultKind → ℕ → Fault
@@ -45,11 +45,11 @@ abbrev pub option_as_fault : Option QlFault → Option Fault
 option_as_fault None = None
 option_as_fault (Some fault) = Some (as_fault fault)
 
--- the token as it is written is left out of the profile
+-- the token, as written, is unsupported
 abbrev pub left_out : Lexeme → Fault
 left_out t = OutOfProfile t.start t.raw
 
--- no text of the profile goes on with the token
+-- no supported text continues with the token
 abbrev pub unexpected : Lexeme → Fault
 unexpected t = if is_foreign t.kind t.text then left_out t else Syntax t.start
 
@@ -57,12 +57,12 @@ abbrev pub IsFailure : {Y : Type 0} → ParseError → Result Y Fault → Type 0
 IsFailure errors.OutOfMemory said = Unit {0}
 IsFailure (errors.Fault fault) said = said ≡ Err (as_fault fault)
 
--- what was returned, with what stands then, unless memory ran out
+-- a call returned this result and left this state, unless it ran out of memory
 abbrev pub GivesWith : {X S : Type 0} → Result X ParseError → S → Result (X × S) Fault → Type 0
 GivesWith (Ok x) state said = said ≡ Ok (x, state)
 GivesWith (Err e) state said = IsFailure e said
 
--- what was returned, seen by `view`, unless memory ran out
+-- a call returned this result, seen through `view`, unless it ran out of memory
 abbrev pub Gives : {X Y : Type 0} → (X → Y) → Result X ParseError → Result Y Fault → Type 0
 Gives view (Ok x) said = said ≡ Ok (view x)
 Gives view (Err e) said = IsFailure e said

@@ -1,4 +1,4 @@
--- The range of time that comparisons leave.
+-- The time range that comparisons leave.
 -- (InfluxData 1.8, InfluxQL: time syntax. Own rule: the greatest lower bound and the least upper one count.)
 use Rattle.std.specs.Prelude.{ℤ, pos, ◌+ℤ◌, int_le, Option, Some, None, if◌then◌else◌}
 use Rattle.ts_ql.specs.declared.moment.Comparison.{Comparison}
@@ -16,15 +16,15 @@ abbrev pub least_upper : ℤ → Option ℤ → ℤ
 least_upper x None = x
 least_upper x (Some y) = if int_le y x then y else x
 
--- from this time on
+-- from x on
 abbrev pub from_on : ℤ → Range → Range
 from_on x r = record r { lower = Some (greatest_lower x r.lower) }
 
--- before this one
+-- before x
 abbrev pub before : ℤ → Range → Range
 before x r = record r { upper = Some (least_upper x r.upper) }
 
--- the range where time stands so to the moment x
+-- the range narrowed by a comparison of time with x
 unfoldable pub bounded : Comparison → ℤ → Range → Range
 bounded comparisons.Equal x r = before (x +ℤ pos 1) (from_on x r)
 bounded comparisons.Less x r = before x r

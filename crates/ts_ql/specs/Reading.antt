@@ -1,5 +1,7 @@
--- The machine that reads a text token by token: what each token does at each place. What a text says by the grammar is in Laws.
--- (InfluxData 1.8, InfluxQL: the basic SELECT statement, several statements. Own rule: at most 65,536 bytes and 16 statements.)
+-- The state machine that parses a text: the effect of each token in each state. The meaning of a text by the grammar is
+-- in Laws.
+-- (InfluxData 1.8, InfluxQL: the basic SELECT statement, several statements. Own rule: at most 65,536 bytes and 16
+-- statements.)
 use Rattle.std.specs.Prelude.{◌≡◌, ◌&&◌, ℕ, zero, suc, ℤ, ◌+◌, List, [], ◌∷◌, ◌++◌, length, Bool, true, false, ◌==◌, nat_lt, nat_le, Option, Some, None, Result, Ok, Err, if◌then◌else◌, codes}
 use Rattle.ts_core.specs.Facts.{Text}
 use Rattle.ts_ql.specs.declared.filling.Filling.{Filling}
@@ -30,7 +32,7 @@ use Rattle.ts_ql.specs.WhereSteps.{Filtered, after_term, where_step}
 abbrev pub Drafting : Type 0
 Drafting = Result (Place × Drafted) Fault
 
--- a token after a moment that doesn't go on with it ends it
+-- a token that doesn't continue a time expression ends it
 abbrev pub settled_in : Drafted → Result Range Fault → Drafting
 settled_in d (Ok range) = Ok (after_term d.filter.depth, record d { range = range })
 settled_in d (Err fault) = Err fault
@@ -64,7 +66,7 @@ abbrev pub in_filling : Drafted → Result (Place × Filling) Fault → Drafting
 in_filling d (Ok p) = Ok (p.0, record d { filling = p.1 })
 in_filling d (Err fault) = Err fault
 
--- the clause of a place that isn't within SELECT, nor a condition on a tag
+-- the clause of a state outside SELECT and tag conditions
 abbrev pub late_clause_of : Place → Clause
 late_clause_of places.TimeSign = clauses.Moment
 late_clause_of places.Moment = clauses.Moment
@@ -142,7 +144,7 @@ clause_at places.AfterTag kinds.Word text = fill_alone text
 clause_at places.AfterItem kinds.Word text = fill_alone text
 clause_at place kind text = None
 
--- the place where the clause begins that the token opens
+-- the first state of the clause that the token opens, if it opens one
 unfoldable pub next_clause : Place → Lexeme → Option Place
 next_clause place t = clause_at place t.kind t.text
 
@@ -161,8 +163,8 @@ may_end place = false
 
 -- ---- statements
 
--- how far the text has been read: the place, how many statements began, where the last of them did, what has been read of
--- it, and the queries of those before it
+-- state of the parser: grammar state, number of statements begun, offset and draft of the current one, and queries of
+-- those before it
 pub record Progress : Type 0 where
   pub place : Place
   pub count : ℕ
@@ -179,7 +181,7 @@ start_progress = record { place = places.Statement; count = 0; start = 0; draft 
 abbrev pub Advance : Type 0
 Advance = Result Progress Fault
 
--- what was returned leaves this state, unless memory ran out
+-- a call left this state, unless it ran out of memory
 abbrev pub StepsTo : Result (Unit {0}) ParseError → Progress → Advance → Type 0
 StepsTo (Ok u) s step = step ≡ Ok s
 StepsTo (Err e) s step = IsFailure e step
@@ -228,7 +230,7 @@ abbrev pub after_settling : ℤ → Lexeme → Progress → Drafting → Advance
 after_settling now t s (Ok p) = placed_at p.0 now t (record s { place = p.0; draft = p.1 })
 after_settling now t s (Err fault) = Err fault
 
--- the state after one token more
+-- the state after one more token
 unfoldable pub step : ℤ → Lexeme → Progress → Advance
 step now t s = after_settling now t s (settle_step s.place t.kind s.draft)
 
@@ -242,11 +244,11 @@ abbrev pub goes_on : (Progress → ℕ → Result (List Select) Fault) → Lexem
 goes_on rest t (Ok s) = if is_done s.place then Ok s.queries else rest s t.end
 goes_on rest t (Err fault) = Err fault
 
--- the queries from a place on, in so many tokens at most
+-- the queries from offset `at` on, of at most n tokens
 abbrev pub read_on : ℕ → ℤ → Text → Progress → ℕ → Result (List Select) Fault
 read_on zero now text s at = Err (Syntax (length text))
 read_on (suc n) now text s at = goes_on (read_on n now text) (token_at text at) (step now (token_at text at) s)
 
--- the queries that a text says, or its first fault; a text has no more tokens than bytes and one at its end
+-- the queries of a text, or its first error; a text has at most one token per byte, and one for its end
 unfoldable pub queries_of : ℤ → Text → Result (List Select) Fault
 queries_of now text = if nat_lt 65536 (length text) then Err (Syntax 65536) else read_on (length text + 1) now text start_progress 0

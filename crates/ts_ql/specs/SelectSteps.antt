@@ -1,4 +1,4 @@
--- What each token means from SELECT to the measurement.
+-- Effect of each token in SELECT and FROM.
 -- (InfluxData 1.8, InfluxQL: the basic SELECT statement, AS; FROM.)
 use Rattle.std.specs.Prelude.{List, [], ◌∷◌, ◌++◌, ◌||◌, Option, Some, None, option_map, Result, Ok, Err, if◌then◌else◌, codes, bytes_eq, string_bytes}
 use Rattle.ts_core.specs.Facts.{Text}
@@ -15,7 +15,7 @@ use Rattle.ts_ql.specs.Selects.{Projection, function_name}
 use Rattle.ts_ql.specs.Tokens.{Lexeme}
 use Rattle.ts_ql.specs.Words.{function_called, named}
 
--- what has been read: the columns, the function of the column being read, the one field, and the measurement
+-- state of the clause: the columns, the function of the current column, the one field, and the measurement
 pub record Selected : Type 0 where
   pub columns : List Projection
   pub function : Function
@@ -37,12 +37,12 @@ abbrev pub with_function : Lexeme → Selected → Option Function → Selecting
 with_function t s None = Err (left_out t)
 with_function t s (Some f) = Ok (places.FunctionOpen, record s { function = f })
 
--- all functions are of one field
+-- all functions are applied to one field
 abbrev pub with_call_field : Lexeme → Selected → Option Text → Selecting
 with_call_field t s None = Ok (places.FieldEnd, record s { field = Some (named t) })
 with_call_field t s (Some field) = if bytes_eq field (named t) then Ok (places.FieldEnd, s) else Err (left_out t)
 
--- the column that ends here, under that name
+-- appends the current column under this name
 abbrev pub with_column : Text → Selected → Selected
 with_column name s = record s { columns = s.columns ++ record { function = s.function; name = name } ∷ [] }
 

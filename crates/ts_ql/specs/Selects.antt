@@ -1,4 +1,4 @@
--- What a statement says: a query with its functions and what fills empty buckets.
+-- A parsed statement: a query with its functions and its fill option.
 -- (InfluxData 1.8, InfluxQL: the basic SELECT statement, functions, GROUP BY time intervals and fill().)
 use Rattle.std.specs.Prelude.{ℤ, pos, int_le, List, [], ◌∷◌, map, Option, Some, None, if◌then◌else◌, codes, String, string_bytes}
 use Rattle.std.specs.declared.cmp.Ordering.{Ordering}
@@ -9,7 +9,7 @@ use Rattle.ts_core.specs.declared.value.Function.{Function}
 use Rattle.ts_core.specs.declared.value.Function.TheVariants.{Count, Sum, Min, Max, First, Last, Mean}
 use Rattle.ts_core.specs.Queries as queries
 
--- the name of a column that isn't named by AS
+-- name of a column without AS
 abbrev pub function_name : Function → Text
 function_name Count = codes "count"
 function_name Sum = codes "sum"
@@ -19,21 +19,21 @@ function_name First = codes "first"
 function_name Last = codes "last"
 function_name Mean = codes "mean"
 
--- buckets of time: an interval of a nanosecond or more, and an offset
+-- time buckets: an interval of at least 1 nanosecond, and an offset
 pub record Buckets : Type 0 where
   pub interval : ℤ
   pub offset : ℤ
 
--- buckets of that interval: a nanosecond or more
+-- buckets of this interval, if it is at least 1 nanosecond
 abbrev pub of_interval : ℤ → Option Buckets
 of_interval interval = if int_le (pos 1) interval then Some (record { interval = interval; offset = pos 0 }) else None
 
--- the same from another offset on
+-- the buckets with another offset
 abbrev pub moved : ℤ → Option Buckets → Option Buckets
 moved offset None = None
 moved offset (Some b) = Some (record b { offset = offset })
 
--- a function under a name
+-- a function and a name
 pub record Projection : Type 0 where
   pub function : Function
   pub name : Text
@@ -46,7 +46,7 @@ pub record Select : Type 0 where
 abbrev pub texts : {A : Type 0} → List (String A) → List Text
 texts {A} ss = map (λ (s : String A). string_bytes s) ss
 
--- a text among others, which stand in byte order, each once
+-- inserts a text into texts in byte order, without duplicates
 abbrev pub insert_by : Ordering → Text → Text → List Text → List Text → List Text
 insert_by orders.Less new text rest inserted = new ∷ text ∷ rest
 insert_by orders.Equal new text rest inserted = text ∷ rest

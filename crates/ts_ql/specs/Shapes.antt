@@ -1,4 +1,4 @@
--- Where a token ends, and where its quotes stand.
+-- Ends of tokens, and of the text between quotes.
 -- (Own rule.)
 use Rattle.std.specs.Prelude.{◌≡◌, ℕ, ◌+◌, ◌-◌, ◌≤◌, true}
 use Rattle.std.specs.Str.{IsCharBoundary}
@@ -7,13 +7,13 @@ use Rattle.ts_core.specs.Facts.{Text}
 use Rattle.ts_ql.specs.declared.token.Kind.{Kind}
 use Rattle.ts_ql.specs.Lexing.{is_quoted}
 
--- a byte stands at each end, and a text between the two
+-- the text between the first and the last byte is a whole text
 pub record HasInnerText (text : Text) (start end : ℕ) : Type 0 where
   pub long : start + 2 ≤ end
   pub first : IsCharBoundary text (start + 1)
   pub last : IsCharBoundary text (end - 1)
 
--- a token that begins at a place goes forward, and one in quotes has its text between them
+-- a token isn't empty, and a quoted one has a text between its quotes
 pub record IsTokenFrom (text : Text) (start : ℕ) (shape : Kind × ℕ) : Type 0 where
   pub end : IsPlaceFrom text (start + 1) shape.1
   pub inner : is_quoted shape.0 ≡ true → HasInnerText text start shape.1

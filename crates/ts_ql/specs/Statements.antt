@@ -1,4 +1,4 @@
--- What a statement says once it has been read whole.
+-- The query of a complete statement.
 -- (InfluxData 1.8, InfluxQL: time syntax, GROUP BY time intervals. Own rules: a lower bound, at most 10,000 buckets.)
 use Rattle.std.specs.Prelude.{ℕ, ℤ, pos, ◌+ℤ◌, ◌-ℤ◌, ◌*ℤ◌, int_le, int_lt, List, [], ◌∷◌, Bool, false, ◌||◌, Option, Some, None, Result, Ok, Err, if◌then◌else◌, codes, bytes_eq}
 use Rattle.std.specs.Int.{int_max}
@@ -14,16 +14,16 @@ use Rattle.ts_ql.specs.declared.query.Span.{Span}
 use Rattle.ts_ql.specs.QueryFaults.{Fault, OutOfProfile, NoLowerBound, RepeatedColumn, TooManyBuckets, BucketBeforeLeastTime}
 use Rattle.ts_ql.specs.Selects.{Projection, Select, Buckets}
 
--- some column has the name
+-- some column has this name
 abbrev pub has_column : Text → List Projection → Bool
 has_column name columns = list_any (λ (c : Projection). bytes_eq c.name name) columns
 
--- two columns have one name, or one is called as the column of time
+-- two columns have the same name, or one is named `time`
 abbrev pub repeats : List Projection → Bool
 repeats [] = false
 repeats (c ∷ cs) = bytes_eq c.name (codes "time") || has_column c.name cs || repeats cs
 
--- what a statement means, or its beginning
+-- the meaning of a statement, or of its beginning
 pub record Meaning : Type 0 where
   pub columns : List Projection
   pub field : Option Text
@@ -34,7 +34,7 @@ pub record Meaning : Type 0 where
   pub tags : List Text
   pub fill : Fill
 
--- the end of a range without an upper bound is the next nanosecond; no range ends before it begins
+-- a range without an upper bound ends after `now`; no range ends before it begins
 abbrev pub range_end : ℤ → ℤ → Option ℤ → ℤ
 range_end now from None = int_max from (now +ℤ pos 1)
 range_end now from (Some upper) = int_max from upper
@@ -42,7 +42,7 @@ range_end now from (Some upper) = int_max from upper
 abbrev pub first_start : ℤ → Buckets → ℤ
 first_start from b = (bucket_of from b.interval b.offset *ℤ b.interval) +ℤ b.offset
 
--- how many buckets lie between the first and the last
+-- index of the last bucket minus index of the first
 abbrev pub buckets_between : ℤ → ℤ → Buckets → ℤ
 buckets_between from to b = bucket_of (to -ℤ pos 1) b.interval b.offset -ℤ bucket_of from b.interval b.offset
 
@@ -62,12 +62,12 @@ query_of p b span = record {
   };
 }
 
--- from the lower bound on; a statement without one has no range
+-- the range, which starts at the lower bound; without one there is no range
 abbrev pub span_from : ℤ → Range → Option ℤ → Option Span
 span_from now r None = None
 span_from now r (Some from) = Some (record { from = from; to = range_end now from r.upper })
 
--- in a range that isn't empty, the first bucket starts at a valid time, and there are at most 10,000 buckets
+-- in a non-empty range, the first bucket starts at a valid time, and there are at most 10,000 buckets
 unfoldable pub span_fault : ℕ → Buckets → Span → Option Fault
 span_fault start b span =
     if int_le span.to span.from then None
@@ -86,6 +86,6 @@ abbrev pub with_time : ℕ → ℤ → Meaning → Option Buckets → Result Sel
 with_time start now p None = Err (OutOfProfile start (codes "GROUP BY time"))
 with_time start now p (Some b) = with_span start p b (span_from now p.range p.range.lower)
 
--- what a statement says that begins at `start`
+-- the query of the statement at offset `start`
 unfoldable pub statement_said : ℕ → ℤ → Meaning → Result Select Fault
 statement_said start now p = if repeats p.columns then Err (RepeatedColumn start) else with_time start now p p.buckets

@@ -1,11 +1,11 @@
--- The tokens of a text, with their places.
--- (InfluxData 1.8, InfluxQL reference: notation, identifiers, keywords, literals. Own rule: what is left out of the profile.)
+-- Tokens with their offsets.
+-- (InfluxData 1.8, InfluxQL reference: notation, identifiers, keywords, literals. Own rule: what is unsupported.)
 use Rattle.std.specs.Prelude.{ℕ}
 use Rattle.ts_core.specs.Facts.{Text}
 use Rattle.ts_ql.specs.declared.token.Kind.{Kind}
 use Rattle.ts_ql.specs.declared.token.Token.{Token}
 
--- a token: its kind, its place in the text, its bytes there, and without the quotes of a text in quotes
+-- a token: its kind, its byte offsets, its bytes in the text, and these without quotes
 pub record Lexeme : Type 0 where
   pub kind : Kind
   pub start : ℕ

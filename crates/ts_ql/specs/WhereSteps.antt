@@ -1,4 +1,4 @@
--- What each token means in the conditions of WHERE.
+-- Effect of each token in the conditions of WHERE.
 -- (InfluxData 1.8, InfluxQL: the WHERE clause, tags. Own rule: at most 32 open parentheses.)
 use Rattle.std.specs.Prelude.{ℕ, ◌+◌, ◌-◌, List, [], ◌∷◌, ◌++◌, Bool, true, false, ◌==◌, nat_lt, Result, Ok, Err, if◌then◌else◌, codes, string_bytes}
 use Rattle.ts_core.specs.Facts.{Text}
@@ -13,7 +13,7 @@ use Rattle.ts_ql.specs.Literals.{is_word, text_spelled}
 use Rattle.ts_ql.specs.Tokens.{Lexeme}
 use Rattle.ts_ql.specs.Words.{is_time}
 
--- what has been read: the conditions on tags, the tag and the sign of the one being read, and how many parentheses are open
+-- state of the clause: the tag conditions, the tag and operator of the current one, and the number of open parentheses
 pub record Filtered : Type 0 where
   pub conditions : List Condition
   pub tag : Text
@@ -34,18 +34,18 @@ empty_filter = record { conditions = []; tag = []; differs = false; depth = 0 }
 abbrev pub Filtering : Type 0
 Filtering = Result (Place × Filtered) Fault
 
--- after a term at that depth
+-- the state after a term inside `depth` parentheses
 abbrev pub after_term : ℕ → Place
 after_term depth = if depth == 0 then places.AfterTerm else places.NestedTerm
 
--- the tag at hand with its sign and that value
+-- appends the current tag and operator with this value
 abbrev pub with_condition : Text → Filtered → Filtered
 with_condition value f = record f {
   conditions = f.conditions ++ record { tag = f.tag; value = value; differs = f.differs } ∷ [];
   tag = [];
 }
 
--- the first token of a term that is no parenthesis
+-- the first token of a term, if it is no parenthesis
 abbrev pub term_at : Lexeme → Filtered → Filtering
 term_at t f = if is_time t.kind t.text then Ok (places.TimeSign, f) else Ok (places.TagEnd, record f { tag = text_spelled t.text })
 

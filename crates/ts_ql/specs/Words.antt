@@ -1,5 +1,5 @@
--- Words with a meaning of their own, in any case.
--- (InfluxData 1.8, InfluxQL reference: keywords, functions. Own rule: which of them the profile leaves out.)
+-- Keywords, function names and unsupported words, in any case.
+-- (InfluxData 1.8, InfluxQL reference: keywords, functions. Own rule: which of them are unsupported.)
 use Rattle.std.specs.Prelude.{Bool, true, false, ◌||◌, if◌then◌else◌, Option, Some, None, codes, bytes_eq}
 use Rattle.ts_core.specs.Facts.{Text}
 use Rattle.ts_core.specs.declared.value.Function.{Function}
@@ -13,23 +13,23 @@ use Rattle.ts_ql.specs.Tokens.{Lexeme}
 abbrev pub named : Lexeme → Text
 named l = text_spelled l.text
 
--- keywords of the profile
+-- supported keywords
 unfoldable pub is_clause_word : Text → Bool
 is_clause_word text =
     is_word (codes "select") text || is_word (codes "from") text || is_word (codes "where") text || is_word (codes "group") text
     || is_word (codes "by") text || is_word (codes "and") text || is_word (codes "as") text
 
--- keywords that the profile leaves out
+-- unsupported keywords
 unfoldable pub is_foreign_keyword : Text → Bool
 is_foreign_keyword text =
     is_word (codes "or") text || is_word (codes "into") text || is_word (codes "order") text || is_word (codes "limit") text
     || is_word (codes "offset") text || is_word (codes "slimit") text || is_word (codes "soffset") text
 
--- no unquoted name is such a word
+-- keywords can't be unquoted names
 abbrev pub is_keyword : Text → Bool
 is_keyword text = is_clause_word text || is_foreign_keyword text
 
--- other words of what the profile leaves out
+-- other words of unsupported InfluxQL
 unfoldable pub is_foreign_word : Text → Bool
 is_foreign_word text =
     is_word (codes "show") text || is_word (codes "create") text || is_word (codes "alter") text || is_word (codes "drop") text
@@ -46,13 +46,13 @@ function_called text =
     else if is_word (codes "last") text then Some functions.Last
     else if is_word (codes "mean") text then Some functions.Mean else None
 
--- the column of time, with or without quotes
+-- the time column, quoted or not
 unfoldable pub is_time : Kind → Text → Bool
 is_time kinds.Word text = is_word (codes "time") text
 is_time kinds.QuotedName text = bytes_eq text (codes "time")
 is_time kind text = false
 
--- what the profile leaves out: such a word, or such an operator
+-- unsupported: such a word or operator
 unfoldable pub is_foreign : Kind → Text → Bool
 is_foreign kinds.Word text = is_foreign_word text
 is_foreign kinds.Keyword text = is_foreign_keyword text

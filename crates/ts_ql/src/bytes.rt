@@ -1,4 +1,4 @@
-//! Runs of bytes in a text.
+//! Runs of bytes, and strings up to their closing quote.
 ghost use Rattle.std.specs.Prelude.{◌≡◌, ◌<◌, ◌≤◌, IfSome, true, length, slice_index};
 ghost use Rattle.std.specs.Str.{IsCharBoundary};
 ghost use Rattle.ts_core.specs.Cursors.{IsPlaceFrom};
@@ -6,12 +6,12 @@ ghost use Rattle.ts_ql.specs.Lexing.{is_in, end_of_run, is_escape_byte, closing_
 
 use ts_core::after;
 
-/// A class of bytes.
+/// Class of bytes.
 #[derive(Clone, Copy, Debug, PartialEq, Eq)]
 pub(crate) enum Class {
-    /// What parts tokens.
+    /// White space, which separates tokens.
     Space,
-    /// What a name has.
+    /// Bytes of a name.
     Name,
     Digit,
 }
@@ -26,7 +26,7 @@ pub(crate) fn is_in(class: Class, byte: u8) -> bool
     }
 }
 
-/// The first place from `from` on whose byte isn't in the class.
+/// Returns the offset of the first byte from `from` that isn't in the class.
 #[tactic(auto, using(crate::proofs::LexingLemmas::run_end_step, crate::proofs::LexingLemmas::run_end_past, crate::proofs::LexingLemmas::in_ascii), unfolding(crate::specs::Lexing::end_of_run))]
 pub(crate) fn end_of_run(text: &str, from: usize, class: Class) -> usize
     requires { IsCharBoundary text.now from }
@@ -48,7 +48,8 @@ fn is_escape_byte(byte: u8) -> bool
     byte == b'\\' || byte == b'n' || byte == b'"' || byte == b'\''
 }
 
-/// The place of the closing quote of a text in quotes that begins at `from`, where its escapes are good.
+/// Returns the offset of the quote that closes a string, of which `from` is the first byte after the opening quote.
+/// Returns `None` if it is unclosed or has an invalid escape.
 #[tactic(auto, using(crate::proofs::LexingLemmas::closing_step, crate::proofs::LexingLemmas::closing_past), unfolding(crate::specs::Lexing::closing_quote))]
 pub(crate) fn closing_quote(text: &str, from: usize, quote: u8) -> Option<usize>
     ensures value { result ≡ closing_quote quote text.now from }

@@ -1,11 +1,11 @@
-//! Moments that texts in quotes stand for. The form is InfluxQL's, the calendar is jiff's.
+//! Parses timestamps in quotes. The syntax is InfluxQL's, the calendar jiff's.
 ghost use Rattle.std.specs.Prelude.{◌≡◌, ◌≤ℤ◌, pos, neg_ℤ, IfSome, unsigned_abs, ◌≤◌, ◌^◌};
 ghost use Rattle.ts_ql.specs.Dates.{digits, midnight, date_of, place_value, fraction, clock_nanos, time_of_day, without_zone, moment_told};
 
 use jiff::civil::{Date, date};
 use ts_core::with_digit;
 
-/// The number that digits write.
+/// Parses decimal digits. Returns `None` for any other byte and for a value over 64 bits.
 #[tactic(auto, using(crate::proofs::DateLemmas::digits_step, crate::proofs::DateLemmas::digits_past), unfolding(crate::specs::Dates::digits))]
 fn digits(text: &[u8]) -> Option<u64>
     ensures { result ≡ digits text.now }
@@ -23,7 +23,7 @@ fn digits(text: &[u8]) -> Option<u64>
     Some(number)
 }
 
-/// The beginning of a day, where the calendar has it.
+/// Returns midnight of a day, in nanoseconds of the Unix epoch; `None` if the calendar has no such day.
 #[tactic(auto, unfolding(crate::specs::Dates::midnight))]
 fn midnight(year: u64, month: u64, day: u64) -> Option<i128>
     ensures value { result ≡ midnight year month day }
@@ -52,7 +52,7 @@ fn date_of(text: &[u8]) -> Option<i128>
     midnight(year, month, day)
 }
 
-/// How many nanoseconds the last of so many places after the point counts.
+/// Returns the weight, in nanoseconds, of the last of `places` decimal places of a second.
 #[tactic(auto, unfolding(crate::specs::Dates::place_value))]
 fn place_value(places: usize) -> u64
     ensures { result ≡ place_value places }
@@ -70,7 +70,7 @@ fn place_value(places: usize) -> u64
     }
 }
 
-/// A fraction of a second, or nothing, in nanoseconds.
+/// Parses a fraction of a second such as `.25`; returns its nanoseconds. Empty means 0.
 #[tactic(auto, unfolding(crate::specs::Dates::fraction))]
 fn fraction(text: &[u8]) -> Option<u64>
     ensures { result ≡ fraction text.now }
@@ -85,7 +85,7 @@ fn fraction(text: &[u8]) -> Option<u64>
     number.checked_mul(place_value(text.len() - 1))
 }
 
-/// The nanoseconds of a day up to that time.
+/// Returns the nanoseconds from midnight to a time of day; `None` if it isn't one.
 fn clock_nanos(hour: u64, minute: u64, second: u64, nanos: u64) -> Option<u128>
     ensures value { result ≡ clock_nanos hour minute second nanos }
     ensures bound { IfSome result (λ t. t ≤ 2 ^ 100) }
@@ -113,7 +113,7 @@ fn time_of_day(text: &[u8]) -> Option<u128>
     clock_nanos(hour, minute, second, nanos)
 }
 
-/// The text without a `Z` at its end.
+/// Strips a trailing `Z`.
 #[tactic(auto, unfolding(crate::specs::Dates::without_zone))]
 fn without_zone(text: &[u8]) -> &[u8]
     ensures { result.now ≡ without_zone text.now }
@@ -124,7 +124,7 @@ fn without_zone(text: &[u8]) -> &[u8]
     }
 }
 
-/// The moment that a text stands for, in nanoseconds of the Unix epoch.
+/// Parses a timestamp; returns its nanoseconds of the Unix epoch, or `None` if it isn't one.
 #[tactic(auto, unfolding(crate::specs::Dates::moment_told))]
 pub(crate) fn moment_told(text: &str) -> Option<i128>
     ensures { result ≡ moment_told text.now }

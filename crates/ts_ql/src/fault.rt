@@ -1,4 +1,4 @@
-//! Why a text says no queries.
+//! Errors of InfluxQL texts: their kinds, their byte offsets and their messages.
 ghost use Rattle.std.specs.Prelude.{◌≡◌};
 ghost use Rattle.ts_ql.specs.QueryFaults.{as_fault, fault_of_kind};
 ghost use Rattle.ts_core.specs.FaultTexts.{detail_text, IsAppended};
@@ -9,51 +9,52 @@ use std::alloc::{AllocError, AllocFailed, Allocator};
 use thiserror::Error;
 use ts_core::{FaultCode, FaultDetail, append_words};
 
-/// What is wrong with a text of queries.
+/// Kind of error in an InfluxQL text.
 #[derive(Clone, Copy, Debug, PartialEq, Eq, Error)]
 pub enum QlFaultKind<'a> {
-    /// A syntax error: no query goes on like that (number 71).
+    /// Syntax error: no query continues with this token. `at` is its first byte, or 65,536 if the text is longer than
+    /// that.
     #[error("a syntax error")]
     Syntax,
-    /// What the profile leaves out, as it is written (number 72).
+    /// Unsupported InfluxQL, as written. `at` is its first byte, or the statement's if GROUP BY time is missing.
     #[error("`{0}` isn't supported")]
     OutOfProfile(&'a str),
-    /// The statement has no lower bound of time (number 73).
+    /// Statement without a lower time bound. `at` is the statement's first byte.
     #[error("no lower bound of time")]
     NoLowerBound,
-    /// A literal or a moment is out of its range (number 74).
+    /// Literal or time expression outside its range. `at` is its first byte.
     #[error("a number or a moment out of its range")]
     OutOfRange,
-    /// Two columns have one name, or one is called `time` (number 75).
+    /// Column name that another column has too, or `time`. `at` is the statement's first byte.
     #[error("two columns of one name, or one called time")]
     RepeatedColumn,
-    /// There are more than 16 statements (number 76).
+    /// More than 16 statements. `at` is the first byte of the 17th.
     #[error("more than 16 statements")]
     TooManyStatements,
-    /// The range has more than 10,000 buckets (number 77).
+    /// Range of more than 10,000 buckets. `at` is the statement's first byte.
     #[error("more than 10,000 buckets")]
     TooManyBuckets,
-    /// The first bucket starts before the least time (number 78).
+    /// First bucket that starts before the least time. `at` is the statement's first byte.
     #[error("a first bucket before the least time")]
     BucketBeforeLeastTime,
 }
 
-/// Why a text says no queries: its first fault, and where it is.
+/// First error of an InfluxQL text, with its byte offset.
 #[derive(Clone, Copy, Debug, PartialEq, Eq, Error)]
 #[error("{kind}, at byte {at}")]
 pub struct QlFault<'a> {
     pub kind: QlFaultKind<'a>,
-    /// Its place in the text, in bytes from 0.
+    /// Byte offset in the text, from 0.
     pub at: usize,
 }
 
-/// Why no queries were read.
+/// Error of `parse`.
 #[derive(Clone, Copy, Debug, PartialEq, Eq, Error)]
 pub enum ParseError<'a> {
-    /// No memory was found.
+    /// Out of memory.
     #[error("out of memory")]
     OutOfMemory,
-    /// The text says no queries.
+    /// Error in the text.
     #[error("{0}")]
     Fault(QlFault<'a>),
 }
@@ -75,7 +76,7 @@ impl<'a, T: Drop> From<AllocFailed<T>> for ParseError<'a> {
 }
 
 impl<'a> QlFaultKind<'a> {
-    /// The fault at that place.
+    /// Returns this kind as an error at a byte offset.
     pub(crate) fn at(self, at: usize) -> QlFault<'a>
         ensures { as_fault result ≡ fault_of_kind self.entry at }
     {
@@ -84,7 +85,7 @@ impl<'a> QlFaultKind<'a> {
 }
 
 impl<'a> QlFault<'a> {
-    /// The fault in the table of all faults.
+    /// Returns the code of this error in the common table of faults.
     pub fn code(&self) -> FaultCode
         ensures { result ≡ query_fault_code (as_fault self.now) }
     {
@@ -100,7 +101,7 @@ impl<'a> QlFault<'a> {
         }
     }
 
-    /// Its place in the text, and what the profile leaves out there.
+    /// Returns the byte offset, with the unsupported text if that is the error.
     fn detail(&self) -> FaultDetail<'a>
         ensures { detail_text result ≡ query_fault_detail (as_fault self.now) }
     {
@@ -110,7 +111,8 @@ impl<'a> QlFault<'a> {
         }
     }
 
-    /// Appends its text, or a beginning of it out of memory. Where the room is there, it takes none.
+    /// Appends the message to `text`. When out of memory, `text` may end in part of the message. Does not allocate if
+    /// `text` has the capacity.
     pub fn text_to<A: Allocator>(&self, text: &mut String<A>) -> Result<(), AllocError>
         ensures { IsAppended (query_fault_text (as_fault self.now)) text.old text.new result }
     {
@@ -119,7 +121,8 @@ impl<'a> QlFault<'a> {
 }
 
 impl<'a> ParseError<'a> {
-    /// Appends its text, or a beginning of it out of memory. Where the room is there, it takes none.
+    /// Appends the message to `text`. When out of memory, `text` may end in part of the message. Does not allocate if
+    /// `text` has the capacity.
     pub fn text_to<A: Allocator>(&self, text: &mut String<A>) -> Result<(), AllocError>
         ensures { IsAppended (error_text self.now) text.old text.new result }
     {

@@ -1,4 +1,4 @@
-//! FILL, read token by token.
+//! Parser of the FILL clause.
 ghost use Rattle.std.specs.Prelude.{◌≡◌};
 ghost use Rattle.ts_ql.specs.QueryFaults.{GivesWith};
 ghost use Rattle.ts_ql.specs.GroupSteps.{chosen, with_number, fill_step, no_fill};
@@ -11,16 +11,16 @@ use crate::place::Place;
 use crate::token::{Kind, Token};
 use ts_core::Fill;
 
-/// What has been read of FILL.
+/// Builder of the FILL clause.
 #[derive(Clone, Copy, Debug)]
 pub(crate) struct Filling {
     pub fill: Fill,
-    /// The place of the number's first token.
+    /// Offset of the number's first token.
     pub first: usize,
 }
 
 impl Filling {
-    /// Nothing yet: nulls.
+    /// Creates the builder with the default, `null`.
     pub(crate) fn new() -> Filling
         ensures { result ≡ no_fill }
     {
@@ -30,7 +30,7 @@ impl Filling {
         }
     }
 
-    /// Takes another option.
+    /// Sets the fill option; returns the next state.
     fn choose<'a>(&mut self, fill: Fill) -> Result<Place, ParseError<'a>>
         ensures { GivesWith result self.new (chosen fill self.old) }
     {
@@ -38,7 +38,8 @@ impl Filling {
         Ok(Place::FillClose)
     }
 
-    /// Takes a number, whose first token stands at `first`.
+    /// Sets a number whose first token is at offset `first`; returns the next state. Fails with `OutOfRange` at
+    /// `first`.
     fn take_number<'a>(
         &mut self,
         first: usize,
@@ -56,7 +57,7 @@ impl Filling {
         }
     }
 
-    /// Takes the next token.
+    /// Consumes the next token in state `place`; returns the next state.
     #[tactic(auto, unfolding(crate::specs::GroupSteps::fill_step))]
     pub(crate) fn take<'a>(
         &mut self,

@@ -1,4 +1,4 @@
-//! The conditions of WHERE on tags, read token by token.
+//! Parser of the tag conditions in WHERE.
 ghost use Rattle.std.specs.Prelude.{◌≡◌, IfOk, string_bytes};
 ghost use Rattle.ts_ql.specs.QueryFaults.{GivesWith};
 ghost use Rattle.ts_ql.specs.Tokens.{lexeme};
@@ -12,19 +12,19 @@ use crate::token::{Kind, Token};
 use std::alloc::{AllocError, Allocator};
 use std::mem;
 
-/// What has been read of the conditions on tags.
+/// Builder of the tag conditions.
 #[derive(Drop)]
 pub(crate) struct Filter<A: Allocator> {
     pub conditions: Vec<Condition<A>, A>,
-    /// The tag of the condition being read.
+    /// Tag of the current condition.
     pub tag: String<A>,
-    /// Whether its value has to be another.
+    /// True if the current condition is `!=` or `<>`.
     pub differs: bool,
-    /// How many parentheses are open.
+    /// Number of open parentheses.
     pub depth: u8,
 }
 
-/// The place after a term at that depth.
+/// Returns the state after a term inside `depth` parentheses.
 pub(crate) fn after_term(depth: u8) -> Place
     ensures { result ≡ after_term depth }
 {
@@ -36,7 +36,7 @@ pub(crate) fn after_term(depth: u8) -> Place
 }
 
 impl<A: Allocator + Copy> Filter<A> {
-    /// Nothing yet.
+    /// Creates the builder without conditions.
     pub(crate) fn new(alloc: A) -> Filter<A>
         ensures { filtered result ≡ empty_filter }
     {
@@ -48,7 +48,7 @@ impl<A: Allocator + Copy> Filter<A> {
         }
     }
 
-    /// Ends a condition, with that value.
+    /// Appends the current condition with this value.
     fn push(&mut self, alloc: A, value: String<A>) -> Result<(), AllocError>
         ensures { IfOk result (λ _. filtered self.new ≡ with_condition (string_bytes value) (filtered self.old)) }
     {
@@ -58,7 +58,7 @@ impl<A: Allocator + Copy> Filter<A> {
         Ok(())
     }
 
-    /// Takes the column that a term begins with.
+    /// Consumes the column that a term begins with; returns the next state.
     fn take_column<'a>(&mut self, alloc: A, token: &Token<'a>) -> Result<Place, ParseError<'a>>
         ensures { GivesWith result (filtered self.new) (term_at (lexeme token.now) (filtered self.old)) }
     {
@@ -69,7 +69,7 @@ impl<A: Allocator + Copy> Filter<A> {
         Ok(Place::TagEnd)
     }
 
-    /// Takes the next token.
+    /// Consumes the next token in state `place`; returns the next state.
     #[tactic(auto, unfolding(crate::specs::WhereSteps::where_step))]
     pub(crate) fn take<'a>(
         &mut self,

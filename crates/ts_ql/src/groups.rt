@@ -1,4 +1,4 @@
-//! GROUP BY, read token by token: the interval with its offset, and tags.
+//! Parser of the GROUP BY clause: the interval with its offset, and the tags.
 ghost use Rattle.std.specs.Prelude.{◌≡◌, IfOk, false};
 ghost use Rattle.ts_ql.specs.QueryFaults.{GivesWith};
 ghost use Rattle.ts_ql.specs.GroupSteps.{grouped, empty_groups, item_at, with_interval, with_offset, group_step};
@@ -13,7 +13,7 @@ use std::alloc::{AllocError, Allocator};
 use std::collections::BTreeSet;
 use std::marker::Model;
 
-/// Buckets of time, in nanoseconds.
+/// Time buckets, in nanoseconds.
 #[derive(Clone, Copy, Debug)]
 pub(crate) struct Buckets {
     interval: i64,
@@ -37,7 +37,7 @@ impl Buckets {
     ghost use Rattle.std.specs.Prelude.{◌≡◌, ◌≤ℤ◌, pos};
     ghost use Rattle.ts_ql.specs.Selects.{of_interval};
 
-    /// Buckets of that interval, where it has a nanosecond or more.
+    /// Creates buckets of this interval with offset 0; returns `None` if the interval is less than 1 nanosecond.
     pub(crate) fn new(interval: i64) -> Option<Buckets>
         ensures { result ≡ of_interval interval }
     {
@@ -51,7 +51,7 @@ impl Buckets {
         }
     }
 
-    /// The same from another offset on.
+    /// Returns the buckets with another offset.
     fn with_offset(self, offset: i64) -> Buckets
         ensures { result ≡ record self { offset = offset } }
     {
@@ -61,7 +61,7 @@ impl Buckets {
         }
     }
 
-    /// How long each is.
+    /// Returns the length of a bucket.
     pub(crate) fn interval(self) -> i64
         ensures value { result ≡ self.interval }
         ensures some { pos 1 ≤ℤ result }
@@ -69,7 +69,7 @@ impl Buckets {
         self.interval
     }
 
-    /// From where they are counted.
+    /// Returns the offset of the bucket grid from the Unix epoch.
     pub(crate) fn offset(self) -> i64
         ensures { result ≡ self.offset }
     {
@@ -77,18 +77,18 @@ impl Buckets {
     }
 }
 
-/// What has been read of GROUP BY.
+/// Builder of the GROUP BY clause.
 #[derive(Drop)]
 pub(crate) struct Groups<A: Allocator> {
     pub buckets: Option<Buckets>,
-    /// The place of the offset's first token.
+    /// Offset in the text of the first token of the bucket offset.
     pub first: usize,
-    /// The tags in byte order, each once.
+    /// Group tags, a sorted set.
     pub tags: BTreeSet<String<A>, A>,
 }
 
 impl<A: Allocator + Copy> Groups<A> {
-    /// Nothing yet.
+    /// Creates the builder without buckets or tags.
     pub(crate) fn new(alloc: A) -> Groups<A>
         ensures { grouped result ≡ empty_groups }
     {
@@ -99,7 +99,7 @@ impl<A: Allocator + Copy> Groups<A> {
         }
     }
 
-    /// Takes the column that an item begins with.
+    /// Consumes the column that an item begins with; returns the next state. Fails at a second `time`.
     fn take_column<'a>(&mut self, alloc: A, token: &Token<'a>) -> Result<Place, ParseError<'a>>
         ensures { GivesWith result (grouped self.new) (item_at (lexeme token.now) (grouped self.old)) }
     {
@@ -114,7 +114,7 @@ impl<A: Allocator + Copy> Groups<A> {
         Ok(Place::AfterTag)
     }
 
-    /// Takes the interval.
+    /// Consumes the interval; returns the next state. Fails with `OutOfRange`.
     fn take_interval<'a>(&mut self, token: &Token<'a>) -> Result<Place, ParseError<'a>>
         ensures { GivesWith result (grouped self.new) (with_interval (lexeme token.now) (grouped self.old) (literal false token.now.text.now)) }
     {
@@ -127,7 +127,8 @@ impl<A: Allocator + Copy> Groups<A> {
         Err(ParseError::Fault(QlFaultKind::OutOfRange.at(token.start)))
     }
 
-    /// Takes the offset, whose first token stands at `first`.
+    /// Consumes the bucket offset, whose first token is at `first`; returns the next state. Fails with `OutOfRange` at
+    /// `first`.
     fn take_offset<'a>(
         &mut self,
         first: usize,
@@ -148,7 +149,7 @@ impl<A: Allocator + Copy> Groups<A> {
         }
     }
 
-    /// Takes the next token.
+    /// Consumes the next token in state `place`; returns the next state.
     #[tactic(auto, unfolding(crate::specs::GroupSteps::group_step))]
     pub(crate) fn take<'a>(
         &mut self,
@@ -178,7 +179,7 @@ impl<A: Allocator + Copy> Groups<A> {
         }
     }
 
-    /// The tags in byte order, each once.
+    /// Returns the tags in byte order, without duplicates.
     pub(crate) fn into_tags(self, alloc: A) -> Result<Vec<String<A>, A>, AllocError>
         ensures { IfOk result (λ tags. tags.items ≡ self.tags.keys) }
     {

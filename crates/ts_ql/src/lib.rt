@@ -1,15 +1,18 @@
-//! The query reader: a text of InfluxQL is its queries, or its first fault. It stands on ts_core, and on jiff for the calendar.
-//! `parse` is proved to answer what the text says by the grammar of trees (specs/Grammar, Productions, Meanings), or its first
-//! fault (specs/Laws), both ways. Within it is a machine over tokens (specs/Reading): a place in the grammar and a draft of the statement.
+//! Parses InfluxQL: the queries of a text, or its first error. Depends on ts_core, and on jiff for the calendar.
+//!
+//! Proved, in both directions: `parse` returns the queries that the grammar gives a text (specs/Grammar, Productions,
+//! Meanings), or its first error (specs/Laws). The parser is a state machine over tokens (specs/Reading): a state, and
+//! a builder of the current statement.
 //!
 //! ```text
 //! parse(alloc, "SELECT MAX(v) FROM cpu WHERE time >= 0 AND time < 60s GROUP BY time(1m)", now)?
 //!     // one Query: measurement() is "cpu", from() 0, to() 60000000000, columns()[0].function() Function::Max
-//! parse(alloc, "SELECT MEDIAN(v) FROM cpu", now)  // Err: fault 72 at 7 MEDIAN
+//! parse(alloc, "SELECT MEDIAN(v) FROM cpu", now)  // Err: OutOfProfile("MEDIAN") at byte 7
 //! ```
 //!
-//! To add a function: words.rt with specs/Words.antt. A clause of a statement: its tokens' places in place.rt and shape.rt, its draft
-//! in statement.rt, with specs/Grammar.antt, Productions.antt and Meanings.antt. A fault's number and words: ts_core's `FaultCode`.
+//! To add a function: touch words.rt and specs/Words.antt. To add a clause: its states in place.rt, its tokens in
+//! shape.rt, its builder in statement.rt, and specs/Grammar.antt, Productions.antt and Meanings.antt. To change an
+//! error's number or message: ts_core's `FaultCode`.
 #![tactic(auto)]
 
 mod bytes;

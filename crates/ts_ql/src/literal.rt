@@ -1,4 +1,4 @@
-//! What literals mean.
+//! Values of literals: numbers, durations and strings.
 ghost use Rattle.std.specs.Prelude.{◌≡◌, ◌-◌, ◌<◌, IfOk, pos, string_bytes};
 ghost use Rattle.std.specs.Char.{is_ascii_digit};
 ghost use Rattle.std.specs.Str.{str_eq_ignore_ascii_case};
@@ -9,7 +9,7 @@ use crate::unit::nanoseconds_of_unit;
 use std::alloc::{AllocError, Allocator};
 use ts_core::{byte_at, with_digit, with_units};
 
-/// What an integer counts, or how many nanoseconds a duration has, where it is below 2^64.
+/// Returns the value of an integer, or of a duration in nanoseconds; `None` from 2^64 on.
 #[tactic(auto, unfolding(crate::specs::Literals::magnitude))]
 pub(crate) fn magnitude(text: &str) -> Option<u64>
     ensures { result ≡ within 18446744073709551616 (magnitude text.now) }
@@ -32,7 +32,7 @@ pub(crate) fn magnitude(text: &str) -> Option<u64>
     total.checked_add(number)
 }
 
-/// The value of a literal behind a minus or none, where it has 64 bits.
+/// Returns the value of an integer or a duration, negated if `negative`; `None` if it doesn't fit in 64 bits.
 #[tactic(auto, unfolding(crate::specs::Literals::literal))]
 pub(crate) fn literal(negative: bool, text: &str) -> Option<i64>
     ensures { result ≡ literal negative text.now }
@@ -45,14 +45,14 @@ pub(crate) fn literal(negative: bool, text: &str) -> Option<i64>
     }
 }
 
-/// The character that a backslash and this one spell.
+/// Returns the character for an escape, given the character after the backslash.
 fn escape(c: char) -> char
     ensures { result ≡ escape c }
 {
     if c == 'n' { '\n' } else { c }
 }
 
-/// The text that a text with its escapes spells.
+/// Copies a string with its escapes resolved.
 #[tactic(auto, unfolding(crate::specs::Literals::text_spelled))]
 pub(crate) fn text_spelled<A: Allocator + Copy>(
     alloc: A,
@@ -75,7 +75,7 @@ pub(crate) fn text_spelled<A: Allocator + Copy>(
     Ok(spelled)
 }
 
-/// Whether the text is the word in any case.
+/// Returns true if the text is the word, ignoring ASCII case.
 pub(crate) fn is_word(text: &str, word: &str) -> bool
     ensures { result ≡ str_eq_ignore_ascii_case text.now word.now }
 {

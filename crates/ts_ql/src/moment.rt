@@ -1,4 +1,4 @@
-//! Moments of WHERE, read token by token, and the range of time that their comparisons leave.
+//! Parser of time expressions in WHERE, and the time range that their comparisons leave.
 ghost use Rattle.std.specs.Prelude.{◌≡◌, ◌+◌, ◌≤◌, ◌^◌, false, unsigned_abs};
 ghost use Rattle.ts_ql.specs.QueryFaults.{Gives, GivesWith};
 ghost use Rattle.ts_ql.specs.Literals.{literal};
@@ -13,7 +13,7 @@ use crate::place::Place;
 use crate::token::{Kind, Token};
 use ts_core::Time;
 
-/// How time stands to a moment.
+/// Operator between `time` and a time expression.
 #[derive(Clone, Copy, Debug, PartialEq, Eq)]
 pub(crate) enum Comparison {
     Equal,
@@ -23,17 +23,17 @@ pub(crate) enum Comparison {
     GreaterOrEqual,
 }
 
-/// The moment being read, which time is compared with.
+/// Builder of the time expression that `time` is compared with.
 #[derive(Clone, Copy, Debug)]
 pub(crate) struct Moment {
     pub comparison: Comparison,
-    /// The place of its first token.
+    /// Offset of the expression's first token.
     pub first: usize,
-    /// Its nanoseconds so far.
+    /// Value so far, in nanoseconds.
     pub total: i128,
 }
 
-/// From a time on, and before one.
+/// Time range in nanoseconds: `lower` is inclusive, `upper` exclusive.
 #[derive(Clone, Copy, Debug)]
 pub(crate) struct Range {
     pub lower: Option<i64>,
@@ -41,7 +41,7 @@ pub(crate) struct Range {
 }
 
 impl Moment {
-    /// None yet.
+    /// Creates the builder without an expression.
     pub(crate) fn new() -> Moment
         ensures { result ≡ no_moment }
     {
@@ -52,7 +52,8 @@ impl Moment {
         }
     }
 
-    /// Begins at that place with that value.
+    /// Starts the expression at offset `first` with its first value; returns the next state. Fails with `OutOfRange` at
+    /// `first` if there is no value.
     fn begin<'a>(&mut self, first: usize, value: Option<i128>) -> Result<Place, ParseError<'a>>
         ensures { GivesWith result self.new (based first self.old value) }
     {
@@ -66,7 +67,7 @@ impl Moment {
         }
     }
 
-    /// Adds a duration.
+    /// Adds a duration; returns the next state. Fails with `OutOfRange` at the token.
     fn add<'a>(&mut self, token: &Token<'a>) -> Result<Place, ParseError<'a>>
         requires { unsigned_abs self.old.total ≤ 2 ^ 126 + 2 ^ 64 }
         ensures { GivesWith result self.new (later_by (lexeme token.now) self.old (literal false token.now.text.now)) }
@@ -78,7 +79,7 @@ impl Moment {
         Ok(Place::AfterMoment)
     }
 
-    /// Takes a duration away.
+    /// Subtracts a duration; returns the next state. Fails with `OutOfRange` at the token.
     fn subtract<'a>(&mut self, token: &Token<'a>) -> Result<Place, ParseError<'a>>
         requires { unsigned_abs self.old.total ≤ 2 ^ 126 + 2 ^ 64 }
         ensures { GivesWith result self.new (earlier_by (lexeme token.now) self.old (literal false token.now.text.now)) }
@@ -90,7 +91,7 @@ impl Moment {
         Ok(Place::AfterMoment)
     }
 
-    /// Takes the sign of a comparison.
+    /// Sets the comparison operator; returns the next state.
     fn compare<'a>(&mut self, comparison: Comparison) -> Result<Place, ParseError<'a>>
         ensures { GivesWith result self.new (compared comparison self.old) }
     {
@@ -98,7 +99,7 @@ impl Moment {
         Ok(Place::Moment)
     }
 
-    /// Takes the next token.
+    /// Consumes the next token in state `place`; returns the next state.
     #[tactic(auto, unfolding(crate::specs::MomentSteps::moment_step))]
     pub(crate) fn take<'a>(
         &mut self,
@@ -144,7 +145,7 @@ impl Moment {
         }
     }
 
-    /// The moment as a valid time.
+    /// Returns the value as a time. Fails with `OutOfRange` at the expression if it isn't a valid time.
     fn time<'a>(&self) -> Result<Time, ParseError<'a>>
         ensures { Gives (λ t. t) result (moment_time self.now) }
     {
@@ -158,7 +159,7 @@ impl Moment {
     }
 }
 
-/// The same value in 128 bits.
+/// Widens a value to 128 bits.
 fn wide(value: Option<i64>) -> Option<i128>
     ensures { result ≡ value }
 {
@@ -169,7 +170,7 @@ fn wide(value: Option<i64>) -> Option<i128>
 }
 
 impl Range {
-    /// Has no bounds.
+    /// Creates the range without bounds.
     pub(crate) fn new() -> Range
         ensures { result ≡ unbounded }
     {
@@ -205,7 +206,7 @@ impl Range {
         }
     }
 
-    /// The range where time stands so to that time.
+    /// Narrows the range by a comparison of `time` with this time.
     #[tactic(auto, unfolding(crate::specs::Ranges::bounded))]
     fn bounded(self, comparison: Comparison, time: Time) -> Range
         ensures { result ≡ bounded comparison time self }
@@ -220,7 +221,7 @@ impl Range {
         }
     }
 
-    /// The range where a moment has been read whole.
+    /// Narrows the range by a complete time expression. Fails with `OutOfRange` if that isn't a valid time.
     #[tactic(auto, unfolding(crate::specs::MomentSteps::settled))]
     pub(crate) fn settled<'a>(self, moment: &Moment) -> Result<Range, ParseError<'a>>
         ensures { Gives (λ r. r) result (settled moment.now self) }

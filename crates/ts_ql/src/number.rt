@@ -1,4 +1,4 @@
-//! Where a duration in a text ends.
+//! Finds the end of a duration literal.
 ghost use Rattle.std.specs.Prelude.{◌≡◌, ◌+◌, ◌<◌, length, slice_index};
 ghost use Rattle.std.specs.Str.{IsCharBoundary};
 ghost use Rattle.ts_core.specs.Cursors.{IsPlaceFrom};
@@ -8,7 +8,7 @@ ghost use Rattle.ts_ql.specs.DurationUnits.{unit_len};
 use crate::unit::unit_len;
 use ts_core::byte_at;
 
-/// The end of the unit that begins at that place, or the place where none begins.
+/// Returns the offset after the unit at `at`, or `at` if there is no unit.
 fn unit_end(text: &str, at: usize) -> usize
     requires { at < length text.now }
     ensures value { result ≡ at + unit_len (slice_index text.now at) (slice_index text.now (at + 1)) }
@@ -17,7 +17,7 @@ fn unit_end(text: &str, at: usize) -> usize
     at + unit_len(byte_at(text, at), byte_at(text, at + 1))
 }
 
-/// The end of the duration that begins at `from`, or `from` where none begins.
+/// Returns the offset after the duration at `from`, or `from` if there is no duration.
 #[tactic(auto, using(crate::proofs::LexingLemmas::parts_end_step, crate::proofs::LexingLemmas::parts_end_past), unfolding(crate::specs::Lexing::duration_end))]
 pub(crate) fn duration_end(text: &str, from: usize) -> usize
     requires { IsCharBoundary text.now from }

@@ -1,8 +1,8 @@
-//! The places of the machine in the grammar, each named by what may stand next.
+//! States of the parser, each named after what may come next.
 ghost use Rattle.std.specs.Prelude.{◌≡◌};
 ghost use Rattle.ts_ql.specs.Reading.{clause_of, late_clause_of};
 
-/// What a statement has been read up to, named by what may stand next.
+/// State of the parser within a statement, named after what may come next.
 #[derive(Clone, Copy, Debug, PartialEq, Eq)]
 pub(crate) enum Place {
     /// SELECT, or the end of the text.
@@ -23,9 +23,9 @@ pub(crate) enum Place {
     TagType,
     TagSign,
     TagValue,
-    /// After a term outside of all parentheses.
+    /// After a term outside parentheses.
     AfterTerm,
-    /// After a term inside of parentheses.
+    /// After a term inside parentheses.
     NestedTerm,
     TimeSign,
     Moment,
@@ -51,25 +51,25 @@ pub(crate) enum Place {
     FillMinus,
     FillClose,
     AfterFill,
-    /// Nothing: the text has been read.
+    /// Final state: the whole text is parsed.
     Done,
 }
 
-/// A clause of a statement.
+/// Clause of a statement.
 #[derive(Clone, Copy, Debug)]
 pub(crate) enum Clause {
     Select,
     Where,
-    /// A comparison with time within WHERE.
+    /// Time comparison in WHERE.
     Moment,
     Group,
     Fill,
-    /// None: between two of them, or outside of all.
+    /// Between two clauses, or outside a statement.
     None,
 }
 
 impl Place {
-    /// The clause of the place.
+    /// Returns the clause that the state belongs to.
     pub(crate) fn clause(self) -> Clause
         ensures { result ≡ clause_of self }
     {
@@ -95,7 +95,7 @@ impl Place {
         }
     }
 
-    /// The clause of a place that isn't within SELECT, nor a condition on a tag.
+    /// Returns the clause of a state outside SELECT and tag conditions.
     fn late_clause(self) -> Clause
         ensures { result ≡ late_clause_of self }
     {

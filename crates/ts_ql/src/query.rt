@@ -1,4 +1,4 @@
-//! A query that has been read: its columns, conditions, range, buckets, tags and fill.
+//! A parsed query: its columns, conditions, time range, buckets, tags and fill option.
 ghost use Rattle.std.specs.Prelude.{◌≡◌, string_bytes};
 
 use crate::filter::Filter;
@@ -13,7 +13,7 @@ mod count;
 
 pub use count::count_query;
 
-/// A column of the answer: a function under a name.
+/// Column of the result: a function and a name.
 #[derive(Drop)]
 pub struct Projection<A: Allocator> {
     function: Function,
@@ -36,14 +36,14 @@ impl<A: Allocator> Projection<A> {
         Projection { function, name }
     }
 
-    /// The function.
+    /// Returns the function.
     pub fn function(&self) -> Function
         ensures { result ≡ self.now.function }
     {
         self.function
     }
 
-    /// The name: that of AS, or the function's.
+    /// Returns the name: the alias, or else the function's name.
     pub fn name(&self) -> &str
         ensures { result.now ≡ self.now.name }
     {
@@ -51,7 +51,7 @@ impl<A: Allocator> Projection<A> {
     }
 }
 
-/// A condition that a tag has a value, or that it has another one.
+/// Condition on a tag: equal to a value, or different from it.
 #[derive(Drop)]
 pub struct Condition<A: Allocator> {
     tag: String<A>,
@@ -79,21 +79,21 @@ impl<A: Allocator> Condition<A> {
         }
     }
 
-    /// The tag.
+    /// Returns the tag.
     pub fn tag(&self) -> &str
         ensures { result.now ≡ self.now.tag }
     {
         self.tag.as_str()
     }
 
-    /// The value.
+    /// Returns the value.
     pub fn value(&self) -> &str
         ensures { result.now ≡ self.now.value }
     {
         self.value.as_str()
     }
 
-    /// Whether the tag has another value.
+    /// Returns true if the tag must differ from the value.
     pub fn differs(&self) -> bool
         ensures { result ≡ self.now.differs }
     {
@@ -101,7 +101,7 @@ impl<A: Allocator> Condition<A> {
     }
 }
 
-/// A query with its functions and what fills its empty buckets. Times are in nanoseconds of the Unix epoch.
+/// A parsed query. Times are in nanoseconds of the Unix epoch.
 #[derive(Drop)]
 pub struct Query<A: Allocator> {
     columns: Vec<Projection<A>, A>,
@@ -150,7 +150,7 @@ impl<A: Allocator> Model for Query<A> {
     }) };
 }
 
-/// A range of time: from a nanosecond on, and before one.
+/// Half-open time range, in nanoseconds: `from` is inclusive, `to` exclusive.
 #[derive(Clone, Copy, Debug)]
 pub(crate) struct Span {
     pub from: i64,
@@ -162,7 +162,7 @@ impl<A: Allocator> Query<A> {
     ghost use Rattle.ts_ql.specs.BucketLimits.{IsLimited};
     ghost use Rattle.ts_ql.specs.Selects.{texts};
 
-    /// A query of these parts, over a span.
+    /// Creates a query from the parts of a statement and its time range.
     pub(crate) fn new(
         selection: Selection<A>,
         field: String<A>,
@@ -211,42 +211,42 @@ impl<A: Allocator> Query<A> {
         }
     }
 
-    /// The columns in the order of the statement.
+    /// Returns the columns, in statement order.
     pub fn columns(&self) -> &[Projection<A>]
         ensures { result.now ≡ self.now.columns }
     {
         self.columns.as_slice()
     }
 
-    /// What stands for a bucket without data.
+    /// Returns the fill option, for buckets without data.
     pub fn fill(&self) -> Fill
         ensures { result ≡ self.now.fill }
     {
         self.fill
     }
 
-    /// The measurement.
+    /// Returns the measurement.
     pub fn measurement(&self) -> &str
         ensures { result.now ≡ self.now.query.measurement }
     {
         self.measurement.as_str()
     }
 
-    /// The one field of all functions.
+    /// Returns the field that all functions are applied to.
     pub fn field(&self) -> &str
         ensures { result.now ≡ self.now.query.field }
     {
         self.field.as_str()
     }
 
-    /// The conditions on tags.
+    /// Returns the tag conditions; all must hold.
     pub fn conditions(&self) -> &[Condition<A>]
         ensures { result.now ≡ self.now.query.conditions }
     {
         self.conditions.as_slice()
     }
 
-    /// From when on. It may lie one nanosecond past the greatest time.
+    /// Returns the start of the time range, inclusive. It may be 1 nanosecond after the greatest time.
     pub fn from(&self) -> i64
         ensures value { result ≡ self.now.query.from }
         ensures range { self.now.query.from ≤ℤ self.now.query.to }
@@ -255,7 +255,7 @@ impl<A: Allocator> Query<A> {
         self.from
     }
 
-    /// Before when. It may lie one nanosecond past the greatest time.
+    /// Returns the end of the time range, exclusive. It may be 1 nanosecond after the greatest time.
     pub fn to(&self) -> i64
         ensures value { result ≡ self.now.query.to }
         ensures range { self.now.query.from ≤ℤ self.now.query.to }
@@ -263,7 +263,7 @@ impl<A: Allocator> Query<A> {
         self.to
     }
 
-    /// How long each bucket is.
+    /// Returns the length of a bucket, at least 1 nanosecond.
     pub fn interval(&self) -> i64
         ensures value { result ≡ self.now.query.interval }
         ensures some { pos 1 ≤ℤ self.now.query.interval }
@@ -271,14 +271,14 @@ impl<A: Allocator> Query<A> {
         self.interval
     }
 
-    /// From where the buckets are counted.
+    /// Returns the offset of the bucket grid from the Unix epoch.
     pub fn offset(&self) -> i64
         ensures { result ≡ self.now.query.offset }
     {
         self.offset
     }
 
-    /// The tags of the groups, in byte order, each once.
+    /// Returns the tags to group by, in byte order and without duplicates.
     pub fn group_tags(&self) -> &[String<A>]
         ensures { texts result.now ≡ self.now.query.group_tags }
     {

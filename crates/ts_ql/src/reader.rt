@@ -1,4 +1,4 @@
-//! `parse`: the machine that takes a text token by token, statement by statement.
+//! `parse`: a state machine that parses a text token by token, statement by statement.
 ghost use Rattle.std.specs.Prelude.{◌≡◌, ◌&&◌};
 ghost use Rattle.ts_ql.specs.QueryFaults.{Gives};
 ghost use Rattle.ts_ql.specs.Laws.{ReadsText, IsDecided, LiteralsCount};
@@ -16,20 +16,20 @@ use std::alloc::Allocator;
 use std::mem;
 use ts_core::Time;
 
-/// How far a text has been read.
+/// Parser of a text.
 #[derive(Drop)]
 pub(crate) struct Reader<A: Allocator> {
     pub place: Place,
-    /// How many statements began.
+    /// Number of statements begun.
     pub count: u8,
-    /// Where the last of them began.
+    /// Offset of the current statement.
     pub start: usize,
     pub draft: Draft<A>,
-    /// The queries of the statements before it.
+    /// Queries of the statements before it.
     pub queries: Vec<Query<A>, A>,
 }
 
-/// The place where the clause begins that the token opens.
+/// Returns the first state of the clause that the token opens, if it opens one.
 #[tactic(auto, unfolding(crate::specs::Reading::next_clause))]
 fn next_clause(place: Place, token: &Token<'_>) -> Option<Place>
     ensures { result ≡ next_clause place (lexeme token.now) }
@@ -48,7 +48,7 @@ fn next_clause(place: Place, token: &Token<'_>) -> Option<Place>
     }
 }
 
-/// Whether a statement ends there with such a token.
+/// Returns true if the token ends a statement in this state.
 fn ends(place: Place, kind: Kind) -> bool
     ensures { result ≡ (may_end place && is_end kind) }
 {
@@ -65,7 +65,7 @@ fn ends(place: Place, kind: Kind) -> bool
     }
 }
 
-/// The place behind a statement that such a token ends.
+/// Returns the state after a statement that this token ends.
 fn after_end(kind: Kind) -> Place
     ensures { result ≡ after_end kind }
 {
@@ -76,7 +76,7 @@ fn after_end(kind: Kind) -> Place
 }
 
 impl<A: Allocator + Copy> Reader<A> {
-    /// Nothing yet.
+    /// Creates the parser in its initial state.
     fn new(alloc: A) -> Reader<A>
         ensures { progress result ≡ start_progress }
     {
@@ -89,7 +89,7 @@ impl<A: Allocator + Copy> Reader<A> {
         }
     }
 
-    /// Begins a statement, or ends the text.
+    /// Begins a statement at SELECT, or finishes at the end of the text. Fails with `TooManyStatements` at the 17th.
     #[tactic(auto, unfolding(crate::specs::Reading::begun))]
     fn begin<'a>(&mut self, token: &Token<'a>) -> Result<(), ParseError<'a>>
         ensures { StepsTo result (progress self.new) (begun (lexeme token.now) (progress self.old)) }
@@ -118,7 +118,7 @@ impl<A: Allocator + Copy> Reader<A> {
         }
     }
 
-    /// Ends a statement.
+    /// Finishes the current statement and appends its query.
     fn end<'a>(&mut self, alloc: A, now: Time, kind: Kind) -> Result<(), ParseError<'a>>
         ensures { StepsTo result (progress self.new) (ended now kind (progress self.old)) }
     {
@@ -130,7 +130,7 @@ impl<A: Allocator + Copy> Reader<A> {
         Ok(())
     }
 
-    /// Takes the next token.
+    /// Consumes the next token.
     #[tactic(auto, unfolding(crate::specs::Reading::step))]
     fn take<'a>(&mut self, alloc: A, now: Time, token: &Token<'a>) -> Result<(), ParseError<'a>>
         requires { HasRoomForMore now self.old.draft.moment }
@@ -151,7 +151,7 @@ impl<A: Allocator + Copy> Reader<A> {
     }
 }
 
-/// Reads a text token by token.
+/// Parses a text token by token.
 fn read<A: Allocator + Copy>(
     alloc: A,
     text: &str,
@@ -175,8 +175,8 @@ fn read<A: Allocator + Copy>(
     Err(ParseError::Fault(QlFaultKind::Syntax.at(text.len())))
 }
 
-/// Reads a text of InfluxQL: its statements as queries, or its first fault.
-/// Times are in nanoseconds of the Unix epoch; `now` is the moment that `now()` stands for.
+/// Parses an InfluxQL text. Returns one query per statement, or the first error with its byte offset. Times are in
+/// nanoseconds of the Unix epoch; `now` is the value of `now()`.
 pub fn parse<A: Allocator + Copy>(
     alloc: A,
     text: &str,

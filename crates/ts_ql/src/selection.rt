@@ -1,4 +1,4 @@
-//! From SELECT to the measurement.
+//! Parser of SELECT and FROM.
 ghost use Rattle.std.specs.Prelude.{◌≡◌, IfOk, string_bytes};
 ghost use Rattle.ts_ql.specs.QueryFaults.{GivesWith};
 ghost use Rattle.ts_ql.specs.Literals.{text_spelled};
@@ -14,19 +14,19 @@ use crate::words::{function_called, function_name};
 use std::alloc::{AllocError, Allocator};
 use ts_core::Function;
 
-/// What has been read from SELECT to the measurement.
+/// Builder of SELECT and FROM.
 #[derive(Drop)]
 pub(crate) struct Selection<A: Allocator> {
     pub columns: Vec<Projection<A>, A>,
-    /// The function of the column being read.
+    /// Function of the current column.
     pub function: Function,
-    /// The one field of all functions.
+    /// Field that all functions are applied to.
     pub field: Option<String<A>>,
     pub measurement: String<A>,
 }
 
 impl<A: Allocator + Copy> Selection<A> {
-    /// Nothing yet.
+    /// Creates the builder without columns.
     pub(crate) fn new(alloc: A) -> Selection<A>
         ensures { selected result ≡ empty_selection }
     {
@@ -38,7 +38,7 @@ impl<A: Allocator + Copy> Selection<A> {
         }
     }
 
-    /// Ends a column, under that name.
+    /// Appends the current column under this name.
     fn push(&mut self, name: String<A>) -> Result<(), AllocError>
         ensures { IfOk result (λ _. selected self.new ≡ with_column (string_bytes name) (selected self.old)) }
     {
@@ -46,14 +46,15 @@ impl<A: Allocator + Copy> Selection<A> {
         Ok(())
     }
 
-    /// Ends a column, under its function's name.
+    /// Appends the current column under its function's name.
     fn push_default(&mut self, alloc: A) -> Result<(), AllocError>
         ensures { IfOk result (λ _. selected self.new ≡ with_default (selected self.old)) }
     {
         self.push(String::from_str(alloc, function_name(self.function))?)
     }
 
-    /// Takes the field of a function.
+    /// Consumes the field of a function; returns the next state. Fails with `OutOfProfile` if another function has
+    /// another field.
     fn take_field<'a>(&mut self, alloc: A, token: &Token<'a>) -> Result<Place, ParseError<'a>>
         ensures { GivesWith result (selected self.new) (with_call_field (lexeme token.now) (selected self.old) (selected self.old).field) }
     {
@@ -68,7 +69,8 @@ impl<A: Allocator + Copy> Selection<A> {
         }
     }
 
-    /// Takes the name of a function.
+    /// Consumes the name of a function; returns the next state. Fails with `OutOfProfile` if it is no supported
+    /// function.
     #[tactic(auto, unfolding(crate::specs::SelectSteps::select_step))]
     fn take_function<'a>(&mut self, token: &Token<'a>) -> Result<Place, ParseError<'a>>
         ensures { GivesWith result (selected self.new) (select_step Place.Function (lexeme token.now) (selected self.old)) }
@@ -86,7 +88,7 @@ impl<A: Allocator + Copy> Selection<A> {
         }
     }
 
-    /// Takes what follows a function of a field: another column, FROM or AS.
+    /// Consumes the token after a function call: a comma, FROM or AS. Returns the next state.
     #[tactic(auto, unfolding(crate::specs::SelectSteps::select_step))]
     fn take_after_column<'a>(
         &mut self,
@@ -109,7 +111,7 @@ impl<A: Allocator + Copy> Selection<A> {
         }
     }
 
-    /// Takes the measurement.
+    /// Consumes the measurement; returns the next state.
     #[tactic(auto, unfolding(crate::specs::SelectSteps::select_step))]
     fn take_measurement<'a>(&mut self, alloc: A, token: &Token<'a>) -> Result<Place, ParseError<'a>>
         ensures { GivesWith result (selected self.new) (select_step Place.Measurement (lexeme token.now) (selected self.old)) }
@@ -124,7 +126,7 @@ impl<A: Allocator + Copy> Selection<A> {
         }
     }
 
-    /// Takes the next token.
+    /// Consumes the next token in state `place`; returns the next state.
     #[tactic(auto, unfolding(crate::specs::SelectSteps::select_step))]
     pub(crate) fn take<'a>(
         &mut self,

@@ -1,4 +1,4 @@
-//! Which token begins at a place, and where it ends.
+//! Determines the kind of a token and where it ends.
 ghost use Rattle.std.specs.Prelude.{◌≡◌, ◌≢◌, ◌<◌, IsSome, IfSome, true, false, length, slice_index};
 ghost use Rattle.std.specs.Str.{IsCharBoundary};
 ghost use Rattle.ts_core.specs.Cursors.{IsPlaceFrom};
@@ -11,7 +11,7 @@ use crate::number::duration_end;
 use crate::token::Kind;
 use ts_core::{after, byte_at};
 
-/// An operator of two bytes.
+/// Returns the kind of a two-byte operator.
 #[tactic(auto, unfolding(crate::specs::Lexing::double))]
 fn double(first: u8, second: u8) -> Option<Kind>
     ensures value { result ≡ double first second }
@@ -28,7 +28,7 @@ fn double(first: u8, second: u8) -> Option<Kind>
     }
 }
 
-/// An operator of one byte.
+/// Returns the kind of a one-byte operator.
 #[tactic(auto, unfolding(crate::specs::Lexing::single))]
 fn single(byte: u8) -> Option<Kind>
     ensures value { result ≡ single byte }
@@ -106,7 +106,7 @@ fn quoted_at(text: &str, start: usize) -> (Kind, usize)
     }
 }
 
-/// The kind of the token that begins at `start`, and its end.
+/// Returns the kind of the token at `start`, and the offset after it.
 #[tactic(auto, unfolding(crate::specs::Lexing::shape_at))]
 pub(crate) fn shape_at(text: &str, start: usize) -> (Kind, usize)
     requires { IsCharBoundary text.now start }

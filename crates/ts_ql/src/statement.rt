@@ -1,4 +1,4 @@
-//! What a statement says once it has been read whole.
+//! Turns a complete statement into a query.
 ghost use Rattle.std.specs.Prelude.{◌≡◌, ◌≤ℤ◌, ◌≤◌, ◌^◌, IfOk, IfSome, int_le, int_lt, pos, unsigned_abs};
 ghost use Rattle.ts_core.specs.Buckets.{bucket_of};
 ghost use Rattle.ts_core.specs.Times.{least_time};
@@ -23,7 +23,7 @@ use std::alloc::{AllocError, Allocator};
 use std::collections::BTreeSet;
 use ts_core::{Time, bucket_index};
 
-/// What has been read of a statement.
+/// Builder of a statement.
 #[derive(Drop)]
 pub(crate) struct Draft<A: Allocator> {
     pub selection: Selection<A>,
@@ -34,7 +34,7 @@ pub(crate) struct Draft<A: Allocator> {
     pub filling: Filling,
 }
 
-/// Whether two columns have one name, or one is called as the column of time.
+/// Returns true if two columns have the same name, or one is named `time`.
 fn repeats<A: Allocator + Copy>(alloc: A, columns: &[Projection<A>]) -> Result<bool, AllocError>
     ensures { IfOk result (λ found. found ≡ repeats columns.now) }
 {
@@ -48,7 +48,8 @@ fn repeats<A: Allocator + Copy>(alloc: A, columns: &[Projection<A>]) -> Result<b
     Ok(false)
 }
 
-/// The span from the lower bound on; without an upper bound it ends after `now`.
+/// Returns the time range, which starts at the lower bound; `None` without one. The default upper bound is `now`,
+/// inclusive.
 fn span_of(range: &Range, now: Time) -> Option<Span>
     ensures value { result ≡ span_from now range.now range.now.lower }
     ensures order { IfSome result (λ span. span.from ≤ℤ span.to) }
@@ -66,14 +67,14 @@ fn span_of(range: &Range, now: Time) -> Option<Span>
     })
 }
 
-/// A bucket: its index and its start.
+/// A time bucket: its index, and its start in nanoseconds of the Unix epoch.
 #[derive(Clone, Copy, Debug)]
 struct Bucket {
     index: i128,
     start: i128,
 }
 
-/// The bucket of a nanosecond.
+/// Returns the bucket that contains a nanosecond.
 fn bucket_at(at: i128, buckets: Buckets) -> Bucket
     requires { unsigned_abs at ≤ 2 ^ 64 }
     ensures index { result.index ≡ bucket_of at buckets.interval buckets.offset }
@@ -85,14 +86,14 @@ fn bucket_at(at: i128, buckets: Buckets) -> Bucket
     Bucket { index, start }
 }
 
-/// Whether the first bucket of a span starts before the least time.
+/// Returns true if the first bucket of a range starts before the least time.
 fn starts_early(span: &Span, buckets: Buckets) -> bool
     ensures { result ≡ int_lt (first_start span.now.from buckets) least_time }
 {
     bucket_at(i128::from(span.from), buckets).start < -9_223_372_036_854_775_806
 }
 
-/// Whether a span that isn't empty has more than 10,000 buckets.
+/// Returns true if a non-empty range has more than 10,000 buckets.
 fn has_too_many(span: &Span, buckets: Buckets) -> bool
     ensures { result ≡ int_le (pos 10000) (buckets_between span.now.from span.now.to buckets) }
 {
@@ -101,7 +102,7 @@ fn has_too_many(span: &Span, buckets: Buckets) -> bool
     last.index - first.index >= 10_000
 }
 
-/// The fault of the buckets of a span.
+/// Checks the buckets of a range. Returns `BucketBeforeLeastTime` or `TooManyBuckets`, or `None` if they are valid.
 #[tactic(auto, unfolding(crate::specs::Statements::span_fault))]
 fn span_fault<'a>(start: usize, buckets: Buckets, span: &Span) -> Option<QlFault<'a>>
     ensures { option_as_fault result ≡ span_fault start buckets span.now }
@@ -118,7 +119,7 @@ fn span_fault<'a>(start: usize, buckets: Buckets, span: &Span) -> Option<QlFault
 }
 
 impl<A: Allocator + Copy> Draft<A> {
-    /// Nothing yet.
+    /// Creates the builder in its initial state.
     pub(crate) fn new(alloc: A) -> Draft<A>
         ensures { drafted result ≡ empty_draft }
     {
@@ -132,7 +133,8 @@ impl<A: Allocator + Copy> Draft<A> {
         }
     }
 
-    /// The query of a statement that begins at `start`.
+    /// Finishes the statement, which begins at offset `start`. Fails at `start` with `RepeatedColumn`, `OutOfProfile`
+    /// without GROUP BY time, `NoLowerBound`, or an error of the buckets.
     #[tactic(auto, unfolding(crate::specs::Statements::statement_said))]
     pub(crate) fn query<'a>(
         self,
@@ -158,7 +160,7 @@ impl<A: Allocator + Copy> Draft<A> {
         }
     }
 
-    /// The query over a span.
+    /// Creates the query over a time range.
     fn over(self, alloc: A, buckets: Buckets, span: Span) -> Result<Query<A>, AllocError>
         requires { IsLimited (query_of (meaning (drafted self)) buckets span).query }
         ensures { IfOk result (λ query. query ≡ query_of (meaning (drafted self)) buckets span) }
@@ -180,7 +182,8 @@ impl<A: Allocator + Copy> Draft<A> {
         ))
     }
 
-    /// Ends a moment, where the token doesn't go on with it.
+    /// Finishes a time comparison if the token doesn't continue it; returns the next state. Fails with `OutOfRange` if
+    /// the time expression isn't a valid time.
     #[tactic(auto, unfolding(crate::specs::Reading::settle_step))]
     pub(crate) fn settle<'a>(&mut self, place: Place, kind: Kind) -> Result<Place, ParseError<'a>>
         ensures value { GivesWith result (drafted self.new) (settle_step place kind (drafted self.old)) }
@@ -196,7 +199,7 @@ impl<A: Allocator + Copy> Draft<A> {
         }
     }
 
-    /// Takes the next token of a clause.
+    /// Passes the next token to the builder of its clause; returns the next state.
     #[tactic(auto, unfolding(crate::specs::Reading::draft_step))]
     pub(crate) fn take<'a>(
         &mut self,

@@ -1,4 +1,4 @@
-//! A token of a text: its kind, its bytes and its place.
+//! A token of a text: its kind, its bytes and its offset.
 ghost use Rattle.std.specs.Prelude.{◌≡◌, ◌≢◌, ◌<◌};
 ghost use Rattle.std.specs.Str.{IsCharBoundary};
 ghost use Rattle.ts_ql.specs.Lexing.{token_at};
@@ -12,16 +12,16 @@ use crate::literal::is_word;
 use crate::shape::shape_at;
 use crate::words::{is_foreign_keyword, is_foreign_word, is_keyword};
 
-/// What a token is.
+/// Kind of a token.
 #[derive(Clone, Copy, Debug, PartialEq, Eq)]
 pub(crate) enum Kind {
-    /// Letters, digits and `_`, with no digit first.
+    /// Letters, digits and `_`, not beginning with a digit.
     Word,
-    /// Such a word that is no name without quotes.
+    /// Keyword: a word that can be a name only in double quotes.
     Keyword,
-    /// A name in double quotes.
+    /// Name in double quotes.
     QuotedName,
-    /// A text in single quotes.
+    /// String in single quotes.
     Literal,
     Integer,
     Duration,
@@ -40,28 +40,28 @@ pub(crate) enum Kind {
     GreaterOrEqual,
     Plus,
     Minus,
-    /// An operator that is left out of the profile.
+    /// Operator of unsupported InfluxQL.
     Foreign,
-    /// Bytes that are no token.
+    /// Bytes that aren't a token.
     Bad,
-    /// The end of the text.
+    /// End of the text.
     End,
 }
 
-/// A token with its place.
+/// Token with its byte offsets.
 #[derive(Clone, Copy, Debug)]
 pub(crate) struct Token<'a> {
     pub kind: Kind,
     pub start: usize,
     pub end: usize,
-    /// Its bytes in the text.
+    /// Bytes of the token in the text.
     pub raw: &'a str,
-    /// The same without the quotes of a text in quotes.
+    /// Bytes without the quotes.
     pub text: &'a str,
 }
 
 impl<'a> Token<'a> {
-    /// The first token from a place on.
+    /// Returns the first token from offset `from` on.
     #[tactic(auto, unfolding(crate::specs::Lexing::token_at))]
     pub(crate) fn at(text: &'a str, from: usize) -> Token<'a>
         requires { IsCharBoundary text.now from }
@@ -89,7 +89,7 @@ impl<'a> Token<'a> {
         }
     }
 
-    /// Whether it is the column of time.
+    /// Returns true if the token names the time column.
     #[tactic(auto, unfolding(crate::specs::Words::is_time))]
     pub(crate) fn is_time(&self) -> bool
         ensures { result ≡ is_time self.now.kind self.now.text.now }
@@ -101,7 +101,7 @@ impl<'a> Token<'a> {
         }
     }
 
-    /// Whether the profile leaves it out wherever it is at fault.
+    /// Returns true if the token belongs to unsupported InfluxQL. If unexpected, it is `OutOfProfile`.
     #[tactic(auto, unfolding(crate::specs::Words::is_foreign))]
     fn is_foreign(&self) -> bool
         ensures { result ≡ is_foreign self.now.kind self.now.text.now }
@@ -120,14 +120,14 @@ impl<'a> Token<'a> {
         }
     }
 
-    /// The fault that the profile leaves it out.
+    /// Returns `OutOfProfile` at this token.
     pub(crate) fn left_out(&self) -> QlFault<'a>
         ensures { as_fault result ≡ left_out (lexeme self.now) }
     {
         QlFaultKind::OutOfProfile(self.raw).at(self.start)
     }
 
-    /// The fault that it can't stand where it stands.
+    /// Returns the error of a token that can't come here: `OutOfProfile` if it is unsupported, else `Syntax`.
     pub(crate) fn unexpected(&self) -> QlFault<'a>
         ensures { as_fault result ≡ unexpected (lexeme self.now) }
     {

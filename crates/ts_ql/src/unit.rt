@@ -1,10 +1,10 @@
-//! The units of durations, by the first two bytes of their names.
+//! Duration units, identified by the first two bytes of their names.
 ghost use Rattle.std.specs.Prelude.{◌≡◌, ◌≤◌};
 ghost use Rattle.ts_ql.specs.DurationUnits.{unit_len, nanoseconds_of_unit};
 
 use ts_core::TimeUnit;
 
-/// How many bytes the unit has that begins with the byte before that one, and 0 where none begins.
+/// Returns the length in bytes of the unit that begins with `byte` and `next`; 0 if none does.
 #[tactic(auto, unfolding(crate::specs::DurationUnits::unit_len))]
 pub(crate) fn unit_len(byte: u8, next: u8) -> usize
     ensures { result ≡ unit_len byte next }
@@ -15,7 +15,7 @@ pub(crate) fn unit_len(byte: u8, next: u8) -> usize
     }
 }
 
-/// How many nanoseconds the unit has that begins with the byte before that one, or 1.
+/// Returns the nanoseconds of the unit that begins with `byte` and `next`; 1 if none does.
 #[tactic(auto, using(ts_core::proofs::DurationSteps::unit_counts), unfolding(crate::specs::DurationUnits::nanoseconds_of_unit))]
 pub(crate) fn nanoseconds_of_unit(byte: u8, next: u8) -> u64
     ensures value { result ≡ nanoseconds_of_unit byte next }

@@ -1,4 +1,4 @@
-//! Words with a meaning of their own, in any case.
+//! Keywords, function names and unsupported words, in any case.
 ghost use Rattle.std.specs.Prelude.{◌≡◌};
 ghost use Rattle.ts_ql.specs.Selects.{function_name};
 ghost use Rattle.ts_ql.specs.Words.{is_clause_word, is_foreign_keyword, is_keyword, is_foreign_word, function_called};
@@ -19,7 +19,7 @@ fn is_clause_word(text: &str) -> bool
         || is_word(text, "as")
 }
 
-/// Whether the text is a keyword that the profile leaves out.
+/// Returns true if the text is a keyword of unsupported InfluxQL.
 #[tactic(auto, unfolding(crate::specs::Words::is_foreign_keyword))]
 pub(crate) fn is_foreign_keyword(text: &str) -> bool
     ensures { result ≡ is_foreign_keyword text.now }
@@ -33,14 +33,14 @@ pub(crate) fn is_foreign_keyword(text: &str) -> bool
         || is_word(text, "soffset")
 }
 
-/// Whether no unquoted name is the word.
+/// Returns true if the text is a keyword, which can't be an unquoted name.
 pub(crate) fn is_keyword(text: &str) -> bool
     ensures { result ≡ is_keyword text.now }
 {
     is_clause_word(text) || is_foreign_keyword(text)
 }
 
-/// Whether the word, which is no keyword, is one of InfluxQL that isn't supported here.
+/// Returns true if the text, which is no keyword, is another word of unsupported InfluxQL.
 #[tactic(auto, unfolding(crate::specs::Words::is_foreign_word))]
 pub(crate) fn is_foreign_word(text: &str) -> bool
     ensures { result ≡ is_foreign_word text.now }
@@ -59,7 +59,7 @@ pub(crate) fn is_foreign_word(text: &str) -> bool
         || is_word(text, "linear")
 }
 
-/// The function of that name.
+/// Returns the function of this name.
 #[tactic(auto, unfolding(crate::specs::Words::function_called))]
 pub(crate) fn function_called(text: &str) -> Option<Function>
     ensures { result ≡ function_called text.now }
@@ -83,7 +83,7 @@ pub(crate) fn function_called(text: &str) -> Option<Function>
     }
 }
 
-/// The name of the function, in lower case.
+/// Returns the function's name in lower case.
 pub(crate) fn function_name(function: Function) -> &'static str
     ensures { result.now ≡ function_name function }
 {

@@ -1,4 +1,4 @@
-//! Copies of queries, in memory of their own.
+//! Deep copies of queries.
 ghost use Rattle.std.specs.Prelude.{◌≡◌, IfOk};
 
 use super::{Condition, Projection, Query};
@@ -6,7 +6,7 @@ use std::alloc::{AllocError, Allocator};
 use ts_core::copied_texts;
 
 impl<A: Allocator + Copy> Projection<A> {
-    /// The same projection.
+    /// Returns a copy allocated in `alloc`.
     fn copied(&self, alloc: A) -> Result<Projection<A>, AllocError>
         ensures { IfOk result (λ c. c ≡ self.now) }
     {
@@ -15,7 +15,7 @@ impl<A: Allocator + Copy> Projection<A> {
 }
 
 impl<A: Allocator + Copy> Condition<A> {
-    /// The same condition.
+    /// Returns a copy allocated in `alloc`.
     fn copied(&self, alloc: A) -> Result<Condition<A>, AllocError>
         ensures { IfOk result (λ c. c ≡ self.now) }
     {
@@ -27,7 +27,7 @@ impl<A: Allocator + Copy> Condition<A> {
     }
 }
 
-/// The same projections, in their order.
+/// Copies projections.
 fn copied_projections<A: Allocator + Copy>(
     alloc: A,
     columns: &[Projection<A>],
@@ -41,7 +41,7 @@ fn copied_projections<A: Allocator + Copy>(
     Ok(all)
 }
 
-/// The same conditions, in their order.
+/// Copies conditions.
 fn copied_conditions<A: Allocator + Copy>(
     alloc: A,
     conditions: &[Condition<A>],
@@ -56,7 +56,7 @@ fn copied_conditions<A: Allocator + Copy>(
 }
 
 impl<A: Allocator + Copy> Query<A> {
-    /// The same query.
+    /// Returns a copy allocated in `alloc`.
     pub fn copied(&self, alloc: A) -> Result<Query<A>, AllocError>
         ensures { IfOk result (λ q. q ≡ self.now) }
     {

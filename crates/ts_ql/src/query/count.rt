@@ -1,4 +1,4 @@
-//! Queries that count in one bucket.
+//! Creates queries that count in one bucket.
 ghost use Rattle.std.specs.Prelude.{◌≡◌, ◌∷◌, [], ◌<ℤ◌, IfOk};
 ghost use Rattle.ts_core.specs.declared.value.Function.TheVariants as functions;
 ghost use Rattle.ts_ql.specs.Counting.{IsCountQuery};
@@ -10,7 +10,7 @@ use crate::words::function_name;
 use std::alloc::{AllocError, Allocator};
 use ts_core::{Fill, Function, Time};
 
-/// The one column `count`.
+/// Returns the single column `count`.
 fn count_column<A: Allocator + Copy>(alloc: A) -> Result<Vec<Projection<A>, A>, AllocError>
     ensures { IfOk result (λ v. v.items ≡ record { function = functions.Count; name = function_name functions.Count } ∷ []) }
 {
@@ -20,8 +20,9 @@ fn count_column<A: Allocator + Copy>(alloc: A) -> Result<Vec<Projection<A>, A>, 
     Ok(columns)
 }
 
-/// The query that counts the values of a field from one time on and before another (nanoseconds of the Unix
-/// epoch), in one bucket. A range of more than 2^63 - 1 nanoseconds is no interval (number 74, at 0).
+/// Creates the query that counts the values of `field` in one bucket from `from`, inclusive, to `to`, exclusive
+/// (nanoseconds of the Unix epoch). Fails with `OutOfRange` at offset 0 if the bucket is longer than 2^63 - 1
+/// nanoseconds.
 pub fn count_query<A: Allocator + Copy>(
     alloc: A,
     measurement: &str,
