@@ -1,4 +1,4 @@
--- Reading the lines of a certificate. (Own rules.)
+-- Parsing the lines of a certificate. (Own rules.)
 use Rattle.std.specs.Prelude.{◌≡◌, ◌⊎◌, ℕ, ℤ, ◌<◌, ◌≢◌, List, ◌++◌, length, codes, Option, Some, None, Result, Ok, Err, FitsSigned, slice_index}
 use Rattle.std.specs.Fmt.{signed_decimal}
 use Rattle.std.specs.Int.{w64}
@@ -8,12 +8,12 @@ use Rattle.ts_check.specs.CertificateTexts.{HasRuleName, HasSpelling, source_tex
 use Rattle.ts_check.specs.declared.certificate_fault.ReadCertificateError.{ReadCertificateError}
 use Rattle.ts_check.specs.declared.certificate_fault.ReadCertificateError.TheVariants as errors
 
--- what is read is spelled so, and nothing is read only where nothing is
+-- a parsed value is spelled by the text, and without one no value is
 abbrev pub TakesSpelled : {A : Type 0} → (A → Type 0) → Option A → Type 0
 TakesSpelled IsSpelled (Some x) = IsSpelled x
 TakesSpelled IsSpelled None = (x : _) → IsSpelled x → ⊥
 
--- the byte stands nowhere in the text
+-- the byte isn't in the text
 abbrev pub Lacks : ℕ → Text → Type 0
 Lacks byte text = (i : ℕ) → i < length text → slice_index text i ≢ byte
 
@@ -22,39 +22,40 @@ pub record IsNumber (text : Text) (n : ℤ) : Type 0 where
   pub fits : FitsSigned w64 n
   pub spelled : text ≡ signed_decimal n
 
--- it is two numbers
+-- the text is two numbers
 pub record IsRange (text : Text) (range : ℤ × ℤ) : Type 0 where
   pub from : FitsSigned w64 range.0
   pub to : FitsSigned w64 range.1
   pub spelled : text ≡ range_text range.0 range.1
 
--- it is a source, a space, and what follows
+-- the text is a source, a space, and more text
 pub record IsSource (text : Text) (found : Source × Text) : Type 0 where
   pub named : HasRuleName found.0
   pub spelled : text ≡ source_text found.0 ++ (codes " " ++ found.1)
 
--- it is a piece
+-- the text is a piece
 pub record IsPiece (text : Text) (p : Piece) : Type 0 where
   pub has : HasSpelling p
   pub spelled : text ≡ piece_text p
 
 -- ---- lines
 
--- the text begins with the line of a piece, and with what follows
+-- the text is the line of a piece, and more text
 pub record HasPiece (text : Text) (p : Piece) (more : Text) : Type 0 where
   pub has : HasSpelling p
   pub spelled : text ≡ piece_line p ++ more
 
--- no line of a certificate stands at its beginning
+-- the text begins with no line of a certificate
 pub record IsOff (text : Text) : Type 0 where
   pub no_piece : (p : Piece) (more : Text) → HasPiece text p more → ⊥
   pub no_end : (more : Text) → text ≡ codes "end\n" ++ more → ⊥
 
--- no certificate goes on so from `at` on: no line of one stands there, or the last one stands before it
+-- no certificate continues like this from `at` on: the text begins with none of its lines, or with the last one, and
+-- `at` follows it
 abbrev pub Stops : Text → Text → Type 0
 Stops text at = (IsOff text × (at ≡ text)) ⊎ ((text ≡ codes "end\n" ++ at) × (0 < length at))
 
--- a reading, but that memory may run out for any text
+-- the reading of a text, except that memory may run out for any text
 abbrev pub IsReadingIfRoom : Text → Result (List Piece) ReadCertificateError → Type 0
 IsReadingIfRoom text (Ok ps) = IsCertificate text ps
 IsReadingIfRoom text (Err (errors.Fault fault)) = IsFirstBadLine text fault.at

@@ -1,4 +1,4 @@
--- Certificates as text, and the first fault of a text that is none. (Own rules.) In the notation of the InfluxQL reference:
+-- Certificates as text, and the first error of other texts. (Own rules.) In the notation of the InfluxQL reference:
 --
 --   certificate = "plan 1" LF { piece LF } "end" LF .
 --   piece       = source " " number " " number .
@@ -17,13 +17,13 @@ use Rattle.ts_core.specs.SettingsFaults.{is_rule_name}
 use Rattle.ts_check.specs.declared.certificate_fault.ReadCertificateError.{ReadCertificateError}
 use Rattle.ts_check.specs.declared.certificate_fault.ReadCertificateError.TheVariants as errors
 
--- ---- what is spelled
+-- ---- pieces that have a spelling
 
 abbrev pub HasRuleName : Source → Type 0
 HasRuleName Raw = Unit {0}
 HasRuleName (Rollup name) = is_rule_name name ≡ true
 
--- what has a spelling
+-- a piece that has a spelling
 pub record HasSpelling (p : Piece) : Type 0 where
   pub named : HasRuleName p.source
   pub from : FitsSigned w64 p.from
@@ -39,7 +39,7 @@ abbrev pub is_magnitude : Text → Bool
 is_magnitude [] = false
 is_magnitude (b ∷ bs) = list_all is_ascii_digit (b ∷ bs) && (not (b == 48) || length bs == 0)
 
--- so is the decimal of a number written, and what is written so is the decimal of its value
+-- numbers are written like this, and each such text is how its value is written
 pub record AreDecimals : Type 0 where
   pub written : (n : ℕ) → n < 2 ^ 64 → (is_magnitude (decimal n) ≡ true) × (digits_value 10 (decimal n) ≡ n)
   pub only : (text : Text) → is_magnitude text ≡ true → digits_value 10 text < 2 ^ 64 → text ≡ decimal (digits_value 10 text)
@@ -62,17 +62,17 @@ piece_line p = piece_text p ++ codes "\n"
 abbrev pub certificate_text : List Piece → Text
 certificate_text ps = codes "plan 1\n" ++ (flat_map piece_line ps ++ codes "end\n")
 
--- the text is the spelling of these pieces
+-- the text spells these pieces
 pub record IsCertificate (text : Text) (ps : List Piece) : Type 0 where
   pub each : EachHasSpelling ps
   pub spelled : text ≡ certificate_text ps
 
--- ---- the first fault
+-- ---- the first error
 
 -- whole lines that a certificate may begin with
 pub data Beginning : Type 0 where
   NoLine : Beginning
-  -- the first line, and those of some pieces
+  -- the first line, and the lines of some pieces
   Open : List Piece → Beginning
   -- the last line too
   Closed : List Piece → Beginning
@@ -94,7 +94,7 @@ pub record BeginsWell (text : Text) (n : ℕ) : Type 0 where
   pub spelled : take n text ≡ beginning_text lines
   pub within : n ≤ length text
 
--- the text is no certificate, and its first line that isn't of the form, or its end, stands behind n bytes
+-- the text is no certificate, and its first malformed line, or its end, follows the first n bytes
 pub record IsFirstBadLine (text : Text) (n : ℕ) : Type 0 where
   pub before : BeginsWell text n
   pub first : (m : ℕ) → BeginsWell text m → m ≤ n
@@ -102,22 +102,23 @@ pub record IsFirstBadLine (text : Text) (n : ℕ) : Type 0 where
 
 -- ---- reading
 
--- what a reading of a text answers: pieces that it spells, its first fault, or that memory ran out, and that only for a certificate
+-- the result of reading a text: the pieces it spells, its first error, or out of memory, but that only for a
+-- certificate
 abbrev pub IsReadingOf : Text → Result (List Piece) ReadCertificateError → Type 0
 IsReadingOf text (Ok ps) = IsCertificate text ps
 IsReadingOf text (Err (errors.Fault fault)) = IsFirstBadLine text fault.at
 IsReadingOf text (Err errors.OutOfMemory) = (ps : List Piece) × IsCertificate text ps
 
--- these very pieces are read, unless memory runs out
+-- exactly these pieces are read, unless memory runs out
 abbrev pub IsReadAs : List Piece → Result (List Piece) ReadCertificateError → Type 0
 IsReadAs ps (Ok read) = read ≡ ps
 IsReadAs ps (Err e) = e ≡ errors.OutOfMemory
 
--- no certificate begins another one
+-- no certificate is a prefix of another
 abbrev pub IsOneCertificate : Type 0
 IsOneCertificate = (ps qs : List Piece) (more : Text) → EachHasSpelling ps → EachHasSpelling qs → certificate_text ps ++ more ≡ certificate_text qs → (ps ≡ qs) × (more ≡ [])
 
--- how plain the spelling is: each certificate has one reading, and each number one decimal
+-- the spelling is unambiguous: each certificate has one reading, and each number one decimal
 pub record IsPlainSpelling : Type 0 where
   pub certificates : IsOneCertificate
   pub numbers : AreDecimals

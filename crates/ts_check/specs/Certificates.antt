@@ -1,4 +1,4 @@
--- What the source of a piece in memory stands for. (Own rules.)
+-- Model of the source of a piece. (Own rules.)
 use Rattle.ts_check.specs.declared.certificate.PieceSource.{PieceSource}
 use Rattle.ts_check.specs.declared.certificate.PieceSource.TheVariants as lent
 use Rattle.ts_core.specs.Pieces.{Source, Raw, Rollup}

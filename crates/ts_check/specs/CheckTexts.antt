@@ -1,4 +1,4 @@
--- The texts of faults: of a plan's, and of a certificate's text. (Own rules.)
+-- Messages of the errors of plans and of certificates' texts. (Own rules.)
 use Rattle.ts_core.specs.Facts.{Text}
 use Rattle.ts_core.specs.declared.fault_code.FaultCode.TheVariants.{BadCertificate}
 use Rattle.ts_core.specs.declared.fault_text.FaultDetail.TheVariants.{At, OfPiece}

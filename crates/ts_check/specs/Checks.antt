@@ -1,4 +1,4 @@
--- What a check says of a plan: yes, or its first fault. (Own rules.)
+-- The result of a check of a plan: acceptance, or the first error. (Own rules.)
 use Rattle.std.specs.Prelude.{◌≡◌, ℕ, pos, ◌≤ℤ◌, List, Option, Some, None, Result, Ok, Err}
 use Rattle.std.specs.List.{AllByRecursion}
 use Rattle.ts_core.specs.Settings.{Settings}
@@ -10,27 +10,27 @@ use Rattle.ts_ql.specs.Selects.{Select}
 use Rattle.ts_check.specs.declared.fault.CheckError.{CheckError}
 use Rattle.ts_check.specs.declared.fault.CheckError.TheVariants as errors
 
--- no interval is empty, of the query or of a rule
+-- the intervals of the query and of all rules are at least 1 nanosecond
 pub record HasPositiveIntervals (t : Asked) : Type 0 where
   pub query : pos 1 ≤ℤ t.query.interval
   pub rules : AllByRecursion (λ (r : MarkedRule). pos 1 ≤ℤ r.rule.interval) t.rules
 
--- a query with the pieces of a plan, and what a store still knows
+-- a query with the pieces of a plan, under these settings and marks
 pub record Plan : Type 0 where
   pub settings : Settings
   pub marks : Marks
   pub select : Select
   pub pieces : List Piece
 
--- the pieces may stand for all points of the query
+-- the pieces cover all points of the query
 abbrev pub IsValidPlan : Plan → Type 0
 IsValidPlan p = IsValid p.settings p.marks p.select.query p.pieces
 
--- the first fault of a plan, and the number of its piece, from 0
+-- the first error of a plan, with the index of its piece
 abbrev pub fault_of : Plan → Option (Fault × ℕ)
 fault_of p = first_fault p.settings p.marks p.select.query p.pieces
 
--- what a check of a plan answers: that very plan, which is valid; or its first fault; and that memory ran out only where there is none
+-- the result of a check: this plan, if it is valid, or its first error; out of memory only if it has no error
 abbrev pub IsCheckOf : Plan → Result Plan CheckError → Type 0
 IsCheckOf p (Ok checked) = (checked ≡ p) × IsValidPlan p
 IsCheckOf p (Err (errors.Fault fault)) = fault_of p ≡ Some (fault.kind, fault.piece)

@@ -1,7 +1,7 @@
--- what public contracts and laws cite
+-- cited by public contracts and laws
 pub mod CertificateTexts
 pub mod Checks
 pub mod CheckTexts
--- what only models and proofs of the code need
+-- used only by models and proofs of the code
 pub mod Certificates
 pub mod CertificateLines

@@ -1,4 +1,4 @@
-//! A query with what a store still knows.
+//! A query together with the settings and marks it is planned under.
 ghost use Rattle.std.specs.Prelude.{◌≡◌, ◌≤◌, length, slice_get};
 ghost use Rattle.ts_core.specs.Pieces.{marked_rules, rule_named, asked};
 ghost use Rattle.ts_check.specs.Checks.{HasPositiveIntervals};
@@ -11,9 +11,9 @@ use ts_ql::Query;
 /// A rule with its low index.
 #[derive(Drop)]
 pub struct MarkedRule<'a, A: Allocator> {
-    /// The rule.
+    /// Rule of the settings.
     pub rule: &'a Rule<A>,
-    /// The index of its least bucket that is still whole.
+    /// Index of the rule's first bucket that is still complete.
     pub low: i128,
 }
 
@@ -25,7 +25,7 @@ impl<'a, A: Allocator> Model for MarkedRule<'a, A> {
     ghost view = { λ r. record { rule = r.rule.now; low = r.low } };
 }
 
-/// A query, with what a store still knows.
+/// A query with the settings and marks that it is planned under.
 #[derive(Drop)]
 pub struct Asked<'a, A: Allocator> {
     settings: &'a Settings<A>,
@@ -41,7 +41,7 @@ impl<'a, A: Allocator> Model for Asked<'a, A> {
     ghost view = { λ t. asked t.settings.now t.marks.now t.query.now.query };
 }
 
-/// The first rule of a name.
+/// Returns the first rule of this name.
 fn rule_named<'a, A: Allocator>(
     name: &str,
     rules: &'a [Rule<A>],
@@ -61,7 +61,7 @@ fn rule_named<'a, A: Allocator>(
     }
 }
 
-/// The rule of a number.
+/// Returns the rule with this index.
 fn rule_at<'a, A: Allocator>(
     number: usize,
     rules: &'a [Rule<A>],
@@ -82,7 +82,7 @@ fn rule_at<'a, A: Allocator>(
 }
 
 impl<'a, A: Allocator> Asked<'a, A> {
-    /// A query, asked where a store has these settings and marks.
+    /// Combines a query with the settings and marks of a store.
     pub fn new(settings: &'a Settings<A>, marks: &'a Marks<A>, query: &'a Query<A>) -> Asked<'a, A>
         ensures value { result ≡ asked settings.now marks.now query.now.query }
         ensures intervals { HasPositiveIntervals result }
@@ -96,42 +96,42 @@ impl<'a, A: Allocator> Asked<'a, A> {
         }
     }
 
-    /// The query.
+    /// Returns the query.
     pub(crate) fn query(&self) -> &'a Query<A>
         ensures { result.now.query ≡ self.now.query }
     {
         self.query
     }
 
-    /// Before when the query asks, in nanoseconds of the Unix epoch.
+    /// Returns the end of the query's range, exclusive, in nanoseconds of the Unix epoch.
     pub fn end(&self) -> i64
         ensures { result ≡ self.now.query.to }
     {
         self.query.to()
     }
 
-    /// The raw mark, in nanoseconds of the Unix epoch.
+    /// Returns the raw mark, in nanoseconds of the Unix epoch: raw points are complete from there on.
     pub fn mark(&self) -> i64
         ensures { result ≡ self.now.mark }
     {
         self.marks.raw().nanos()
     }
 
-    /// At least how many rules there are.
+    /// Returns an upper bound on the number of rules.
     pub fn rule_count(&self) -> usize
         ensures { length self.now.rules ≤ result }
     {
         self.settings.rules().len()
     }
 
-    /// The rule of this number, from 0.
+    /// Returns the rule with this index in the settings.
     pub fn rule_at(&self, number: usize) -> Option<MarkedRule<'a, A>>
         ensures { result ≡ slice_get self.now.rules number }
     {
         rule_at(number, self.settings.rules(), self.marks.lows())
     }
 
-    /// The first rule of a name.
+    /// Returns the first rule of this name.
     pub(crate) fn rule_named(&self, name: &str) -> Option<MarkedRule<'a, A>>
         ensures { result ≡ rule_named name.now self.now.rules }
     {

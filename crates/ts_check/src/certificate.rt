@@ -1,26 +1,26 @@
-//! Certificates: lists of pieces, of which nothing says yet that they are valid.
+//! Certificates: lists of pieces that may or may not be a valid plan.
 ghost use Rattle.std.specs.Prelude.{◌≡◌};
 
 use std::alloc::Allocator;
 use std::marker::Model;
 
-/// Where the numbers of a piece come from: raw points, or the cells of a rule, by its name.
+/// Source of a piece: raw points, or the cells of a rule.
 #[derive(Clone, Copy)]
 pub enum PieceSource<'a> {
     /// Raw points.
     Raw,
-    /// The cells of the first rule of this name.
+    /// Cells of the first rule of this name.
     Rollup(&'a str),
 }
 
-/// A piece of a plan: where the numbers of a part of the range come from.
+/// Piece of a plan: a part of the time range, and the source of its data.
 #[derive(Drop)]
 pub struct Piece<'a> {
-    /// Where they come from.
+    /// Source of the data.
     pub source: PieceSource<'a>,
-    /// The first moment, in nanoseconds of the Unix epoch.
+    /// Start, inclusive, in nanoseconds of the Unix epoch.
     pub from: i64,
-    /// The first moment after the piece.
+    /// End, exclusive, in nanoseconds of the Unix epoch.
     pub to: i64,
 }
 
@@ -34,7 +34,7 @@ impl<'a> Model for Piece<'a> {
 }
 
 impl<'a> Piece<'a> {
-    /// The same piece.
+    /// Returns a copy of the piece.
     pub fn copied(&self) -> Piece<'a>
         ensures { result ≡ self.now }
     {
@@ -46,7 +46,7 @@ impl<'a> Piece<'a> {
     }
 }
 
-/// A plan as a list of pieces, in the order of time. Nothing says yet that they are valid.
+/// A plan that isn't checked: pieces ordered by time. `check` decides whether they are valid.
 #[derive(Drop)]
 pub struct Certificate<'a, A: Allocator> {
     pieces: Vec<Piece<'a>, A>,
@@ -62,14 +62,14 @@ impl<'a, A: Allocator> Model for Certificate<'a, A> {
 }
 
 impl<'a, A: Allocator> Certificate<'a, A> {
-    /// A certificate of these pieces.
+    /// Creates a certificate from pieces.
     pub fn new(pieces: Vec<Piece<'a>, A>) -> Certificate<'a, A>
         ensures { result ≡ pieces.entry.items }
     {
         Certificate { pieces }
     }
 
-    /// The pieces.
+    /// Returns the pieces.
     pub fn pieces(&self) -> &[Piece<'a>]
         ensures { result.now ≡ self.now }
     {

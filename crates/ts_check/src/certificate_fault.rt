@@ -1,4 +1,4 @@
-//! Why a text is no certificate.
+//! Error of a certificate's text, with its byte offset and its message.
 ghost use Rattle.std.specs.Prelude.{◌≡◌, ◌≤◌, length};
 ghost use Rattle.ts_core.specs.FaultTexts.{IsAppended};
 ghost use Rattle.ts_check.specs.CheckTexts.{certificate_fault_text};
@@ -8,24 +8,25 @@ use std::alloc::{AllocError, AllocFailed, Allocator};
 use thiserror::Error;
 use ts_core::{FaultCode, FaultDetail};
 
-/// A text that is no certificate (number 81).
+/// Malformed certificate.
 #[derive(Clone, Copy, Debug, PartialEq, Eq, Error)]
 #[error("a syntax error in a certificate, at byte {at}")]
 pub struct CertificateFault {
-    /// The place of the first line that isn't of the form, or of the end where whole lines end before the
-    /// last one of a certificate, in bytes from 0.
+    /// Byte offset, from 0, of the first malformed line. If the text stops after whole lines but before `end`, its
+    /// length.
     pub at: usize,
 }
 
 impl CertificateFault {
-    /// The fault in the table of all faults.
+    /// Returns the code of this error in the common table of faults.
     pub fn code(&self) -> FaultCode
         ensures { result ≡ FaultCode.BadCertificate }
     {
         FaultCode::BadCertificate
     }
 
-    /// Appends its text, or a beginning of it out of memory. Where the room is there, it takes none.
+    /// Appends the message to `text`. When out of memory, `text` may end in part of the message. Does not allocate if
+    /// `text` has the capacity; a message has at most 32 bytes.
     #[tactic(auto, using(crate::proofs::FaultLemmas::certificate_fault_text_short), unfolding(crate::specs::CheckTexts::certificate_fault_text))]
     pub fn text_to<A: Allocator>(&self, text: &mut String<A>) -> Result<(), AllocError>
         ensures appended { IsAppended (certificate_fault_text self.now) text.old text.new result }
@@ -35,13 +36,13 @@ impl CertificateFault {
     }
 }
 
-/// Why no certificate was read.
+/// Error of `read_certificate`.
 #[derive(Clone, Copy, Debug, PartialEq, Eq, Error)]
 pub enum ReadCertificateError {
-    /// The text is no certificate.
+    /// Malformed certificate.
     #[error(transparent)]
     Fault(CertificateFault),
-    /// No memory was found.
+    /// Out of memory.
     #[error("out of memory")]
     OutOfMemory,
 }

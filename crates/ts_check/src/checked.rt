@@ -1,4 +1,4 @@
-//! The check of a plan. Only `check` makes a `Checked`, and its invariant says that the pieces are valid.
+//! Checks plans. Only `check` creates a `Checked`, whose invariant is that its pieces are valid.
 ghost use Rattle.std.specs.Prelude.{◌≡◌, length, IfOk};
 ghost use Rattle.ts_check.specs.Checks.{IsCheckOf};
 
@@ -10,8 +10,7 @@ use std::marker::Model;
 use ts_core::{Marks, Settings};
 use ts_ql::Query;
 
-/// A query with a plan that was checked: its pieces may stand for all points that the query asks for, where
-/// a store has these settings and marks.
+/// A query with a checked plan: under these settings and marks, its pieces cover all points that the query asks for.
 #[derive(Drop)]
 pub struct Checked<'a, A: Allocator> {
     settings: Settings<A>,
@@ -33,28 +32,28 @@ impl<'a, A: Allocator> Model for Checked<'a, A> {
 impl<'a, A: Allocator> Checked<'a, A> {
     ghost use Rattle.ts_check.specs.Checks.{IsValidPlan};
 
-    /// The settings that it is valid for.
+    /// Returns the settings that the plan is valid under.
     pub fn settings(&self) -> &Settings<A>
         ensures { result.now ≡ self.now.settings }
     {
         &self.settings
     }
 
-    /// The marks that it is valid for.
+    /// Returns the marks that the plan is valid under.
     pub fn marks(&self) -> &Marks<A>
         ensures { result.now ≡ self.now.marks }
     {
         &self.marks
     }
 
-    /// The query.
+    /// Returns the query.
     pub fn query(&self) -> &Query<A>
         ensures { result.now ≡ self.now.select }
     {
         &self.query
     }
 
-    /// The pieces.
+    /// Returns the pieces, which are a valid plan of the query.
     pub fn pieces(&self) -> &[Piece<'a>]
         ensures value { result.now ≡ self.now.pieces }
         ensures valid { IsValidPlan self.now }
@@ -63,7 +62,7 @@ impl<'a, A: Allocator> Checked<'a, A> {
     }
 }
 
-/// The same pieces.
+/// Copies pieces.
 fn copied<'a, A: Allocator>(alloc: A, pieces: &[Piece<'a>]) -> Result<Vec<Piece<'a>, A>, AllocError>
     ensures { IfOk result (λ v. v.items ≡ pieces.now) }
 {
@@ -74,9 +73,9 @@ fn copied<'a, A: Allocator>(alloc: A, pieces: &[Piece<'a>]) -> Result<Vec<Piece<
     Ok(all)
 }
 
-/// Checks whether the pieces of a certificate may stand for all points that a query asks for, where a store
-/// has these settings and marks: a plan that holds copies of all four, or the first fault with its piece.
-/// A fault is found before memory is taken.
+/// Checks that the pieces of a certificate cover all points that a query asks for, under these settings and marks.
+/// Returns a plan with copies of all four, or the first error with the index of its piece. Errors other than
+/// `OutOfMemory` are found before anything is allocated.
 pub fn check<'a, A: Allocator + Copy>(
     alloc: A,
     settings: &Settings<A>,

@@ -1,4 +1,4 @@
-//! Why pieces are no plan of a query.
+//! Errors of a plan, with their pieces and messages.
 ghost use Rattle.std.specs.Prelude.{◌≡◌, ◌≤◌, length};
 ghost use Rattle.ts_core.specs.FaultTexts.{IsAppended};
 ghost use Rattle.ts_check.specs.CheckTexts.{check_fault_text};
@@ -8,18 +8,19 @@ use std::alloc::{AllocError, Allocator};
 use thiserror::Error;
 use ts_core::{Fault, FaultDetail};
 
-/// What is wrong with a list of pieces that is to stand for all points of a query.
+/// Error in a plan of a query.
 #[derive(Clone, Copy, Debug, PartialEq, Eq, Error)]
 #[error("{}, at piece {piece}", .kind.code().words())]
 pub struct CheckFault {
-    /// What is wrong.
+    /// Kind of error.
     pub kind: Fault,
-    /// The number of the piece, from 0; that of the pieces where the last one doesn't reach the end.
+    /// Index of the piece, from 0. If the last piece doesn't reach the end of the range, the number of pieces.
     pub piece: usize,
 }
 
 impl CheckFault {
-    /// Appends its text, or a beginning of it out of memory. Where the room is there, it takes none.
+    /// Appends the message to `text`. When out of memory, `text` may end in part of the message. Does not allocate if
+    /// `text` has the capacity; a message has at most 35 bytes.
     #[tactic(auto, using(crate::proofs::FaultLemmas::check_fault_text_short), unfolding(crate::specs::CheckTexts::check_fault_text))]
     pub fn text_to<A: Allocator>(&self, text: &mut String<A>) -> Result<(), AllocError>
         ensures appended { IsAppended (check_fault_text self.now) text.old text.new result }
@@ -31,13 +32,13 @@ impl CheckFault {
     }
 }
 
-/// Why no plan was checked.
+/// Error of `check`.
 #[derive(Clone, Copy, Debug, PartialEq, Eq, Error)]
 pub enum CheckError {
-    /// The pieces are no plan of the query.
+    /// Pieces that aren't a valid plan of the query.
     #[error(transparent)]
     Fault(CheckFault),
-    /// No memory was found.
+    /// Out of memory.
     #[error("out of memory")]
     OutOfMemory,
 }

@@ -1,14 +1,18 @@
-//! The checker of plans: whether the pieces of a certificate may stand for all points that a query asks for, given what a store
-//! still has. It stands on ts_core's definitions and on ts_ql's queries. `check` is proved to say yes exactly where the pieces are valid,
-//! and else to give the first fault with its piece; nothing else makes a `Checked`. A certificate is read and written as text, both ways.
+//! Checks plans: decides whether the pieces of a certificate cover all points that a query asks for, under a store's
+//! settings and marks. Depends on ts_core and ts_ql.
+//!
+//! Proved: `check` accepts exactly the valid plans, and else returns the first error with its piece. Nothing else
+//! creates a `Checked`. Certificates are read from text and written to text, and both directions agree.
 //!
 //! ```text
-//! let certificate = read_certificate(alloc, "plan 1\nraw 0 60000000000\nend\n")?;  // or fault 81 with its place
-//! let checked = check(alloc, &settings, &marks, &query, &certificate)?;            // or fault 83 piece 0, and so on
+//! let certificate = read_certificate(alloc, "plan 1\nraw 0 60000000000\nend\n")?;
+//!     // or BadCertificate with its byte offset
+//! let checked = check(alloc, &settings, &marks, &query, &certificate)?;
+//!     // or the first error, such as BelowMark at piece 0
 //! ```
 //!
-//! To add a condition on pieces: valid.rt (in the order in which faults are looked for), with ts_core's specs/Pieces.antt and
-//! Faults.antt, and a `FaultCode`. To change the text of a certificate: read.rt, write.rt and specs/CertificateTexts.antt.
+//! To add a condition on pieces: touch valid.rt (in order of precedence), ts_core's specs/Pieces.antt and Faults.antt,
+//! and a `FaultCode`. To change the text of a certificate: read.rt, write.rt and specs/CertificateTexts.antt.
 #![tactic(auto)]
 
 mod asked;

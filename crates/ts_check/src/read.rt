@@ -1,4 +1,4 @@
-//! A certificate is read from its text, or the place of its first line that isn't of the form is found.
+//! Parses certificates from text.
 ghost use Rattle.std.specs.Prelude.{◌≡◌, ◌+◌, ◌<◌, ◌≤◌, List, ◌∷◌, ◌++◌, codes, length, IfOk, IfErr, IfSome, IfNone, option_map};
 ghost use Rattle.std.specs.List.{list_all};
 ghost use Rattle.ts_core.specs.Pieces.{Piece as PieceValue};
@@ -12,7 +12,7 @@ use crate::certificate_fault::{CertificateFault, ReadCertificateError};
 use itoa::Buffer;
 use std::alloc::Allocator;
 
-/// A text before and behind its first separator, an ASCII character.
+/// Splits a text at its first separator, an ASCII character.
 fn cut(text: &str, separator: char) -> Option<(&str, &str)>
     requires { separator < 128 }
     ensures found { IfSome result (λ x. text.now ≡ x.0.now ++ (separator ∷ x.1.now)) }
@@ -22,7 +22,7 @@ fn cut(text: &str, separator: char) -> Option<(&str, &str)>
     text.split_once(separator)
 }
 
-/// The number that a text spells.
+/// Parses a number in canonical decimal.
 fn number(text: &str) -> Option<i64>
     ensures { TakesSpelled (IsNumber text.now) result }
 {
@@ -37,7 +37,7 @@ fn number(text: &str) -> Option<i64>
     }
 }
 
-/// The two numbers that a text spells, with a space between them.
+/// Parses two numbers separated by a space.
 fn range(text: &str) -> Option<(i64, i64)>
     ensures { TakesSpelled (IsRange text.now) result }
 {
@@ -63,7 +63,7 @@ fn is_name(name: &str) -> bool
     (1 <= name.len() && name.len() <= 32) && are_name_bytes(name.as_bytes())
 }
 
-/// The source that a line begins with, and what stands behind it and a space.
+/// Parses the source at the start of a line; returns it and the text after the following space.
 fn source(line: &str) -> Option<(PieceSource<'_>, &str)>
     ensures { TakesSpelled (IsSource line.now) (option_map (λ x. (source_of x.0, x.1.now)) result) }
 {
@@ -82,7 +82,7 @@ fn source(line: &str) -> Option<(PieceSource<'_>, &str)>
     }
 }
 
-/// The piece that a line spells, without its line feed.
+/// Parses a line, without its line feed, as a piece.
 fn piece(line: &str) -> Option<Piece<'_>>
     ensures { TakesSpelled (IsPiece line.now) result }
 {
@@ -91,7 +91,7 @@ fn piece(line: &str) -> Option<Piece<'_>>
     Some(Piece { source, from, to })
 }
 
-/// What stands behind the first line of a certificate.
+/// Returns the text after the first line, `plan 1`.
 fn after_first(text: &str) -> Option<&str>
     ensures found { IfSome result (λ rest. text.now ≡ codes "plan 1\n" ++ rest.now) }
     ensures none { IfNone result (IsFirstBadLine text.now 0) }
@@ -100,8 +100,8 @@ fn after_first(text: &str) -> Option<&str>
     if line == "plan 1" { Some(rest) } else { None }
 }
 
-/// The next piece of a certificate and what stands behind its line; nothing at the last line; or the rest of
-/// the text that begins with what is at fault.
+/// Parses the next line. Returns `Ok(Some((piece, rest)))`, `Ok(None)` at the final `end`, or `Err(rest)` from the
+/// malformed part on.
 fn next<'a>(rest: &'a str) -> Result<Option<(Piece<'a>, &'a str)>, &'a str>
     ensures piece { IfOk result (λ next. IfSome next (λ x. HasPiece rest.now x.0 x.1.now)) }
     ensures last { IfOk result (λ next. IfNone next (rest.now ≡ codes "end\n")) }
@@ -123,7 +123,7 @@ fn next<'a>(rest: &'a str) -> Result<Option<(Piece<'a>, &'a str)>, &'a str>
     }
 }
 
-/// The fault whose place begins a rest of the text.
+/// Returns the error at the offset of `rest`, which is a suffix of the text.
 fn fault_at(text: &str, rest: &str) -> CertificateFault
     requires { length rest.now ≤ length text.now }
     ensures { result.at + length rest.now ≡ length text.now }
@@ -133,7 +133,7 @@ fn fault_at(text: &str, rest: &str) -> CertificateFault
     }
 }
 
-/// Whether a text is a certificate.
+/// Checks that a text is a certificate. Does not allocate.
 fn checked(text: &str) -> Result<(), CertificateFault>
     ensures ok { IfOk result (λ _. (ps : List PieceValue) × IsCertificate text.now ps) }
     ensures err { IfErr result (λ fault. IsFirstBadLine text.now fault.at) }
@@ -151,7 +151,7 @@ fn checked(text: &str) -> Result<(), CertificateFault>
     }
 }
 
-/// Reads a certificate. Memory is taken before a fault is found.
+/// Parses a certificate in one pass. May run out of memory before it finds an error.
 fn read_lines<A: Allocator + Copy>(
     alloc: A,
     text: &str,
@@ -175,23 +175,24 @@ fn read_lines<A: Allocator + Copy>(
     }
 }
 
-/// Reads a certificate, whose pieces lend their names from the text. A fault is found before memory is taken.
-/// (In a script `;` stands for a line feed: the text is handed in with line feeds, and places are the same.)
+/// Parses a certificate, whose pieces borrow their names from the text. An error in the text is found before anything
+/// is allocated.
+/// (In a script, `;` is written for a line feed. The text passed here has line feeds, and offsets are the same.)
 pub fn read_certificate<A: Allocator + Copy>(
     alloc: A,
     text: &str,
 ) -> Result<Certificate<'_, A>, ReadCertificateError>
-    // what is read is spelled so, and a fault is the first one
+    // the result spells the text, or is its first error
     ensures value { IsReadingOf text.now result }
 
-    // what is spelled so is read
+    // every spelling of pieces is read as these pieces
     ensures only { (ps : List PieceValue) → IsCertificate text.now ps → IsReadAs ps result }
 
-    // so what is read can be written again as it was
+    // the result can be written again as the same text
     ensures spelled { IfOk result EachHasSpelling }
 
-    // no certificate begins another one, and each has one reading;
-    // the decimal of a number is digits that don't begin with 0, or 0 alone
+    // no certificate is a prefix of another one, and each has one reading;
+    // a number in decimal doesn't begin with 0, unless it is 0
     ensures spelling { IsPlainSpelling }
 {
     checked(text)?;

@@ -1,4 +1,4 @@
-//! What has to hold of a rule so that its cells may stand for a query's points.
+//! Conditions for a rule's cells to replace a query's points.
 ghost use Rattle.std.specs.Prelude.{◌≡◌, ◌||◌, pos, ◌≤ℤ◌, map, string_bytes};
 ghost use Rattle.std.specs.List.{list_all};
 ghost use Rattle.std.specs.Int.{int_rem_euclid};
@@ -10,7 +10,7 @@ use std::alloc::Allocator;
 use ts_core::{Rule, bucket_index, index_of, is_among};
 use ts_ql::{Condition, Query};
 
-/// Whether a bucket of the rule starts at a moment.
+/// Returns true if a bucket of the rule starts at this time, in nanoseconds.
 pub(crate) fn is_boundary<A: Allocator>(rule: &Rule<A>, at: i64) -> bool
     requires { pos 1 ≤ℤ rule.now.interval }
     ensures { result ≡ is_boundary rule.now at }
@@ -28,7 +28,7 @@ fn is_multiple(value: i128, interval: i64) -> bool
     value.rem_euclid(i128::from(interval)) == 0
 }
 
-/// Whether the rule's interval divides the query's, and their offsets agree modulo the rule's interval.
+/// Returns true if the rule's interval divides the query's, and their offsets agree modulo the rule's interval.
 pub fn divides<A: Allocator>(rule: &Rule<A>, query: &Query<A>) -> bool
     requires { pos 1 ≤ℤ rule.now.interval }
     ensures { result ≡ divides rule.now query.now.query }
@@ -38,7 +38,7 @@ pub fn divides<A: Allocator>(rule: &Rule<A>, query: &Query<A>) -> bool
         && is_multiple(apart, rule.interval())
 }
 
-/// Whether all from one moment to before another lies in one bucket of the query.
+/// Returns true if the range from `from`, inclusive, to `to`, exclusive, is within one bucket of the query.
 fn is_in_one_bucket<A: Allocator>(query: &Query<A>, from: i64, to: i64) -> bool
     ensures { result ≡ is_in_one_bucket query.now.query from to }
 {
@@ -48,7 +48,8 @@ fn is_in_one_bucket<A: Allocator>(query: &Query<A>, from: i64, to: i64) -> bool
     first == last
 }
 
-/// Whether all from one moment to before another lies in buckets of the query just as it lies in the rule's.
+/// Returns true if the rule's buckets divide the query's, or if the range is within one bucket of the query. Either
+/// way, no bucket of the rule in the range crosses a bucket boundary of the query.
 pub(crate) fn fits<A: Allocator>(rule: &Rule<A>, query: &Query<A>, from: i64, to: i64) -> bool
     requires { pos 1 ≤ℤ rule.now.interval }
     ensures { result ≡ (divides rule.now query.now.query || is_in_one_bucket query.now.query from to) }
@@ -56,7 +57,7 @@ pub(crate) fn fits<A: Allocator>(rule: &Rule<A>, query: &Query<A>, from: i64, to
     divides(rule, query) || is_in_one_bucket(query, from, to)
 }
 
-/// Whether the rule keeps a tag.
+/// Returns true if the rule keeps a tag.
 fn keeps<A: Allocator>(rule: &Rule<A>, tag: &str) -> bool
     ensures { result ≡ keeps rule.now tag.now }
 {
@@ -81,7 +82,7 @@ fn keeps_conditions<A: Allocator>(rule: &Rule<A>, conditions: &[Condition<A>]) -
     }
 }
 
-/// Whether the rule keeps every tag that the query names.
+/// Returns true if the rule keeps all tags that the query's conditions and groups use.
 pub fn keeps_tags<A: Allocator>(rule: &Rule<A>, query: &Query<A>) -> bool
     ensures { result ≡ list_all (keeps rule.now) (tags_of query.now.query) }
 {

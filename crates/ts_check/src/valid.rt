@@ -1,4 +1,4 @@
-//! The first fault of a list of pieces.
+//! Finds the first error of a plan.
 ghost use Rattle.std.specs.Prelude.{◌≡◌, ◌&&◌, pos, int_lt, int_le, ◌≤ℤ◌, Some};
 ghost use Rattle.std.specs.List.{AllByRecursion};
 ghost use Rattle.std.specs.Ordering.{int_eq};
@@ -12,7 +12,7 @@ use std::alloc::Allocator;
 use ts_core::{Fault, Marks, Settings, index_of};
 use ts_ql::Query;
 
-/// Whether the bucket of a moment is at or above the rule's low index.
+/// Returns true if the rule's bucket at this time is still complete.
 fn is_whole<A: Allocator>(marked: &MarkedRule<'_, A>, at: i64) -> bool
     requires { pos 1 ≤ℤ marked.now.rule.interval }
     ensures { result ≡ int_le marked.now.low (index_of marked.now.rule at) }
@@ -20,7 +20,7 @@ fn is_whole<A: Allocator>(marked: &MarkedRule<'_, A>, at: i64) -> bool
     marked.low <= index_of(marked.rule, i128::from(at))
 }
 
-/// The first reason why the cells of a rule don't stand for a query's points.
+/// Returns the first condition that a rule's cells fail in the range from `from` to `to`.
 fn rule_fault<A: Allocator>(
     query: &Query<A>,
     marked: &MarkedRule<'_, A>,
@@ -53,7 +53,7 @@ fn rule_fault<A: Allocator>(
 }
 
 impl<'a, A: Allocator> Asked<'a, A> {
-    /// What is wrong with a piece, but for its place in a list.
+    /// Returns the first error of a piece by itself, whatever its neighbours are.
     pub(crate) fn piece_fault(&self, piece: &Piece<'_>) -> Option<Fault>
         requires { AllByRecursion (λ r. pos 1 ≤ℤ r.rule.interval) self.now.rules }
         ensures { result ≡ piece_fault self.now piece.now }
@@ -74,15 +74,15 @@ impl<'a, A: Allocator> Asked<'a, A> {
     }
 }
 
-/// Whether a piece starts at a moment, isn't empty, and ends no later than another moment.
+/// Returns true if a piece starts at `at`, isn't empty, and ends at `end` or earlier.
 fn joins(piece: &Piece<'_>, at: i64, end: i64) -> bool
     ensures { result ≡ (int_eq piece.now.from at && (int_lt piece.now.from piece.now.to && int_le piece.now.to end)) }
 {
     piece.from == at && piece.from < piece.to && piece.to <= end
 }
 
-/// The number of the first piece that doesn't join, or the number of the pieces where the last one doesn't
-/// reach the end.
+/// Returns the index of the first piece that doesn't join the one before it. If the last one doesn't reach the end,
+/// returns the number of pieces.
 fn gap(from: i64, end: i64, pieces: &[Piece<'_>]) -> Option<usize>
     ensures { result ≡ gap_at 0 from end pieces.now }
 {
@@ -96,7 +96,7 @@ fn gap(from: i64, end: i64, pieces: &[Piece<'_>]) -> Option<usize>
     if at == end { None } else { Some(pieces.len()) }
 }
 
-/// The first fault of a piece by itself.
+/// Returns the first error of a piece by itself, with the piece's index.
 fn first_of_pieces<A: Allocator>(
     asked: &Asked<'_, A>,
     pieces: &[Piece<'_>],
@@ -112,8 +112,8 @@ fn first_of_pieces<A: Allocator>(
     None
 }
 
-/// The first fault of pieces that are to stand for all points of a query, with the number of its piece,
-/// from 0. Gaps come first, over the whole list.
+/// Returns the first error of a plan, with the index of its piece. Gaps anywhere take precedence over errors of single
+/// pieces.
 pub(crate) fn first_fault<A: Allocator>(
     settings: &Settings<A>,
     marks: &Marks<A>,

@@ -1,4 +1,4 @@
-//! A certificate is written as the text that `read_certificate` reads.
+//! Writes certificates as text that `read_certificate` reads.
 ghost use Rattle.std.specs.Prelude.{◌≡◌, ◌++◌, codes, IfOk, OnOk, string_bytes};
 ghost use Rattle.std.specs.Fmt.{signed_decimal};
 ghost use Rattle.ts_check.specs.Certificates.{source_of};
@@ -41,14 +41,14 @@ fn push_line<A: Allocator>(text: &mut String<A>, piece: &Piece<'_>) -> Result<()
     text.push_str("\n")
 }
 
-/// The text of a certificate: the line `plan 1`, a line for each piece, and the line `end`.
+/// Returns a certificate as text: the line `plan 1`, one line per piece, and the line `end`.
 pub fn write_certificate<A: Allocator + Copy, B: Allocator>(
     alloc: A,
     certificate: &Certificate<'_, B>,
 ) -> Result<String<A>, AllocError>
     ensures value { IfOk result (λ text. string_bytes text ≡ certificate_text certificate.now) }
 
-    // so it is read again as it was, where it has a spelling
+    // the text is read as the same pieces, if their rule names are valid
     ensures again { EachHasSpelling certificate.now → IfOk result (λ text. IsCertificate (string_bytes text) certificate.now) }
 {
     let mut text = String::new(alloc);
