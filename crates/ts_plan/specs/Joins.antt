@@ -1,4 +1,4 @@
--- Pieces that the next bucket may join. (Own rules.)
+-- Pieces that the next bucket may extend. (Own rules.)
 use Rattle.std.specs.Prelude.{◌≡◌, Bool, ◌&&◌, List, [], ◌∷◌, Option, Some, None, slice_get}
 use Rattle.ts_core.specs.Pieces.{Piece, MarkedRule, Asked, RuleServes}
 use Rattle.ts_core.specs.Faults.{piece_fault, divides}
@@ -13,7 +13,7 @@ abbrev pub held_pieces : Asked → Option Held → List Piece
 held_pieces t None = []
 held_pieces t (Some h) = held_piece t h ∷ []
 
--- the bucket joins the piece: both are of one rule, and what they make together is valid
+-- the bucket extends the piece: both are of one rule, and the merged piece is valid
 abbrev pub joins : Asked → Piece → Piece → Bool
 joins t p b = is_same_rule p.source b.source && is_faultless (piece_fault t (drawn p b))
 
@@ -21,7 +21,7 @@ abbrev pub joined_after : Asked → Option Held → List Piece → List Piece
 joined_after t None bs = joined t bs
 joined_after t (Some h) bs = joined_onto t (held_piece t h) bs
 
--- a piece of a rule, which is valid
+-- a valid piece of a rule
 pub record IsHeldPiece (t : Asked) (h : Held) : Type 0 where
   pub rule : MarkedRule
   pub there : slice_get t.rules h.rule ≡ Some rule

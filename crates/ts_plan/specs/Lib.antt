@@ -1,7 +1,7 @@
--- what public contracts and laws cite
+-- cited by public contracts and laws
 pub mod Planning
 pub mod PlanTexts
--- what only models and proofs of the code need
+-- used only by models and proofs of the code
 pub mod Places
 pub mod Steps
 pub mod Joins

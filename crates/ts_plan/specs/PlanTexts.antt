@@ -1,4 +1,4 @@
--- The texts of a query's faults that has no plan. (Own rule.)
+-- Codes and messages of the errors of planning. (Own rule.)
 use Rattle.ts_core.specs.Facts.{Text}
 use Rattle.ts_core.specs.declared.fault_code.FaultCode.{FaultCode}
 use Rattle.ts_core.specs.declared.fault_code.FaultCode.TheVariants as coded

@@ -1,4 +1,4 @@
--- What a planner answers. (Own rules.)
+-- Results of a planner. (Own rules.)
 use Rattle.std.specs.Prelude.{List, Result, Ok, Err}
 use Rattle.ts_core.specs.Settings.{Settings}
 use Rattle.ts_core.specs.Marks.{Marks}
@@ -9,7 +9,7 @@ use Rattle.ts_plan.specs.declared.fault.PlanError.{PlanError}
 use Rattle.ts_plan.specs.declared.fault.PlanError.TheVariants as errors
 use Rattle.ts_plan.specs.declared.fault.PlanFault.TheVariants.{NoPlan, TooManyBuckets}
 
--- the plan of a query: the one that is determined, and so a valid one
+-- a plan of the query: the one that the definitions determine, which is valid
 pub record IsPlanned (s : Settings) (m : Marks) (q : Query) (pieces : List Piece) : Type 0 where
   pub searched : IsTooMany s m q → ⊥
   pub determined : IsPlan s m q pieces
@@ -20,13 +20,13 @@ pub record IsWithoutPlan (s : Settings) (m : Marks) (q : Query) : Type 0 where
   pub searched : IsTooMany s m q → ⊥
   pub none : (pieces : List Piece) → IsValid s m q pieces → ⊥
 
--- what a planner says of a query that it doesn't plan
+-- a planner's error for a query
 abbrev pub Refuses : Settings → Marks → Query → PlanError → Type 0
 Refuses s m q (errors.Fault TooManyBuckets) = IsTooMany s m q
 Refuses s m q (errors.Fault NoPlan) = IsWithoutPlan s m q
 Refuses s m q errors.OutOfMemory = IsTooMany s m q → ⊥
 
--- what a planner answers for a query
+-- a planner's result for a query
 abbrev pub IsPlanFor : Settings → Marks → Query → Result (List Piece) PlanError → Type 0
 IsPlanFor s m q (Ok pieces) = IsPlanned s m q pieces
 IsPlanFor s m q (Err error) = Refuses s m q error

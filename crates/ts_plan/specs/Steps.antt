@@ -1,4 +1,4 @@
--- Single buckets as the steps of a walk, and which of them lead to the end. (Own rules.)
+-- Single buckets as steps of a walk, and which of them reach the end. (Own rules.)
 use Rattle.std.specs.Prelude.{◌≡◌, ℕ, ◌≤◌, ℤ, ◌+ℤ◌, ◌≤ℤ◌, ◌<ℤ◌, int_le, Bool, false, ◌&&◌, ◌||◌, List, [], ◌∷◌, ◌++◌, map, Option, Some, None, MatchOption, slice_get, if◌then◌else◌}
 use Rattle.std.specs.Ordering.{int_eq}
 use Rattle.std.specs.List.{AllByRecursion, list_all}
@@ -13,28 +13,28 @@ use Rattle.ts_core.specs.Plans.{rollup_piece, raw_piece}
 use Rattle.ts_core.proofs.Intervals.{IsWide}
 use Rattle.ts_plan.specs.declared.steps.Step.{Step}
 
--- no interval is empty, and each rule has a name of its own
+-- intervals are at least 1 nanosecond, and rule names are distinct
 pub record IsPlannable (t : Asked) : Type 0 where
   pub wide : IsWide t
   pub named : AllDistinct (map (λ (r : MarkedRule). r.rule.name) t.rules)
 
 -- ---- steps
 
--- the bucket of a rule that starts at p: a valid piece that ends in the range
+-- the bucket of a rule that starts at p: a valid piece that ends within the range
 pub record IsBucketAt (t : Asked) (r : MarkedRule) (p : ℤ) (bucket : Piece) : Type 0 where
   pub piece : bucket ≡ rollup_piece r.rule.name p (p +ℤ r.rule.interval)
   pub valid : IsValidPiece t bucket
   pub inside : bucket.to ≤ℤ t.query.to
 
--- the rule is of the query's measurement, and keeps every tag that it names
+-- the rule is of the query's measurement, and keeps all tags that the query uses
 abbrev pub has_columns : Query → Rule → Bool
 has_columns q r = same_text r.measurement q.measurement && list_all (keeps r) (tags_of q)
 
--- the bucket from a to b is whole still, and lies in buckets of the query as it has to
+-- the bucket from a to b is still complete, and doesn't cross a bucket boundary of the query
 abbrev pub bucket_serves : Query → MarkedRule → ℤ → ℤ → Bool
 bucket_serves q r a b = int_le r.low (index_of r.rule a) && (divides r.rule q || is_in_one_bucket q a b)
 
--- one bucket of a rule that is a valid piece, in the range and below the mark
+-- one bucket of a rule that is a valid piece, within the range, and starts below the raw mark
 pub record IsStep (t : Asked) (s : Step) : Type 0 where
   pub from : t.query.from ≤ℤ s.from
   pub below : s.from <ℤ t.mark
@@ -44,7 +44,7 @@ pub record IsStep (t : Asked) (s : Step) : Type 0 where
   pub one : s.to ≡ s.from +ℤ rule.rule.interval
   pub serves : RuleServes t.query rule s.from s.to
 
--- s is not after x
+-- s isn't after x
 pub record Upto (s x : Step) : Type 0 where
   pub from : s.from ≤ℤ x.from
   pub rule : s.from ≡ x.from → s.rule ≤ x.rule
@@ -55,23 +55,23 @@ Ascends (s ∷ ss) = AllByRecursion (λ (x : Step). Upto s x) ss × Ascends ss
 
 -- ---- the steps of one rule, bucket by bucket
 
--- where the first bucket of the rule from a on starts, if that is no later than b
+-- start of the rule's first bucket from a on, if that is b or earlier
 abbrev pub IsFirstStart : Rule → ℤ → ℤ → Option ℤ → Type 0
 IsFirstStart r a b start = MatchOption start ((x : ℤ) → IsBoundary r x → a ≤ℤ x → b <ℤ x) (λ p. IsBoundary r p × (a ≤ℤ p) × (p ≤ℤ b) × ((x : ℤ) → IsBoundary r x → a ≤ℤ x → p ≤ℤ x))
 
--- the end of the bucket at p, where it is in the range
+-- end of the bucket at p, if it is within the range
 abbrev pub IsNextPlace : Asked → MarkedRule → ℤ → Option ℤ → Type 0
 IsNextPlace t r p q = MatchOption q (t.query.to <ℤ (p +ℤ r.rule.interval)) (λ e. (e ≡ p +ℤ r.rule.interval) × (e ≤ℤ t.query.to))
 
 abbrev pub step_of : ℤ → ℕ → ℤ → Step
 step_of p n e = record { from = p; rule = n; to = e }
 
--- with the step of rule number n from p to e, where that is a valid piece
+-- appends the step of rule n from p to e, if it is a valid piece
 abbrev pub with_step : Asked → MarkedRule → ℕ → ℤ → Option ℤ → List Step → List Step
 with_step t r n p None ss = ss
 with_step t r n p (Some e) ss = if bucket_serves t.query r p e then (ss ++ step_of p n e ∷ []) else ss
 
--- the steps of rule n come in, and nothing else
+-- adds all steps of rule n, and nothing else
 pub record Adds (t : Asked) (n : ℕ) (old new : List Step) : Type 0 where
   pub sound : AllByRecursion (IsStep t) old → AllByRecursion (IsStep t) new
   pub complete : (x : Step) → IsStep t x → x.rule ≡ n → Among x new
@@ -87,19 +87,19 @@ abbrev pub starts_first : ℤ → List Step → Bool
 starts_first e [] = false
 starts_first e (s ∷ ss) = int_eq s.from e
 
--- the end, a place at or above the mark, or one where a step starts
+-- the end can be reached from e: the end itself, a time at or above the raw mark, or the start of a step
 abbrev pub leads_on : Asked → List Step → ℤ → Bool
 leads_on t gs e = int_eq e t.query.to || (int_le t.mark e || starts_at e gs)
 
 abbrev pub kept_if : Bool → Step → List Step → List Step
 kept_if b s gs = if b then (s ∷ gs) else gs
 
--- the steps that lead on, of steps that ascend
+-- the steps, sorted, from which the end can be reached
 abbrev pub kept_steps : Asked → List Step → List Step
 kept_steps t [] = []
 kept_steps t (s ∷ ss) = kept_if (leads_on t (kept_steps t ss) s.to) s (kept_steps t ss)
 
--- ---- the walk over the steps that are kept
+-- ---- the walk over the remaining steps
 
 abbrev pub name_or_none : Option MarkedRule → Text
 name_or_none None = []

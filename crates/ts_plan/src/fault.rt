@@ -1,4 +1,4 @@
-//! Why a query has no plan.
+//! Errors of planning, with their messages.
 ghost use Rattle.std.specs.Prelude.{◌≡◌};
 ghost use Rattle.ts_core.specs.FaultTexts.{IsAppended};
 ghost use Rattle.ts_plan.specs.PlanTexts.{plan_fault_code, plan_fault_text};
@@ -8,19 +8,19 @@ use std::alloc::{AllocError, Allocator};
 use thiserror::Error;
 use ts_core::{FaultCode, FaultDetail};
 
-/// Why a query has no plan.
+/// Reason why a query has no plan.
 #[derive(Clone, Copy, Debug, PartialEq, Eq, Error)]
 pub enum PlanFault {
-    /// No list of pieces may stand for all points that it asks for (number 91).
+    /// No pieces cover all points that the query asks for.
     #[error("no plan: the query needs points that are dropped, and no cells fit it")]
     NoPlan,
-    /// More than 1,000,000 buckets of rules would be searched (number 92).
+    /// More than 1,000,000 buckets of rules to search.
     #[error("too many buckets to search for a plan")]
     TooManyBuckets,
 }
 
 impl PlanFault {
-    /// The fault in the table of all faults.
+    /// Returns the code of this error in the common table of faults.
     pub fn code(self) -> FaultCode
         ensures { result ≡ plan_fault_code self }
     {
@@ -30,7 +30,8 @@ impl PlanFault {
         }
     }
 
-    /// Appends its text, or a beginning of it out of memory. Where the room is there, it takes none.
+    /// Appends the message to `text`. When out of memory, `text` may end in part of the message. Does not allocate if
+    /// `text` has the capacity.
     #[tactic(auto, unfolding(crate::specs::PlanTexts::plan_fault_text))]
     pub fn text_to<A: Allocator>(&self, text: &mut String<A>) -> Result<(), AllocError>
         ensures { IsAppended (plan_fault_text self.now) text.old text.new result }
@@ -39,13 +40,13 @@ impl PlanFault {
     }
 }
 
-/// Why no plan was made.
+/// Error of `plan`.
 #[derive(Clone, Copy, Debug, PartialEq, Eq, Error)]
 pub enum PlanError {
-    /// There is none, or it isn't searched for.
+    /// No plan, or too many buckets to search for one.
     #[error(transparent)]
     Fault(PlanFault),
-    /// No memory was found.
+    /// Out of memory.
     #[error("out of memory")]
     OutOfMemory,
 }

@@ -1,14 +1,20 @@
-//! The planner: from which pieces a query is answered, given what a store still has. It stands on ts_check's certificates. `plan` is
-//! proved to answer the one plan that the definitions determine, which is valid; fault 92 exactly where there are too many buckets; and
-//! fault 91 exactly where no list of pieces is valid.
+//! Plans queries: chooses the pieces that answer a query, under a store's settings and marks. Depends on ts_core, ts_ql
+//! and ts_check.
+//!
+//! Proved: `plan` returns the one plan that the definitions determine, and that plan is valid. It returns
+//! `TooManyBuckets` exactly if there are too many buckets to search, and `NoPlan` exactly if no list of pieces is
+//! valid.
 //!
 //! ```text
-//! let certificate = plan(alloc, &settings, &marks, &query)?;           // rollup m1 0 120000000000, raw 120000000000 180000000000
-//! check(alloc, &settings, &marks, &query, &certificate)                // is Ok, or OutOfMemory
+//! let certificate = plan(alloc, &settings, &marks, &query)?;
+//!     // such as rollup m1 0 120000000000, raw 120000000000 180000000000
+//! check(alloc, &settings, &marks, &query, &certificate)
+//!     // Ok, or OutOfMemory
 //! ```
 //!
-//! To choose among valid plans otherwise: ts_core's specs/Plans.antt says which plan it is, steps.rt lists single buckets, sweep.rt
-//! keeps those that lead to the end, walk.rt takes one of each place and joins neighbours.
+//! To choose another of the valid plans: touch ts_core's specs/Plans.antt, which defines the choice. Then steps.rt
+//! lists single buckets, sweep.rt prunes those that can't reach the end, and walk.rt takes one after another and merges
+//! neighbours.
 #![tactic(auto)]
 
 mod fault;

@@ -1,10 +1,10 @@
-//! Places of a query's range where pieces may start and end.
+//! Times in a query's range at which pieces may start and end.
 ghost use Rattle.std.specs.Prelude.{◌≡◌, ◌+ℤ◌, ◌<ℤ◌, ◌≤ℤ◌, pos, ◌^◌, MatchOption};
 ghost use Rattle.ts_plan.specs.Places.{IsPlace};
 
 use std::marker::Model;
 
-/// A place: a moment, in nanoseconds of the Unix epoch.
+/// A time, in nanoseconds of the Unix epoch.
 #[derive(Clone, Copy, Debug, PartialEq, Eq, PartialOrd, Ord)]
 pub(crate) struct Place {
     nanos: i64,
@@ -30,7 +30,7 @@ impl Place {
         Place { nanos }
     }
 
-    /// The moment, in nanoseconds.
+    /// Returns the time in nanoseconds of the Unix epoch.
     pub(crate) fn nanos(self) -> i64
         ensures value { result ≡ self }
         ensures range { IsPlace result }
@@ -38,7 +38,7 @@ impl Place {
         self.nanos
     }
 
-    /// The place that is later by `width` nanoseconds, unless that is after `end`.
+    /// Adds `width` nanoseconds; returns `None` if the sum is after `end`.
     pub(crate) fn later(self, width: i128, end: Place) -> Option<Place>
         requires forward { pos 0 ≤ℤ width }
         requires bound { width ≤ℤ pos (2 ^ 64) }

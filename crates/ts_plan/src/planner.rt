@@ -1,4 +1,4 @@
-//! The plan of a query: the walk over good places, with neighbours joined.
+//! Plans a query: lists the valid buckets, prunes those that can't reach the end, and walks over the rest.
 ghost use Rattle.std.specs.Prelude.{◌≡◌, length, IfOk, MatchOption};
 ghost use Rattle.std.specs.List.{AllByRecursion};
 ghost use Rattle.ts_core.specs.Members.{Among};
@@ -18,8 +18,8 @@ use ts_check::{Certificate, Piece};
 use ts_core::{Marks, Settings};
 use ts_ql::Query;
 
-/// The plan over all steps, of which those that lead to the end are moved to the back; `None` where the start
-/// of the range isn't good.
+/// Returns the plan over all steps, or `None` if the end can't be reached from the start. Compacts the steps that reach
+/// the end at the back of the slice.
 fn plan_over<'a, A: Allocator + Copy>(
     alloc: A,
     task: &Task<'a, A>,
@@ -39,10 +39,10 @@ fn plan_over<'a, A: Allocator + Copy>(
     Ok(Some(walk(alloc, task, kept)?))
 }
 
-/// The plan of a query, where a store has these settings and marks. Below the raw mark it is made of buckets
-/// of rules: at each place of the first rule, in the order of the settings, whose bucket leads on to the end;
-/// neighbours of one rule are joined as long as they stay valid. From the raw mark on it is raw points.
-/// The time that it takes grows with the number `n` of whole buckets as `n log n`.
+/// Returns the plan of a query under these settings and marks.
+/// Below the raw mark it consists of rules' buckets. At each time it takes the first rule, in the order of the
+/// settings, whose bucket leads to the end of the range. Neighbours of one rule are merged as long as they stay valid.
+/// From the raw mark on it consists of raw points. Takes O(n log n) time for n whole buckets.
 pub fn plan<'a, A: Allocator + Copy>(
     alloc: A,
     settings: &'a Settings<A>,

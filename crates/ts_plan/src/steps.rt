@@ -1,4 +1,4 @@
-//! The single buckets below the raw mark that are valid pieces.
+//! Lists the single buckets below the raw mark that are valid pieces.
 ghost use Rattle.std.specs.Prelude.{◌≡◌, ◌-ℤ◌, ◌≤ℤ◌, pos, int_le, ◌&&◌, ◌||◌, Some, slice_get, IfOk};
 ghost use Rattle.std.specs.Int.{int_rem_euclid};
 ghost use Rattle.std.specs.List.{AllByRecursion};
@@ -15,18 +15,18 @@ use std::alloc::{AllocError, Allocator};
 use ts_check::{MarkedRule, divides};
 use ts_core::{Rule, index_of};
 
-/// One bucket of a rule.
+/// One bucket of a rule, as a step of the walk.
 #[derive(Clone, Copy, PartialEq, Eq, PartialOrd, Ord)]
 pub(crate) struct Step {
-    /// Where it starts.
+    /// Start of the bucket, inclusive.
     pub from: Place,
-    /// The number of the rule.
+    /// Index of the rule.
     pub rule: usize,
-    /// Where it ends.
+    /// End of the bucket, exclusive.
     pub to: Place,
 }
 
-/// How far a place is into its bucket.
+/// Returns the nanoseconds from the start of the rule's bucket to `at`.
 fn past<A: Allocator>(rule: &Rule<A>, at: Place) -> i128
     requires { pos 1 ≤ℤ rule.now.interval }
     ensures { result ≡ int_rem_euclid (at -ℤ rule.now.offset) rule.now.interval }
@@ -34,7 +34,7 @@ fn past<A: Allocator>(rule: &Rule<A>, at: Place) -> i128
     (i128::from(at.nanos()) - i128::from(rule.offset())).rem_euclid(i128::from(rule.interval()))
 }
 
-/// The first start of a bucket from a place on, up to an end.
+/// Returns the start of the rule's first bucket in the range from `from` to `end`, both inclusive.
 fn first_boundary<A: Allocator>(rule: &Rule<A>, from: Place, end: Place) -> Option<Place>
     requires { pos 1 ≤ℤ rule.now.interval }
     ensures { IsFirstStart rule.now from end result }
@@ -47,7 +47,8 @@ fn first_boundary<A: Allocator>(rule: &Rule<A>, from: Place, end: Place) -> Opti
     from.later(ahead, end)
 }
 
-/// Whether a bucket of a rule is whole still, and lies in buckets of the query as it has to.
+/// Returns true if a bucket of the rule is still complete and doesn't cross a bucket boundary of the query. `nests` is
+/// true if no bucket of the rule does.
 fn bucket_serves<A: Allocator>(
     task: &Task<'_, A>,
     marked: &MarkedRule<'_, A>,
@@ -63,8 +64,8 @@ fn bucket_serves<A: Allocator>(
     nests || task.is_in_one_bucket(step.from, step.to)
 }
 
-/// Adds the step of the bucket that starts at a place, if it is a valid piece, and says where the next bucket
-/// starts.
+/// Appends the step of the bucket that starts at `from`, if it is a valid piece. Returns the start of the next bucket,
+/// or `None` if this one ends after the range.
 fn push_step<A: Allocator>(
     steps: &mut Vec<Step, A>,
     task: &Task<'_, A>,
@@ -95,7 +96,7 @@ fn push_step<A: Allocator>(
     }
 }
 
-/// Adds the steps of one rule.
+/// Appends the steps of one rule.
 fn push_steps<A: Allocator>(
     steps: &mut Vec<Step, A>,
     task: &Task<'_, A>,
@@ -121,7 +122,7 @@ fn push_steps<A: Allocator>(
     Ok(())
 }
 
-/// Adds the steps of the rule of a number, if there is one.
+/// Appends the steps of the rule with this index, if there is one.
 fn push_rule<A: Allocator>(
     steps: &mut Vec<Step, A>,
     task: &Task<'_, A>,
@@ -136,7 +137,7 @@ fn push_rule<A: Allocator>(
     }
 }
 
-/// The steps of all rules, the earliest first, and those of one place in the order of the rules.
+/// Returns the steps of all rules, sorted by start and then by rule.
 pub(crate) fn all_steps<A: Allocator + Copy>(
     alloc: A,
     task: &Task<'_, A>,

@@ -1,4 +1,4 @@
-//! Which steps lead to the end.
+//! Prunes the steps that can't reach the end of the range.
 ghost use Rattle.std.specs.Prelude.{◌≡◌, ◌≤◌, length, drop};
 ghost use Rattle.ts_plan.specs.Steps.{Ascends, starts_first, starts_at, leads_on, kept_steps};
 
@@ -7,7 +7,7 @@ use crate::steps::Step;
 use crate::task::Task;
 use std::alloc::Allocator;
 
-/// Whether the first step starts at a place.
+/// Returns true if the first step starts at `place`.
 fn starts_first(steps: &[Step], place: Place) -> bool
     ensures { result ≡ starts_first place steps.now }
 {
@@ -17,7 +17,7 @@ fn starts_first(steps: &[Step], place: Place) -> bool
     }
 }
 
-/// Whether a step starts at a place, by a search.
+/// Returns true if a step starts at `place` (binary search).
 fn is_found(steps: &[Step], place: &Place) -> bool
     requires { Ascends steps.now }
     ensures { result ≡ starts_at place.now steps.now }
@@ -25,7 +25,7 @@ fn is_found(steps: &[Step], place: &Place) -> bool
     steps.binary_search_by(|step| step.from.cmp(place)).is_ok()
 }
 
-/// Whether a step starts at a place: mostly the first one.
+/// Returns true if a step starts at `place`. Tries the first step before a binary search.
 fn starts_at(steps: &[Step], place: Place) -> bool
     requires { Ascends steps.now }
     ensures { result ≡ starts_at place steps.now }
@@ -36,7 +36,8 @@ fn starts_at(steps: &[Step], place: Place) -> bool
     is_found(steps, &place)
 }
 
-/// Whether a place is the end of the range, at or above the raw mark, or the start of a step.
+/// Returns true if the end can be reached from `place`. It can from the end itself, from times at or above the raw
+/// mark, and from the start of a step.
 pub(crate) fn leads_on<A: Allocator>(task: &Task<'_, A>, steps: &[Step], place: Place) -> bool
     requires { Ascends steps.now }
     ensures { result ≡ leads_on task.now steps.now place }
@@ -44,7 +45,7 @@ pub(crate) fn leads_on<A: Allocator>(task: &Task<'_, A>, steps: &[Step], place: 
     place == task.end() || place >= task.mark() || starts_at(steps, place)
 }
 
-/// The steps from a number on.
+/// Returns the steps from index `begin` on.
 pub(crate) fn steps_from(steps: &[Step], begin: usize) -> &[Step]
     requires { begin ≤ length steps.now }
     ensures { result.now ≡ drop begin steps.now }
@@ -52,7 +53,7 @@ pub(crate) fn steps_from(steps: &[Step], begin: usize) -> &[Step]
     &steps[begin..]
 }
 
-/// Moves the steps that lead to the end to the back, in their order, and says where they begin.
+/// Compacts the steps from which the end is reachable at the back of the slice; returns the index of the first.
 pub(crate) fn keep_steps<A: Allocator>(task: &Task<'_, A>, steps: &mut [Step]) -> usize
     requires { Ascends steps.old }
     ensures bound { result ≤ length steps.new }

@@ -1,4 +1,4 @@
-//! What is planned: a query, beside the settings and marks of a store.
+//! Planning context: a query with the settings and marks of a store.
 ghost use Rattle.std.specs.Prelude.{◌≡◌, ◌≤◌, ◌≤ℤ◌, length, slice_get};
 ghost use Rattle.ts_core.specs.Pieces.{asked};
 ghost use Rattle.ts_core.specs.Faults.{is_in_one_bucket};
@@ -11,7 +11,7 @@ use ts_check::{Asked, MarkedRule};
 use ts_core::{Marks, Settings, bucket_index};
 use ts_ql::Query;
 
-/// A query to be planned, with what a store still knows.
+/// A query to be planned, with the settings and marks it is planned under.
 #[derive(Drop)]
 pub(crate) struct Task<'a, A: Allocator> {
     asked: Asked<'a, A>,
@@ -46,14 +46,14 @@ impl<'a, A: Allocator> Task<'a, A> {
         }
     }
 
-    /// The query.
+    /// Returns the query.
     pub(crate) fn query(&self) -> &'a Query<A>
         ensures { result.now.query ≡ self.now.query }
     {
         self.query
     }
 
-    /// From when on the query asks.
+    /// Returns the start of the query's range, inclusive.
     pub(crate) fn start(&self) -> Place
         ensures value { result ≡ self.now.query.from }
         ensures range { self.now.query.from ≤ℤ self.now.query.to }
@@ -61,35 +61,35 @@ impl<'a, A: Allocator> Task<'a, A> {
         Place::new(self.query.from())
     }
 
-    /// Before when the query asks.
+    /// Returns the end of the query's range, exclusive.
     pub(crate) fn end(&self) -> Place
         ensures { result ≡ self.now.query.to }
     {
         Place::new(self.asked.end())
     }
 
-    /// The raw mark.
+    /// Returns the raw mark: raw points are complete from there on.
     pub(crate) fn mark(&self) -> Place
         ensures { result ≡ self.now.mark }
     {
         Place::new(self.asked.mark())
     }
 
-    /// At least how many rules there are.
+    /// Returns an upper bound on the number of rules.
     pub(crate) fn rule_count(&self) -> usize
         ensures { length self.now.rules ≤ result }
     {
         self.asked.rule_count()
     }
 
-    /// The rule of this number, from 0.
+    /// Returns the rule with this index in the settings.
     pub(crate) fn rule_at(&self, number: usize) -> Option<MarkedRule<'a, A>>
         ensures { result ≡ slice_get self.now.rules number }
     {
         self.asked.rule_at(number)
     }
 
-    /// Whether all from one place to before another lies in one bucket of the query.
+    /// Returns true if the range from `from`, inclusive, to `to`, exclusive, is within one bucket of the query.
     pub(crate) fn is_in_one_bucket(&self, from: Place, to: Place) -> bool
         ensures { result ≡ is_in_one_bucket self.now.query from to }
     {

@@ -1,4 +1,4 @@
-//! The limit on what is searched for a plan.
+//! Limits the search for a plan.
 ghost use Rattle.std.specs.Prelude.{◌≡◌, ◌↔◌, ◌<◌, pos, ◌≤ℤ◌, IsTrue, if◌then◌else◌};
 ghost use Rattle.std.specs.List.{AllByRecursion};
 ghost use Rattle.ts_core.specs.Answers.{at_least_none};
@@ -9,14 +9,14 @@ use std::alloc::Allocator;
 use ts_core::{Marks, Rule, Settings, index_of};
 use ts_ql::Query;
 
-/// A number, or 0 where it is below.
+/// Returns the number, or 0 if it is negative.
 fn at_least_none(number: i128) -> u128
     ensures { result ≡ at_least_none number }
 {
     if number < 0 { 0 } else { number.unsigned_abs() }
 }
 
-/// The number of whole buckets of a rule from one moment on, and before another.
+/// Returns the number of the rule's whole buckets in the range from `from`, inclusive, to `to`, exclusive.
 fn whole_between<A: Allocator>(rule: &Rule<A>, from: i64, to: i64) -> u128
     requires { pos 1 ≤ℤ rule.now.interval }
     ensures { result ≡ whole_between rule.now from to }
@@ -26,7 +26,7 @@ fn whole_between<A: Allocator>(rule: &Rule<A>, from: i64, to: i64) -> u128
     at_least_none(last - first - 1)
 }
 
-/// The number of whole buckets of a rule in a query's range, 0 where it is of another measurement.
+/// Returns the number of the rule's whole buckets in the query's range, or 0 if the rule is of another measurement.
 fn whole_buckets_of<A: Allocator>(rule: &Rule<A>, query: &Query<A>) -> u128
     requires { pos 1 ≤ℤ rule.now.interval }
     ensures { result ≡ (if same_text rule.now.measurement query.now.query.measurement then whole_between rule.now query.now.query.from query.now.query.to else 0) }
@@ -38,7 +38,7 @@ fn whole_buckets_of<A: Allocator>(rule: &Rule<A>, query: &Query<A>) -> u128
     }
 }
 
-/// Whether rules have more than so many whole buckets in a query's range.
+/// Returns true if the rules have more than `limit` whole buckets in the query's range.
 fn have_more_than<A: Allocator>(limit: u128, rules: &[Rule<A>], query: &Query<A>) -> bool
     requires { AllByRecursion (λ r. pos 1 ≤ℤ r.interval) rules.now }
     ensures { IsTrue result ↔ (limit < whole_buckets rules.now query.now.query) }
@@ -52,7 +52,7 @@ fn have_more_than<A: Allocator>(limit: u128, rules: &[Rule<A>], query: &Query<A>
     }
 }
 
-/// Whether more than 1,000,000 whole buckets of rules would be searched for the plan of a query.
+/// Returns true if planning the query would search more than 1,000,000 whole buckets of rules.
 pub(crate) fn is_too_many<A: Allocator>(
     settings: &Settings<A>,
     marks: &Marks<A>,

@@ -1,4 +1,4 @@
-//! The walk over the steps that lead to the end, with neighbours joined.
+//! Walks over the steps that reach the end of the range and merges neighbours.
 ghost use Rattle.std.specs.Prelude.{◌≡◌, List, [], ◌++◌, ◌∷◌, IfOk};
 ghost use Rattle.std.specs.List.{AllByRecursion};
 ghost use Rattle.ts_core.specs.Pieces.{Piece as PieceValue};
@@ -12,19 +12,19 @@ use crate::task::Task;
 use std::alloc::{AllocError, Allocator};
 use ts_check::{Piece, PieceSource, divides};
 
-/// A piece that the next bucket may join.
+/// Pending piece, which the next bucket may extend.
 #[derive(Clone, Copy)]
 pub(crate) struct Held {
-    /// The number of its rule.
+    /// Index of the rule.
     rule: usize,
-    /// Whether the buckets of its rule nest in those of the query.
+    /// True if each bucket of the rule is within a bucket of the query.
     nests: bool,
     from: Place,
     to: Place,
 }
 
 impl Held {
-    /// The bucket of a step.
+    /// Creates a pending piece from a single bucket.
     fn of_step<A: Allocator>(task: &Task<'_, A>, step: &Step) -> Held
         requires plannable { IsPlannable task.now }
         requires step { IsStep task.now step.now }
@@ -52,7 +52,7 @@ impl Held {
         }
     }
 
-    /// Whether the bucket of a step joins it: both are of one rule, and what they make together is valid.
+    /// Returns true if the bucket of a step can extend the piece: both are of one rule, and the merged piece is valid.
     fn joins<A: Allocator>(&self, task: &Task<'_, A>, step: &Step) -> bool
         requires plannable { IsPlannable task.now }
         requires held { IsHeldPiece task.now self.now }
@@ -63,7 +63,8 @@ impl Held {
     }
 }
 
-/// The piece that is held once a step follows it.
+/// Extends the pending piece by the bucket of a step, or appends the pending piece to `pieces` and starts a new one.
+/// Returns the piece that is now pending.
 fn follow<'a, A: Allocator>(
     task: &Task<'a, A>,
     pieces: &mut Vec<Piece<'a>, A>,
@@ -92,7 +93,7 @@ fn follow<'a, A: Allocator>(
     }
 }
 
-/// Adds the piece that is held, if there is one.
+/// Appends the pending piece, if there is one.
 fn push_held<'a, A: Allocator>(
     task: &Task<'a, A>,
     pieces: &mut Vec<Piece<'a>, A>,
@@ -107,7 +108,7 @@ fn push_held<'a, A: Allocator>(
     Ok(())
 }
 
-/// Ends the walk at a place: there, or by the raw rest.
+/// Appends the pending piece and, if the walk ended before the end of the range, a piece of raw points.
 fn end_walk<'a, A: Allocator>(
     task: &Task<'a, A>,
     pieces: &mut Vec<Piece<'a>, A>,
@@ -130,7 +131,8 @@ fn end_walk<'a, A: Allocator>(
     Ok(())
 }
 
-/// The walk over the steps that lead to the end, with neighbours joined.
+/// Walks from the start of the range to its end or the raw mark; returns the pieces, with neighbours merged. Expects
+/// only steps from which the end is reachable.
 pub(crate) fn walk<'a, A: Allocator + Copy>(
     alloc: A,
     task: &Task<'a, A>,
