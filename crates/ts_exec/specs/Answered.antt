@@ -1,4 +1,4 @@
--- An answer beside the query that it answers. (InfluxData 1.8, InfluxQL: the GROUP BY clause.)
+-- An answer together with its query. (InfluxData 1.8, InfluxQL: the GROUP BY clause.)
 use Rattle.std.specs.Prelude.{◌≡◌, ℕ, List, length}
 use Rattle.ts_core.specs.Facts.{Text}
 use Rattle.ts_core.specs.Aggregates.{Aggregate}
@@ -9,6 +9,6 @@ pub record Answered : Type 0 where
   pub select : Select
   pub groups : List Group
 
--- a group has that many rows
+-- a group has n rows
 abbrev pub HasRows : ℕ → List Text × List Aggregate → Type 0
 HasRows n group = length group.1 ≡ n

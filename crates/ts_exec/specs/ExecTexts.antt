@@ -1,4 +1,4 @@
--- The texts of an execution's faults. (Own rule.)
+-- Messages of the errors of an execution. (Own rule.)
 use Rattle.ts_core.specs.Facts.{Text}
 use Rattle.ts_core.specs.FaultTexts.{fault_text, memory_text}
 use Rattle.ts_core.specs.declared.fault_code.FaultCode.TheVariants as code

@@ -1,4 +1,4 @@
--- What an execution of a checked plan answers. (Own rules.)
+-- Results of executing a checked plan. (Own rules.)
 use Rattle.std.specs.Prelude.{◌≡◌, ℕ, min, length, filter, Result, Ok, Err}
 use Rattle.ts_core.specs.Answers.{answer_of}
 use Rattle.ts_core.specs.History.{History}
@@ -13,29 +13,30 @@ use Rattle.ts_exec.specs.Answered.{Answered}
 use Rattle.ts_exec.specs.GroupTables.{given}
 use Rattle.ts_exec.specs.Shares.{points_of_shares, pieces_shares}
 
--- a view has the settings and marks that a plan was checked for
+-- the view has the settings and marks that the plan was checked under
 pub record IsFresh (seen : Seen) (p : Plan) : Type 0 where
   pub settings : seen.settings ≡ p.settings
   pub marks : seen.marks ≡ p.marks
 
--- what a plan gives of a view: of one that shows a history, the answer over all points ever accepted
+-- the answer of a plan over a view; if the view shows a history, this is the answer over all points ever accepted
 pub record IsAnswer (seen : Seen) (p : Plan) (a : Answered) : Type 0 where
   pub select : a.select ≡ p.select
   pub exact : a.groups ≡ given seen p.select.query p.pieces
   pub answer : (opening : Settings) (h : History) → Shows opening h seen → a.groups ≡ answer_of (latest_of h) p.select.query
 
--- how many points a plan gives of a view: of one that shows a history, just those of all points ever accepted that match the query
+-- the number of a plan's points over a view; if the view shows a history, of all points ever accepted that match the
+-- query
 pub record IsPointCount (seen : Seen) (p : Plan) (n : ℕ) : Type 0 where
   pub exact : n ≡ min (points_of_shares (pieces_shares seen p.select.query p.pieces)) 18446744073709551615
   pub answer : (opening : Settings) (h : History) → Shows opening h seen → n ≡ length (filter (matches p.select.query) (latest_of h))
 
--- the answer; or that the plan is stale, just where the view has other settings or marks, which it answers; or that memory ran out
+-- the answer; or `Stale`, with the view's settings and marks, exactly if these aren't the plan's; or out of memory
 abbrev pub IsExecutionOf : {A : Type 0} → Seen → Plan → Result Answered (ExecFault A) → Type 0
 IsExecutionOf seen p (Ok answered) = IsFresh seen p × IsAnswer seen p answered
 IsExecutionOf seen p (Err (errors.Stale settings marks)) = (settings.now ≡ seen.settings) × (marks.now ≡ seen.marks) × (IsFresh seen p → ⊥)
 IsExecutionOf seen p (Err errors.OutOfMemory) = IsFresh seen p
 
--- the same of a count, which takes no memory
+-- the same for a count, which never runs out of memory
 abbrev pub IsCountOf : {A : Type 0} → Seen → Plan → Result ℕ (ExecFault A) → Type 0
 IsCountOf seen p (Ok n) = IsFresh seen p × IsPointCount seen p n
 IsCountOf seen p (Err (errors.Stale settings marks)) = (settings.now ≡ seen.settings) × (marks.now ≡ seen.marks) × (IsFresh seen p → ⊥)

@@ -1,5 +1,5 @@
--- A filled answer beside its query, and what its rows show.
--- (InfluxData 1.8, InfluxQL: GROUP BY time intervals and fill(). Own rule: rows as they are given one by one.)
+-- A filled answer with its query, and the content of its rows.
+-- (InfluxData 1.8, InfluxQL: GROUP BY time intervals and fill(). Own rule: rows as they are iterated.)
 use Rattle.std.specs.Prelude.{◌^◌, ℤ, pos, neg_ℤ, ◌+ℤ◌, ◌≤ℤ◌, FitsSigned, List, [], ◌∷◌, map, filter, Option, Some, None, if◌then◌else◌}
 use Rattle.std.specs.Int.{w128}
 use Rattle.std.specs.List.{AllByRecursion}
@@ -26,28 +26,28 @@ pub record FilledAnswer : Type 0 where
 abbrev pub functions_of : List Projection → List Function
 functions_of columns = map (λ (p : Projection). p.function) columns
 
--- an answer whose buckets without data are filled
+-- an answer with its empty buckets filled
 abbrev pub filled_answer : Fill → Answered → FilledAnswer
 filled_answer fill a = record { select = a.select; groups = filled fill (functions_of a.select.columns) a.groups }
 
 -- ---- rows
 
--- rows of buckets that follow one another, the first of which begins at `start`
+-- rows of consecutive buckets; the first begins at `start`
 abbrev pub rows_at : ℤ → ℤ → List Aggregate → List Row
 rows_at interval start [] = []
 rows_at interval start (a ∷ more) = record { start = start; aggregate = a } ∷ rows_at interval (start +ℤ interval) more
 
--- each bucket's end has 128 bits
+-- the end of each bucket fits in 128 bits
 abbrev pub EndsFit : ℤ → List Row → Type 0
 EndsFit interval rows = AllByRecursion (λ (r : Row). FitsSigned w128 (r.start +ℤ interval)) rows
 
--- buckets of that interval, of which the first begins there, are near the times that there are
+-- buckets of this interval from `start` on are close to the valid times
 pub record AreNear (start interval : ℤ) : Type 0 where
   pub least : neg_ℤ (pos (2 ^ 64)) ≤ℤ start
   pub most : start ≤ℤ pos (2 ^ 63)
   pub forward : pos 0 ≤ℤ interval
 
--- a group whose rows are of such buckets, filled
+-- a group with such rows, filled
 abbrev pub group_at : Fill → List Function → ℤ → ℤ → List Text × List Aggregate → FilledGroup
 group_at fill fs interval start g = record { values = g.0; rows = filled_rows fill fs (rows_at interval start g.1) }
 
@@ -61,7 +61,7 @@ shown_value Nothing f = Null
 abbrev pub shown_row : Shown → List Function → ℤ → FilledRow
 shown_row s fs start = record { start = start; values = map (shown_value s) fs }
 
--- what a row shows that has this data, where `latest` is the last data up to it
+-- content of a row with data `own`; `latest` is the last data up to this row
 abbrev pub shown_by : Fill → Option Aggregate → Aggregate → Shown
 shown_by NullFill latest own = Data own
 shown_by NoneFill latest own = Data own
@@ -69,16 +69,16 @@ shown_by PreviousFill None own = Nothing
 shown_by PreviousFill (Some a) own = Data a
 shown_by (NumberFill n) latest own = if is_empty own then Number n else Data own
 
--- ---- rows one by one
+-- ---- iteration over rows
 
--- the rows that are shown at all
+-- the rows that the fill option shows
 abbrev pub shown_rows : Fill → List Row → List Row
 shown_rows NullFill rows = rows
 shown_rows NoneFill rows = filter has_data rows
 shown_rows PreviousFill rows = rows
 shown_rows (NumberFill n) rows = rows
 
--- each of them, filled, where `earlier` is the last data before the first
+-- the rows, filled; `earlier` is the last data before the first
 abbrev pub rows_behind : Fill → List Function → Option Aggregate → List Row → List FilledRow
 rows_behind fill fs earlier [] = []
 rows_behind fill fs earlier (r ∷ rows) = shown_row (shown_by fill (last_data earlier r) r.aggregate) fs r.start ∷ rows_behind fill fs (last_data earlier r) rows

@@ -1,4 +1,4 @@
--- Groups with their rows, in byte order of their values, and how they take points and cells one after another. (Own rules.)
+-- Groups with their rows, in byte order of their values, and how points and cells are added to them. (Own rules.)
 use Rattle.std.specs.Prelude.{◌≡◌, ℕ, ℤ, pos, ◌+ℤ◌, ◌*ℤ◌, ◌==◌, Bool, not, ◌&&◌, T, List, [], ◌∷◌, map, length, replicate, Option, Some, None, if◌then◌else◌}
 use Rattle.std.specs.List.{list_all}
 use Rattle.std.specs.FinMap.{find, put, is_sorted}
@@ -17,7 +17,7 @@ use Rattle.ts_core.specs.Assembly.{stand_in, rule_shown}
 use Rattle.ts_store.specs.Seats.{Seat, seats_where, points_at, CellTotal, cells_within}
 use Rattle.ts_exec.specs.RowParts.{BucketGrid, bucket_grid, place_at, with_part, with_point_parts}
 
--- groups, each with its rows
+-- groups with their rows
 abbrev pub Table : Type 0
 Table = List (List Text × List Aggregate)
 
@@ -30,15 +30,15 @@ abbrev pub rows_or : ℕ → Option (List Aggregate) → List Aggregate
 rows_or n None = replicate n empty_aggregate
 rows_or n (Some rows) = rows
 
--- the rows of a group: n empty ones where it isn't there yet
+-- the rows of a group, or n empty ones if it isn't in the table
 abbrev pub rows_for : ℕ → List Text → Table → List Aggregate
 rows_for n g t = rows_or n (find group_cmp g t)
 
--- a group with a part more, made where it isn't there yet
+-- merges a part into a group, inserting the group if needed
 abbrev pub with_cell_part : ℕ → List Text → ℕ → Aggregate → Table → Table
 with_cell_part n g i a t = put group_cmp g (with_part i a (rows_for n g t)) t
 
--- a group with points more; no points make no group
+-- adds points to a group, inserting it if needed; without points, inserts no group
 abbrev pub with_column_parts : BucketGrid → ℕ → List Text → List (ℤ × ℤ) → Table → Table
 with_column_parts grid n g [] t = t
 with_column_parts grid n g (p ∷ ps) t = put group_cmp g (with_point_parts grid (p ∷ ps) (rows_for n g t)) t
@@ -48,7 +48,7 @@ with_column_parts grid n g (p ∷ ps) t = put group_cmp g (with_point_parts grid
 abbrev pub width : Query → ℕ
 width q = length (buckets_in q)
 
--- how many buckets a query has, and how they are counted
+-- the number of a query's buckets, and its bucket grid
 pub record AreBucketsOf (q : Query) (n : ℕ) (g : BucketGrid) : Type 0 where
   pub width : n ≡ width q
   pub grid : g ≡ bucket_grid q
@@ -65,7 +65,7 @@ with_seats q cs a b (s ∷ ss) t = with_seats q cs a b ss (with_seat q cs a b s 
 
 -- ---- a piece of cells
 
--- a cell that has data and that the query asks for
+-- a cell that has data and matches the query
 abbrev pub is_cell_taken : Query → Rule → ℤ → ℤ → CellTotal → Bool
 is_cell_taken q r a b c = (matches q (stand_in r c.cell) && is_within a b (start_of r c.cell.index)) && not (c.total.count == 0)
 
@@ -105,6 +105,6 @@ group_on g e = record { values = e.0; rows = rows_from g (bucket_of g.from g.int
 abbrev pub group_with : Query → List Text × List Aggregate → Group
 group_with q e = group_on (bucket_grid q) e
 
--- what is given of a view
+-- the groups that a plan gives over a view
 abbrev pub given : Seen → Query → List Piece → List Group
 given seen q ps = map (group_with q) (with_pieces seen q ps [])

@@ -1,4 +1,4 @@
--- What is lent, by its values. (Own rule.)
+-- Values of borrowed texts. (Own rule.)
 use Rattle.std.specs.Prelude.{List, map}
 use Rattle.std.specs.Borrow.{Bor}
 

@@ -1,4 +1,4 @@
--- what public contracts and laws cite
+-- cited by public contracts and laws
 pub mod RowParts
 pub mod GroupTables
 pub mod Shares
@@ -7,7 +7,7 @@ pub mod Answered
 pub mod ExecTexts
 pub mod Executions
 pub mod Fillings
--- what only models and proofs of the code need
+-- used only by models and proofs of the code
 pub mod Slots
 pub mod Searches
 pub mod FirstOf

@@ -1,4 +1,4 @@
--- Where a group is among others, or where it would go. (Own rule.)
+-- Binary search for a group. (Own rule.)
 use Rattle.std.specs.Prelude.{◌≡◌, ◌<◌, ℕ, List, Option, Result, MatchResult, length}
 use Rattle.std.specs.declared.cmp.Ordering.TheVariants.{Less, Equal, Greater}
 use Rattle.std.specs.List.{HoldsAt}
@@ -13,7 +13,7 @@ IsPlaceOfGroup g slots place =
     MatchResult place (HoldsAt (λ (e : List Text × Option (List Aggregate)). group_cmp e.0 g ≡ Equal) slots)
     (IsPartitionPoint (λ (e : List Text × Option (List Aggregate)). group_cmp e.0 g ≡ Less) (λ (e : List Text × Option (List Aggregate)). group_cmp e.0 g ≡ Greater) slots)
 
--- the group stands at i
+-- slot i has the group
 pub record HoldsGroup (g : List Text) (slots : Slots) (i : ℕ) : Type 0 where
   pub within : i < length slots
   pub is : HoldsAt (λ (e : List Text × Option (List Aggregate)). group_cmp e.0 g ≡ Equal) slots i

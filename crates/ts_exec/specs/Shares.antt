@@ -1,4 +1,4 @@
--- What pieces give, share by share: a part for a bucket of a group. (Own rules.)
+-- Contributions of pieces to buckets of groups. (Own rules.)
 use Rattle.std.specs.Prelude.{ℕ, ◌+◌, ◌==◌, ℤ, Bool, ◌&&◌, List, [], ◌∷◌, ◌++◌, map, filter, Option, Some, None, if◌then◌else◌}
 use Rattle.std.specs.List.{list_all}
 use Rattle.ts_core.specs.Facts.{Text, is_of}
@@ -32,16 +32,16 @@ with_shares n (s ∷ ss) t = with_shares n ss (with_cell_part n s.group s.place 
 abbrev pub is_share : List Text → ℕ → Share → Bool
 is_share g j s = same_group g s.group && (s.place == j)
 
--- what the shares of a bucket of a group add up to
+-- the merged contributions to bucket j of group g
 abbrev pub total_at : List Text → ℕ → List Share → Aggregate
 total_at g j ss = fold_by empty_aggregate merged (λ (s : Share). s.part) (filter (is_share g j) ss)
 
--- how many points are in them
+-- the number of points in the contributions
 abbrev pub points_of_shares : List Share → ℕ
 points_of_shares [] = 0
 points_of_shares (s ∷ ss) = s.part.count + points_of_shares ss
 
--- ---- of points and cells
+-- ---- contributions of points and cells
 
 abbrev pub point_share : BucketGrid → List Text → ℤ × ℤ → Share
 point_share grid g p = record { group = g; place = place_at grid p.0; part = aggregate_of_one p.0 p.1 }

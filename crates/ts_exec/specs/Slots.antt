@@ -1,4 +1,4 @@
--- Groups that are expected, in byte order of their values, each with its rows once it has data. (Own rules.)
+-- Slots of the group table in byte order of their values, each with rows if its group has data. (Own rules.)
 use Rattle.std.specs.Prelude.{T, List, [], ◌∷◌, Option, Some, None}
 use Rattle.std.specs.FinMap.{is_sorted}
 use Rattle.ts_core.specs.Facts.{Text}
@@ -12,7 +12,7 @@ Slots = List (List Text × Option (List Aggregate))
 abbrev pub AreSlots : Slots → Type 0
 AreSlots slots = T (is_sorted group_cmp slots)
 
--- a group before others, if it has data
+-- prepends a group, if it has data
 abbrev pub with_made : List Text → Option (List Aggregate) → Table → Table
 with_made g None t = t
 with_made g (Some rows) t = (g, rows) ∷ t

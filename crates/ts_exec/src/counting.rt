@@ -1,4 +1,4 @@
-//! How many points a checked plan asks for, which walks over cells and columns, but over no raw points.
+//! Counts the points that a checked plan asks for, without visiting raw points.
 ghost use Rattle.std.specs.Prelude.{◌≡◌, ◌<◌, pos, ◌≤ℤ◌, true, length, min, map, filter, if◌then◌else◌};
 ghost use Rattle.ts_core.specs.Facts.{is_within};
 ghost use Rattle.ts_core.specs.Marks.{index_of};
@@ -17,7 +17,7 @@ use ts_core::{Partial, Rule, bucket_index};
 use ts_ql::Query;
 use ts_store::{CellSeen, View};
 
-/// How many raw points a query asks for from a time on and before another.
+/// Returns the number of raw points that match a query from `from`, inclusive, to `to`, exclusive.
 fn raw_points<A: Allocator + Copy, V: View<A>>(
     view: &V,
     query: &Query<A>,
@@ -36,7 +36,7 @@ fn raw_points<A: Allocator + Copy, V: View<A>>(
     count
 }
 
-/// How many points a query asks for of a cell of a walk.
+/// Returns the number of points of a cell, or 0 if the query doesn't match it.
 fn cell_points<A: Allocator + Copy>(
     rule: &Rule<A>,
     query: &Query<A>,
@@ -56,7 +56,7 @@ fn cell_points<A: Allocator + Copy>(
     }
 }
 
-/// How many points of a rule's cells a query asks for from a time on and before another.
+/// Returns the number of points in the cells of a rule that match a query from `from`, inclusive, to `to`, exclusive.
 fn rollup_points<A: Allocator + Copy, V: View<A>>(
     view: &V,
     query: &Query<A>,
@@ -78,7 +78,7 @@ fn rollup_points<A: Allocator + Copy, V: View<A>>(
     count
 }
 
-/// How many points of a piece a query asks for.
+/// Returns the number of points of a piece that match a query.
 fn piece_points<A: Allocator + Copy, V: View<A>>(
     view: &V,
     query: &Query<A>,
@@ -97,7 +97,7 @@ fn piece_points<A: Allocator + Copy, V: View<A>>(
     }
 }
 
-/// How many points of pieces a query asks for.
+/// Returns the number of points of all pieces that match a query.
 fn pieces_points<A: Allocator + Copy, V: View<A>>(
     view: &V,
     query: &Query<A>,
@@ -112,9 +112,10 @@ fn pieces_points<A: Allocator + Copy, V: View<A>>(
     count
 }
 
-/// How many points a checked plan's query asks for, in all groups and buckets together. Where the view shows a
-/// history, this counts all points ever accepted. It takes a search in each column for its raw points, however
-/// many they are, and a walk over the cells of rules.
+/// Returns the number of points that match a checked plan's query, in all groups and buckets. If the view shows a
+/// history, these are all matching points ever accepted. (Sums are capped at `u64::MAX`, which no history reaches.)
+/// Does not allocate. Takes one search per column, however many raw points it has, and a walk over the cells of rules.
+/// Fails with `Stale` as `execute` does.
 pub fn count_points<'a, A: Allocator + Copy + 'a, V: View<A> + 'a>(
     view: &'a V,
     checked: &Checked<'_, A>,

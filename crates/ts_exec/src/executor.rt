@@ -1,4 +1,4 @@
-//! `execute`: a checked plan over a view gives the answer over all points ever accepted, or is stale.
+//! `execute`: answers a query by a checked plan.
 ghost use Rattle.std.specs.Prelude.{◌≡◌, ◌↔◌, [], IsTrue, IsOk, IfOk};
 ghost use Rattle.std.specs.List.{AllByRecursion};
 ghost use Rattle.ts_core.specs.Queries.{IsQuery};
@@ -15,7 +15,7 @@ use ts_check::{Checked, Piece};
 use ts_ql::Query;
 use ts_store::View;
 
-/// The groups that pieces give of a view, with their rows.
+/// Returns the groups that the pieces of a plan give, with their rows.
 fn groups_given<'a, A: Allocator + Copy + 'a, V: View<A> + 'a>(
     alloc: A,
     view: &'a V,
@@ -32,16 +32,16 @@ fn groups_given<'a, A: Allocator + Copy + 'a, V: View<A> + 'a>(
     groups.into_groups()
 }
 
-/// Whether a view has the settings and marks that a plan was checked for.
+/// Returns true if the view has the settings and marks that the plan was checked under.
 pub(crate) fn is_fresh<A: Allocator, V: View<A>>(view: &V, checked: &Checked<'_, A>) -> bool
     ensures { IsTrue result ↔ IsFresh (V.seen view.now) checked.now }
 {
     view.settings().is(checked.settings()) && view.marks().is(checked.marks())
 }
 
-/// Executes a checked plan over a view. Where the view shows a history, this gives the answer over all points
-/// ever accepted; a count past 2^62, which no history has, leaves out what would exceed it. That a plan is
-/// stale is found before memory is taken.
+/// Executes a checked plan over a view. If the view shows a history, the result is the answer over all points ever
+/// accepted. A part that would raise a row's count above 2^62 is left out, but no history has that many points. Fails
+/// with `Stale`, before anything is allocated, if the plan was checked under other settings or marks.
 pub fn execute<'a, A: Allocator + Copy + 'a, V: View<A> + 'a>(
     alloc: A,
     view: &'a V,

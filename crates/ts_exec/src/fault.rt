@@ -1,4 +1,4 @@
-//! Why a plan wasn't executed.
+//! Errors of an execution, with their messages.
 ghost use Rattle.std.specs.Prelude.{◌≡◌};
 ghost use Rattle.ts_core.specs.FaultTexts.{IsAppended};
 ghost use Rattle.ts_exec.specs.ExecTexts.{exec_fault_text};
@@ -9,13 +9,13 @@ use std::fmt;
 use thiserror::Error;
 use ts_core::{FaultCode, FaultDetail, Marks, Settings};
 
-/// Why a plan wasn't executed.
+/// Error of an execution.
 #[derive(Drop, Error)]
 pub enum ExecFault<'a, A: Allocator> {
-    /// The plan is stale: the settings or marks are these, and not those that it was checked for (number 93).
+    /// Stale plan: the store has these settings and marks, not those that the plan was checked under.
     #[error("a stale plan: the settings or marks are others than it was checked for")]
     Stale(&'a Settings<A>, &'a Marks<A>),
-    /// No memory was found.
+    /// Out of memory.
     #[error("out of memory")]
     OutOfMemory,
 }
@@ -30,7 +30,8 @@ impl<'a, A: Allocator> fmt::Debug for ExecFault<'a, A> {
 }
 
 impl<'a, A: Allocator> ExecFault<'a, A> {
-    /// Appends its text, or a beginning of it out of memory. Where the room is there, it takes none.
+    /// Appends the message to `text`. When out of memory, `text` may end in part of the message. Does not allocate if
+    /// `text` has the capacity.
     #[tactic(auto, unfolding(crate::specs::ExecTexts::exec_fault_text))]
     pub fn text_to<B: Allocator>(&self, text: &mut String<B>) -> Result<(), AllocError>
         ensures { IsAppended (exec_fault_text self.now) text.old text.new result }

@@ -1,4 +1,4 @@
-//! The rows of a filled answer, given one by one. None of it takes memory.
+//! Iterators over the rows of a filled answer. They do not allocate.
 ghost use Rattle.std.specs.Prelude.{◌≡◌, filter};
 ghost use Rattle.std.specs.Iterator.{YieldsFirst, item_count};
 ghost use Rattle.ts_core.specs.Fills.{has_data, last_data, filled_rows};
@@ -9,19 +9,19 @@ use std::marker::Model;
 use ts_core::{Agg, Fill, Function, Partial, Value};
 use ts_ql::Projection;
 
-/// What a row shows.
+/// Content of a row.
 #[derive(Clone, Copy, Debug)]
 pub(crate) enum Shown {
-    /// Data: that of its bucket, or of an earlier one.
+    /// Data of the row's bucket, or of an earlier one.
     Data(Agg),
-    /// A number in place of data.
+    /// Fill number, instead of data.
     Number(i64),
-    /// Nulls, for there is no data yet.
+    /// Nulls, as there is no earlier data.
     Nothing,
 }
 
 impl Shown {
-    /// What a row shows that has this data of its own, where `latest` is the last data up to it.
+    /// Returns the content of a row with data `own`. `latest` is the last data up to this row.
     fn by(fill: Fill, latest: Option<Agg>, own: Agg) -> Shown
         ensures { result ≡ shown_by fill latest own }
     {
@@ -41,7 +41,7 @@ impl Shown {
         }
     }
 
-    /// The value of a column.
+    /// Returns the value of a column with this function.
     fn value(&self, function: Function) -> Value
         ensures { result ≡ shown_value self.now function }
     {
@@ -53,7 +53,7 @@ impl Shown {
     }
 }
 
-/// The values of a row that are left to give, one for each column, seen as the list of them.
+/// Iterator over the values of a row, one per column. Its model is the list of those that remain.
 #[derive(Drop)]
 pub struct Values<'a, A: Allocator> {
     shown: Shown,
@@ -84,7 +84,7 @@ impl<'a, A: Allocator> Iterator for Values<'a, A> {
     }
 }
 
-/// A row of a filled answer.
+/// Row of a filled answer.
 #[derive(Drop)]
 pub struct FilledRow<'a, A: Allocator> {
     start: i128,
@@ -102,14 +102,14 @@ impl<'a, A: Allocator> Model for FilledRow<'a, A> {
 }
 
 impl<'a, A: Allocator> FilledRow<'a, A> {
-    /// When its bucket begins, in nanoseconds of the Unix epoch.
+    /// Returns the start of the row's bucket, in nanoseconds of the Unix epoch.
     pub fn start(&self) -> i128
         ensures { result ≡ self.now.start }
     {
         self.start
     }
 
-    /// Its values, one for each column of the query, in their order.
+    /// Returns the values, one per column of the query.
     pub fn values(&self) -> Values<'a, A>
         ensures { result ≡ self.now.values }
     {
@@ -143,7 +143,7 @@ impl BucketRow {
     }
 }
 
-/// Buckets that are left to give, each right behind the one before, seen as the list of their rows.
+/// Iterator over consecutive buckets. Its model is the list of those that remain.
 #[derive(Drop)]
 pub(crate) struct BucketRows<'a> {
     start: i128,
@@ -164,7 +164,7 @@ impl<'a> Model for BucketRows<'a> {
 }
 
 impl<'a> BucketRows<'a> {
-    /// Rows of these aggregates, the first of a bucket that begins at `start`.
+    /// Creates the rows of these aggregates; the bucket of the first begins at `start`.
     pub(crate) fn new(start: i128, interval: i64, aggregates: &'a [Agg]) -> BucketRows<'a>
         requires { EndsFit interval (rows_at interval start aggregates.now) }
         ensures { result ≡ rows_at interval start aggregates.now }
@@ -196,7 +196,7 @@ impl Iterator for BucketRows<'_> {
     }
 }
 
-/// The first row with data; those before it are left out.
+/// Returns the next row with data, skipping those without.
 fn next_with_data(rows: &mut BucketRows<'_>) -> Option<BucketRow>
     ensures { YieldsFirst (filter has_data) rows.old result rows.new }
 {
@@ -208,7 +208,7 @@ fn next_with_data(rows: &mut BucketRows<'_>) -> Option<BucketRow>
     None
 }
 
-/// The next row that is shown at all.
+/// Returns the next row that the fill option shows.
 fn next_shown(rows: &mut BucketRows<'_>, fill: Fill) -> Option<BucketRow>
     ensures { YieldsFirst (shown_rows fill) rows.old result rows.new }
 {
@@ -218,7 +218,7 @@ fn next_shown(rows: &mut BucketRows<'_>, fill: Fill) -> Option<BucketRow>
     }
 }
 
-/// The last data up to a row, where there is one.
+/// Returns the data of the row, or else the earlier data.
 fn last_data(earlier: Option<Agg>, row: &BucketRow) -> Option<Agg>
     ensures { result ≡ last_data earlier row.now }
 {
@@ -229,7 +229,7 @@ fn last_data(earlier: Option<Agg>, row: &BucketRow) -> Option<Agg>
     }
 }
 
-/// The rows of a group that are left to give, filled, seen as the list of them.
+/// Iterator over the filled rows of a group. Its model is the list of those that remain.
 #[derive(Drop)]
 pub struct FilledRows<'a, A: Allocator> {
     rows: BucketRows<'a>,
@@ -249,7 +249,7 @@ impl<'a, A: Allocator> Model for FilledRows<'a, A> {
 }
 
 impl<'a, A: Allocator> FilledRows<'a, A> {
-    /// These rows, filled.
+    /// Fills these rows.
     pub(crate) fn new(
         rows: BucketRows<'a>,
         fill: Fill,

@@ -1,4 +1,4 @@
-//! `fill`: the rows of an answer, with what stands for buckets without data.
+//! `fill`: applies the fill option to the rows of an answer.
 ghost use Rattle.std.specs.Prelude.{◌≡◌, ◌≤ℤ◌, pos};
 ghost use Rattle.std.specs.Iterator.{YieldsFirst, item_count};
 ghost use Rattle.ts_core.specs.Buckets.{bucket_of, bucket_start};
@@ -12,7 +12,7 @@ use std::marker::Model;
 use ts_core::{Fill, bucket_index};
 use ts_ql::{Projection, Query};
 
-/// An answer whose buckets without data are filled, beside its query.
+/// Answer with buckets filled, and its query.
 #[derive(Drop)]
 pub struct Rows<'a, A: Allocator> {
     table: Table<'a, A>,
@@ -27,14 +27,14 @@ impl<'a, A: Allocator> Model for Rows<'a, A> {
     ghost view = { λ r. filled_answer r.fill r.table };
 }
 
-/// Fills the buckets without data. It takes no memory: rows are filled as they are given.
+/// Fills the buckets without data. Does not allocate: rows are filled as they are iterated.
 pub fn fill<'a, A: Allocator>(table: Table<'a, A>, fill: Fill) -> Rows<'a, A>
     ensures { result ≡ filled_answer fill table.entry }
 {
     Rows { table, fill }
 }
 
-/// When the bucket of a time begins.
+/// Returns the start of the bucket that contains a time.
 fn bucket_begin(time: i64, interval: i64, offset: i64) -> i128
     requires { pos 1 ≤ℤ interval }
     ensures value { result ≡ bucket_start (bucket_of time interval offset) interval offset }
@@ -45,14 +45,14 @@ fn bucket_begin(time: i64, interval: i64, offset: i64) -> i128
 }
 
 impl<'a, A: Allocator> Rows<'a, A> {
-    /// The query.
+    /// Returns the query.
     pub fn query(&self) -> &Query<A>
         ensures { result.now ≡ self.now.select }
     {
         self.table.query()
     }
 
-    /// The groups, in byte order of their values.
+    /// Returns an iterator over the groups, in byte order of their tag values.
     pub fn groups(&self) -> FilledGroups<'_, 'a, A>
         ensures { result ≡ self.now.groups }
     {
@@ -68,12 +68,12 @@ impl<'a, A: Allocator> Rows<'a, A> {
     }
 }
 
-/// A group of a filled answer.
+/// Group of a filled answer.
 #[derive(Drop)]
 pub struct FilledGroup<'r, 'a, A: Allocator> {
-    /// The values of the tags that the query groups by, in the order of the tags.
+    /// Values of the tags that the query groups by, in the order of the tags.
     pub values: &'r [&'a str],
-    /// The rows, in the order of time.
+    /// Rows, ordered by time.
     pub rows: FilledRows<'r, A>,
 }
 
@@ -86,7 +86,7 @@ impl<'r, 'a, A: Allocator> Model for FilledGroup<'r, 'a, A> {
     ghost view = { λ g. record { values = lent g.values.now; rows = g.rows } };
 }
 
-/// Groups that are left to give, filled, seen as the list of them.
+/// Iterator over the filled groups. Its model is the list of those that remain.
 #[derive(Drop)]
 pub struct FilledGroups<'r, 'a, A: Allocator> {
     start: i128,

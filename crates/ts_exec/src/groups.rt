@@ -1,4 +1,4 @@
-//! The groups of an answer in byte order of their values, as parts and points are added to them.
+//! Sorted table of the groups of an answer, to which cells and points are added.
 ghost use Rattle.std.specs.Prelude.{◌≡◌, ◌≤◌, true, [], length, Err, OnOk, IfOk};
 ghost use Rattle.std.specs.List.Sorted.{IsSearchInRange};
 ghost use Rattle.ts_exec.specs.Lent.{lent};
@@ -14,7 +14,7 @@ use std::marker::Model;
 use ts_core::Agg;
 use ts_raw::Points;
 
-/// A group: its values of the tags that a query groups by, and a row for each bucket.
+/// A group: the values of its tags, and one row per bucket.
 #[derive(Drop)]
 pub struct GroupRows<'a, A: Allocator> {
     values: Vec<&'a str, A>,
@@ -33,14 +33,14 @@ impl<'a, A: Allocator> Model for GroupRows<'a, A> {
 }
 
 impl<'a, A: Allocator> GroupRows<'a, A> {
-    /// The values of the tags that the query groups by, in the order of the tags.
+    /// Returns the values of the tags that the query groups by, in the order of the tags.
     pub fn values(&self) -> &[&'a str]
         ensures { lent result.now ≡ self.now.0 }
     {
         self.values.as_slice()
     }
 
-    /// Its rows, one for each bucket.
+    /// Returns the rows, one per bucket.
     pub fn rows(&self) -> &[Agg]
         ensures { result.now ≡ self.now.1 }
     {
@@ -48,8 +48,8 @@ impl<'a, A: Allocator> GroupRows<'a, A> {
     }
 }
 
-/// Where a group is, or where it would go. The last one is looked at first: groups that are told in their order are there, or
-/// go behind it.
+/// Binary search for a group. Returns `Ok` with its slot, or `Err` with the slot to insert it at. Tries the last one
+/// first, as groups mostly arrive in order.
 fn place_of<A: Allocator + Copy>(slots: &[Slot<'_, A>], values: &[&str]) -> Result<usize, usize>
     requires { AreSlots slots.now }
     ensures bound { IsSearchInRange result (length slots.now) }
@@ -65,7 +65,7 @@ fn place_of<A: Allocator + Copy>(slots: &[Slot<'_, A>], values: &[&str]) -> Resu
     }
 }
 
-/// Whether the group of a place has these values.
+/// Returns true if the slot `at` has the group with these values.
 fn is_at<A: Allocator + Copy>(slots: &[Slot<'_, A>], at: usize, values: &[&str]) -> bool
     ensures { result ≡ true → HoldsGroup (lent values.now) slots.now at }
 {
@@ -75,7 +75,7 @@ fn is_at<A: Allocator + Copy>(slots: &[Slot<'_, A>], at: usize, values: &[&str])
     }
 }
 
-/// Puts a group without data where it goes.
+/// Inserts an empty group at its slot.
 fn put<'a, A: Allocator + Copy>(
     slots: &mut Vec<Slot<'a, A>, A>,
     at: usize,
@@ -93,8 +93,7 @@ fn put<'a, A: Allocator + Copy>(
     Ok(())
 }
 
-/// Where a group is, from now on. The guess is looked at first; where the group isn't there, it is put in its
-/// place without data.
+/// Returns the group's slot, inserting an empty one if needed. Tries `guess` first.
 fn expect<'a, A: Allocator + Copy>(
     slots: &mut Vec<Slot<'a, A>, A>,
     guess: usize,
@@ -118,10 +117,10 @@ fn expect<'a, A: Allocator + Copy>(
     }
 }
 
-/// Groups in byte order of their values. Some may be only expected: those have no data yet, and don't count.
+/// Groups in byte order of their values. Empty groups may be among them; the model leaves them out.
 #[derive(Drop)]
 pub(crate) struct Groups<'a, A: Allocator> {
-    // The group of the last cell.
+    // Slot of the last cell's group.
     last: usize,
     slots: Vec<Slot<'a, A>, A>,
 }
@@ -138,7 +137,7 @@ impl<'a, A: Allocator> Model for Groups<'a, A> {
 }
 
 impl<'a, A: Allocator + Copy> Groups<'a, A> {
-    /// No groups.
+    /// Creates an empty table.
     pub(crate) fn new(alloc: A) -> Groups<'a, A>
         ensures { result ≡ [] }
     {
@@ -148,7 +147,7 @@ impl<'a, A: Allocator + Copy> Groups<'a, A> {
         }
     }
 
-    /// The groups that have data.
+    /// Returns the groups that have data.
     pub(crate) fn into_groups(self) -> Result<Vec<GroupRows<'a, A>, A>, AllocError>
         ensures { IfOk result (λ v. v.items ≡ self.entry) }
     {
@@ -162,7 +161,7 @@ impl<'a, A: Allocator + Copy> Groups<'a, A> {
         Ok(groups)
     }
 
-    /// Makes room for a group that may get data, and answers where.
+    /// Returns the group's slot, inserting an empty one if needed.
     pub(crate) fn expect(&mut self, values: Vec<&'a str, A>) -> Result<usize, AllocError>
         ensures { self.new ≡ self.old }
     {
@@ -175,7 +174,7 @@ impl<'a, A: Allocator + Copy> Groups<'a, A> {
         }
     }
 
-    /// Adds a part to a bucket of a group.
+    /// Merges a part into the row of a bucket of a group, inserting the group if needed.
     pub(crate) fn add_part(
         &mut self,
         width: usize,
@@ -185,13 +184,13 @@ impl<'a, A: Allocator + Copy> Groups<'a, A> {
     ) -> Result<(), AllocError>
         ensures { OnOk result (self.new ≡ with_cell_part width (lent values.now) place part self.old) }
     {
-        // The groups of cells follow one another in every bucket.
+        // In every bucket, cells come in the order of their groups.
         let at = expect(&mut self.slots, self.last.saturating_add(1), values)?;
         self.last = at;
         self.slots[at].add_part(width, place, part)
     }
 
-    /// Adds points to a group, which is probably where the guess says. No points make no group.
+    /// Adds points to a group, inserting it if needed. Tries the slot `guess` first. Without points, inserts no group.
     pub(crate) fn add_points(
         &mut self,
         guess: usize,

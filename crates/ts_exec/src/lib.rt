@@ -1,24 +1,25 @@
-//! The executor: a checked plan is executed over what is seen of a store, and buckets without data are filled.
-//! It stands on ts_store's `View`, and on ts_check, by which a plan was checked. `execute` is proved to give the
-//! answer to the plan's query over all points ever accepted, whatever history the view shows, or to answer that
-//! the plan is stale; beside that it is refused only out of memory.
+//! Executes checked plans over a view of a store, and fills buckets without data. Depends on ts_store's `View`, on the
+//! plans that ts_check checks, and on ts_core, ts_raw and ts_ql.
 //!
-//! An example, over a store and a plan that was checked for its settings and marks:
+//! Proved: `execute` returns the answer to the plan's query over all points ever accepted, whatever history the view
+//! shows. It returns `Stale` exactly if the plan is stale; its only other error is `OutOfMemory`.
+//!
+//! An example, over a store and a plan that was checked under its settings and marks:
 //!
 //! ```text
 //! let table = execute(alloc, &store, &checked)?;
 //! let rows = fill(table, checked.query().fill());
 //! for group in rows.groups() {
-//!     // group.values are those of the tags that the query groups by, in their order
+//!     // group.values are the values of the tags that the query groups by
 //!     for row in group.rows {
-//!         // row.start() is when its bucket begins, row.values() has a value for each column
+//!         // row.start() is the start of its bucket, row.values() has one value per column
 //!     }
 //! }
 //! ```
 //!
-//! A further aggregate touches nothing here: rows are added up by `Partial` alone, and what a column shows of a row is
-//! said by `Function` in ts_core. A further way to fill, once ts_core's `Fill` has it, touches `filled`, and `shown_by` and
-//! `shown_rows` in specs/Fillings.
+//! To add an aggregate: touch nothing here; `Partial` merges rows, and ts_core's `Function` computes the values of
+//! columns. To add a fill option that ts_core's `Fill` has: touch filled.rt, and `shown_by` and `shown_rows` in
+//! specs/Fillings.antt.
 #![tactic(auto)]
 
 mod buckets;

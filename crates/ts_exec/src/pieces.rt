@@ -1,4 +1,4 @@
-//! The pieces of a plan, each added to the groups.
+//! Adds the pieces of a plan to the groups.
 ghost use Rattle.std.specs.Prelude.{◌≡◌, ◌+◌, ◌^◌, ◌<◌, pos, ◌≤ℤ◌, true, option_map, zip, length, map, string_bytes, OnOk, IfOk};
 ghost use Rattle.std.specs.List.{list_all};
 ghost use Rattle.ts_core.specs.Assembly.{stand_in};
@@ -22,7 +22,8 @@ use ts_core::{Key, Partial, Rule, bucket_index};
 use ts_ql::{Condition, Query};
 use ts_store::{CellSeen, View};
 
-/// What all pieces of a query share, seen as the query: its buckets, and room for the values of one group.
+/// State shared by all pieces of a query: its buckets, and a scratch list for the tag values of a group. Its model is
+/// the query.
 #[derive(Drop)]
 pub(crate) struct Scan<'a, 'q, A: Allocator> {
     query: &'q Query<A>,
@@ -43,7 +44,7 @@ impl<'a, 'q, A: Allocator> Model for Scan<'a, 'q, A> {
 }
 
 impl<'a, 'q, A: Allocator + Copy> Scan<'a, 'q, A> {
-    /// A scan for a query.
+    /// Creates the state for a query.
     pub(crate) fn new(alloc: A, query: &'q Query<A>) -> Result<Scan<'a, 'q, A>, AllocError>
         ensures value { IfOk result (λ s. s ≡ query.now.query) }
         ensures query { IsQuery query.now.query }
@@ -65,14 +66,14 @@ fn is_met<A: Allocator + Copy>(key: &Key<A>, condition: &Condition<A>) -> bool
     if condition.differs() { !same } else { same }
 }
 
-/// Whether every condition holds of a series.
+/// Returns true if a series meets all conditions.
 pub(crate) fn are_met<A: Allocator + Copy>(key: &Key<A>, conditions: &[Condition<A>]) -> bool
     ensures { result ≡ list_all (meets key.now) conditions.now }
 {
     conditions.iter().all(|condition| is_met(key, condition))
 }
 
-/// The values of tags of a series, in place of others.
+/// Replaces `values` by a series' values of these tags.
 fn read_values<'a, A: Allocator + Copy>(
     values: &mut Vec<&'a str, A>,
     key: &'a Key<A>,
@@ -87,8 +88,8 @@ fn read_values<'a, A: Allocator + Copy>(
     Ok(())
 }
 
-/// The first 16 bytes of a text as one number, with zeros behind a shorter text. Where two numbers differ, their texts
-/// stand in the same order.
+/// Packs the first 16 bytes of a text, padded with zeros, into a number that serves as a sort key. If two keys differ,
+/// their texts compare in the same order.
 fn first_bytes(text: &str) -> u128 {
     let mut bytes = [0u8; 16];
     for (place, byte) in bytes.iter_mut().zip(text.bytes()) {
@@ -97,8 +98,8 @@ fn first_bytes(text: &str) -> u128 {
     u128::from_be_bytes(bytes)
 }
 
-/// Announces the groups of the columns that a query selects, in byte order, so that none is put before many others
-/// later. Where each is to come, by its column.
+/// Inserts the groups of all selected columns up front, sorted, so that none is inserted in the middle later. Returns
+/// each column's slot.
 fn expect_groups<'a, A: Allocator + Copy + 'a, V: View<A> + 'a>(
     groups: &mut Groups<'a, A>,
     alloc: A,
@@ -107,7 +108,7 @@ fn expect_groups<'a, A: Allocator + Copy + 'a, V: View<A> + 'a>(
 ) -> Result<Vec<usize, A>, AllocError>
     ensures { groups.new ≡ groups.old }
 {
-    // The first bytes lie at hand, and mostly tell two groups apart.
+    // The sort key decides most comparisons without reading the texts.
     let mut expected: Vec<(u128, Vec<&'a str, A>, usize), A> = Vec::new(alloc);
     for column in view.columns_of(query.measurement(), query.field()) {
         if are_met(column.key, query.conditions()) {
@@ -129,7 +130,7 @@ fn expect_groups<'a, A: Allocator + Copy + 'a, V: View<A> + 'a>(
     Ok(places)
 }
 
-/// Adds the raw points from a time on and before another.
+/// Adds the raw points from `from`, inclusive, to `to`, exclusive, that the query matches.
 fn add_raw<'a, A: Allocator + Copy + 'a, V: View<A> + 'a>(
     groups: &mut Groups<'a, A>,
     scan: &mut Scan<'a, '_, A>,
@@ -155,7 +156,7 @@ fn add_raw<'a, A: Allocator + Copy + 'a, V: View<A> + 'a>(
     Ok(())
 }
 
-/// The value that a cell has of a tag: the empty text, where the rule doesn't keep it.
+/// Returns a cell's value of a tag, or the empty text if the rule doesn't keep the tag.
 fn kept_value<'a, A: Allocator>(kept: &[String<A>], group: &'a [String<A>], tag: &str) -> &'a str
     ensures { result.now ≡ value_among (zip (map string_bytes kept.now) (map string_bytes group.now)) tag.now }
 {
@@ -171,7 +172,7 @@ fn kept_value<'a, A: Allocator>(kept: &[String<A>], group: &'a [String<A>], tag:
     }
 }
 
-/// Whether a condition holds of a cell.
+/// Returns true if a cell meets a condition.
 fn is_met_by<A: Allocator>(rule: &Rule<A>, cell: &CellSeen<'_, A>, condition: &Condition<A>) -> bool
     ensures { result ≡ meets (stand_in rule.now cell.now.cell).column.series condition.now }
 {
@@ -179,7 +180,7 @@ fn is_met_by<A: Allocator>(rule: &Rule<A>, cell: &CellSeen<'_, A>, condition: &C
     if condition.differs() { !same } else { same }
 }
 
-/// Whether every condition holds of a cell.
+/// Returns true if a cell meets all conditions.
 fn are_met_by<A: Allocator>(
     rule: &Rule<A>,
     cell: &CellSeen<'_, A>,
@@ -192,14 +193,14 @@ fn are_met_by<A: Allocator>(
         .all(|condition| is_met_by(rule, cell, condition))
 }
 
-/// Whether a moment lies from one on and before another.
+/// Returns true if a time is in the range from `from`, inclusive, to `to`, exclusive.
 fn is_within(from: i64, to: i64, moment: &i128) -> bool
     ensures { result ≡ is_within from to moment.now }
 {
     i128::from(from) <= *moment && *moment < i128::from(to)
 }
 
-/// Whether a cell is of a series and a field that are asked for.
+/// Returns true if the query matches the series and field of a cell.
 fn is_selected<A: Allocator>(rule: &Rule<A>, query: &Query<A>, cell: &CellSeen<'_, A>) -> bool
     ensures { result ≡ is_selected query.now.query (stand_in rule.now cell.now.cell).column }
 {
@@ -208,7 +209,8 @@ fn is_selected<A: Allocator>(rule: &Rule<A>, query: &Query<A>, cell: &CellSeen<'
         && are_met_by(rule, cell, query.conditions())
 }
 
-/// Whether a cell that starts at a moment has data and is asked for.
+/// Returns true if a cell has data, matches the query, and starts within the range from `from` to `to` and the query's
+/// range.
 pub(crate) fn is_taken<A: Allocator>(
     rule: &Rule<A>,
     query: &Query<A>,
@@ -232,7 +234,7 @@ pub(crate) fn is_taken<A: Allocator>(
     cell.total.count() != 0
 }
 
-/// The values that a cell has of tags, in place of others.
+/// Replaces `values` by a cell's values of these tags.
 fn read_kept_values<'a, A: Allocator + Copy>(
     values: &mut Vec<&'a str, A>,
     kept: &[String<A>],
@@ -248,7 +250,8 @@ fn read_kept_values<'a, A: Allocator + Copy>(
     Ok(())
 }
 
-/// Where the bucket of an index starts, of those that a walk from one moment on and before another gives.
+/// Returns the start of the bucket with this index, in nanoseconds of the Unix epoch. The bucket must be one of those
+/// between the buckets of `from`, inclusive, and `to`, exclusive.
 pub(crate) fn bucket_start<A: Allocator>(rule: &Rule<A>, from: i64, to: i64, index: &i128) -> i128
     requires interval { pos 1 ≤ℤ rule.now.interval }
     requires within { is_within (index_of rule.now from) (index_of rule.now to) index.now ≡ true }
@@ -259,7 +262,7 @@ pub(crate) fn bucket_start<A: Allocator>(rule: &Rule<A>, from: i64, to: i64, ind
     *index * interval + offset
 }
 
-/// Adds a cell of a walk, where it is asked for.
+/// Adds a cell, if the query matches it.
 fn add_cell<'a, A: Allocator + Copy>(
     groups: &mut Groups<'a, A>,
     scan: &mut Scan<'a, '_, A>,
@@ -288,7 +291,7 @@ fn add_cell<'a, A: Allocator + Copy>(
     groups.add_part(scan.width, &scan.values, place, cell.total)
 }
 
-/// Adds the cells of a rule from a time on and before another.
+/// Adds the cells of a rule from `from`, inclusive, to `to`, exclusive, that the query matches.
 fn add_cells<'a, A: Allocator + Copy + 'a, V: View<A> + 'a>(
     groups: &mut Groups<'a, A>,
     scan: &mut Scan<'a, '_, A>,
@@ -311,7 +314,7 @@ fn add_cells<'a, A: Allocator + Copy + 'a, V: View<A> + 'a>(
     Ok(())
 }
 
-/// The first rule of a name, with its number, counted from one on.
+/// Returns the first rule of this name with its index, counting from `number`.
 pub(crate) fn rule_from<'a, A: Allocator>(
     number: usize,
     rules: &'a [Rule<A>],
@@ -328,7 +331,7 @@ pub(crate) fn rule_from<'a, A: Allocator>(
     }
 }
 
-/// Adds what a piece gives.
+/// Adds the data of a piece.
 fn add_piece<'a, A: Allocator + Copy + 'a, V: View<A> + 'a>(
     groups: &mut Groups<'a, A>,
     scan: &mut Scan<'a, '_, A>,
@@ -349,7 +352,7 @@ fn add_piece<'a, A: Allocator + Copy + 'a, V: View<A> + 'a>(
     }
 }
 
-/// Adds what the pieces give.
+/// Adds the data of all pieces.
 pub(crate) fn add_pieces<'a, A: Allocator + Copy + 'a, V: View<A> + 'a>(
     groups: &mut Groups<'a, A>,
     scan: &mut Scan<'a, '_, A>,

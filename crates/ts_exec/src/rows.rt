@@ -1,4 +1,4 @@
-//! The rows of a group: points and parts are added to the rows of their buckets.
+//! Adds points and parts to the rows of a group.
 ghost use Rattle.std.specs.Prelude.{◌≡◌, ◌∷◌, length, get_or, set};
 ghost use Rattle.ts_core.specs.Aggregates.{empty_aggregate};
 ghost use Rattle.ts_exec.specs.RowParts.{added, with_part, with_point_parts};
@@ -7,10 +7,10 @@ use crate::buckets::Buckets;
 use ts_core::{Agg, Partial, Time};
 use ts_raw::Points;
 
-/// How many points an aggregate has at most: 2^62.
+/// Limit on the points of an aggregate: 2^62.
 const POINT_LIMIT: u64 = 4_611_686_018_427_387_904;
 
-/// Both merged, or the first where they have more than 2^62 points together.
+/// Merges both, or returns the row alone if they have more than 2^62 points together.
 fn added(row: Agg, part: Agg) -> Agg
     ensures { result ≡ added row part }
 {
@@ -21,7 +21,7 @@ fn added(row: Agg, part: Agg) -> Agg
     }
 }
 
-/// Adds a part to the row of that place, if there is one.
+/// Merges a part into the row with this index, if there is one.
 pub(crate) fn add_part(rows: &mut [Agg], place: usize, part: Agg)
     ensures { rows.new ≡ with_part place part rows.old }
 {
@@ -30,14 +30,14 @@ pub(crate) fn add_part(rows: &mut [Agg], place: usize, part: Agg)
     }
 }
 
-/// A row that is held aside while points of its bucket come, with its place.
+/// Cached row with its index, for runs of points in one bucket.
 #[derive(Clone, Copy, Debug)]
 struct Held {
     place: usize,
     row: Agg,
 }
 
-/// The row of that place, or an empty one.
+/// Returns the row with this index, or an empty one.
 fn row_at(rows: &[Agg], place: usize) -> Agg
     ensures { result ≡ get_or rows.now place empty_aggregate }
 {
@@ -47,7 +47,7 @@ fn row_at(rows: &[Agg], place: usize) -> Agg
     }
 }
 
-/// Writes the row of that place, if there is one.
+/// Writes the row with this index, if there is one.
 fn put_row(rows: &mut [Agg], place: usize, row: Agg)
     ensures { rows.new ≡ set rows.old place row }
 {
@@ -56,7 +56,7 @@ fn put_row(rows: &mut [Agg], place: usize, row: Agg)
     }
 }
 
-/// Holds the row of that place in place of another.
+/// Caches the row with this index, after writing back the one cached before.
 fn hold(rows: &mut [Agg], held: &mut Held, place: usize)
     ensures same { set rows.new held.new.place held.new.row ≡ set rows.old held.old.place held.old.row }
     ensures place { held.new.place ≡ place }
@@ -69,7 +69,7 @@ fn hold(rows: &mut [Agg], held: &mut Held, place: usize)
     }
 }
 
-/// Adds points, each to the row of its bucket. Points of one bucket mostly come in runs, so its row is held aside.
+/// Adds points, each to the row of its bucket. Caches the current row, as points of a bucket mostly come in runs.
 pub(crate) fn add_points(rows: &mut [Agg], buckets: &mut Buckets, points: Points<'_>)
     ensures value { rows.new ≡ with_point_parts buckets.old points.entry rows.old }
     ensures same { buckets.new ≡ buckets.old }
@@ -86,7 +86,7 @@ pub(crate) fn add_points(rows: &mut [Agg], buckets: &mut Buckets, points: Points
     put_row(rows, held.place, held.row);
 }
 
-/// Adds a point and others after it, each to the row of its bucket.
+/// Adds the point `first` and then the others, each to the row of its bucket.
 pub(crate) fn add_first_points(
     rows: &mut [Agg],
     buckets: &mut Buckets,

@@ -1,4 +1,4 @@
-//! A group that is expected, with its rows once it has data.
+//! Slot of the group table: a group that may be empty.
 ghost use Rattle.std.specs.Prelude.{◌≡◌, ◌∷◌, None, Some, OnOk, OnErr, option_map};
 ghost use Rattle.ts_core.specs.Answers.{group_cmp};
 ghost use Rattle.ts_exec.specs.Lent.{lent};
@@ -13,7 +13,7 @@ use std::marker::Model;
 use ts_core::{Agg, Partial, Time};
 use ts_raw::Points;
 
-/// The values of a group, and its rows, one for each bucket, once it has data.
+/// Tag values of a group, with its rows, one per bucket, if it has data.
 #[derive(Drop)]
 pub(crate) struct Slot<'a, A: Allocator> {
     pub values: Vec<&'a str, A>,
@@ -31,7 +31,7 @@ impl<'a, A: Allocator> Model for Slot<'a, A> {
     ghost view = { λ s. (lent s.values.items, option_map (λ v. v.items) s.rows) };
 }
 
-/// The order of texts, as the order of the first ones that differ.
+/// Compares lists of texts lexicographically.
 fn compare(values: &[&str], others: &[&str]) -> Ordering
     ensures { result ≡ group_cmp (lent values.now) (lent others.now) }
 {
@@ -39,7 +39,7 @@ fn compare(values: &[&str], others: &[&str]) -> Ordering
 }
 
 impl<'a, A: Allocator + Copy> Slot<'a, A> {
-    /// A group without data.
+    /// Creates an empty group.
     pub(crate) fn new(values: Vec<&'a str, A>) -> Slot<'a, A>
         ensures { result ≡ (lent values.entry.items, None) }
     {
@@ -52,7 +52,7 @@ impl<'a, A: Allocator + Copy> Slot<'a, A> {
         compare(self.values.as_slice(), values)
     }
 
-    /// Makes its rows, if it has none.
+    /// Allocates `width` empty rows, if the group has none.
     fn make_rows(&mut self, width: usize) -> Result<(), AllocError>
         ensures ok { OnOk result (self.new ≡ (self.old.0, Some (rows_or width self.old.1))) }
         ensures key { self.new.0 ≡ self.old.0 }
@@ -64,7 +64,7 @@ impl<'a, A: Allocator + Copy> Slot<'a, A> {
         Ok(())
     }
 
-    /// Adds a part to the row of a bucket.
+    /// Merges a part into the row of a bucket.
     pub(crate) fn add_part(
         &mut self,
         width: usize,
@@ -81,7 +81,7 @@ impl<'a, A: Allocator + Copy> Slot<'a, A> {
         Ok(())
     }
 
-    /// Adds a point and others after it.
+    /// Adds the point `first` and then the others, each to the row of its bucket.
     pub(crate) fn add_points(
         &mut self,
         width: usize,

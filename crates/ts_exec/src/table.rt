@@ -1,4 +1,4 @@
-//! The answer to a query: its groups, each with a row for every bucket that meets the range.
+//! Answer to a query: groups with one row per bucket.
 ghost use Rattle.std.specs.Prelude.{◌≡◌, map};
 ghost use Rattle.std.specs.List.{AllByRecursion};
 ghost use Rattle.ts_core.specs.Answers.{bucket_in};
@@ -11,8 +11,7 @@ use std::marker::Model;
 use ts_core::bucket_index;
 use ts_ql::Query;
 
-/// The answer to a query, beside the query: its groups in byte order, each with a row for every bucket that
-/// meets the range.
+/// Answer to a query, with the query: groups in byte order, each with one row per bucket that intersects the range.
 #[derive(Drop)]
 pub struct Table<'a, A: Allocator> {
     query: Query<A>,
@@ -33,7 +32,7 @@ impl<'a, A: Allocator> Model for Table<'a, A> {
 }
 
 impl<'a, A: Allocator> Table<'a, A> {
-    /// The answer of these groups.
+    /// Creates an answer from its groups.
     pub(crate) fn new(query: Query<A>, groups: Vec<GroupRows<'a, A>, A>) -> Table<'a, A>
         requires { AllByRecursion (HasRows (width query.query)) groups.items }
         ensures { result ≡ record { select = query; groups = map (group_with query.query) groups.entry.items } }
@@ -41,14 +40,14 @@ impl<'a, A: Allocator> Table<'a, A> {
         Table { query, groups }
     }
 
-    /// The query.
+    /// Returns the query.
     pub fn query(&self) -> &Query<A>
         ensures { result.now ≡ self.now.select }
     {
         &self.query
     }
 
-    /// The groups, in byte order of their values: each has a row for every bucket that meets the range.
+    /// Returns the groups in byte order of their tag values. Each has one row per bucket that intersects the range.
     pub fn groups(&self) -> &[GroupRows<'a, A>]
         ensures value { map (group_with self.now.select.query) result.now ≡ self.now.groups }
         ensures rows { AllByRecursion (HasRows (width self.now.select.query)) result.now }
@@ -56,8 +55,7 @@ impl<'a, A: Allocator> Table<'a, A> {
         self.groups.as_slice()
     }
 
-    /// The index of the bucket that the range starts in. The first row of each group is of this bucket, the
-    /// others are of those that follow.
+    /// Returns the index of the bucket of each group's first row: the bucket that contains the start of the range.
     pub fn first_bucket(&self) -> i128
         ensures { result ≡ bucket_in self.now.select.query self.now.select.query.from }
     {
