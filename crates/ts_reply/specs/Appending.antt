@@ -1,16 +1,17 @@
--- What stands behind a text once data or items are appended to it. (Own rules.)
+-- Data and items appended to a text. (Own rules.)
 use Rattle.std.specs.Prelude.{◌≡◌, Bool, ◌++◌}
 use Rattle.serde_json.specs.Data.{Data, array, Items}
 use Rattle.serde_json.specs.Written.{compact_text, items_text}
 use Rattle.ts_core.specs.Facts.{Text}
 
--- the text of such data
+-- appends the text of such data
 pub record AppendsData (Is : Data → Type 0) (old new : Text) : Type 0 where
   pub told : Data
   pub is : Is told
   pub appended : new ≡ old ++ compact_text told
 
--- the texts of such items, with commas between them and the closing bracket; where others came before, a comma stands first
+-- appends the texts of such items, with commas between them and the closing bracket; `later` adds a comma before the
+-- first
 pub record AppendsItems (Are : Items → Type 0) (later : Bool) (old new : Text) : Type 0 where
   pub told : Items
   pub are : Are told

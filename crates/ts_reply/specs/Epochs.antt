@@ -1,6 +1,6 @@
--- How a reply writes times, and the names of each way.
--- (InfluxData 1.8, API reference: /query, the parameter `epoch`: ns, u or µ, ms, s, m, h. Own rules: also `n`, as with a precision, and
--- `text` for RFC 3339.)
+-- Time formats of replies, and their names.
+-- (InfluxData 1.8, API reference: /query, the parameter `epoch`: ns, u or µ, ms, s, m, h. Own rules: also `n`, as for a
+-- precision, and `text` for RFC 3339.)
 use Rattle.std.specs.Prelude.{[], ◌∷◌, Option, Some, option_map, bytes_eq, codes, if◌then◌else◌}
 use Rattle.ts_core.specs.Facts.{Text}
 use Rattle.ts_core.specs.TimeUnits.{UnitNames, unit_called}
@@ -15,10 +15,10 @@ epoch_names =
     (codes "ns", Nanoseconds) ∷ (codes "n", Nanoseconds) ∷ (codes "u", Microseconds) ∷ (194 ∷ 181 ∷ [], Microseconds)
     ∷ (codes "ms", Milliseconds) ∷ (codes "s", Seconds) ∷ (codes "m", Minutes) ∷ (codes "h", Hours) ∷ []
 
--- the unit in which times are counted
+-- the unit with this name
 unfoldable pub epoch_unit_of : Text → Option TimeUnit
 epoch_unit_of = unit_called epoch_names
 
--- how times are written
+-- the time format with this name
 unfoldable pub epoch_of : Text → Option Epoch
 epoch_of name = if bytes_eq name (codes "text") then Some AsText else option_map Units (epoch_unit_of name)

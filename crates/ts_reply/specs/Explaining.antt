@@ -1,5 +1,6 @@
--- What is explained of a text of queries: of each the certificate of its plan, after a history.
--- (Own rules: a plan is answered as the text of its certificate, which may be handed in with the query; a query without a plan has its fault.)
+-- The explanation of an InfluxQL text: the certificate of each query's plan, after a history.
+-- (Own rules: a plan is returned as the text of its certificate, which can be given with the query. A query without a
+-- plan has its error.)
 use Rattle.std.specs.Prelude.{ℤ, Bool, true, false, List, Ok, Err}
 use Rattle.ts_core.specs.Facts.{Text}
 use Rattle.ts_core.specs.History.{History, settings_of}
@@ -20,14 +21,14 @@ use Rattle.ts_reply.specs.Answering.{AreOutcomes}
 use Rattle.ts_reply.specs.Outcomes.{Outcome, Certificate, Fault}
 use Rattle.ts_reply.specs.Replies.{TellsOutcomes, refusal_text}
 
--- What is explained of a query: the certificate of its plan, or the fault of its plan.
+-- Explanation of a query: the certificate of its plan, or the error of planning.
 pub data IsExplained (opening : Settings) (h : History) (s : Select) : Outcome → Type 0 where
   planned : (plan : List Piece) → IsPlanFor (settings_of opening h) (marks_of opening h) s.query (Ok plan) → IsExplained opening h s (Certificate (certificate_text plan))
   unplanned : (fault : PlanFault) → IsPlanFor (settings_of opening h) (marks_of opening h) s.query (Err (errors.Fault fault)) → IsExplained opening h s (Fault (plan_fault_text fault))
 
--- The explanation of a text at a moment, after a history: whether it is good, and its body.
+-- The explanation of a text at time `now`, after a history: whether it is good, and its body.
 pub data IsExplanation (opening : Settings) (h : History) (now : ℤ) (text : Text) : Bool → Text → Type 0 where
-  -- what is explained of the queries that the text says; no time is written, so any epoch would do
+  -- the explanations of the text's queries; no time is written, so any format would do
   good : (body : Text) (queries : List Select) (outcomes : List Outcome) → TextSays now text queries → AreOutcomes (IsExplained opening h) queries outcomes → TellsOutcomes AsText outcomes body → IsExplanation opening h now text true body
-  -- the first fault of the text
+  -- the first error of the text
   bad : (fault : queries.Fault) → TextFault now text fault → IsExplanation opening h now text false (refusal_text (query_fault_text fault))

@@ -1,4 +1,4 @@
--- what public contracts and laws cite
+-- cited by public contracts and laws
 pub mod TimeTexts
 pub mod Epochs
 pub mod Outcomes
@@ -6,6 +6,6 @@ pub mod Told
 pub mod Replies
 pub mod Answering
 pub mod Explaining
--- what only models and proofs of the code need
+-- used only by models and proofs of the code
 pub mod SeriesTexts
 pub mod Appending

@@ -1,4 +1,4 @@
--- What becomes of a statement. (Own rules.)
+-- Outcomes of statements. (Own rules.)
 use Rattle.std.specs.Prelude.{List}
 use Rattle.ts_core.specs.Facts.{Text, Fact}
 use Rattle.ts_core.specs.Answers.{answer_of}
@@ -7,16 +7,16 @@ use Rattle.ts_exec.specs.Fillings.{FilledAnswer, functions_of}
 use Rattle.ts_ql.specs.Selects.{Select}
 
 pub data Outcome : Type 0 where
-  -- its query with the groups of the answer, their rows filled
+  -- the query with the groups of the answer, their rows filled
   Rows : Select → List FilledGroup → Outcome
-  -- a plan's certificate
+  -- the certificate of the plan
   Certificate : Text → Outcome
-  -- a fault
+  -- an error message
   Fault : Text → Outcome
 
 abbrev pub rows_outcome : FilledAnswer → Outcome
 rows_outcome a = Rows a.select a.groups
 
--- the rows that a query has over facts
+-- the rows of a query over facts
 abbrev pub rows_over : List Fact → Select → Outcome
 rows_over facts s = Rows s (filled s.fill (functions_of s.columns) (answer_of facts s.query))

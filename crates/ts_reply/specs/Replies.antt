@@ -1,6 +1,6 @@
 -- The JSON of a reply, without spaces, its keys in byte order.
--- (InfluxData 1.8, API reference: /query, query results; GROUP BY tags. Own rules: whole numbers outside of signed 64 bits are texts
--- of their digits, a mean is the text of a fraction, and keys stand in byte order.)
+-- (InfluxData 1.8, API reference: /query, query results; GROUP BY tags. Own rules: integers outside signed 64 bits are
+-- strings of their digits, and a mean is the string of a fraction. Keys are in byte order.)
 use Rattle.std.specs.Prelude.{◌≡◌, ℕ, ◌+◌, ℤ, pos, negsuc, Bool, true, false, ◌&&◌, int_le, List, [], ◌∷◌, ◌++◌, map, codes, if◌then◌else◌, ⊤}
 use Rattle.std.specs.Fmt.{decimal, signed_decimal}
 use Rattle.std.specs.Int.{int_div_euclid}
@@ -23,7 +23,7 @@ use Rattle.ts_reply.specs.TimeTexts.{IsTimeText}
 
 -- ---- values
 
--- a number within signed 64 bits, and else the text of its digits
+-- a number if it fits in signed 64 bits, else the string of its digits
 abbrev pub integer_data : ℤ → Data
 integer_data z =
     if int_le (negsuc 9223372036854775807) z && int_le z (pos 9223372036854775807) then number (of_integer z) else string (signed_decimal z)
@@ -42,26 +42,27 @@ value_data (Fraction f) = string (ratio_text f)
 abbrev pub is_valid_time : ℤ → Bool
 is_valid_time t = int_le least_time t && int_le t greatest_time
 
--- the text of a valid time; the first bucket of a query that no text says may start before all of them, and is written by its nanoseconds
+-- the text of a valid time, or else its nanoseconds; the first bucket of a query built without a text may start before
+-- the least time
 abbrev pub IsTextOrCount : Bool → ℤ → Data → Type 0
 IsTextOrCount true t d = (text : Text) × IsTimeText t text × (d ≡ string text)
 IsTextOrCount false t d = d ≡ integer_data t
 
--- how a time is written: by its text, or by the whole units up to it, counted by floor
+-- a time as text, or as the number of whole units, rounded down
 abbrev pub IsTimeData : Epoch → ℤ → Data → Type 0
 IsTimeData AsText t d = IsTextOrCount (is_valid_time t) t d
 IsTimeData (Units unit) t d = d ≡ integer_data (int_div_euclid t (nanoseconds_of unit))
 
 -- ---- series
 
--- each element has its item
+-- the items are those of the elements, one by one
 abbrev pub AreEach : {X : Type 0} → (X → Data → Type 0) → List X → Items → Type 0
 AreEach P [] no_items = ⊤
 AreEach P [] (item d ds) = ⊥
 AreEach P (x ∷ xs) no_items = ⊥
 AreEach P (x ∷ xs) (item d ds) = P x d × AreEach P xs ds
 
--- the time, and a value for each column
+-- the time, and one value per column
 abbrev pub IsRowData : Epoch → FilledRow → Data → Type 0
 IsRowData epoch row d = (time : Data) × IsTimeData epoch row.start time × (d ≡ array (item time (items_of (map value_data row.values))))
 
@@ -82,11 +83,11 @@ abbrev pub tagged_series : Data → Text → Members → Items → Data
 tagged_series columns name tags rows =
     object (member (codes "columns") columns (member (codes "name") (string name) (member (codes "tags") (object tags) (member (codes "values") (array rows) no_members))))
 
--- a series without
+-- a series without tags
 abbrev pub untagged_series : Data → Text → Items → Data
 untagged_series columns name rows = object (member (codes "columns") columns (member (codes "name") (string name) (member (codes "values") (array rows) no_members)))
 
--- tags are there where some tag is grouped
+-- a series has tags if the query groups by tags
 abbrev pub series_by : List Text → Data → Text → List Text → Items → Data
 series_by [] columns name values rows = untagged_series columns name rows
 series_by (tag ∷ tags) columns name values rows = tagged_series columns name (tags_among no_members (tag ∷ tags) values) rows
@@ -99,14 +100,14 @@ IsSeriesData epoch s group d = (rows : Items) × AreEach (IsRowData epoch) group
 
 -- ---- replies
 
--- the number of a statement, from 0
+-- index of a statement, from 0
 abbrev pub statement_id : ℕ → Members
 statement_id n = member (codes "statement_id") (number (unsigned n)) no_members
 
 abbrev pub result_of : Text → Data → ℕ → Data
 result_of key d n = object (member key d (statement_id n))
 
--- what is answered to a statement
+-- result of a statement
 abbrev pub IsResultData : Epoch → ℕ → Outcome → Data → Type 0
 IsResultData epoch n (Rows s []) d = d ≡ object (statement_id n)
 IsResultData epoch n (Rows s (group ∷ groups)) d =
@@ -114,7 +115,7 @@ IsResultData epoch n (Rows s (group ∷ groups)) d =
 IsResultData epoch n (Certificate text) d = d ≡ result_of (codes "cert") (string text) n
 IsResultData epoch n (Fault text) d = d ≡ result_of (codes "error") (string text) n
 
--- what is answered to statements, numbered from n on
+-- results of statements, whose indices begin at n
 abbrev pub AreResults : Epoch → ℕ → List Outcome → Items → Type 0
 AreResults epoch n [] no_items = ⊤
 AreResults epoch n [] (item d ds) = ⊥
@@ -124,11 +125,11 @@ AreResults epoch n (o ∷ os) (item d ds) = IsResultData epoch n o d × AreResul
 abbrev pub results_data : Items → Data
 results_data results = object (member (codes "results") (array results) no_members)
 
--- the text is the answer to a text's statements, by what became of them
+-- the text is the reply to statements with these outcomes
 abbrev pub TellsOutcomes : Epoch → List Outcome → Text → Type 0
 TellsOutcomes epoch outcomes text = (results : Items) × AreResults epoch 0 outcomes results × (text ≡ compact_text (results_data results))
 
--- a fault of all that was asked
+-- an error that refuses the whole request
 abbrev pub refusal_data : Text → Data
 refusal_data fault = object (member (codes "error") (string fault) no_members)
 

@@ -1,4 +1,4 @@
-//! The reply to a text of queries.
+//! Answers InfluxQL texts.
 ghost use Rattle.std.specs.Prelude.{◌≡◌, map, IfOk, string_bytes};
 ghost use Rattle.ts_core.specs.Latest.{latest_of};
 ghost use Rattle.ts_core.specs.Pieces.{IsValid};
@@ -20,16 +20,17 @@ use ts_plan::{PlanError, plan};
 use ts_ql::{ParseError, Query, parse};
 use ts_store::{Store, View};
 
-/// A reply to a text of queries.
+/// Reply to an InfluxQL text.
 #[derive(Drop)]
 pub struct Reply {
-    /// Whether the text says queries, and a certificate only with one. Of these some may have a fault.
+    /// True if the request is well formed: a valid text, and a certificate only with a single query. Queries may still
+    /// have errors of their own, such as `NoPlan`.
     pub good: bool,
-    /// The reply as JSON.
+    /// Reply as JSON.
     pub body: String,
 }
 
-/// The rows of a query by a plan that was checked for the settings and marks of this store.
+/// Executes a plan that was checked under this store's settings and marks; returns the filled rows.
 fn rows_of<'a, A: Allocator + Copy + 'a>(
     alloc: A,
     store: &'a Store<A>,
@@ -47,7 +48,7 @@ fn rows_of<'a, A: Allocator + Copy + 'a>(
     }
 }
 
-/// The rows of a query by a valid plan.
+/// Checks and executes a valid plan of a query; returns the filled rows.
 fn rows_by_plan<'a, A: Allocator + Copy + 'a>(
     alloc: A,
     store: &'a Store<A>,
@@ -64,7 +65,7 @@ fn rows_by_plan<'a, A: Allocator + Copy + 'a>(
     }
 }
 
-/// What becomes of a query by its plan: its rows, or the fault of its plan.
+/// Plans a query and executes it. Returns its rows, or the error of planning.
 fn planned<'a, A: Allocator + Copy + 'a>(
     alloc: A,
     json: Global,
@@ -80,7 +81,7 @@ fn planned<'a, A: Allocator + Copy + 'a>(
     }
 }
 
-/// What becomes of a query by pieces that were handed in: its rows, or the first fault of the pieces.
+/// Executes a query by the pieces of a given certificate. Returns its rows, or the first error of the pieces.
 fn outcome_by<'a, A: Allocator + Copy + 'a>(
     alloc: A,
     json: Global,
@@ -97,7 +98,7 @@ fn outcome_by<'a, A: Allocator + Copy + 'a>(
     }
 }
 
-/// What becomes of a query by the text of a certificate: its rows, or the fault of the text or of its pieces.
+/// Executes a query by the text of a given certificate. Returns its rows, or the error of the text or the pieces.
 fn certified<'a, A: Allocator + Copy + 'a>(
     alloc: A,
     json: Global,
@@ -116,7 +117,7 @@ fn certified<'a, A: Allocator + Copy + 'a>(
     }
 }
 
-/// What becomes of a query, by the certificate that was handed in or else by its plan.
+/// Executes a query by the given certificate, or else by its own plan.
 fn outcome_of<'a, A: Allocator + Copy + 'a>(
     alloc: A,
     json: Global,
@@ -132,7 +133,7 @@ fn outcome_of<'a, A: Allocator + Copy + 'a>(
     }
 }
 
-/// What becomes of queries, one by one.
+/// Executes queries one by one.
 fn outcomes_of<'a, A: Allocator + Copy + 'a>(
     alloc: A,
     json: Global,
@@ -149,7 +150,7 @@ fn outcomes_of<'a, A: Allocator + Copy + 'a>(
     Ok(outcomes)
 }
 
-/// Whether a certificate was handed in with more than one query.
+/// Returns true if a certificate is given and there are several queries.
 fn is_of_several<A: Allocator>(certificate: Option<&str>, queries: &[Query<A>]) -> bool
     ensures { result ≡ is_of_several (handed_in certificate.entry) queries.now }
 {
@@ -159,7 +160,7 @@ fn is_of_several<A: Allocator>(certificate: Option<&str>, queries: &[Query<A>]) 
     }
 }
 
-/// The reply to queries.
+/// Answers queries. Refuses a certificate given with several queries.
 fn reply_to<A: Allocator + Copy>(
     alloc: A,
     json: Global,
@@ -179,9 +180,9 @@ fn reply_to<A: Allocator + Copy>(
     Ok(Reply { good: true, body })
 }
 
-/// Answers a text of queries at a moment, over all facts that the store ever accepted: by their plans, or one
-/// query by the text of a certificate that is handed in. The JSON is made in the memory of `json`, all else in
-/// that of `alloc`. It is refused only out of memory.
+/// Answers an InfluxQL text at time `now`, over all facts that the store ever accepted. Queries are executed by their
+/// plans; a single query by the text of a certificate, if one is given. The JSON is allocated in `json`, everything
+/// else in `alloc`. Fails only when out of memory.
 pub fn answer<A: Allocator + Copy>(
     alloc: A,
     json: Global,

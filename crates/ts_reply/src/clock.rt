@@ -1,4 +1,4 @@
-//! A time as RFC 3339 text in UTC.
+//! Formats times as RFC 3339 in UTC.
 ghost use Rattle.std.specs.Prelude.{◌≡◌, IfOk, string_bytes};
 ghost use Rattle.jiff.specs.Words.{civil_nanos};
 ghost use Rattle.ts_core.specs.Facts.{Text};
@@ -10,7 +10,7 @@ use jiff::tz::Offset;
 use std::alloc::{AllocError, Allocator};
 use ts_core::Time;
 
-/// What a clock in UTC shows at a time.
+/// Converts a time to the date and time of day in UTC.
 fn clock(time: Time) -> DateTime
     ensures { civil_nanos result ≡ time }
 {
@@ -20,7 +20,7 @@ fn clock(time: Time) -> DateTime
     Offset::UTC.to_datetime(timestamp)
 }
 
-/// A time as text: RFC 3339 in UTC, as `1970-01-01T00:00:01.5Z`, with as many places of the fraction as it needs.
+/// Formats a time as RFC 3339 in UTC, such as `1970-01-01T00:00:01.5Z`. The fraction has no trailing zeros.
 pub fn time_text<A: Allocator + Copy>(alloc: A, time: Time) -> Result<String<A>, AllocError>
     ensures text { IfOk result (λ s. IsTimeText time (string_bytes s)) }
     ensures alone { (other : Text) → IsTimeText time other → IfOk result (λ s. string_bytes s ≡ other) }

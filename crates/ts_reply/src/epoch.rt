@@ -1,19 +1,19 @@
-//! How replies write times.
+//! Time format of replies.
 ghost use Rattle.std.specs.Prelude.{◌≡◌};
 ghost use Rattle.ts_reply.specs.Epochs.{epoch_unit_of, epoch_of};
 
 use ts_core::TimeUnit;
 
-/// How a reply writes times.
+/// Time format of a reply.
 #[derive(Clone, Copy, Debug, PartialEq, Eq)]
 pub enum Epoch {
-    /// By text: RFC 3339 in UTC.
+    /// RFC 3339 text in UTC.
     Text,
-    /// By the number of whole units of the Unix epoch, counted by floor.
+    /// Number of whole units since the Unix epoch, rounded down.
     Units(TimeUnit),
 }
 
-/// The unit that a name calls.
+/// Returns the unit with this name.
 #[tactic(auto, unfolding(crate::specs::Epochs::epoch_unit_of))]
 fn unit_called(name: &str) -> Option<TimeUnit>
     ensures { result ≡ epoch_unit_of name.now }
@@ -30,7 +30,7 @@ fn unit_called(name: &str) -> Option<TimeUnit>
 }
 
 impl Epoch {
-    /// How times are written under a name: `text`, or the unit `ns`, `n`, `u`, `µ`, `ms`, `s`, `m` or `h`.
+    /// Returns the format with this name: `text`, or the unit `ns`, `n`, `u`, `µ`, `ms`, `s`, `m` or `h`.
     #[tactic(auto, unfolding(crate::specs::Epochs::epoch_of))]
     pub fn named(name: &str) -> Option<Epoch>
         ensures { result ≡ epoch_of name.now }

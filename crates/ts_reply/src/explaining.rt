@@ -1,4 +1,4 @@
-//! The explanation of a text of queries: their plans.
+//! Explains InfluxQL texts: returns the plans of their queries.
 ghost use Rattle.std.specs.Prelude.{map, IfOk, string_bytes};
 ghost use Rattle.ts_core.specs.StoreData.{OfEachHistory};
 ghost use Rattle.ts_reply.specs.Answering.{AreOutcomes};
@@ -16,7 +16,7 @@ use ts_plan::{PlanError, plan};
 use ts_ql::{ParseError, Query, parse};
 use ts_store::{Store, View};
 
-/// What is explained of a query: the certificate of its plan, or the fault of its plan.
+/// Plans a query. Returns the certificate of its plan, or the error of planning.
 fn explained<'a, A: Allocator + Copy + 'a>(
     alloc: A,
     json: Global,
@@ -32,7 +32,7 @@ fn explained<'a, A: Allocator + Copy + 'a>(
     }
 }
 
-/// What is explained of queries, one by one.
+/// Plans queries one by one.
 fn each_explained<'a, A: Allocator + Copy + 'a>(
     alloc: A,
     json: Global,
@@ -48,8 +48,8 @@ fn each_explained<'a, A: Allocator + Copy + 'a>(
     Ok(outcomes)
 }
 
-/// Explains a text of queries at a moment: of each the certificate of the plan that `answer` follows now. The
-/// JSON is made in the memory of `json`, all else in that of `alloc`. It is refused only out of memory.
+/// Explains an InfluxQL text at time `now`: replies with the certificate of the plan that `answer` follows at present,
+/// per query. The JSON is allocated in `json`, everything else in `alloc`. Fails only when out of memory.
 pub fn explain<A: Allocator + Copy>(
     alloc: A,
     json: Global,

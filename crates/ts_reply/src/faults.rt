@@ -1,4 +1,4 @@
-//! Texts of faults, and refusals of all that was asked.
+//! Formats error messages, and replies that refuse a whole request.
 ghost use Rattle.std.specs.Prelude.{◌≡◌, IfOk, string_bytes};
 ghost use Rattle.ts_check.specs.CheckTexts.{certificate_fault_text, check_fault_text};
 ghost use Rattle.ts_plan.specs.PlanTexts.{plan_fault_text};
@@ -14,7 +14,7 @@ use ts_core::{FaultCode, FaultDetail};
 use ts_plan::PlanFault;
 use ts_ql::QlFault;
 
-/// The text of a plan's fault.
+/// Formats an error of planning.
 pub(crate) fn plan_fault_text(json: Global, fault: PlanFault) -> Result<String, AllocError>
     ensures { IfOk result (λ s. string_bytes s ≡ plan_fault_text fault) }
 {
@@ -23,7 +23,7 @@ pub(crate) fn plan_fault_text(json: Global, fault: PlanFault) -> Result<String, 
     Ok(text)
 }
 
-/// The text of the fault of a certificate's text.
+/// Formats an error of a certificate's text.
 pub(crate) fn certificate_fault_text(
     json: Global,
     fault: CertificateFault,
@@ -35,7 +35,7 @@ pub(crate) fn certificate_fault_text(
     Ok(text)
 }
 
-/// The text of a piece's fault.
+/// Formats an error of a certificate's pieces.
 pub(crate) fn check_fault_text(json: Global, fault: CheckFault) -> Result<String, AllocError>
     ensures { IfOk result (λ s. string_bytes s ≡ check_fault_text fault) }
 {
@@ -44,7 +44,7 @@ pub(crate) fn check_fault_text(json: Global, fault: CheckFault) -> Result<String
     Ok(text)
 }
 
-/// The body of a reply that has the first fault of a text.
+/// Returns the body of a reply that refuses a text with its first error.
 pub(crate) fn refusal_of(json: Global, fault: &QlFault<'_>) -> Result<String, AllocError>
     ensures { IfOk result (λ s. string_bytes s ≡ refusal_text (query_fault_text (as_fault fault.now))) }
 {
@@ -53,7 +53,7 @@ pub(crate) fn refusal_of(json: Global, fault: &QlFault<'_>) -> Result<String, Al
     refusal_json(json, text.as_str())
 }
 
-/// The body of a reply that refuses a certificate with more than one query.
+/// Returns the body of a reply that refuses a certificate given with several queries.
 pub(crate) fn refusal_of_several(json: Global) -> Result<String, AllocError>
     ensures { IfOk result (λ s. string_bytes s ≡ refusal_text several_text) }
 {

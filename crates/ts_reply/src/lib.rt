@@ -1,17 +1,21 @@
-//! Replies in JSON: what is answered to queries, byte by byte.
-//! It stands on ts_ql, ts_plan, ts_check and ts_exec, which read, plan and answer queries, and on the kit's serde_json and jiff.
-//! It promises that a reply is the JSON that the definitions say (specs/Replies), and over a store that of all facts ever accepted
-//! (specs/Answering), by the queries' plans or by a certificate that is handed in; and that plans are shown as they are (specs/Explaining).
+//! Answers InfluxQL texts in JSON. Depends on ts_ql, ts_check, ts_plan and ts_exec, which parse, check, plan and
+//! execute queries, on ts_core and ts_store, and on serde_json and jiff.
 //!
-//! An example, over a store at a moment; where a certificate is handed in, it takes the plan's place:
+//! Proved: a reply is, byte for byte, the JSON that specs/Replies defines. Over a store, it is that of all facts ever
+//! accepted (specs/Answering), by the queries' own plans or by a given certificate. Explanations show the plans that
+//! are followed (specs/Explaining).
+//!
+//! An example, over a store at time `now`. A certificate, if given, replaces the plan:
 //!
 //! ```text
-//! let reply = answer(alloc, json, &store, now, "SELECT MAX(f) FROM m WHERE time >= 0 AND time < 1m", None, Epoch::Text)?;
-//! // reply.body is the JSON; reply.good is false where the text has a fault, or came with a certificate and several queries
+//! let text = "SELECT MAX(f) FROM m WHERE time >= 0 AND time < 1m GROUP BY time(1m)";
+//! let reply = answer(alloc, json, &store, now, text, None, Epoch::Text)?;
+//! // reply.body is the JSON
+//! // reply.good is false if the text has an error, or if a certificate is given with several queries
 //! ```
 //!
-//! A further aggregate touches nothing here: a column shows a `Value` of ts_core, and only a further kind of value touches `value`
-//! and `value_data` in specs/Replies. A further unit of time touches `epoch` and specs/Epochs.
+//! To add an aggregate: touch nothing here, as columns have ts_core's `Value`. To add a kind of value: touch value.rt,
+//! and `value_data` in specs/Replies.antt. To add a unit of time: touch epoch.rt and specs/Epochs.antt.
 #![tactic(auto)]
 
 mod answering;

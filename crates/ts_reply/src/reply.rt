@@ -1,4 +1,4 @@
-//! Replies. Their text is made part by part: what comes once in a statement as JSON values, the series and their rows straight as text.
+//! Writes replies. Statements without rows go through JSON values; series and rows are written as text directly.
 ghost use Rattle.std.specs.Prelude.{◌≡◌, ◌+◌, ◌<◌, ◌^◌, ◌∷◌, ◌++◌, true, false, length, map, nat_lt, IfOk, OnOk, string_bytes};
 ghost use Rattle.serde_json.specs.Written.{comma_if};
 ghost use Rattle.ts_reply.specs.Appending.{AppendsData, AppendsItems, IsArray};
@@ -17,18 +17,18 @@ use std::alloc::{AllocError, Allocator, Global};
 use ts_exec::{FilledGroup, FilledGroups, Rows};
 use ts_ql::Query;
 
-/// What becomes of a statement.
+/// Outcome of a statement.
 #[derive(Drop)]
 pub enum Outcome<'a, A: Allocator> {
-    /// Its rows.
+    /// Rows of the answer.
     Rows(Rows<'a, A>),
-    /// The certificate of its plan, as text.
+    /// Certificate of the plan, as text.
     Certificate(String),
-    /// Its fault, as text.
+    /// Error message.
     Fault(String),
 }
 
-/// Appends groups, each behind a comma, and the bracket that closes them.
+/// Appends groups, each after a comma, and the closing bracket.
 fn push_more_groups<A: Allocator>(
     alloc: Global,
     text: &mut String,
@@ -47,7 +47,7 @@ fn push_more_groups<A: Allocator>(
     text.push_str("]")
 }
 
-/// Appends the series of groups.
+/// Appends the array of series, one per group.
 fn push_series<A: Allocator>(
     alloc: Global,
     text: &mut String,
@@ -65,7 +65,7 @@ fn push_series<A: Allocator>(
     push_more_groups(alloc, text, &mut times, query, head.as_str(), others)
 }
 
-/// Appends the rows of a statement, by its number from 0.
+/// Appends the rows of the statement with this index.
 fn push_rows<A: Allocator>(
     alloc: Global,
     text: &mut String,
@@ -88,7 +88,7 @@ fn push_rows<A: Allocator>(
     }
 }
 
-/// Appends what becomes of a statement, by its number from 0.
+/// Appends the outcome of the statement with this index.
 fn push_result<A: Allocator>(
     alloc: Global,
     text: &mut String,
@@ -111,7 +111,7 @@ fn push_result<A: Allocator>(
     }
 }
 
-/// Appends a comma before all but the first, number 0.
+/// Appends a comma, unless `number` is 0.
 fn push_comma(text: &mut String, number: usize) -> Result<(), AllocError>
     ensures { OnOk result (string_bytes text.new ≡ string_bytes text.old ++ comma_if (nat_lt 0 number)) }
 {
@@ -122,7 +122,7 @@ fn push_comma(text: &mut String, number: usize) -> Result<(), AllocError>
     }
 }
 
-/// Appends what becomes of statements, numbered from a number on, and the bracket that closes them.
+/// Appends the outcomes of statements, whose indices begin at `number`, and the closing bracket.
 fn push_results<A: Allocator>(
     alloc: Global,
     text: &mut String,
@@ -143,7 +143,7 @@ fn push_results<A: Allocator>(
     }
 }
 
-/// What became of the statements of a text, as JSON. It is refused only out of memory.
+/// Writes the outcomes of a text's statements as JSON. Fails only when out of memory.
 pub fn reply_json<A: Allocator>(
     alloc: Global,
     outcomes: &[Outcome<'_, A>],

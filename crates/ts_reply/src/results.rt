@@ -1,4 +1,4 @@
-//! What is answered to statements, as JSON.
+//! Results of statements without rows, as JSON.
 ghost use Rattle.std.specs.Prelude.{◌≡◌, codes, IfOk, string_bytes};
 ghost use Rattle.serde_json.specs.Data.{string, object};
 ghost use Rattle.serde_json.specs.View.{view};
@@ -8,21 +8,21 @@ ghost use Rattle.ts_reply.specs.Replies.{refusal_data, result_of, statement_id};
 use serde_json::{Value, json};
 use std::alloc::{AllocError, Global};
 
-/// That a statement has no series.
+/// Creates the result of a statement without series.
 pub(crate) fn nothing_told(alloc: Global, number: usize) -> Result<Value, AllocError>
     ensures { IfOk result (λ v. view v ≡ object (statement_id number)) }
 {
     json!(in alloc; {"statement_id": number})
 }
 
-/// A statement's fault.
+/// Creates the result of a statement with an error.
 pub(crate) fn fault_told(alloc: Global, fault: &str, number: usize) -> Result<Value, AllocError>
     ensures { IfOk result (λ v. view v ≡ result_of (codes "error") (string fault.now) number) }
 {
     json!(in alloc; {"error": fault, "statement_id": number})
 }
 
-/// The certificate of a statement's plan.
+/// Creates the result of a statement that is explained by a certificate.
 pub(crate) fn certificate_told(
     alloc: Global,
     text: &str,
@@ -39,7 +39,7 @@ fn refusal_value(alloc: Global, fault: &str) -> Result<Value, AllocError>
     json!(in alloc; {"error": fault})
 }
 
-/// A reply that isn't good: the fault of all that was asked.
+/// Writes the body of a reply that refuses the whole request.
 pub(crate) fn refusal_json(alloc: Global, fault: &str) -> Result<String, AllocError>
     ensures { IfOk result (λ s. string_bytes s ≡ compact_text (refusal_data fault.now)) }
 {

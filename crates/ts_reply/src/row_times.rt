@@ -1,4 +1,4 @@
-//! The times of rows as JSON. The text of the last one is kept: the groups of an answer have the same times.
+//! Writes the times of rows as JSON. Caches the text of the last one, as all groups of an answer have the same times.
 ghost use Rattle.std.specs.Prelude.{◌≡◌, OnOk, string_bytes};
 ghost use Rattle.ts_reply.specs.Appending.{AppendsData};
 ghost use Rattle.ts_reply.specs.Replies.{IsTimeData};
@@ -8,11 +8,11 @@ use crate::value::push_time;
 use std::alloc::{AllocError, Global};
 use std::marker::Model;
 
-/// How times are written, with the last that was, seen as the epoch alone.
+/// Time writer with a cache of one time. Its model is the time format alone.
 #[derive(Drop)]
 pub(crate) struct Times {
     epoch: Epoch,
-    // The text is that of this time.
+    // `text` is the text of this time.
     last: Option<i128>,
     text: String,
 }
@@ -31,7 +31,7 @@ impl Model for Times {
 }
 
 impl Times {
-    /// Times of an epoch; none was written.
+    /// Creates a writer with an empty cache.
     pub(crate) fn new(alloc: Global, epoch: Epoch) -> Times
         ensures { result ≡ epoch }
     {
@@ -42,7 +42,7 @@ impl Times {
         }
     }
 
-    /// Appends a time, in nanoseconds of the Unix epoch, as a reply writes it.
+    /// Appends a time, in nanoseconds of the Unix epoch, in the reply's format.
     pub(crate) fn push(
         &mut self,
         alloc: Global,

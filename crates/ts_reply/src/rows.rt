@@ -1,4 +1,4 @@
-//! Rows as JSON.
+//! Writes rows as JSON.
 ghost use Rattle.std.specs.Prelude.{◌≡◌, ◌++◌, true, map, OnOk, string_bytes};
 ghost use Rattle.serde_json.specs.View.{items_of};
 ghost use Rattle.serde_json.specs.Written.{items_text};
@@ -10,7 +10,7 @@ use crate::value::push_cell;
 use std::alloc::{AllocError, Allocator, Global};
 use ts_exec::{FilledRow, FilledRows, Values};
 
-/// Appends values, each behind a comma, and the bracket that closes their row.
+/// Appends values, each after a comma, and the closing bracket of their row.
 fn push_values<A: Allocator>(
     alloc: Global,
     text: &mut String,
@@ -25,7 +25,7 @@ fn push_values<A: Allocator>(
     text.push_str("]")
 }
 
-/// Appends a row: its time, and a value for each column.
+/// Appends a row: its time, and one value per column.
 fn push_row<A: Allocator>(
     alloc: Global,
     text: &mut String,
@@ -40,7 +40,7 @@ fn push_row<A: Allocator>(
     push_values(alloc, text, row.values())
 }
 
-/// Appends rows, each behind a comma, and the bracket that closes them.
+/// Appends rows, each after a comma, and the closing bracket.
 fn push_more_rows<A: Allocator>(
     alloc: Global,
     text: &mut String,
@@ -57,7 +57,7 @@ fn push_more_rows<A: Allocator>(
     text.push_str("]")
 }
 
-/// Appends the rows of a group.
+/// Appends the array of a group's rows.
 pub(crate) fn push_group_rows<A: Allocator>(
     alloc: Global,
     text: &mut String,

@@ -1,4 +1,4 @@
-//! Series as JSON: a group of the answer with its rows. What is the same in every series of a query is made once, as text.
+//! Writes series as JSON: groups of an answer with their rows. The part that all series of a query share is built once.
 ghost use Rattle.std.specs.Prelude.{◌≡◌, ◌∷◌, ◌++◌, map, codes, IfOk, OnOk, string_bytes};
 ghost use Rattle.serde_json.specs.Data.{object, member, no_members, string};
 ghost use Rattle.serde_json.specs.View.{view, members_view};
@@ -17,7 +17,7 @@ use std::alloc::{AllocError, Allocator, Global};
 use ts_exec::FilledGroup;
 use ts_ql::{Projection, Query};
 
-/// The names of the columns, behind `time`.
+/// Returns the column names, beginning with `time`.
 fn columns_json<A: Allocator>(
     alloc: Global,
     columns: &[Projection<A>],
@@ -32,7 +32,7 @@ fn columns_json<A: Allocator>(
     Ok(names)
 }
 
-/// What the text of every series of a query begins with.
+/// Returns the beginning of every series of a query: its columns and its measurement.
 pub(crate) fn series_head<A: Allocator>(
     alloc: Global,
     query: &Query<A>,
@@ -47,7 +47,7 @@ pub(crate) fn series_head<A: Allocator>(
     Ok(head)
 }
 
-/// Puts tags among others, each with its value.
+/// Inserts tags with their values into a JSON object.
 fn put_tags<A: Allocator>(
     members: &mut Map<String, Value>,
     alloc: Global,
@@ -70,7 +70,7 @@ fn put_tags<A: Allocator>(
     }
 }
 
-/// Appends some tags with their values.
+/// Appends tags with their values as a JSON object.
 fn push_tag_map<A: Allocator>(
     alloc: Global,
     text: &mut String,
@@ -84,7 +84,7 @@ fn push_tag_map<A: Allocator>(
     push_value(alloc, text, &Value::from(members))
 }
 
-/// Appends one tag with its value.
+/// Appends one tag with its value as a JSON object.
 fn push_tag(alloc: Global, text: &mut String, tag: &str, value: &str) -> Result<(), AllocError>
     ensures { OnOk result (string_bytes text.new ≡ string_bytes text.old ++ compact_text (object (member tag.now (string value.now) no_members))) }
 {
@@ -95,7 +95,7 @@ fn push_tag(alloc: Global, text: &mut String, tag: &str, value: &str) -> Result<
     text.push_str("}")
 }
 
-/// Appends the tags of a group, where some tag is grouped.
+/// Appends the tags of a group, if the query groups by tags.
 fn push_tags<A: Allocator>(
     alloc: Global,
     text: &mut String,
@@ -115,7 +115,7 @@ fn push_tags<A: Allocator>(
     }
 }
 
-/// Appends a group: the names of its columns, its measurement, its tags and its rows.
+/// Appends a group as a series: its columns, measurement, tags and rows.
 pub(crate) fn push_group<A: Allocator>(
     alloc: Global,
     text: &mut String,

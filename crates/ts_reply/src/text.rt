@@ -1,4 +1,4 @@
-//! Parts of a reply's text: JSON values, and texts in quotes.
+//! Writes JSON values and strings.
 ghost use Rattle.std.specs.Prelude.{◌≡◌, ◌++◌, false, OnOk, string_bytes};
 ghost use Rattle.std.specs.List.{list_all};
 ghost use Rattle.json.specs.Print.{quoted};
@@ -9,21 +9,21 @@ ghost use Rattle.serde_json.specs.Written.{has_float, compact_text};
 use serde_json::Value;
 use std::alloc::{AllocError, Global};
 
-/// Whether a byte stands for itself in quotes.
+/// Returns true if a byte needs no escape in a JSON string.
 fn is_plain_byte(byte: u8) -> bool
     ensures { result ≡ is_plain byte }
 {
     !(byte == b'"' || byte == b'\\' || byte < 32)
 }
 
-/// Whether each byte stands for itself in quotes.
+/// Returns true if no byte needs an escape in a JSON string.
 fn is_plain(bytes: &[u8]) -> bool
     ensures { result ≡ list_all is_plain bytes.now }
 {
     bytes.iter().all(|byte| is_plain_byte(*byte))
 }
 
-/// Appends a value.
+/// Appends a JSON value.
 pub(crate) fn push_value(alloc: Global, text: &mut String, value: &Value) -> Result<(), AllocError>
     requires { has_float (view value.now) ≡ false }
     ensures { OnOk result (string_bytes text.new ≡ string_bytes text.old ++ compact_text (view value.now)) }
@@ -32,7 +32,7 @@ pub(crate) fn push_value(alloc: Global, text: &mut String, value: &Value) -> Res
     text.push_str(written.as_str())
 }
 
-/// Appends a text in quotes, some of its bytes by escapes.
+/// Appends a JSON string, with escapes.
 fn push_escaped(alloc: Global, text: &mut String, word: &str) -> Result<(), AllocError>
     ensures { OnOk result (string_bytes text.new ≡ string_bytes text.old ++ quoted word.now) }
 {
@@ -40,7 +40,7 @@ fn push_escaped(alloc: Global, text: &mut String, word: &str) -> Result<(), Allo
     push_value(alloc, text, &value)
 }
 
-/// Appends a text in quotes.
+/// Appends a JSON string. Skips the escaping if no byte needs it.
 pub(crate) fn push_quoted(alloc: Global, text: &mut String, word: &str) -> Result<(), AllocError>
     ensures { OnOk result (string_bytes text.new ≡ string_bytes text.old ++ quoted word.now) }
 {

@@ -1,4 +1,4 @@
-//! Values and times as JSON.
+//! Writes values and times as JSON.
 ghost use Rattle.std.specs.Prelude.{◌≡◌, ◌++◌, true, false, IfOk, OnOk, MatchOption, string_bytes};
 ghost use Rattle.serde_json.specs.Written.{compact_text};
 ghost use Rattle.ts_reply.specs.Appending.{AppendsData};
@@ -11,7 +11,7 @@ use itoa::Buffer;
 use std::alloc::{AllocError, Global};
 use ts_core::{Frac, Time};
 
-/// Appends a whole number: within signed 64 bits as a number, and else as the text of its digits.
+/// Appends an integer: as a number if it fits in signed 64 bits, else as a string of its digits.
 fn push_integer(alloc: Global, text: &mut String, number: &i128) -> Result<(), AllocError>
     ensures { OnOk result (string_bytes text.new ≡ string_bytes text.old ++ compact_text (integer_data number.now)) }
 {
@@ -21,7 +21,7 @@ fn push_integer(alloc: Global, text: &mut String, number: &i128) -> Result<(), A
     }
 }
 
-/// A fraction as text: `n/d`.
+/// Formats a fraction as `n/d`.
 fn ratio_text(alloc: Global, ratio: &Frac) -> Result<String, AllocError>
     ensures { IfOk result (λ s. string_bytes s ≡ ratio_text ratio.now) }
 {
@@ -31,7 +31,7 @@ fn ratio_text(alloc: Global, ratio: &Frac) -> Result<String, AllocError>
     Ok(text)
 }
 
-/// Appends what stands in a column of a row.
+/// Appends the value of a column.
 pub(crate) fn push_cell(
     alloc: Global,
     text: &mut String,
@@ -49,7 +49,7 @@ pub(crate) fn push_cell(
     }
 }
 
-/// The time of that many nanoseconds, or nothing where it isn't valid.
+/// Returns the time of this many nanoseconds, or `None` if it isn't valid.
 fn valid_time(nanos: &i128) -> Option<Time>
     ensures { MatchOption result (is_valid_time nanos.now ≡ false) (λ t. (t ≡ nanos.now) × (is_valid_time nanos.now ≡ true)) }
 {
@@ -59,7 +59,7 @@ fn valid_time(nanos: &i128) -> Option<Time>
     }
 }
 
-/// Appends a time by its text.
+/// Appends a time as RFC 3339 text, or as nanoseconds if it isn't valid.
 fn push_time_text(alloc: Global, text: &mut String, nanos: &i128) -> Result<(), AllocError>
     ensures { OnOk result (AppendsData (IsTextOrCount (is_valid_time nanos.now) nanos.now) (string_bytes text.old) (string_bytes text.new)) }
 {
@@ -72,7 +72,7 @@ fn push_time_text(alloc: Global, text: &mut String, nanos: &i128) -> Result<(), 
     }
 }
 
-/// Appends a time, in nanoseconds of the Unix epoch, as a reply writes it.
+/// Appends a time, in nanoseconds of the Unix epoch, in the reply's format.
 pub(crate) fn push_time(
     alloc: Global,
     text: &mut String,
