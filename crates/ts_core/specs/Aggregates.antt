@@ -1,6 +1,6 @@
--- What is kept of points: their count, their sum and their extremes.
--- (InfluxData 1.8, InfluxQL functions: COUNT, SUM, MIN, MAX, FIRST, LAST. Own rule: of several points at the extreme time
--- the one with the greatest value is the first, and the last.)
+-- Aggregates of points: their count, sum and extremes.
+-- (InfluxData 1.8, InfluxQL functions: COUNT, SUM, MIN, MAX, FIRST, LAST. Own rule: if several points have the extreme
+-- time, the one with the greatest value is the first, or the last.)
 use Rattle.std.specs.Prelude.{◌≡◌, ◌⊎◌, ℕ, ◌+◌, ◌<◌, ℤ, pos, ◌+ℤ◌, ◌*ℤ◌, ◌≤ℤ◌, ◌<ℤ◌, List, [], ◌∷◌, length, map, Option, Some, None, MatchOption}
 use Rattle.std.specs.Ordering.{int_cmp}
 use Rattle.ts_core.specs.declared.aggregate.Extremes.{Extremes}
@@ -39,14 +39,14 @@ merged_extremes (Some x) (Some y) = Some (extremes_of_both x y)
 abbrev pub merged : Aggregate → Aggregate → Aggregate
 merged x y = record { count = x.count + y.count; sum = x.sum +ℤ y.sum; extremes = merged_extremes x.extremes y.extremes }
 
--- of points, each a time with a value
+-- the aggregate of points; a point is a time with a value
 abbrev pub aggregate_of_points : List (ℤ × ℤ) → Aggregate
 aggregate_of_points ps = fold_by empty_aggregate merged (λ (p : ℤ × ℤ). aggregate_of_one p.0 p.1) ps
 
 abbrev pub aggregate_of : List Fact → Aggregate
 aggregate_of fs = fold_by empty_aggregate merged (λ (f : Fact). aggregate_of_one f.time f.value) fs
 
--- ---- the same in the field's words
+-- ---- the same, stated by properties
 
 abbrev pub points_of : List Fact → List (ℤ × ℤ)
 points_of fs = map (λ (f : Fact). (f.time, f.value)) fs
@@ -55,15 +55,15 @@ abbrev pub sum_of_points : List (ℤ × ℤ) → ℤ
 sum_of_points [] = pos 0
 sum_of_points (p ∷ ps) = p.1 +ℤ sum_of_points ps
 
--- each extreme is some point's
+-- each extreme is attained by a point
 pub record AreReached (ps : List (ℤ × ℤ)) (e : Extremes) : Type 0 where
   pub min : Among e.min (map (λ (p : ℤ × ℤ). p.1) ps)
   pub max : Among e.max (map (λ (p : ℤ × ℤ). p.1) ps)
   pub first : Among e.first ps
   pub last : Among e.last ps
 
--- the value of the point is neither below the least nor above the greatest, and it comes neither before the first nor after the last;
--- at the time of one of these its value isn't greater
+-- the value is between min and max, and the time isn't before the first or after the last. At the first or last time,
+-- the value isn't greater than that of the extreme.
 pub record LiesWithin (e : Extremes) (p : ℤ × ℤ) : Type 0 where
   pub min : e.min ≤ℤ p.1
   pub max : p.1 ≤ℤ e.max
@@ -74,7 +74,7 @@ pub record AreExtremesOf (ps : List (ℤ × ℤ)) (e : Extremes) : Type 0 where
   pub reached : AreReached ps e
   pub within : (p : ℤ × ℤ) → Among p ps → LiesWithin e p
 
--- the number of the points, their sum and their extremes; there are none of no points
+-- the count, the sum and the extremes of the points; no extremes without points
 pub record IsAggregateOfPoints (ps : List (ℤ × ℤ)) (a : Aggregate) : Type 0 where
   pub count : a.count ≡ length ps
   pub sum : a.sum ≡ sum_of_points ps
@@ -83,7 +83,7 @@ pub record IsAggregateOfPoints (ps : List (ℤ × ℤ)) (a : Aggregate) : Type 0
 abbrev pub IsAggregateOf : List Fact → Aggregate → Type 0
 IsAggregateOf fs a = IsAggregateOfPoints (points_of fs) a
 
--- ---- what holds of every aggregate of points
+-- ---- properties of every aggregate of points
 
 -- at least one value, and count times min ≤ sum ≤ count times max
 pub record IsSpread (count : ℕ) (sum : ℤ) (e : Extremes) : Type 0 where
@@ -91,7 +91,7 @@ pub record IsSpread (count : ℕ) (sum : ℤ) (e : Extremes) : Type 0 where
   pub at_least : (pos count *ℤ e.min) ≤ℤ sum
   pub at_most : sum ≤ℤ (pos count *ℤ e.max)
 
--- Every aggregate of points is sound, but not only those are, as count 1, sum 3, min 1, max 5.
--- Without extremes it is the empty one.
+-- Every aggregate of points is sound. The converse fails, as for count 1, sum 3, min 1, max 5.
+-- A sound aggregate without extremes is empty.
 abbrev pub IsSound : Aggregate → Type 0
 IsSound a = MatchOption a.extremes (a ≡ empty_aggregate) (IsSpread a.count a.sum)

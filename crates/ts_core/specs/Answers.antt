@@ -1,5 +1,5 @@
--- The answer to a query over facts: of each group its buckets, and of each bucket the aggregate of its facts.
--- (InfluxData 1.8, InfluxQL: GROUP BY tags and time intervals; only points in the range of time count.)
+-- The answer to a query over facts: groups with their buckets, and each bucket with the aggregate of its facts.
+-- (InfluxData 1.8, InfluxQL: GROUP BY tags and time intervals; only points in the time range count.)
 use Rattle.std.specs.Prelude.{ℕ, zero, suc, ℤ, pos, negsuc, ◌+ℤ◌, ◌-ℤ◌, Bool, ◌&&◌, int_lt, List, [], ◌∷◌, map, filter, if◌then◌else◌}
 use Rattle.std.specs.declared.cmp.Ordering.{Ordering}
 use Rattle.std.specs.declared.cmp.Ordering.TheVariants.{Less, Equal, Greater}
@@ -10,24 +10,24 @@ use Rattle.ts_core.specs.Buckets.{bucket_of, bucket_start}
 use Rattle.ts_core.specs.Aggregates.{Aggregate, aggregate_of}
 use Rattle.ts_core.specs.Queries.{Query, matches, group_of}
 
--- a bucket, by where it starts, with the aggregate of its facts
+-- a bucket: its start, and the aggregate of its facts
 pub record Row : Type 0 where
   pub start : ℤ
   pub aggregate : Aggregate
 
--- a group, by its values of the group tags, with its rows
+-- a group: its values of the group tags, and its rows
 pub record Group : Type 0 where
   pub values : List Text
   pub rows : List Row
 
 -- ---- buckets
 
--- z, and 0 where it is below 0
+-- z, or 0 if z is negative
 abbrev pub at_least_none : ℤ → ℕ
 at_least_none (pos n) = n
 at_least_none (negsuc n) = 0
 
--- n whole numbers, from k on
+-- the n integers k, k + 1, ..
 abbrev pub numbers_from : ℤ → ℕ → List ℤ
 numbers_from k zero = []
 numbers_from k (suc n) = k ∷ numbers_from (k +ℤ pos 1) n
@@ -35,7 +35,7 @@ numbers_from k (suc n) = k ∷ numbers_from (k +ℤ pos 1) n
 abbrev pub bucket_in : Query → ℤ → ℤ
 bucket_in q t = bucket_of t q.interval q.offset
 
--- the buckets that meet the range, in order: from that of its first moment to that of its last one
+-- the buckets that intersect the range, in order: from that of its first time to that of its last
 abbrev pub buckets_in : Query → List ℤ
 buckets_in q =
     if int_lt q.from q.to
@@ -44,7 +44,7 @@ buckets_in q =
 
 -- ---- groups
 
--- groups stand in byte order of their values
+-- groups are in byte order of their values
 abbrev pub group_cmp : List Text → List Text → Ordering
 group_cmp = slice_cmp text_cmp
 
@@ -56,7 +56,7 @@ placed Less g x xs more = g ∷ x ∷ xs
 placed Equal g x xs more = x ∷ xs
 placed Greater g x xs more = x ∷ more
 
--- a group among others, in its place, once
+-- inserts a group into a sorted list, unless it is there
 abbrev pub with_group : List Text → List (List Text) → List (List Text)
 with_group g [] = g ∷ []
 with_group g (x ∷ xs) = placed (group_cmp g x) g x xs (with_group g xs)

@@ -1,4 +1,4 @@
--- What pieces give of a view, put together to an answer: raw facts for some pieces, totals of cells for others.
+-- The answer of a plan over a view: raw facts for some pieces, totals of cells for others.
 -- (Own rules.)
 use Rattle.std.specs.Prelude.{ℤ, pos, ◌==◌, Bool, not, ◌&&◌, List, [], ◌∷◌, ◌++◌, map, filter, zip, Option, Some, None, if◌then◌else◌}
 use Rattle.ts_core.specs.Facts.{Text, same_text, Fact, is_within}
@@ -13,22 +13,22 @@ use Rattle.ts_core.specs.Cells.{Cell}
 use Rattle.ts_core.specs.StoreStates.{facts_of}
 use Rattle.ts_core.specs.Views.{RuleTotals, Seen}
 
--- a cell is asked as a fact would be that stands at the start of its bucket, in a series with the kept tags
+-- a cell matches as a representative fact would: one at the start of its bucket, in a series with the kept tags
 abbrev pub stand_in : Rule → Cell → Fact
 stand_in r k = record { column = record { series = record { measurement = r.measurement; tags = zip r.kept_tags k.group }; field = k.field }; time = start_of r k.index; value = pos 0 }
 
--- the first rule of a name that is shown
+-- the first rule of a name in the view
 abbrev pub rule_shown : Text → List RuleTotals → Option RuleTotals
 rule_shown name [] = None
 rule_shown name (r ∷ rs) = if same_text r.rule.name name then Some r else rule_shown name rs
 
--- a test of facts, from a on and before b
+-- restricts a test of facts to times from a, inclusive, to b, exclusive
 abbrev pub in_part : (Fact → Bool) → ℤ → ℤ → Fact → Bool
 in_part test a b f = test f && is_within a b f.time
 
 -- ---- rows
 
--- the totals of the cells that pass
+-- the merged totals of the matching cells
 abbrev pub totals_given : Option RuleTotals → (Fact → Bool) → Aggregate
 totals_given None test = empty_aggregate
 totals_given (Some r) test = fold_by empty_aggregate merged r.total (filter (λ (k : Cell). test (stand_in r.rule k)) r.cells)
@@ -37,13 +37,13 @@ abbrev pub aggregate_given : Seen → Source → (Fact → Bool) → Aggregate
 aggregate_given seen Raw test = aggregate_of (filter test (facts_of seen.columns))
 aggregate_given seen (Rollup name) test = totals_given (rule_shown name seen.rules) test
 
--- what all pieces give of a row
+-- the merged contributions of all pieces to a row
 abbrev pub assembled : Seen → Query → List Piece → List Text → ℤ → Aggregate
 assembled seen q pieces g k = fold_by empty_aggregate merged (λ (p : Piece). aggregate_given seen p.source (in_part (is_in_row q g k) p.from p.to)) pieces
 
 -- ---- groups
 
--- those of the cells that pass and have data
+-- the groups of the matching cells that have data
 abbrev pub cell_groups : Query → Option RuleTotals → (Fact → Bool) → List (List Text)
 cell_groups q None test = []
 cell_groups q (Some r) test = map (λ (k : Cell). group_of q (stand_in r.rule k)) (filter (λ (k : Cell). test (stand_in r.rule k) && not ((r.total k).count == 0)) r.cells)

@@ -1,6 +1,6 @@
--- The cells of a rollup rule, and what each holds of a list of facts, in two parts.
--- (InfluxData 1.8, downsampling and data retention: an aggregate of each bucket and each group of tags. Own rules: late facts count
--- too, where a continuous query runs once for a bucket; and the two parts.)
+-- The cells of a rollup rule, and the two parts of a cell over a list of facts.
+-- (InfluxData 1.8, downsampling and data retention: an aggregate of each bucket and each group of tags. Own rules: late
+-- facts count too, where a continuous query runs once for a bucket; and the two parts.)
 use Rattle.std.specs.Prelude.{ℤ, Bool, not, ◌&&◌, List, filter}
 use Rattle.std.specs.declared.cmp.Ordering.{Ordering}
 use Rattle.std.specs.Ordering.{ordering_then, eq_by_cmp, int_cmp}
@@ -12,13 +12,13 @@ use Rattle.ts_core.specs.Marks.{index_of}
 use Rattle.ts_core.specs.Aggregates.{Aggregate, aggregate_of}
 use Rattle.ts_core.specs.RawFacts.{is_kept}
 
--- one bucket, one field and one group: the values of the rule's kept tags
+-- a bucket, a field and a group, which has the values of the rule's kept tags
 pub record Cell : Type 0 where
   pub index : ℤ
   pub field : Text
   pub group : List Text
 
--- cells stand in order of index, field, group
+-- cells are ordered by index, then field, then group
 abbrev pub cell_cmp : Cell → Cell → Ordering
 cell_cmp a b = ordering_then (int_cmp a.index b.index) (ordering_then (text_cmp a.field b.field) (slice_cmp text_cmp a.group b.group))
 
@@ -36,16 +36,16 @@ is_rolled r f = same_text f.column.series.measurement r.measurement
 abbrev pub is_in_cell : Rule → Cell → Fact → Bool
 is_in_cell r k f = is_rolled r f && same_cell (cell_of r f) k
 
--- ---- what a cell holds
+-- ---- the content of a cell
 
--- of all its facts
+-- the aggregate of all its facts
 abbrev pub total_of : Rule → Cell → List Fact → Aggregate
 total_of r k fs = aggregate_of (filter (is_in_cell r k) fs)
 
--- of those that are below the cut of their column
+-- the aggregate of its facts below their column's cut
 abbrev pub frozen_of : (Column → ℤ) → Rule → Cell → List Fact → Aggregate
 frozen_of cut r k fs = aggregate_of (filter (λ (f : Fact). is_in_cell r k f && not (is_kept cut f)) fs)
 
--- of those from there on
+-- the aggregate of its facts at or above the cut
 abbrev pub live_of : (Column → ℤ) → Rule → Cell → List Fact → Aggregate
 live_of cut r k fs = aggregate_of (filter (λ (f : Fact). is_in_cell r k f && is_kept cut f) fs)

@@ -1,8 +1,8 @@
--- Places in a text. (Own rule.)
+-- Byte offsets in a text. (Own rule.)
 use Rattle.std.specs.Prelude.{◌≤◌, ℕ, List, length}
 use Rattle.std.specs.Str.{IsCharBoundary}
 
--- a place at or behind another, at which a character of the text begins, or the text ends
+-- an offset at or after another, at a character boundary
 pub record IsPlaceFrom (text : List ℕ) (from at : ℕ) : Type 0 where
   pub order : from ≤ at
   pub within : at ≤ length text

@@ -1,42 +1,42 @@
--- Readers and writers, seen by their bytes and by what was asked of them. (Own rules.)
+-- Readers and writers, modelled by their bytes and by counts of their calls. (Own rules.)
 use Rattle.std.specs.Prelude.{ℕ, ◌≡◌, ◌+◌, List, ◌++◌, Option, Result, Ok, Err, OnOk, OnErr, ◌==◌, if◌then◌else◌, length}
 use Rattle.std.specs.Io.{ReadsAtMost, WritesAtMost}
 use Rattle.std.specs.Io.KnownBytes.{Appends, ReadConsumes, WriteAppends}
 
--- a reader: the bytes that are left, where they are known; its reads; those that failed; those that gave no
--- byte into room, each of which answered the end of the input
+-- a reader: the remaining bytes, if known, and counts of its reads, of its failures and of its ends. An end is a read
+-- of no bytes into a non-empty buffer.
 pub record Input : Type 0 where
   pub remaining : Option (List ℕ)
   pub turns : ℕ
   pub failures : ℕ
   pub ends : ℕ
 
--- a reader of these bytes of which nothing was asked yet
+-- a reader of these bytes that wasn't called yet
 abbrev pub unread : Option (List ℕ) → Input
 unread bytes = record { remaining = bytes; turns = 0; failures = 0; ends = 0 }
 
--- a writer: the bytes that it holds, where they are known; its writes that failed or took no byte of some
+-- a writer: the bytes written, if known; its writes that failed or accepted none of some bytes
 pub record Output : Type 0 where
   pub contents : Option (List ℕ)
   pub failures : ℕ
 
--- how much a call adds to a count of errors
+-- the number of errors that a call adds: 1 for an error, else 0
 abbrev pub one_if_err : {T E : Type 0} → Result T E → ℕ
 one_if_err (Ok x) = 0
 one_if_err (Err e) = 1
 
--- how much a call adds to a count of those that moved no byte, though there was room to fill, or a byte to take
+-- 1 for a call that moved no byte though the buffer isn't empty, else 0
 abbrev pub one_if_stuck : {E : Type 0} → Result ℕ E → List ℕ → ℕ
 one_if_stuck (Ok n) bytes = if n == 0 then if length bytes == 0 then 0 else 1 else 0
 one_if_stuck (Err e) bytes = 0
 
--- a beginning of the bytes was appended: none, some or all of them
+-- appends a prefix of the bytes: none, some or all
 abbrev pub AppendsFront : Option (List ℕ) → Option (List ℕ) → List ℕ → Type 0
 AppendsFront old new bytes = (sent : List ℕ) × (rest : List ℕ) × (bytes ≡ sent ++ rest) × Appends old new sent
 
--- ---- what a call does
+-- ---- the effect of a call
 
--- one read into some room, which holds those bytes then
+-- one read into a buffer, whose new content is `room`
 pub record IsRead {E : Type 0} (old : Input) (result : Result ℕ E) (room : List ℕ) (new : Input) : Type 0 where
   pub bound : ReadsAtMost result room
   pub bytes : ReadConsumes old.remaining new.remaining result room
@@ -50,7 +50,7 @@ pub record IsWritten {E : Type 0} (old : Output) (result : Result ℕ E) (given 
   pub bytes : WriteAppends old.contents new.contents result given
   pub failures : new.failures ≡ old.failures + one_if_err result + one_if_stuck result given
 
--- all of the bytes go out, or where that is refused a beginning of them
+-- writes all bytes, or on an error a prefix of them
 pub record IsPut {T E : Type 0} (old : Output) (result : Result T E) (bytes : List ℕ) (new : Output) : Type 0 where
   pub ok : OnOk result (Appends old.contents new.contents bytes)
   pub err : OnErr result (AppendsFront old.contents new.contents bytes)

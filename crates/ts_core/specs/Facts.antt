@@ -1,6 +1,6 @@
--- Facts: what a point says of one field.
--- (InfluxData 1.8, key concepts: measurement, tag set, field key, timestamp, field value. Own rule: a series is a measurement with
--- a tag set; there the field key is part of a series too, and here it makes the column.)
+-- Facts: the value that a point has for one field.
+-- (InfluxData 1.8, key concepts: measurement, tag set, field key, timestamp, field value. Own rule: a series is a
+-- measurement with a tag set. There the field key is part of a series too; here a series with a field key is a column.)
 use Rattle.std.specs.Prelude.{ℕ, ℤ, Bool, ◌&&◌, List, int_le, int_lt}
 use Rattle.std.specs.declared.cmp.Ordering.{Ordering}
 use Rattle.std.specs.Ordering.{ordering_then, eq_by_cmp, nat_cmp, int_cmp}
@@ -17,23 +17,24 @@ text_cmp = slice_cmp nat_cmp
 abbrev pub same_text : Text → Text → Bool
 same_text = bytes_eq
 
--- a measurement with a tag set. (A line has its tags in byte order of their keys, each key once: `series_of` of ts_line puts them so.)
+-- a measurement with a tag set. (The tags of a line are in byte order of their keys, each key once: ts_line's
+-- `series_of` sorts them.)
 pub record Series : Type 0 where
   pub measurement : Text
   pub tags : List (Text × Text)
 
--- one series with one field: what key concepts calls a series
+-- a series with a field, which key concepts calls a series
 pub record Column : Type 0 where
   pub series : Series
   pub field : Text
 
--- a value of one field, at one time
+-- a value of a field at a time
 pub record Fact : Type 0 where
   pub column : Column
   pub time : ℤ
   pub value : ℤ
 
--- what identifies a fact: all but its value
+-- the identity of a fact: all but its value
 pub record Id : Type 0 where
   pub column : Column
   pub time : ℤ
@@ -58,16 +59,16 @@ id_cmp a b = ordering_then (column_cmp a.column b.column) (int_cmp a.time b.time
 abbrev pub same_id : Id → Id → Bool
 same_id = eq_by_cmp id_cmp
 
--- ---- which facts are asked for
+-- ---- which facts match
 
--- the column is of this measurement and field, whatever its tags
+-- the column is of this measurement and field, with any tags
 abbrev pub is_of : Text → Text → Column → Bool
 is_of measurement field c = same_text c.series.measurement measurement && same_text c.field field
 
--- from a on, before b
+-- from a, inclusive, to b, exclusive
 abbrev pub is_within : ℤ → ℤ → ℤ → Bool
 is_within a b t = int_le a t && int_lt t b
 
--- a fact of this measurement and field, from a on and before b
+-- a fact of this measurement and field, from a, inclusive, to b, exclusive
 abbrev pub is_asked : Text → Text → ℤ → ℤ → Fact → Bool
 is_asked measurement field a b f = is_of measurement field f.column && is_within a b f.time

@@ -1,4 +1,4 @@
--- The faults of all layers: their numbers, and what each is in words. (Own numbers.)
+-- The faults of all layers: their numbers, and descriptions for operators. (Own numbers.)
 use Rattle.std.specs.Prelude.{ℕ, nat_eq, List, [], ◌∷◌, Option, Some, None, codes, if◌then◌else◌}
 use Rattle.ts_core.specs.Facts.{Text}
 use Rattle.ts_core.specs.declared.fault_code.FaultCode.{FaultCode}
@@ -126,7 +126,7 @@ code_words EndlessScript = codes "standard input didn't end within 2^32 reads"
 code_words ConnectionReaderFailed = codes "reading the request failed"
 code_words ConnectionWriterFailed = codes "writing the reply failed"
 
--- in the order of their numbers
+-- ordered by number
 abbrev pub all_codes : List FaultCode
 all_codes =
     IntervalRange ∷ KeptTooShortly ∷ RepeatedRuleName ∷ BadRuleName ∷ TooManyRules ∷ BadKeptTags ∷ BadSettingsText ∷ NoMeasurement ∷
@@ -137,7 +137,7 @@ all_codes =
     NoSuchRule ∷ OtherMeasurement ∷ OffBoundary ∷ BelowLow ∷ Straddles ∷ TagNotKept ∷ NoPlan ∷ TooManyRuleBuckets ∷ StalePlan ∷
     SeveralStatements ∷ UnknownCommand ∷ ReaderFailed ∷ WriterFailed ∷ EndlessScript ∷ ConnectionReaderFailed ∷ ConnectionWriterFailed ∷ []
 
--- the first of a list that has the number
+-- the first code of a list with this number
 abbrev pub first_numbered : ℕ → List FaultCode → Option FaultCode
 first_numbered n [] = None
 first_numbered n (code ∷ others) = if nat_eq (code_number code) n then Some code else first_numbered n others

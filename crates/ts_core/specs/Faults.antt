@@ -1,4 +1,4 @@
--- The first fault of a list of pieces. (Own rules.)
+-- The first error of a list of pieces. (Own rules.)
 use Rattle.std.specs.Prelude.{ℕ, ◌+◌, ℤ, pos, ◌-ℤ◌, int_lt, int_le, Bool, ◌&&◌, ◌||◌, List, [], ◌∷◌, Option, Some, None, if◌then◌else◌}
 use Rattle.std.specs.Ordering.{int_eq}
 use Rattle.std.specs.Int.{int_rem_euclid}
@@ -16,28 +16,28 @@ use Rattle.ts_core.specs.Marks.{Marks, index_of}
 use Rattle.ts_core.specs.Queries.{Query}
 use Rattle.ts_core.specs.Pieces.{Source, Raw, Rollup, Piece, MarkedRule, Asked, asked, rule_named, start_of, tags_of}
 
--- each in the table of all faults
+-- the codes in the common table of faults
 abbrev pub piece_fault_code : Fault → FaultCode
--- the pieces don't lead from the start of the range to its end
+-- the pieces don't follow one another from the start of the range to its end
 piece_fault_code Gap = coded.Gap
 -- a raw piece starts below the raw mark
 piece_fault_code BelowMark = coded.BelowMark
 piece_fault_code NoSuchRule = coded.NoSuchRule
 piece_fault_code OtherMeasurement = coded.OtherMeasurement
--- an end isn't a boundary of the rule
+-- an end isn't a bucket boundary of the rule
 piece_fault_code OffBoundary = coded.OffBoundary
--- the first bucket lies below the rule's low index
+-- the first bucket is below the rule's low index
 piece_fault_code BelowLow = coded.BelowLow
 -- the rule's buckets don't fit the query's
 piece_fault_code Straddles = coded.Straddles
--- the rule doesn't keep a tag that the query names
+-- the rule doesn't keep a tag that the query uses
 piece_fault_code TagNotKept = coded.TagNotKept
 
--- the number that a fault is answered by
+-- the number of an error
 abbrev pub fault_number : Fault → ℕ
 fault_number fault = code_number (piece_fault_code fault)
 
--- ---- of one piece
+-- ---- errors of one piece
 
 abbrev pub is_boundary : Rule → ℤ → Bool
 is_boundary r p = int_eq (start_of r (index_of r p)) p
@@ -68,9 +68,10 @@ source_fault t (Rollup name) a b = rule_fault t.query (rule_named name t.rules) 
 abbrev pub piece_fault : Asked → Piece → Option Fault
 piece_fault t p = source_fault t p.source p.from p.to
 
--- ---- of a list
+-- ---- errors of a list
 
--- the first piece that doesn't join, or their number where the last doesn't reach the end
+-- the index of the first piece that doesn't start where the one before ended; or the number of pieces, if the last
+-- doesn't reach the end
 abbrev pub gap_at : ℕ → ℤ → ℤ → List Piece → Option ℕ
 gap_at n a b [] = if int_eq a b then None else Some n
 gap_at n a b (p ∷ ps) = if int_eq p.from a && (int_lt p.from p.to && int_le p.to b) then gap_at (n + 1) p.to b ps else Some n
@@ -87,10 +88,10 @@ abbrev pub or_gap : Option ℕ → Option (Fault × ℕ) → Option (Fault × �
 or_gap None next = next
 or_gap (Some n) next = Some (Gap, n)
 
--- gaps over the whole list, and then piece by piece
+-- gaps in the whole list come first, then errors piece by piece
 abbrev pub fault_from : Asked → ℤ → List Piece → Option (Fault × ℕ)
 fault_from t a ps = or_gap (gap_at 0 a t.query.to ps) (pieces_fault t 0 ps)
 
--- the first fault, and the number of its piece, from 0
+-- the first error, and the index of its piece
 abbrev pub first_fault : Settings → Marks → Query → List Piece → Option (Fault × ℕ)
 first_fault s m q ps = fault_from (asked s m q) q.from ps

@@ -1,6 +1,7 @@
--- What is shown of an answer: a value for each function, and what stands for a bucket without data.
--- (InfluxData 1.8, InfluxQL: GROUP BY time intervals and fill(); InfluxQL functions: COUNT() and fill(). Own rules: COUNT stays 0 under
--- fill(null), and is null before the first data under fill(previous); means are fractions; there is no fill(linear).)
+-- The values of an answer: one per function, and fill values for buckets without data.
+-- (InfluxData 1.8, InfluxQL: GROUP BY time intervals and fill(); InfluxQL functions: COUNT() and fill(). Own rules:
+-- COUNT stays 0 under fill(null), and is null before the first data under fill(previous); means are fractions; there is
+-- no fill(linear).)
 use Rattle.std.specs.Prelude.{◌==◌, ℤ, pos, Bool, not, List, [], ◌∷◌, map, filter, Option, Some, None, if◌then◌else◌}
 use Rattle.ts_core.specs.declared.aggregate.Extremes.{Extremes}
 use Rattle.ts_core.specs.declared.value.Function.{Function}
@@ -19,7 +20,7 @@ use Rattle.ts_core.specs.Answers.{Row, Group}
 abbrev pub is_empty : Aggregate → Bool
 is_empty a = a.count == 0
 
--- null where there is no data
+-- null without data
 abbrev pub unless_empty : Aggregate → Value → Value
 unless_empty a v = if is_empty a then Null else v
 
@@ -27,7 +28,7 @@ abbrev pub extreme_value : (Extremes → ℤ) → Option Extremes → Value
 extreme_value part None = Null
 extreme_value part (Some e) = Number (part e)
 
--- the value of a function; without data it is null, but 0 for COUNT
+-- the value of a function; without data it is null, or 0 for COUNT
 abbrev pub value_of : Aggregate → Function → Value
 value_of a Count = Number (pos a.count)
 value_of a Sum = unless_empty a (Number a.sum)
@@ -37,7 +38,7 @@ value_of a First = extreme_value (λ (e : Extremes). e.first.1) a.extremes
 value_of a Last = extreme_value (λ (e : Extremes). e.last.1) a.extremes
 value_of a Mean = unless_empty a (Fraction (mean_of a))
 
--- N in place of data, and N/1 for MEAN
+-- the fill number N, as N/1 for MEAN
 abbrev pub number_value : ℤ → Function → Value
 number_value n Mean = Fraction (record { numerator = n; denominator = 1 })
 number_value n f = Number n
@@ -61,16 +62,16 @@ shown fs r = record { start = r.start; values = map (value_of r.aggregate) fs }
 abbrev pub numbered : List Function → ℤ → Row → FilledRow
 numbered fs n r = if has_data r then shown fs r else record { start = r.start; values = map (number_value n) fs }
 
--- the row of a bucket with what some row had, or nulls
+-- the row of a bucket with the values of an aggregate, or nulls
 abbrev pub repeated : List Function → Option Aggregate → ℤ → FilledRow
 repeated fs None start = record { start = start; values = map (λ (f : Function). Null) fs }
 repeated fs (Some a) start = record { start = start; values = map (value_of a) fs }
 
--- what the last row with data had, up to this row
+-- the last data up to this row
 abbrev pub last_data : Option Aggregate → Row → Option Aggregate
 last_data earlier r = if has_data r then Some r.aggregate else earlier
 
--- each row with what the last row with data had, up to it
+-- each row with the values of the last data up to it
 abbrev pub with_previous : List Function → Option Aggregate → List Row → List FilledRow
 with_previous fs earlier [] = []
 with_previous fs earlier (r ∷ rs) = repeated fs (last_data earlier r) r.start ∷ with_previous fs (last_data earlier r) rs

@@ -1,4 +1,4 @@
--- Aggregates merge in any order and any grouping, the empty one changes none, and counts add up. (Own rules.)
+-- Merging aggregates is associative and commutative, the empty one is neutral, and counts add up. (Own rules.)
 use Rattle.std.proofs.Common.{◌≡◌, refl, ap, zero-add, add_comm, add_assoc, Option, Some, None}
 use Rattle.std.specs.Cmp.{int_cmp_total}
 use Rattle.std.proofs.lemmas.Map.Lookups.{exact_signed}

@@ -1,4 +1,4 @@
--- The lesser of two is one of them, not after either, and in any order the same. (Own rules.)
+-- The lesser of two is one of them, isn't after either, and doesn't depend on the order of the arguments. (Own rules.)
 use Rattle.std.proofs.Common.{◌≡◌, ◌⊎◌, ℤ, ◌≤ℤ◌, ◌<ℤ◌, true, false, cond, refl, sym, ◌∙◌, ap, inl, inr, Ordering, Less, Equal, Greater, is_gt, true≢false, int_cmp, arith}
 use Rattle.std.specs.Ordering.{ordering_reverse, ordering_then, MatchOrdering}
 use Rattle.std.specs.Cmp.{IsTotalOrder, int_cmp_total, int_ranks}
@@ -7,7 +7,7 @@ use Rattle.std.proofs.lemmas.Int.{ints}
 use Rattle.std.proofs.lemmas.Map.Lookups.{CmpEqualImpliesEq, exact_signed, exact_pairs}
 use Rattle.ts_core.specs.Orders.{lesser, down_cmp, early_cmp, late_cmp}
 
--- x doesn't come after y
+-- x isn't after y
 abbrev pub IsUpto : {K : Type 0} → (K → K → Ordering) → K → K → Type 0
 IsUpto R x y = is_gt (R x y) ≡ false
 
@@ -23,7 +23,7 @@ module _ {K : Type 0} {R : K → K → Ordering} (o : IsTotalOrder R) (exact : C
         | Greater ↦ λ e. absurd (true≢false (sym (ap is_gt e) ∙ h))
       ] refl
 
-  -- after, so not before
+  -- after y, so not before it
   turned : (x y : K) → is_gt (R x y) ≡ true → IsUpto R y x
   turned x y h =
       elim (R x y) as (λ r. R x y ≡ r → IsUpto R y x) [
@@ -68,7 +68,7 @@ module _ {K : Type 0} {R : K → K → Ordering} (o : IsTotalOrder R) (exact : C
       (lesser-meets r a b (lesser-left a bc) (upto o r bc b (lesser-right a bc) (lesser-left b c)))
       (upto o r bc c (lesser-right a bc) (lesser-right b c)))
 
-  -- where the second comes first, the lesser is the second
+  -- if the second comes first, it is the lesser
   pub lesser-before : (a b : K) → R b a ≡ Less → lesser R a b ≡ b
   lesser-before a b h = ap (λ r. cond (is_gt r) b a) (o.antisymm a b ∙ ap ordering_reverse h)
 
@@ -76,7 +76,7 @@ module _ {K : Type 0} {R : K → K → Ordering} (o : IsTotalOrder R) (exact : C
   pub not_itself : (a : K) → R a a ≡ Less → ⊥
   not_itself a h = let n : Less ≡ Equal = sym h ∙ tied_itself o a in cc
 
--- it is one of the two
+-- the lesser is one of the two
 pub lesser_one : {K : Type 0} (R : K → K → Ordering) (a b : K) → (lesser R a b ≡ a) ⊎ (lesser R a b ≡ b)
 lesser_one R a b = elim (is_gt (R a b)) as (λ r. (cond r b a ≡ a) ⊎ (cond r b a ≡ b)) [ true ↦ inr refl | false ↦ inl refl ]
 
@@ -100,7 +100,7 @@ exact_early = exact_pairs int_cmp down_cmp exact_signed exact_down
 pub exact_late : CmpEqualImpliesEq late_cmp
 exact_late = exact_pairs down_cmp down_cmp exact_down exact_down
 
--- ---- in words of numbers
+-- ---- stated by numbers
 
 upto_ranked : (x y : ℤ) (r : Ordering) → MatchOrdering r (x <ℤ y) (x ≡ y) (y <ℤ x) → is_gt r ≡ false → x ≤ℤ y
 upto_ranked x y Less m h = omega (arith, ints)

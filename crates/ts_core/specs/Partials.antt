@@ -1,4 +1,4 @@
--- What can be added up by parts: neither order nor grouping matters, and counts add up. (Own rules.)
+-- Mergeable aggregates: merging is associative and commutative, and counts add up. (Own rules.)
 use Rattle.std.specs.Prelude.{◌≡◌, ℕ, ◌+◌, ℤ, List, [], ◌∷◌}
 
 pub record PartialLaws {M : Type 0} (empty : M) (single : ℤ → ℤ → M) (merge : M → M → M) (count : M → ℕ) : Type 0 where
@@ -9,7 +9,7 @@ pub record PartialLaws {M : Type 0} (empty : M) (single : ℤ → ℤ → M) (me
   pub count_single : (t v : ℤ) → count (single t v) ≡ 1
   pub count_merge : (x y : M) → count (merge x y) ≡ count x + count y
 
--- what a list adds up to
+-- the merged aggregate of a list
 abbrev pub fold_by : {M X : Type 0} → M → (M → M → M) → (X → M) → List X → M
 fold_by empty merge one [] = empty
 fold_by empty merge one (x ∷ xs) = merge (one x) (fold_by empty merge one xs)

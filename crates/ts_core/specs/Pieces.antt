@@ -1,4 +1,4 @@
--- Pieces of a plan, and when a list of them is valid: it may stand for all points ever accepted. (Own rules.)
+-- Pieces of a plan, and when a list of them is valid, so that it covers all points ever accepted. (Own rules.)
 use Rattle.std.specs.Prelude.{◌≡◌, ◌⊎◌, ℤ, pos, ◌-ℤ◌, ◌≤ℤ◌, ◌<ℤ◌, List, [], ◌∷◌, ◌++◌, map, Option, Some, None, if◌then◌else◌}
 use Rattle.std.specs.List.{AllByRecursion}
 use Rattle.std.specs.Int.{int_rem_euclid}
@@ -9,18 +9,18 @@ use Rattle.ts_core.specs.Buckets.{bucket_of, bucket_start}
 use Rattle.ts_core.specs.Marks.{Marks, index_of}
 use Rattle.ts_core.specs.Queries.{Condition, Query}
 
--- where the numbers of a piece come from: raw points, or the cells of a rule, by its name
+-- the source of a piece's data: raw points, or the cells of the rule with this name
 pub data Source : Type 0 where
   Raw : Source
   Rollup : Text → Source
 
--- from this moment on, before that one
+-- the times from `from`, inclusive, to `to`, exclusive
 pub record Piece : Type 0 where
   pub source : Source
   pub from : ℤ
   pub to : ℤ
 
--- ---- what pieces are for
+-- ---- the context of pieces
 
 -- a rule with its low index
 pub record MarkedRule : Type 0 where
@@ -32,7 +32,7 @@ marked_rules [] lows = []
 marked_rules (r ∷ rs) [] = []
 marked_rules (r ∷ rs) (low ∷ lows) = record { rule = r; low = low } ∷ marked_rules rs lows
 
--- a query, with what a store still knows
+-- a query, with the rules and the raw mark that it is planned under
 pub record Asked : Type 0 where
   pub rules : List MarkedRule
   pub mark : ℤ
@@ -46,9 +46,9 @@ abbrev pub rule_named : Text → List MarkedRule → Option MarkedRule
 rule_named name [] = None
 rule_named name (r ∷ rs) = if same_text r.rule.name name then Some r else rule_named name rs
 
--- ---- when a rule's cells may stand for the query's points
+-- ---- when a rule's cells cover the query's points
 
--- where bucket k of a rule starts
+-- the start of bucket k of a rule
 abbrev pub start_of : Rule → ℤ → ℤ
 start_of r k = bucket_start k r.interval r.offset
 
@@ -61,15 +61,15 @@ pub record Divides (r : Rule) (q : Query) : Type 0 where
   pub interval : int_rem_euclid q.interval r.interval ≡ pos 0
   pub offset : int_rem_euclid (q.offset -ℤ r.offset) r.interval ≡ pos 0
 
--- all from a to b lies in one bucket of the query
+-- the range from a to b is within one bucket of the query
 abbrev pub IsInOneBucket : Query → ℤ → ℤ → Type 0
 IsInOneBucket q a b = bucket_of a q.interval q.offset ≡ bucket_of (b -ℤ pos 1) q.interval q.offset
 
--- the tags that a query names
+-- the tags that a query uses
 abbrev pub tags_of : Query → List Text
 tags_of q = q.group_tags ++ map (λ (c : Condition). c.tag) q.conditions
 
--- the rule's cells from a to b stand for the points that the query asks for there
+-- the rule's cells from a to b cover the points that match the query there
 pub record RuleServes (q : Query) (r : MarkedRule) (a b : ℤ) : Type 0 where
   pub measurement : r.rule.measurement ≡ q.measurement
   pub starts : IsBoundary r.rule a
@@ -80,7 +80,7 @@ pub record RuleServes (q : Query) (r : MarkedRule) (a b : ℤ) : Type 0 where
 
 -- ---- when pieces are valid
 
--- raw points serve from the raw mark on
+-- raw points are complete from the raw mark on
 abbrev pub SourceServes : Asked → Source → ℤ → ℤ → Type 0
 SourceServes t Raw a b = t.mark ≤ℤ a
 SourceServes t (Rollup name) a b = (r : MarkedRule) × (rule_named name t.rules ≡ Some r) × RuleServes t.query r a b
@@ -88,12 +88,12 @@ SourceServes t (Rollup name) a b = (r : MarkedRule) × (rule_named name t.rules 
 abbrev pub IsValidPiece : Asked → Piece → Type 0
 IsValidPiece t p = SourceServes t p.source p.from p.to
 
--- the first piece starts at a, each next one where the last ended, none is empty, and they end at b
+-- the first piece starts at a, each next one at the end of the one before, none is empty, and the last ends at b
 abbrev pub Covers : ℤ → ℤ → List Piece → Type 0
 Covers a b [] = a ≡ b
 Covers a b (p ∷ ps) = (p.from ≡ a) × (p.from <ℤ p.to) × (p.to ≤ℤ b) × Covers p.to b ps
 
--- valid pieces, but for where they start
+-- valid pieces of which the first starts at a
 pub record IsValidFrom (t : Asked) (a : ℤ) (ps : List Piece) : Type 0 where
   pub covers : Covers a t.query.to ps
   pub each : AllByRecursion (IsValidPiece t) ps

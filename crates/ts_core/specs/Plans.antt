@@ -1,4 +1,5 @@
--- The plan of a query: the walk over good places, with neighbours joined. There is one plan, or none. (Own rules.)
+-- The plan of a query: a walk over the times from which the end can be reached, with neighbours merged. There is at
+-- most one plan. (Own rules.)
 use Rattle.std.specs.Prelude.{◌≡◌, ℕ, ◌+◌, ◌<◌, ℤ, pos, ◌+ℤ◌, ◌-ℤ◌, ◌≤ℤ◌, ◌<ℤ◌, Bool, true, false, ◌&&◌, List, [], ◌∷◌, Option, Some, None, slice_get, if◌then◌else◌}
 use Rattle.ts_core.specs.Facts.{Text, same_text}
 use Rattle.ts_core.specs.Settings.{Rule, Settings}
@@ -10,7 +11,7 @@ use Rattle.ts_core.specs.Faults.{Fault, piece_fault}
 
 -- ---- the walk
 
--- a place is good where some list of valid pieces leads from there to the end of the range
+-- some list of valid pieces leads from p to the end of the range
 abbrev pub IsGood : Asked → ℤ → Type 0
 IsGood t p = (ps : List Piece) × IsValidFrom t p ps
 
@@ -20,7 +21,7 @@ rollup_piece name a b = record { source = Rollup name; from = a; to = b }
 abbrev pub raw_piece : ℤ → ℤ → Piece
 raw_piece a b = record { source = Raw; from = a; to = b }
 
--- the bucket of rule n that starts at p is a valid piece, and ends at a good place e
+-- the bucket of rule n that starts at p is a valid piece, and the end can be reached from its end e
 pub record LeadsOn (t : Asked) (n : ℕ) (p e : ℤ) : Type 0 where
   pub rule : MarkedRule
   pub there : slice_get t.rules n ≡ Some rule
@@ -28,18 +29,19 @@ pub record LeadsOn (t : Asked) (n : ℕ) (p e : ℤ) : Type 0 where
   pub valid : IsValidPiece t (rollup_piece rule.rule.name p e)
   pub good : IsGood t e
 
--- the rules before number n don't lead on from p
+-- no rule with an index below n leads on from p
 abbrev pub NoneBefore : Asked → ℤ → ℕ → Type 0
 NoneBefore t p n = (m : ℕ) (d : ℤ) → m < n → LeadsOn t m p d → ⊥
 
--- rule n leads on, and none before it in the order of the settings
+-- rule n leads on, and none before it in the order of the settings does
 pub record IsFirstToLead (t : Asked) (name : Text) (p e : ℤ) : Type 0 where
   pub n : ℕ
   pub leads : LeadsOn t n p e
   pub named : leads.rule.rule.name ≡ name
   pub first : NoneBefore t p n
 
--- the step of the walk from p to e: at or above the raw mark the rest is one raw piece, below it one bucket is taken, and then more
+-- one step of the walk, from p to e. At or above the raw mark, one raw piece covers the rest. Below it, the step takes
+-- one bucket, and the walk continues.
 abbrev pub Steps : Asked → ℤ → ℤ → Source → List Piece → Type 0 → Type 0
 Steps t p e Raw rest more = (t.mark ≤ℤ p) × (e ≡ t.query.to) × (rest ≡ [])
 Steps t p e (Rollup name) rest more = (p <ℤ t.mark) × IsFirstToLead t name p e × more
@@ -49,7 +51,7 @@ abbrev pub IsWalk : Asked → ℤ → List Piece → Type 0
 IsWalk t p [] = p ≡ t.query.to
 IsWalk t p (b ∷ bs) = (p <ℤ t.query.to) × (b.from ≡ p) × Steps t p b.to b.source bs (IsWalk t b.to bs)
 
--- ---- joined
+-- ---- merged neighbours
 
 abbrev pub is_same_rule : Source → Source → Bool
 is_same_rule Raw s = false
@@ -60,11 +62,11 @@ abbrev pub is_faultless : Option Fault → Bool
 is_faultless None = true
 is_faultless (Some fault) = false
 
--- the piece p drawn out to the end of b
+-- the piece p, extended to the end of b
 abbrev pub drawn : Piece → Piece → Piece
 drawn p b = record { source = p.source; from = p.from; to = b.to }
 
--- from left to right, the next bucket of the same rule joins the piece as long as the joined piece is valid
+-- from left to right: the next bucket of the same rule extends the piece as long as the result is valid
 abbrev pub joined_onto : Asked → Piece → List Piece → List Piece
 joined_onto t p [] = p ∷ []
 joined_onto t p (b ∷ bs) =
@@ -82,18 +84,18 @@ IsPlanOf t ps = (bs : List Piece) × IsWalk t t.query.from bs × (ps ≡ joined 
 abbrev pub IsPlan : Settings → Marks → Query → List Piece → Type 0
 IsPlan s m q ps = IsPlanOf (asked s m q) ps
 
--- ---- the limit on what is searched
+-- ---- the limit of the search
 
--- the whole buckets of a rule from a to b: those after the bucket of a - 1 and before that of b
+-- the number of complete buckets of a rule from a to b: those after the bucket of a - 1 and before that of b
 abbrev pub whole_between : Rule → ℤ → ℤ → ℕ
 whole_between r a b = at_least_none ((index_of r b -ℤ index_of r (a -ℤ pos 1)) -ℤ pos 1)
 
--- those of all rules of the query's measurement, in the range
+-- the number of complete buckets of all rules of the query's measurement, within the range
 abbrev pub whole_buckets : List Rule → Query → ℕ
 whole_buckets [] q = 0
 whole_buckets (r ∷ rs) q = (if same_text r.measurement q.measurement then whole_between r q.from q.to else 0) + whole_buckets rs q
 
--- more than 1,000,000 buckets would be searched
+-- the search would visit more than 1,000,000 buckets
 pub record IsTooMany (s : Settings) (m : Marks) (q : Query) : Type 0 where
   pub below : q.from <ℤ m.raw
   pub some : q.from <ℤ q.to

@@ -1,11 +1,11 @@
--- The mean of an aggregate with points as a fraction: its sum and its count, both divided by their greatest common divisor.
+-- The mean of a non-empty aggregate as a fraction: its sum and its count, divided by their greatest common divisor.
 -- (InfluxData 1.8, InfluxQL functions: MEAN. Own rule: exact, in lowest terms.)
 use Rattle.std.specs.Prelude.{ℕ, zero, suc, ◌/◌, ◌%◌, unsigned_abs}
 use Rattle.ts_core.specs.declared.means.Frac.{Frac}
 use Rattle.ts_core.specs.Means.{signed_as_of}
 use Rattle.ts_core.specs.Aggregates.{Aggregate}
 
--- Euclid's rule, in at most n turns
+-- Euclid's algorithm, in at most n steps
 abbrev pub divisor_within : ℕ → ℕ → ℕ → ℕ
 divisor_within n a zero = a
 divisor_within zero a (suc b) = a

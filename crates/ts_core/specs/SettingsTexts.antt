@@ -1,4 +1,4 @@
--- Settings as a text: a JSON object. (Own rules. The words are of InfluxData 1.8, downsampling and data retention.)
+-- Settings as a JSON object. (Own rules. The words are of InfluxData 1.8, downsampling and data retention.)
 use Rattle.std.specs.Prelude.{◌≡◌, ⊤, ℕ, suc, ◌==◌, ℤ, unsigned_abs, List, [], ◌∷◌, Bool, true, false, Option, Some, None, option_map, option_and_then, unwrap_or, Result, Ok, Err, codes}
 use Rattle.serde_json.specs.Data.{Data, Items, no_items, item, Members, no_members, member}
 use Rattle.serde_json.specs.Find.{get, as_str, as_array, as_object}
@@ -18,7 +18,7 @@ abbrev pub members_count : Members → ℕ
 members_count no_members = 0
 members_count (member k d ms) = suc (members_count ms)
 
--- an object with so many keys. (An object has each key once: of a repeated one the last value counts.)
+-- an object with n keys. (An object has each key once: of a repeated key, the last value counts.)
 abbrev pub has_keys : ℕ → Data → Bool
 has_keys n d = unwrap_or (option_map (λ ms. members_count ms == n) (as_object d)) false
 
@@ -34,7 +34,7 @@ if_not_empty (b ∷ bs) = Some (b ∷ bs)
 abbrev pub filled_text : Data → Option Text
 filled_text d = option_and_then if_not_empty (as_str d)
 
--- each item, read the same way
+-- all items, parsed by the same function
 abbrev pub each : {X : Type 0} → (Data → Option X) → Items → Option (List X)
 each f no_items = Some []
 each f (item d ds) = option_and_then (λ x. option_map (λ xs. x ∷ xs) (each f ds)) (f d)
@@ -50,7 +50,7 @@ rule_with true (Some name) (Some measurement) (Some interval) (Some offset) (Som
     Some (record { name = name; measurement = measurement; interval = interval; offset = offset; kept_tags = kept_tags; duration = unsigned_abs duration })
 rule_with _ _ _ _ _ _ _ = None
 
--- exactly six keys; a measurement and kept tags aren't empty
+-- exactly six keys; the measurement and the kept tags aren't empty
 unfoldable pub rule_parsed : Data → Option Rule
 rule_parsed d = rule_with (has_keys 6 d)
     (text_at (codes "name") d)
@@ -70,7 +70,7 @@ settings_parsed d = settings_with (has_keys 2 d)
     (option_and_then keeping_of (text_at (codes "raw") d))
     (each_at (codes "rules") rule_parsed d)
 
--- settings, or their first fault
+-- settings, or their first error
 abbrev pub unless_fault : Settings → Option SettingsFault → Result Settings SettingsFault
 unless_fault s None = Ok s
 unless_fault s (Some fault) = Err fault
@@ -79,13 +79,13 @@ abbrev pub settings_or_fault : Option Settings → Result Settings SettingsFault
 settings_or_fault None = Err Form
 settings_or_fault (Some s) = unless_fault s (settings_fault s)
 
--- what a text of settings says. The form of the whole text comes first.
+-- parses settings; the form of the whole text is checked first
 unfoldable pub settings_read : Text → Result Settings SettingsFault
 settings_read text = settings_or_fault (option_and_then settings_parsed (read text))
 
 -- ---- for private clauses
 
--- memory ran out, or there is nothing to be read, and the form is at fault
+-- out of memory, or the text can't be parsed and the error is `Form`
 abbrev pub IsRefusal : {X : Type 0} → SettingsError → Option X → Type 0
 IsRefusal OutOfMemory read = ⊤
 IsRefusal (Fault fault) read = (fault ≡ Form) × (read ≡ None)

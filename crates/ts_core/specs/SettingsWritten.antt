@@ -1,4 +1,4 @@
--- The text of settings, which reads back as they. (Own rules.)
+-- The text of settings, from which the same settings can be read. (Own rules.)
 use Rattle.std.specs.Prelude.{◌≡◌, ◌≢◌, ℕ, ◌<◌, ◌^◌, ◌==◌, ℤ, [], ◌++◌, map, if◌then◌else◌, None, Ok, codes, decimal, FitsSigned}
 use Rattle.std.specs.Fmt.{signed_decimal}
 use Rattle.std.specs.Int.{w64}
@@ -14,11 +14,11 @@ use Rattle.ts_core.specs.SettingsTexts.{settings_read}
 abbrev pub nanoseconds_text : ℤ → Text
 nanoseconds_text n = signed_decimal n ++ codes "ns"
 
--- for ever is 0
+-- 0 means for ever
 abbrev pub keeping_text : ℕ → Text
 keeping_text n = if n == 0 then codes "INF" else decimal n ++ codes "ns"
 
--- the keys in their order by bytes
+-- the keys in byte order
 abbrev pub rule_data : Rule → Data
 rule_data r = object
     (member (codes "duration") (string (keeping_text r.duration))
@@ -37,7 +37,7 @@ settings_data s = object
 abbrev pub settings_text : Settings → Text
 settings_text s = compact_text (settings_data s)
 
--- a rule of 64 bits, as `Rule::new` makes it
+-- a rule whose numbers fit 64 bits, as `Rule::new` creates it
 pub record MayBeWritten (r : Rule) : Type 0 where
   pub measured : r.measurement ≢ []
   pub tagged : AllByRecursion (λ tag. tag ≢ []) r.kept_tags
@@ -45,12 +45,12 @@ pub record MayBeWritten (r : Rule) : Type 0 where
   pub offset : FitsSigned w64 r.offset
   pub duration : r.duration < 2 ^ 63
 
--- settings that were made of 64 bits and without a fault
+-- valid settings whose numbers fit 64 bits
 pub record HaveText (s : Settings) : Type 0 where
   pub faultless : settings_fault s ≡ None
   pub raw : s.raw_duration < 2 ^ 63
   pub rules : AllByRecursion MayBeWritten s.rules
 
--- the text of settings says them, whatever bytes their texts have
+-- reading the text of settings returns the same settings, whatever bytes their texts have
 abbrev pub SettingsReadBack : Type 0
 SettingsReadBack = (s : Settings) → HaveText s → settings_read (settings_text s) ≡ Ok s

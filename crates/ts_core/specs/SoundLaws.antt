@@ -1,4 +1,4 @@
--- The empty aggregate and that of one point are sound, and two sound ones merged are so again. (Own rules.)
+-- The empty aggregate and that of one point are sound, and merging preserves soundness. (Own rules.)
 use Rattle.std.proofs.Common.{◌≡◌, ℕ, zero, suc, ◌+◌, ◌*◌, ◌≤◌, ℤ, pos, negsuc, neg_ℤ, unsigned_abs, ◌+ℤ◌, ◌*ℤ◌, ◌≤ℤ◌, refl, sym, ◌∙◌, ap, subst, arith, zero-add, Option, Some, None, MatchOption, int_cmp}
 use Rattle.std.specs.Cmp.{int_cmp_total}
 use Rattle.std.specs.Int.Signed.{≤ℤ_refl}
@@ -85,7 +85,7 @@ IsSound-one t v =
     let e : pos 1 *ℤ v ≡ v = one_more 0 v ∙ ap (λ z. z +ℤ v) (zero-*ℤ v) ∙ +ℤ_idl v in
     record { some = omega arith; at_least = rw e (≤ℤ_refl v); at_most = rw e (≤ℤ_refl v) }
 
--- the same at the names of a merge's steps
+-- the same, with the sum and the extremes as equations
 pub IsSound-parts : (a b : Aggregate) (s : ℤ) (x : Option Extremes) → IsSound a → IsSound b → s ≡ a.sum +ℤ b.sum → x ≡ merged_extremes a.extremes b.extremes
     → IsSound (record { count = a.count + b.count; sum = s; extremes = x })
 IsSound-parts a b s x h k p q =
@@ -98,7 +98,7 @@ merged-parts a b s x p q = λ i. record { count = a.count + b.count; sum = p i; 
 pub sound_laws : PossibleLaws IsSound empty_aggregate aggregate_of_one merged
 sound_laws = record { of_none = refl; of_one = IsSound-one; of_both = IsSound-merged }
 
--- without points it is the empty one
+-- a sound aggregate without points is empty
 pub empty_by_count : (a : Aggregate) → IsSound a → a.count ≡ 0 → a ≡ empty_aggregate
 empty_by_count a s e =
     elim a.extremes as (λ x. MatchOption x (a ≡ empty_aggregate) (IsSpread a.count a.sum) → a ≡ empty_aggregate) [
@@ -106,7 +106,7 @@ empty_by_count a s e =
       | Some x ↦ λ h. absurd (let n = h.some in omega arith)
     ] s
 
--- The sum of n values from -2^63 to 2^63 lies between -n * 2^63 and n * 2^63. Values of 64 bits end at 2^63 - 1.
+-- The sum of n values from -2^63 to 2^63 is between -n * 2^63 and n * 2^63. Values of 64 bits end at 2^63 - 1.
 pub spread_bound : (n : ℕ) (s : ℤ) (e : Extremes) → IsSpread n s e → negsuc 9223372036854775807 ≤ℤ e.min → e.max ≤ℤ pos 9223372036854775808 → unsigned_abs s ≤ n * 9223372036854775808
 spread_bound n s e h low high =
     let a = times_le n (negsuc 9223372036854775807) e.min low in

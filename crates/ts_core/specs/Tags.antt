@@ -1,4 +1,4 @@
--- The values of tags of a series; a tag that it doesn't have counts as the empty text.
+-- The tag values of a series; a tag that it doesn't have counts as the empty text.
 -- (InfluxData 1.8, InfluxQL: GROUP BY tags, and tag conditions of WHERE.)
 use Rattle.std.specs.Prelude.{List, [], ◌∷◌, map, if◌then◌else◌}
 use Rattle.ts_core.specs.Facts.{Text, same_text, Series}
@@ -10,6 +10,6 @@ value_among (t ∷ ts) tag = if same_text t.0 tag then t.1 else value_among ts t
 abbrev pub tag_value : Series → Text → Text
 tag_value s tag = value_among s.tags tag
 
--- the vector of the values of some tags
+-- the values of some tags
 abbrev pub tag_values : List Text → Series → List Text
 tag_values tags s = map (tag_value s) tags

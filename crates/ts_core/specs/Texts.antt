@@ -1,4 +1,5 @@
--- Texts in memory, as their bytes. (InfluxData 1.8, key concepts: tag set. Own rule: its tags stand in byte order of their keys.)
+-- Texts in memory, modelled by their bytes. (InfluxData 1.8, key concepts: tag set. Own rule: its tags are in byte
+-- order of their keys.)
 use Rattle.std.specs.Prelude.{List, [], ◌∷◌, String, string_bytes}
 use Rattle.std.specs.Borrow.{Bor}
 use Rattle.std.specs.FinMap.{is_sorted}
@@ -15,10 +16,10 @@ abbrev pub lent_pairs : List (Bor Text × Bor Text) → List (Text × Text)
 lent_pairs [] = []
 lent_pairs (t ∷ ts) = (t.0.now, t.1.now) ∷ lent_pairs ts
 
--- the tags stand in byte order of their keys, each key once
+-- the tags are in byte order of their keys, each key once
 abbrev pub IsTagSet : List (Text × Text) → Type 0
 IsTagSet tags = T (is_sorted text_cmp tags)
 
--- a series by borrowed texts
+-- a series of borrowed texts
 abbrev pub lent_series : Text → List (Bor Text × Bor Text) → Series
 lent_series measurement tags = record { measurement = measurement; tags = lent_pairs tags }

@@ -1,6 +1,7 @@
--- Units of time, and the names of them that each place takes, side by side.
--- (InfluxData 1.8, InfluxQL reference, durations: ns, u or µ, ms, s, m, h, d, w. HTTP API reference, /write, the parameter `precision`:
--- ns, u, ms, s, m, h. Own rules: a precision is also called `n`, and a script's moment is without a unit in nanoseconds.)
+-- Units of time, and their names in timestamps, durations and scripts.
+-- (InfluxData 1.8, InfluxQL reference, durations: ns, u or µ, ms, s, m, h, d, w. HTTP API reference, /write, the
+-- parameter `precision`: ns, u, ms, s, m, h. Own rules: a precision can also be `n`, and a time in a script without a
+-- unit is in nanoseconds.)
 use Rattle.std.specs.Prelude.{ℕ, ℤ, pos, List, [], ◌∷◌, if◌then◌else◌, Option, Some, None, option_map, bytes_eq, codes}
 use Rattle.ts_core.specs.Facts.{Text}
 use Rattle.ts_core.specs.declared.time_unit.TimeUnit.{TimeUnit}
@@ -16,28 +17,28 @@ nanoseconds_of Hours = pos 3600000000000
 nanoseconds_of Days = pos 86400000000000
 nanoseconds_of Weeks = pos 604800000000000
 
--- names, each with the unit that it calls
+-- names with their units
 abbrev pub UnitNames : Type 0
 UnitNames = List (Text × TimeUnit)
 
--- the unit that a name calls
+-- the unit of a name
 abbrev pub unit_called : UnitNames → Text → Option TimeUnit
 unit_called [] name = None
 unit_called (known ∷ names) name = if bytes_eq name known.0 then Some known.1 else unit_called names name
 
--- the timestamps of lines
+-- names in the precision of timestamps
 abbrev pub precision_names : UnitNames
 precision_names =
     (codes "ns", Nanoseconds) ∷ (codes "n", Nanoseconds) ∷ (codes "u", Microseconds) ∷ (codes "ms", Milliseconds) ∷ (codes "s", Seconds)
     ∷ (codes "m", Minutes) ∷ (codes "h", Hours) ∷ []
 
--- durations; 194 and 181 are the bytes of µ
+-- names in durations; 194 and 181 are the bytes of µ
 abbrev pub duration_names : UnitNames
 duration_names =
     (codes "ns", Nanoseconds) ∷ (codes "u", Microseconds) ∷ (194 ∷ 181 ∷ [], Microseconds) ∷ (codes "ms", Milliseconds) ∷ (codes "s", Seconds)
     ∷ (codes "m", Minutes) ∷ (codes "h", Hours) ∷ (codes "d", Days) ∷ (codes "w", Weeks) ∷ []
 
--- a script's moment: a duration's units, or none
+-- names in the times of a script: a duration's units, or none
 abbrev pub moment_names : UnitNames
 moment_names = ([], Nanoseconds) ∷ duration_names
 
@@ -50,11 +51,11 @@ duration_unit_of = unit_called duration_names
 unfoldable pub moment_unit_of : Text → Option TimeUnit
 moment_unit_of = unit_called moment_names
 
--- the unit that a name of two bytes calls counts before the one that a name of one byte calls; and how many bytes the name has
+-- a unit with a name of two bytes takes precedence over one with a name of one byte; returns the length of the name too
 abbrev pub longer_first : Option TimeUnit → Option TimeUnit → Option (TimeUnit × ℕ)
 longer_first (Some unit) other = Some (unit, 2)
 longer_first None other = option_map (λ unit. (unit, 1)) other
 
--- the unit of a duration that begins with this byte before that one
+-- the unit of a duration whose name begins with these two bytes
 unfoldable pub unit_begun : ℕ → ℕ → Option (TimeUnit × ℕ)
 unit_begun byte next = longer_first (duration_unit_of (byte ∷ next ∷ [])) (duration_unit_of (byte ∷ []))

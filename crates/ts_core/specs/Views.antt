@@ -1,4 +1,4 @@
--- What a view of a store shows, and when it shows a history: the raw facts from the mark on, and the totals of cells.
+-- Views of a store, and when a view shows a history: the raw facts at or above the raw mark, and the totals of cells.
 -- (Own rules.)
 use Rattle.std.specs.Prelude.{◌≡◌, ◌↔◌, ℤ, ◌≤ℤ◌, IsTrue, List, map}
 use Rattle.std.specs.List.{AllByRecursion}
@@ -12,7 +12,7 @@ use Rattle.ts_core.specs.Aggregates.{Aggregate, merged}
 use Rattle.ts_core.specs.Cells.{Cell, cell_of, is_rolled, total_of}
 use Rattle.ts_core.specs.StoreStates.{ColumnPoints, column_of, facts_of, RuleCells, StoreState}
 
--- a rule, its low index, the cells that are shown, and their totals
+-- a rule, its low index, its visible cells, and their totals
 pub record RuleTotals : Type 0 where
   pub rule : Rule
   pub low : ℤ
@@ -31,13 +31,13 @@ seen_rule r = r.rule
 abbrev pub seen_low : RuleTotals → ℤ
 seen_low r = r.low
 
--- from its low index on a rule shows the cell of each fact, with the total of its facts
+-- from its low index on, the rule shows the cell of each fact, with the total of its facts
 pub record HasTotals (facts : List Fact) (r : RuleTotals) : Type 0 where
   pub once : AllDistinct r.cells
   pub there : (f : Fact) → Among f facts → IsTrue (is_rolled r.rule f) → r.low ≤ℤ (cell_of r.rule f).index → Among (cell_of r.rule f) r.cells
   pub totals : (k : Cell) → r.low ≤ℤ k.index → r.total k ≡ total_of r.rule k facts
 
--- what is seen shows a history
+-- the view shows a history
 pub record Shows (opening : Settings) (h : History) (seen : Seen) : Type 0 where
   pub lawful : IsLawful opening h
   pub settings : seen.settings ≡ settings_of opening h
@@ -45,7 +45,7 @@ pub record Shows (opening : Settings) (h : History) (seen : Seen) : Type 0 where
   -- each latest fact has its column
   pub columns_once : AllDistinct (map column_of seen.columns)
   pub columns_there : (f : Fact) → Among f (latest_of h) → Among f.column (map column_of seen.columns)
-  -- from the raw mark on the columns have just the latest facts, each once
+  -- from the raw mark on, the columns have exactly the latest facts, each once
   pub once : AllDistinct (facts_of seen.columns)
   pub raw : (f : Fact) → seen.marks.raw ≤ℤ f.time → Among f (facts_of seen.columns) ↔ Among f (latest_of h)
   -- the rules are those of the settings, and show their cells
@@ -53,7 +53,7 @@ pub record Shows (opening : Settings) (h : History) (seen : Seen) : Type 0 where
   pub lows : map seen_low seen.rules ≡ seen.marks.lows
   pub rolled : AllByRecursion (HasTotals (latest_of h)) seen.rules
 
--- ---- what a store shows
+-- ---- the view of a store
 
 abbrev pub totals_in : RuleCells → RuleTotals
 totals_in r = record { rule = r.rule; low = r.low; cells = r.cells; total = λ k. merged (r.parts k).frozen (r.parts k).live }

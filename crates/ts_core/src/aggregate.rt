@@ -1,4 +1,4 @@
-//! Count, sum and extremes of points.
+//! Aggregates of points: count, sum and extremes.
 ghost use Rattle.std.specs.Prelude.{◌≡◌, ◌↔◌, ◌+◌, ◌*◌, ◌^◌, ◌≤◌, ℤ, pos, ◌*ℤ◌, unsigned_abs, IsTrue, IsNone, IsSome, IfSome, option_map};
 ghost use Rattle.std.specs.declared.cmp.Ordering.{Ordering};
 ghost use Rattle.std.specs.Ordering.{int_cmp};
@@ -13,16 +13,16 @@ use crate::remainder::Remainder;
 use crate::time::Time;
 use std::marker::Model;
 
-/// The extremes of points, of which there is at least one. A point is a time with a value.
+/// Extremes of at least one point. A point is a time with a value.
 #[derive(Clone, Copy, Debug, PartialEq, Eq)]
 pub struct Extremes {
-    /// The least value.
+    /// Least value.
     pub min: i64,
-    /// The greatest value.
+    /// Greatest value.
     pub max: i64,
-    /// The greatest value at the earliest time.
+    /// Point with the earliest time; if there are several, the one with the greatest value.
     pub first: (Time, i64),
-    /// The greatest value at the latest time.
+    /// Point with the latest time; if there are several, the one with the greatest value.
     pub last: (Time, i64),
 }
 
@@ -159,7 +159,7 @@ impl Agg {
         })
     }
 
-    /// The sum of the values, 0 of none.
+    /// Returns the sum of the values, or 0 without points.
     pub fn sum(&self) -> i128
         ensures value { result ≡ self.now.sum }
         ensures bound { unsigned_abs result ≤ self.now.count * 2 ^ 63 }
@@ -168,7 +168,7 @@ impl Agg {
         self.sum
     }
 
-    /// The extremes, `None` of no points.
+    /// Returns the extremes, or `None` without points.
     pub fn extremes(&self) -> Option<Extremes>
         ensures value { result ≡ self.now.extremes }
         ensures none { IsNone result ↔ (self.now.count ≡ 0) }
@@ -176,7 +176,7 @@ impl Agg {
         self.extremes
     }
 
-    /// The least value, `None` of no points.
+    /// Returns the least value, or `None` without points.
     pub fn min(&self) -> Option<i64>
         ensures value { result ≡ option_map (λ e. e.min) self.now.extremes }
         ensures none { IsNone result ↔ (self.now.count ≡ 0) }
@@ -184,7 +184,7 @@ impl Agg {
         self.extremes().map(|e| e.min)
     }
 
-    /// The greatest value, `None` of no points.
+    /// Returns the greatest value, or `None` without points.
     pub fn max(&self) -> Option<i64>
         ensures value { result ≡ option_map (λ e. e.max) self.now.extremes }
         ensures none { IsNone result ↔ (self.now.count ≡ 0) }
@@ -192,7 +192,7 @@ impl Agg {
         self.extremes().map(|e| e.max)
     }
 
-    /// The earliest time with the greatest value there, `None` of no points.
+    /// Returns the earliest time with the greatest value there, or `None` without points.
     pub fn first(&self) -> Option<(Time, i64)>
         ensures value { result ≡ option_map (λ e. e.first) self.now.extremes }
         ensures none { IsNone result ↔ (self.now.count ≡ 0) }
@@ -200,7 +200,7 @@ impl Agg {
         self.extremes().map(|e| e.first)
     }
 
-    /// The latest time with the greatest value there, `None` of no points.
+    /// Returns the latest time with the greatest value there, or `None` without points.
     pub fn last(&self) -> Option<(Time, i64)>
         ensures value { result ≡ option_map (λ e. e.last) self.now.extremes }
         ensures none { IsNone result ↔ (self.now.count ≡ 0) }

@@ -1,4 +1,4 @@
-//! Places by hash. Each place knows the one before it of its hash, and a table knows the newest of each.
+//! Hash chains over list indices, newest entry first.
 ghost use Rattle.std.specs.Prelude.{◌≡◌, ◌<◌, ◌++◌, [], ◌∷◌, length, slice_index, OnOk, OnErr};
 ghost use Rattle.ts_core.specs.LastBelow.{newest_of};
 
@@ -9,18 +9,19 @@ use std::collections::HashMap;
 use std::hash::{BuildHasherDefault, FoldHasher};
 use std::marker::Model;
 
-/// A place: its hash, and the place before it of the same hash.
+/// Entry of a chain: its hash, and the index of the next older entry with the same hash.
 #[derive(Clone, Copy)]
 pub(crate) struct Link {
     hash: u64,
     older: Option<u32>,
 }
 
-/// The hashes of places, seen as their list: one half of a table that finds names by their hashes. The other half is the list
-/// of the names, whose places these are. `newest` and then `older` lead to each place of a hash, the newest first.
+/// Hash chains: half of a hash table that maps names to indices. The other half is the list of the names, in the same
+/// order. `newest`, and then `older` repeatedly, visit the indices of a hash, newest first. The model is the list of
+/// the hashes.
 ///
 /// ```text
-/// let mut next = chains.newest(hash);      // a name is at one of the places of its hash, or nowhere
+/// let mut next = chains.newest(hash);
 /// while let Some(at) = next {
 ///     if names[at as usize] == name { return Some(at); }
 ///     next = chains.older(at);
@@ -45,7 +46,7 @@ impl<A: Allocator> Model for Chains<A> {
 }
 
 impl<A: Allocator + Copy> Chains<A> {
-    /// No places.
+    /// Creates empty chains.
     pub fn new(alloc: A) -> Chains<A>
         ensures { result ≡ [] }
     {
@@ -55,14 +56,14 @@ impl<A: Allocator + Copy> Chains<A> {
         }
     }
 
-    /// The newest place of a hash.
+    /// Returns the newest index with this hash.
     pub fn newest(&self, hash: u64) -> Option<u32>
         ensures { result ≡ newest_of self.now hash (length self.now) }
     {
         self.newest.get(&hash).copied()
     }
 
-    /// The place before a place, of the same hash.
+    /// Returns the next older index with the same hash as index `at`.
     pub fn older(&self, at: u32) -> Option<u32>
         requires { at < length self.now }
         ensures { result ≡ newest_of self.now (slice_index self.now at) at }
@@ -70,7 +71,7 @@ impl<A: Allocator + Copy> Chains<A> {
         self.links[at as usize].older
     }
 
-    /// Makes a place for a hash, behind all others.
+    /// Appends an entry for a hash. On allocation failure, changes nothing.
     pub fn push(&mut self, hash: u64) -> Result<(), AllocError>
         ensures ok { OnOk result (self.new ≡ self.old ++ hash ∷ []) }
         ensures err { OnErr result (self.new ≡ self.old) }

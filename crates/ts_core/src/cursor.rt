@@ -1,8 +1,8 @@
-//! Places in a text: the byte there, and the place after an ASCII character. Both readers of texts go by them.
+//! Byte offsets in texts, as the parsers of line protocol and InfluxQL use them.
 ghost use Rattle.std.specs.Prelude.{◌≡◌, ◌+◌, ◌<◌, length, slice_index};
 ghost use Rattle.std.specs.Str.{IsCharBoundary};
 
-/// The byte at a place, and 0 at the end.
+/// Returns the byte at offset `at`, or 0 at the end.
 pub fn byte_at(text: &str, at: usize) -> u8
     ensures { result ≡ slice_index text.now at }
 {
@@ -12,7 +12,7 @@ pub fn byte_at(text: &str, at: usize) -> u8
     }
 }
 
-/// The place after an ASCII character.
+/// Returns the offset after the ASCII character at `at`.
 pub fn after(text: &str, at: usize) -> usize
     requires in_range { at < length text.now }
     requires ascii { slice_index text.now at < 128 }

@@ -1,18 +1,18 @@
-//! Texts of durations: numbers, each with its unit, added up.
+//! Parses durations: sums of numbers with units.
 ghost use Rattle.std.specs.Prelude.{◌≡◌, ◌+◌, ◌*◌, ◌<◌, ◌≤◌, ◌^◌, ◌≤ℤ◌, pos, option_and_then, IfSome};
 ghost use Rattle.std.specs.Option.{SomeIff};
 ghost use Rattle.ts_core.specs.Durations.{in_64_bits, sum_in_64_bits, with_term, before_digit, duration_of, span_of, offset_of, keeping_of};
 
 use crate::time_unit::TimeUnit;
 
-/// A number and one digit more, in 64 bits.
+/// Appends a digit to a number. Returns `None` if the result doesn't fit 64 bits.
 pub fn with_digit(number: u64, digit: u8) -> Option<u64>
     ensures { SomeIff result (number * 10 + digit < 2 ^ 64) (number * 10 + digit) }
 {
     number.checked_mul(10)?.checked_add(u64::from(digit))
 }
 
-/// A sum and so many units more, in 64 bits.
+/// Adds `number` times `unit` to a sum. Returns `None` if the result doesn't fit 64 bits.
 pub fn with_units(sum: u64, number: u64, unit: u64) -> Option<u64>
     requires { 1 ≤ unit }
     ensures { SomeIff result (sum + number * unit < 2 ^ 64) (sum + number * unit) }
@@ -20,7 +20,7 @@ pub fn with_units(sum: u64, number: u64, unit: u64) -> Option<u64>
     sum.checked_add(number.checked_mul(unit)?)
 }
 
-/// A sum and a term more, where the name calls a unit; in nanoseconds and 64 bits.
+/// Adds a term, in nanoseconds, to a sum. Returns `None` if `name` is no unit, or if the result doesn't fit 64 bits.
 fn with_term(sum: u64, number: u64, name: &[u8]) -> Option<u64>
     ensures { result ≡ option_and_then in_64_bits (with_term sum number name.now) }
 {
@@ -28,7 +28,8 @@ fn with_term(sum: u64, number: u64, name: &[u8]) -> Option<u64>
     with_units(sum, number, unit.nanoseconds().unsigned_abs())
 }
 
-/// The sum and the number that a digit goes on with: behind a name a new term begins.
+/// Returns the sum and the number to which the next digit belongs. After a unit's name, the digit begins a new term, so
+/// the term before it is added to the sum.
 fn before_digit(sum: u64, number: u64, name: &[u8]) -> Option<(u64, u64)>
     ensures { result ≡ option_and_then sum_in_64_bits (before_digit sum number name.now) }
 {
@@ -38,7 +39,8 @@ fn before_digit(sum: u64, number: u64, name: &[u8]) -> Option<(u64, u64)>
     Some((with_term(sum, number, name)?, 0))
 }
 
-/// How many nanoseconds a text of terms counts, in 64 bits.
+/// Parses the terms of a duration. Returns their sum in nanoseconds, or `None` if the text is malformed or the sum
+/// doesn't fit 64 bits.
 fn nanoseconds(text: &[u8]) -> Option<u64>
     ensures { result ≡ option_and_then in_64_bits (duration_of text.now) }
 {
@@ -62,7 +64,8 @@ fn nanoseconds(text: &[u8]) -> Option<u64>
     with_term(sum, number, &text[name..])
 }
 
-/// The nanoseconds of a duration without a sign, or `None` where the text is none or has more than 63 bits.
+/// Parses a duration without a sign. Returns its nanoseconds, or `None` if the text is malformed or the value doesn't
+/// fit 63 bits.
 #[tactic(auto, unfolding(crate::specs::Durations::span_of))]
 fn span(text: &[u8]) -> Option<i64>
     ensures value { result ≡ span_of text.now }
@@ -71,15 +74,15 @@ fn span(text: &[u8]) -> Option<i64>
     0i64.checked_add_unsigned(nanoseconds(text)?)
 }
 
-/// The nanoseconds of an interval, or `None` where the text is no duration or doesn't fit signed 64 bits.
+/// Parses an interval. Returns its nanoseconds, or `None` if the text is malformed or the value doesn't fit an `i64`.
 pub(crate) fn interval(text: &str) -> Option<i64>
     ensures { result ≡ span_of text.now }
 {
     span(text.as_bytes())
 }
 
-/// The nanoseconds of an offset: a duration, before which a minus may stand. `None` where the text is none or
-/// doesn't fit signed 64 bits.
+/// Parses an offset: a duration with an optional minus sign. Returns its nanoseconds, or `None` if the text is
+/// malformed or the value doesn't fit an `i64`.
 #[tactic(auto, unfolding(crate::specs::Durations::offset_of))]
 pub(crate) fn offset(text: &str) -> Option<i64>
     ensures { result ≡ offset_of text.now }
@@ -91,8 +94,8 @@ pub(crate) fn offset(text: &str) -> Option<i64>
     span(text.as_bytes())
 }
 
-/// How many nanoseconds something is kept: a duration, or `INF`, for ever, which is 0. `None` where the text is none or
-/// doesn't fit signed 64 bits.
+/// Parses a retention duration: a duration, or `INF` for ever. Returns its nanoseconds, 0 for ever, or `None` if the
+/// text is malformed or the value doesn't fit an `i64`.
 #[tactic(auto, unfolding(crate::specs::Durations::keeping_of))]
 pub(crate) fn keeping(text: &str) -> Option<i64>
     ensures value { result ≡ keeping_of text.now }

@@ -1,4 +1,4 @@
-//! A fact, which is a column, a time and a value, with texts of its own.
+//! A fact: a value of one field of a series at one time, with owned texts.
 ghost use Rattle.std.specs.Prelude.{◌≡◌};
 
 use crate::field_name::FieldName;
@@ -25,7 +25,7 @@ impl<A: Allocator> Model for Fact<A> {
 }
 
 impl<A: Allocator + Copy> Fact<A> {
-    /// A fact of these parts.
+    /// Creates a fact.
     pub fn new(key: Key<A>, field: FieldName<A>, time: Time, value: i64) -> Fact<A>
         ensures { result ≡ record { column = record { series = key; field = field }; time = time; value = value } }
     {
@@ -37,35 +37,35 @@ impl<A: Allocator + Copy> Fact<A> {
         }
     }
 
-    /// The series.
+    /// Returns the key of the series.
     pub fn key(&self) -> &Key<A>
         ensures { result.now ≡ self.now.column.series }
     {
         &self.key
     }
 
-    /// The name of the field.
+    /// Returns the name of the field.
     pub fn field(&self) -> &FieldName<A>
         ensures { result.now ≡ self.now.column.field }
     {
         &self.field
     }
 
-    /// The time.
+    /// Returns the time.
     pub fn time(&self) -> Time
         ensures { result ≡ self.now.time }
     {
         self.time
     }
 
-    /// The value.
+    /// Returns the value.
     pub fn value(&self) -> i64
         ensures { result ≡ self.now.value }
     {
         self.value
     }
 
-    /// Puts another value in place of this one.
+    /// Replaces the value.
     pub fn set_value(&mut self, value: i64)
         ensures { self.new ≡ record self.old { value = value } }
     {

@@ -1,32 +1,32 @@
-//! What may be wrong with a list of pieces: faults 82 to 89.
+//! Errors of a list of pieces.
 ghost use Rattle.std.specs.Prelude.{◌≡◌};
 ghost use Rattle.ts_core.specs.Faults.{piece_fault_code, fault_number};
 
 use crate::fault_code::FaultCode;
 
-/// What is wrong with a list of pieces that is to stand for all points of a query.
+/// Error of a list of pieces that doesn't cover all points of a query.
 #[derive(Clone, Copy, Debug, PartialEq, Eq)]
 pub enum Fault {
-    /// The pieces don't lead from the start of the range to its end.
+    /// Gap: the pieces don't follow one another from the start of the range to its end.
     Gap,
-    /// A raw piece starts below the raw mark.
+    /// Raw piece that starts below the raw mark.
     BelowMark,
-    /// There is no rule of this name.
+    /// Unknown rule name.
     NoSuchRule,
-    /// The rule is of another measurement.
+    /// Rule of another measurement.
     OtherMeasurement,
-    /// An end isn't a boundary of the rule.
+    /// Piece with an end that isn't a bucket boundary of the rule.
     OffBoundary,
-    /// The first bucket lies below the rule's low index.
+    /// First bucket below the rule's low index.
     BelowLow,
-    /// The rule's buckets don't fit the query's.
+    /// Rule with buckets that don't fit the query's.
     Straddles,
-    /// The rule doesn't keep a tag that the query names.
+    /// Rule that doesn't keep a tag that the query uses.
     TagNotKept,
 }
 
 impl Fault {
-    /// The fault in the table of all faults.
+    /// Returns the code of this error in the common table of faults.
     pub fn code(self) -> FaultCode
         ensures { result ≡ piece_fault_code self }
     {
@@ -42,7 +42,7 @@ impl Fault {
         }
     }
 
-    /// The number that it is answered by.
+    /// Returns the number of this error.
     pub fn number(self) -> u8
         ensures { result ≡ fault_number self }
     {

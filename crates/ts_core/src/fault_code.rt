@@ -1,131 +1,131 @@
-//! The faults of all layers, in one table: their numbers, and what each is in words for an operator.
+//! Table of the faults of all layers, with their numbers and a description for operators.
 ghost use Rattle.std.specs.Prelude.{◌≡◌};
 ghost use Rattle.ts_core.specs.FaultCodes.{code_number, code_words, all_codes, first_numbered, code_of_number};
 
-/// A fault, as replies, scripts and pages name it by its number.
+/// A fault. Replies, scripts and pages refer to it by its number.
 #[derive(Clone, Copy, Debug, PartialEq, Eq)]
 pub enum FaultCode {
-    /// A rule's interval isn't from a second to 366 days (number 1).
+    /// Rule interval below a second or above 366 days (number 1).
     IntervalRange,
-    /// A rule keeps its cells for a shorter time than raw points are kept (number 2).
+    /// Rule duration shorter than that of raw points (number 2).
     KeptTooShortly,
-    /// Two rules have one name (number 3).
+    /// Two rules with the same name (number 3).
     RepeatedRuleName,
-    /// A rule's name isn't 1 to 32 of a to z, 0 to 9 and _ (number 4).
+    /// Rule name that isn't 1 to 32 characters from a to z, 0 to 9 and _ (number 4).
     BadRuleName,
-    /// There are more than 32 rules (number 5).
+    /// More than 32 rules (number 5).
     TooManyRules,
-    /// A rule keeps more than 16 tags, or one of them twice (number 6).
+    /// Rule that keeps more than 16 tags, or a tag twice (number 6).
     BadKeptTags,
-    /// The text isn't of the form of settings (number 7).
+    /// Text without the form of settings (number 7).
     BadSettingsText,
-    /// The measurement is empty (number 11).
+    /// Empty measurement (number 11).
     NoMeasurement,
-    /// A tag isn't a key, an equals sign and a value (number 12).
+    /// Tag that isn't a key, an equals sign and a value (number 12).
     BadTag,
-    /// A tag key stands twice in the line (number 13).
+    /// Tag key that occurs twice in a line (number 13).
     RepeatedTagKey,
-    /// The line has no field (number 14).
+    /// Line without a field (number 14).
     NoField,
-    /// A field isn't a key, an equals sign and a value (number 15).
+    /// Field that isn't a key, an equals sign and a value (number 15).
     BadField,
-    /// A field is a float, a string, a boolean or unsigned (number 16).
+    /// Field value that is a float, a string, a boolean or an unsigned integer (number 16).
     FieldType,
-    /// An integer doesn't fit 64 bits (number 17).
+    /// Integer that doesn't fit 64 bits (number 17).
     IntegerRange,
-    /// The timestamp is no number (number 18).
+    /// Timestamp that isn't a number (number 18).
     BadTimestamp,
-    /// The timestamp isn't a valid time (number 19).
+    /// Timestamp that isn't a valid time (number 19).
     TimestampRange,
-    /// The line or its key is too long, or its tags or fields are too many (number 20).
+    /// Line or series key that is too long, or has too many tags or fields (number 20).
     OverLimit,
-    /// A tag or a field is called time (number 21).
+    /// Tag or field named `time` (number 21).
     ReservedKey,
-    /// A coded block ends within a number (number 31).
+    /// Coded block that ends within a number (number 31).
     BlockTooShort,
-    /// A number of a coded block has a longer form than it needs (number 32).
+    /// Number of a coded block that isn't in its shortest form (number 32).
     BlockLongNumber,
-    /// A time of a coded block isn't valid (number 33).
+    /// Invalid time in a coded block (number 33).
     BlockTimeRange,
-    /// Bytes are left over behind a coded block (number 34).
+    /// Bytes after the end of a coded block (number 34).
     BlockTooLong,
-    /// 1,000,000 series are registered, and this one isn't (number 41).
+    /// New series while 1,000,000 are registered (number 41).
     TooManySeries,
-    /// The line's time lies below the raw mark (number 51).
+    /// Line with a time below the raw mark (number 51).
     BelowRawMark,
-    /// More than 2^62 values would be accepted (number 52).
+    /// More than 2^62 accepted values (number 52).
     TooManyFacts,
-    /// A run of retention is open (number 53).
+    /// Retention run in progress (number 53).
     RunInProgress,
-    /// The file is no image of a store (number 61).
+    /// File that isn't an image of a store (number 61).
     NotAnImage,
-    /// The image is of another version (number 62).
+    /// Image of another version (number 62).
     ImageVersion,
-    /// The image is broken at this byte (number 63).
+    /// Image that is corrupt at this byte (number 63).
     BrokenImage,
-    /// Parts of the image contradict each other (number 64).
+    /// Image with parts that contradict each other (number 64).
     ContradictoryImage,
-    /// Reading or writing the image failed (number 65).
+    /// Failure to read or write the image (number 65).
     ImageDevice,
-    /// The image didn't end within 2^32 reads (number 66).
+    /// Image without an end within 2^32 reads (number 66).
     EndlessImage,
-    /// A syntax error in a query (number 71).
+    /// Syntax error in a query (number 71).
     Syntax,
-    /// InfluxQL has this, but it isn't supported here (number 72).
+    /// InfluxQL that isn't supported (number 72).
     OutOfProfile,
-    /// The query has no lower bound of time (number 73).
+    /// Query without a lower time bound (number 73).
     NoLowerBound,
-    /// A number, a duration or a time is out of its range (number 74).
+    /// Number, duration or time out of range (number 74).
     OutOfRange,
-    /// Two columns have one name, or one is called time (number 75).
+    /// Two columns with the same name, or one named `time` (number 75).
     RepeatedColumn,
-    /// There are more than 16 statements (number 76).
+    /// More than 16 statements (number 76).
     TooManyStatements,
-    /// The range has more than 10,000 buckets (number 77).
+    /// Range with more than 10,000 buckets (number 77).
     TooManyBuckets,
-    /// The first bucket starts before the least time (number 78).
+    /// First bucket that starts before the least time (number 78).
     BucketBeforeLeastTime,
-    /// The text is no certificate (number 81).
+    /// Text that isn't a certificate (number 81).
     BadCertificate,
-    /// The pieces don't lead from the start of the range to its end (number 82).
+    /// Gap: the pieces don't follow one another from the start of the range to its end (number 82).
     Gap,
-    /// A raw piece starts below the raw mark (number 83).
+    /// Raw piece that starts below the raw mark (number 83).
     BelowMark,
-    /// There is no rule of this name (number 84).
+    /// Unknown rule name (number 84).
     NoSuchRule,
-    /// The rule is of another measurement (number 85).
+    /// Rule of another measurement (number 85).
     OtherMeasurement,
-    /// An end of the piece isn't a boundary of the rule's buckets (number 86).
+    /// Piece with an end that isn't a bucket boundary of the rule (number 86).
     OffBoundary,
-    /// The piece starts below the rule's low index (number 87).
+    /// Piece that starts below the rule's low index (number 87).
     BelowLow,
-    /// The rule's buckets don't fit the query's (number 88).
+    /// Rule with buckets that don't fit the query's (number 88).
     Straddles,
-    /// The rule doesn't keep a tag that the query names (number 89).
+    /// Rule that doesn't keep a tag that the query uses (number 89).
     TagNotKept,
-    /// The query needs points that are dropped, and no cells fit it (number 91).
+    /// No plan: the query needs dropped points, and no cells fit it (number 91).
     NoPlan,
-    /// More than 1,000,000 buckets of rules would be searched for a plan (number 92).
+    /// More than 1,000,000 buckets of rules to search for a plan (number 92).
     TooManyRuleBuckets,
-    /// The settings or the marks have changed since the plan was checked (number 93).
+    /// Stale plan: the settings or marks have changed since it was checked (number 93).
     StalePlan,
-    /// A certificate was handed in with more than one statement (number 94).
+    /// Certificate together with more than one statement (number 94).
     SeveralStatements,
-    /// The line is no command (number 95).
+    /// Line that isn't a command (number 95).
     UnknownCommand,
-    /// Standard input failed (number 96).
+    /// Failure to read standard input (number 96).
     ReaderFailed,
-    /// Standard output failed (number 97).
+    /// Failure to write standard output (number 97).
     WriterFailed,
-    /// Standard input didn't end within 2^32 reads (number 98).
+    /// Standard input without an end within 2^32 reads (number 98).
     EndlessScript,
-    /// Reading the request failed (number 101).
+    /// Failure to read the request (number 101).
     ConnectionReaderFailed,
-    /// Writing the reply failed (number 102).
+    /// Failure to write the reply (number 102).
     ConnectionWriterFailed,
 }
 
-/// All faults, in the order of their numbers.
+/// All faults, ordered by number.
 const ALL: [FaultCode; 59] = [
     FaultCode::IntervalRange,
     FaultCode::KeptTooShortly,
@@ -188,7 +188,7 @@ const ALL: [FaultCode; 59] = [
     FaultCode::ConnectionWriterFailed,
 ];
 
-/// The first of a list that has the number.
+/// Returns the first fault of `codes` with this number.
 fn first_numbered(number: u8, codes: &[FaultCode]) -> Option<FaultCode>
     ensures { result ≡ first_numbered number codes.now }
 {
@@ -201,21 +201,21 @@ fn first_numbered(number: u8, codes: &[FaultCode]) -> Option<FaultCode>
 }
 
 impl FaultCode {
-    /// All faults, in the order of their numbers.
+    /// Returns all faults, ordered by number.
     pub fn all() -> &'static [FaultCode]
         ensures { result.now ≡ all_codes }
     {
         &ALL
     }
 
-    /// The fault of a number, if there is one.
+    /// Returns the fault with this number, if there is one.
     pub fn of_number(number: u8) -> Option<FaultCode>
         ensures { result ≡ code_of_number number }
     {
         first_numbered(number, &ALL)
     }
 
-    /// Its number.
+    /// Returns the number.
     pub fn number(self) -> u8
         ensures { result ≡ code_number self }
     {
@@ -282,7 +282,7 @@ impl FaultCode {
         }
     }
 
-    /// What it is, in words for an operator.
+    /// Returns a description for operators.
     pub fn words(self) -> &'static str
         ensures { result.now ≡ code_words self }
     {

@@ -1,4 +1,4 @@
-//! Texts of faults: `fault`, the number, and what stands behind it.
+//! Messages of faults: `fault`, the number, and a detail.
 ghost use Rattle.std.specs.Prelude.{◌≡◌, ◌<◌, ◌^◌};
 ghost use Rattle.ts_core.specs.FaultTexts.{fault_text, words_joined, IsAppended};
 
@@ -6,25 +6,25 @@ use crate::fault_code::FaultCode;
 use itoa::Buffer;
 use std::alloc::{AllocError, Allocator};
 
-/// What stands behind a fault's number.
+/// Detail that follows a fault's number.
 #[derive(Clone, Copy, Debug, PartialEq, Eq)]
 pub enum FaultDetail<'a> {
-    /// Nothing.
+    /// No detail.
     Alone,
-    /// Its place in a text or a file, in bytes from 0.
+    /// Byte offset in a text or a file.
     At(usize),
-    /// Its place in a text, and the token that stands there.
+    /// Byte offset in a text, and the token there.
     AtToken(usize, &'a str),
-    /// The place of a rule among those of the settings, from 0.
+    /// Index of a rule in the settings.
     OfRule(usize),
-    /// The place of a piece in a plan, from 0.
+    /// Index of a piece in a plan.
     OfPiece(usize),
-    /// The raw mark, in nanoseconds of the Unix epoch.
+    /// Raw mark, in nanoseconds of the Unix epoch.
     Mark(i64),
 }
 
 impl FaultDetail<'static> {
-    /// A place in a text or a file, in bytes from 0.
+    /// Creates the detail of a byte offset.
     pub fn at(offset: usize) -> FaultDetail<'static>
         ensures value { result ≡ FaultDetail.At offset }
         ensures fits { offset < 2 ^ 64 }
@@ -32,7 +32,7 @@ impl FaultDetail<'static> {
         FaultDetail::At(offset)
     }
 
-    /// The place of a piece in a plan, from 0.
+    /// Creates the detail of a piece's index.
     pub fn of_piece(place: usize) -> FaultDetail<'static>
         ensures value { result ≡ FaultDetail.OfPiece place }
         ensures fits { place < 2 ^ 64 }
@@ -41,7 +41,8 @@ impl FaultDetail<'static> {
     }
 }
 
-/// Appends words one behind another, or a beginning of them out of memory. Where the room is there, it takes none.
+/// Appends all words to `text`. When out of memory, `text` may end in some of them. Does not allocate if `text` has the
+/// capacity.
 pub fn append_words<A: Allocator>(text: &mut String<A>, words: &[&str]) -> Result<(), AllocError>
     ensures { IsAppended (words_joined words.now) text.old text.new result }
 {
@@ -55,7 +56,8 @@ pub fn append_words<A: Allocator>(text: &mut String<A>, words: &[&str]) -> Resul
 }
 
 impl FaultCode {
-    /// Appends the fault's text, or a beginning of it out of memory. Where the room is there, it takes none.
+    /// Appends the message to `text`. When out of memory, `text` may end in part of the message. Does not allocate if
+    /// `text` has the capacity.
     pub fn text_to<A: Allocator>(
         self,
         detail: FaultDetail<'_>,

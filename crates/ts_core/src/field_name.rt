@@ -1,10 +1,10 @@
-//! The name of a field, in memory of its own.
+//! Owned name of a field.
 ghost use Rattle.std.specs.Prelude.{◌≡◌, IfOk};
 
 use std::alloc::{AllocError, Allocator};
 use std::marker::Model;
 
-/// The name of a field, seen as its bytes. (InfluxData 1.8: field key.)
+/// Owned name of a field. Its model is the list of its bytes. (InfluxData 1.8: field key.)
 #[derive(Drop)]
 pub struct FieldName<A: Allocator> {
     name: String<A>,
@@ -29,7 +29,7 @@ impl<A: Allocator + Copy> FieldName<A> {
         })
     }
 
-    /// The name.
+    /// Returns the name.
     pub fn as_str(&self) -> &str
         ensures { result.now ≡ self.now }
     {

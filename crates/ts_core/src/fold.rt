@@ -1,4 +1,4 @@
-//! What a list of points adds up to.
+//! Folds a list of points into an aggregate.
 ghost use Rattle.std.specs.Prelude.{◌≡◌, ◌^◌, ◌≤◌, length};
 ghost use Rattle.ts_core.specs.Partials.{fold_by};
 ghost use Rattle.ts_core.specs.Aggregates.{aggregate_of_points, IsAggregateOfPoints};
@@ -7,7 +7,7 @@ use crate::aggregate::Agg;
 use crate::partial::Partial;
 use crate::time::Time;
 
-/// What is kept of the points, in whatever order they stand.
+/// Merges points, in any order, into a partial aggregate.
 pub fn fold_points<P: Partial>(points: &[(Time, i64)]) -> P
     requires { length points.now ≤ 2 ^ 62 }
     ensures { result ≡ fold_by P.nil P.join (λ p. P.one p.0 p.1) points.now }
@@ -19,7 +19,7 @@ pub fn fold_points<P: Partial>(points: &[(Time, i64)]) -> P
     total
 }
 
-/// The aggregate of the points, in whatever order they stand.
+/// Returns the aggregate of points in any order.
 pub fn aggregate_points(points: &[(Time, i64)]) -> Agg
     requires { length points.now ≤ 2 ^ 62 }
     ensures fold { result ≡ aggregate_of_points points.now }

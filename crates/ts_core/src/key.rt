@@ -1,4 +1,4 @@
-//! The key of a series: its measurement, and its tags in byte order of their keys.
+//! Series keys: a measurement, and tags sorted by key.
 ghost use Rattle.std.specs.Prelude.{◌≡◌, IfOk};
 ghost use Rattle.std.specs.Cmp.Lexicographic.{slice_cmp};
 ghost use Rattle.ts_core.specs.Facts.{tag_cmp, series_cmp};
@@ -9,7 +9,7 @@ use std::alloc::{AllocError, Allocator};
 use std::cmp::Ordering;
 use std::marker::Model;
 
-/// The key of a series: a measurement, and its tags in byte order of their keys.
+/// Owned series key: a measurement, and tags in byte order of their keys.
 /// (InfluxData 1.8: series key.)
 #[derive(Drop)]
 pub struct Key<A: Allocator> {
@@ -29,8 +29,7 @@ impl<A: Allocator> Model for Key<A> {
     ghost invariant = { λ k. IsTagSet (owned_pairs k.tags.items) };
 }
 
-/// The key of a series, lent: a measurement, and its tags in byte order of their keys, each key once. It is what a series is
-/// looked for by.
+/// Borrowed series key: a measurement, and tags in byte order of their keys, each key once. Used for look-ups.
 #[derive(Drop)]
 pub struct KeyRef<'a> {
     measurement: &'a str,
@@ -49,7 +48,7 @@ impl<'a> Model for KeyRef<'a> {
 }
 
 impl<'a> KeyRef<'a> {
-    /// The key of a measurement and tags, which stand in byte order of their keys, each key once.
+    /// Creates a key of a measurement and tags. The tags must be in byte order of their keys, each key once.
     pub fn new(measurement: &'a str, tags: &'a [(&'a str, &'a str)]) -> KeyRef<'a>
         requires { IsTagSet (lent_pairs tags.now) }
         ensures { result ≡ lent_series measurement.now tags.now }
@@ -57,14 +56,14 @@ impl<'a> KeyRef<'a> {
         KeyRef { measurement, tags }
     }
 
-    /// The measurement.
+    /// Returns the measurement.
     pub fn measurement(&self) -> &'a str
         ensures { result.now ≡ self.now.measurement }
     {
         self.measurement
     }
 
-    /// The tags with their values, in byte order of the keys.
+    /// Returns the tags as pairs of key and value, in byte order of the keys.
     pub fn tags(&self) -> &'a [(&'a str, &'a str)]
         ensures { lent_pairs result.now ≡ self.now.tags }
     {
@@ -87,7 +86,7 @@ fn owned<A: Allocator + Copy>(
     Ok(all)
 }
 
-/// The order of tags, each by its key and then by its value.
+/// Compares two lists of tags lexicographically, each tag by its key and then by its value.
 fn compare_tags<A: Allocator>(tags: &[(String<A>, String<A>)], others: &[(&str, &str)]) -> Ordering
     ensures { result ≡ slice_cmp tag_cmp (owned_pairs tags.now) (lent_pairs others.now) }
 {
@@ -105,7 +104,7 @@ fn compare_tags<A: Allocator>(tags: &[(String<A>, String<A>)], others: &[(&str, 
     }
 }
 
-/// The value of a tag, or the empty text where it isn't among them.
+/// Returns the value of a tag, or the empty text if the list doesn't have the tag.
 fn value_among<'a, A: Allocator>(tags: &'a [(String<A>, String<A>)], tag: &str) -> &'a str
     ensures { result.now ≡ value_among (owned_pairs tags.now) tag.now }
 {
@@ -122,7 +121,7 @@ fn value_among<'a, A: Allocator>(tags: &'a [(String<A>, String<A>)], tag: &str) 
 }
 
 impl<A: Allocator + Copy> Key<A> {
-    /// A copy of a key that is lent.
+    /// Copies a borrowed key.
     pub fn new(alloc: A, key: &KeyRef<'_>) -> Result<Key<A>, AllocError>
         ensures { IfOk result (λ k. k ≡ key.now) }
     {
@@ -132,14 +131,14 @@ impl<A: Allocator + Copy> Key<A> {
         })
     }
 
-    /// The measurement.
+    /// Returns the measurement.
     pub fn measurement(&self) -> &str
         ensures { result.now ≡ self.now.measurement }
     {
         self.measurement.as_str()
     }
 
-    /// The tags with their values, in byte order of the keys.
+    /// Returns the tags as pairs of key and value, in byte order of the keys.
     pub fn tags(&self) -> &[(String<A>, String<A>)]
         ensures value { owned_pairs result.now ≡ self.now.tags }
         ensures set { IsTagSet (owned_pairs result.now) }
@@ -147,14 +146,14 @@ impl<A: Allocator + Copy> Key<A> {
         self.tags.as_slice()
     }
 
-    /// The value of a tag; a tag that the series doesn't have counts as the empty text.
+    /// Returns the value of a tag, or the empty text if the series doesn't have the tag.
     pub fn tag_value(&self, tag: &str) -> &str
         ensures { result.now ≡ tag_value self.now tag.now }
     {
         value_among(self.tags.as_slice(), tag)
     }
 
-    /// The order of this key and one that is lent.
+    /// Compares this key with a borrowed one.
     pub fn compare(&self, key: &KeyRef<'_>) -> Ordering
         ensures { result ≡ series_cmp self.now key.now }
     {

@@ -1,4 +1,4 @@
-//! The mean of what was added up.
+//! Mean of an aggregate, as an exact fraction.
 ghost use Rattle.std.specs.Prelude.{◌≡◌, ◌↔◌, ◌^◌, ◌<◌, IsNone, IfSome, unsigned_abs};
 ghost use Rattle.std.specs.Int.{IsGcd};
 ghost use Rattle.ts_core.specs.Means.{IsMean, signed_as_of};
@@ -10,9 +10,9 @@ use crate::partial::Partial;
 /// A fraction.
 #[derive(Clone, Copy, Debug, PartialEq, Eq)]
 pub struct Frac {
-    /// With the sign of the fraction.
+    /// Numerator, which has the sign of the fraction.
     pub numerator: i128,
-    /// At least 1 in a mean.
+    /// Denominator, at least 1 in a mean.
     pub denominator: u64,
 }
 
@@ -54,7 +54,7 @@ fn lowest_terms(sum: i128, count: u64) -> Frac
     }
 }
 
-/// The mean of the values in lowest terms, `None` of no points.
+/// Returns the mean of the values in lowest terms, or `None` without points.
 pub fn mean(a: &Agg) -> Option<Frac>
     ensures none { IsNone result ↔ (a.now.count ≡ 0) }
     ensures value { IfSome result (λ f. IsMean a.now.count a.now.sum f.numerator f.denominator) }

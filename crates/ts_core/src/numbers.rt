@@ -1,9 +1,9 @@
-//! Numbers of 32 bits, given in the order of making.
+//! 32-bit indices, assigned in creation order.
 ghost use Rattle.std.specs.Prelude.{◌≡◌, ◌≤◌, IfOk, OnErr};
 
 use std::alloc::AllocError;
 
-/// The number of what is made behind so many others. One that needs more than 32 bits is answered as out of memory.
+/// Converts a list's length to the 32-bit index of its next entry. Returns `AllocError` if it doesn't fit 32 bits.
 pub fn next_number(len: usize) -> Result<u32, AllocError>
     ensures ok { IfOk result (λ n. n ≡ len) }
     ensures err { OnErr result (4_294_967_296 ≤ len) }

@@ -1,10 +1,10 @@
-//! What can be added up by parts.
+//! Mergeable aggregates.
 ghost use Rattle.std.specs.Prelude.{◌≡◌, ℕ, ◌+◌, ◌^◌, ◌≤◌, ℤ};
 ghost use Rattle.ts_core.specs.Partials.{PartialLaws};
 
 use crate::time::Time;
 
-/// What is kept of some points so that parts can be merged: in any order, and it counts them.
+/// A partial aggregate of points. Merging is associative and commutative, and adds up counts.
 pub trait Partial: Copy {
     ghost nil: { Self };
 
@@ -14,19 +14,19 @@ pub trait Partial: Copy {
 
     ghost size: { Self → ℕ };
 
-    /// What is kept of no points.
+    /// Returns the aggregate of no points.
     fn empty() -> Self
         ensures { result ≡ nil };
 
-    /// What is kept of one point.
+    /// Returns the aggregate of one point.
     fn single(time: Time, value: i64) -> Self
         ensures { result ≡ one time value };
 
-    /// The number of points.
+    /// Returns the number of points.
     fn count(&self) -> u64
         ensures { result ≡ size self.now };
 
-    /// What is kept of the points of both, of which there may be 2^62 together.
+    /// Merges two aggregates, which may have up to 2^62 points together.
     fn merge(self, other: Self) -> Self
         requires { size self + size other ≤ 2 ^ 62 }
         ensures { result ≡ join self other };

@@ -1,10 +1,10 @@
-//! Room in lists that are many and small.
+//! Reserves capacity in lists that are many and small.
 ghost use Rattle.std.specs.Prelude.{◌≡◌, ◌≤◌, ◌+◌, vec_len, vec_capacity, OnOk};
 
 use std::alloc::{AllocError, Allocator};
 
-/// Makes room for some members more. A list without it grows by an eighth, or by those where they are more: so at most a
-/// ninth of its memory waits for members.
+/// Reserves capacity for `more` items. Grows by an eighth, or by `more` if that is greater, so at most a ninth of the
+/// capacity is unused.
 pub fn reserve_eighth<T, A: Allocator>(list: &mut Vec<T, A>, more: usize) -> Result<(), AllocError>
     ensures items { list.new.items ≡ list.old.items }
     ensures room { OnOk result (vec_len list.new + more ≤ vec_capacity list.new) }

@@ -1,4 +1,4 @@
-//! A writer that counts its failures.
+//! A writer that counts its failures for contracts.
 ghost use Rattle.std.specs.Prelude.{◌≡◌};
 ghost use Rattle.ts_core.specs.Devices.{IsWritten, IsPut};
 
@@ -7,12 +7,11 @@ use std::io;
 use std::io::Write;
 use std::marker::Model;
 
-/// A write failed, or took no byte of some.
+/// Error of a write that failed, or that accepted none of its bytes.
 #[derive(Clone, Copy, Debug, Drop)]
 pub struct Refused;
 
-/// A writer, seen by the bytes that it holds and by how many of its writes failed. The count is there
-/// for contracts alone.
+/// A writer. Its model has the bytes written and the number of failed writes; the number is ghost, for contracts alone.
 #[derive(Drop)]
 pub struct Sink<W: Write> {
     inner: W,
@@ -28,7 +27,7 @@ impl<W: Write> Model for Sink<W> {
 }
 
 impl<W: Write> Sink<W> {
-    /// A sink over this writer. Nothing is counted yet.
+    /// Creates a sink over a writer, with no failures counted.
     pub fn new(inner: W) -> Sink<W>
         ensures contents { result.contents ≡ W.contents inner }
         ensures failures { result.failures ≡ 0 }
@@ -39,7 +38,7 @@ impl<W: Write> Sink<W> {
         }
     }
 
-    /// Gives the writer back.
+    /// Returns the writer.
     pub fn into_inner(self) -> W
         ensures { W.contents result ≡ self.contents }
     {
@@ -47,7 +46,7 @@ impl<W: Write> Sink<W> {
         inner
     }
 
-    /// Passes the call on, once, and counts it. No byte taken of some is a failure too.
+    /// Calls the writer once and counts a failure. A write that accepts none of some bytes counts as one too.
     pub fn write(&mut self, bytes: &[u8]) -> io::Result<usize>
         ensures { IsWritten self.old result bytes.now self.new }
     {
@@ -63,7 +62,7 @@ impl<W: Write> Sink<W> {
         result
     }
 
-    /// Writes all of the bytes. After a refusal a beginning of them went out.
+    /// Writes all bytes. After an error, only a prefix of them may have been written.
     pub fn put(&mut self, bytes: &[u8]) -> Result<(), Refused>
         ensures { IsPut self.old result bytes.now self.new }
     {

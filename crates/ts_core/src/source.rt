@@ -1,4 +1,4 @@
-//! A reader that counts its turns, its failures and its ends.
+//! A reader that counts its reads, failures and ends of input for contracts.
 ghost use Rattle.std.specs.Prelude.{◌≡◌};
 ghost use Rattle.ts_core.specs.Devices.{unread, IsRead};
 
@@ -7,8 +7,7 @@ use std::io;
 use std::io::Read;
 use std::marker::Model;
 
-/// A reader, seen by the bytes that it has left and by what was asked of it. The counts are there for
-/// contracts alone.
+/// A reader. Its model has the remaining bytes and the counts; the counts are ghost, for contracts alone.
 #[derive(Drop)]
 pub struct Source<R: Read> {
     inner: R,
@@ -26,7 +25,7 @@ impl<R: Read> Model for Source<R> {
 }
 
 impl<R: Read> Source<R> {
-    /// A source over this reader. Nothing is counted yet.
+    /// Creates a source over a reader, with nothing counted.
     pub fn new(inner: R) -> Source<R>
         ensures { result ≡ unread (R.remaining inner) }
     {
@@ -38,7 +37,7 @@ impl<R: Read> Source<R> {
         }
     }
 
-    /// Gives the reader back.
+    /// Returns the reader.
     pub fn into_inner(self) -> R
         ensures { R.remaining result ≡ self.remaining }
     {
@@ -51,7 +50,7 @@ impl<R: Read> Source<R> {
         inner
     }
 
-    /// Passes the call on, once, and counts it. No byte read into room is the end of the input.
+    /// Calls the reader once and counts the read. A read of no bytes into a non-empty buffer is the end of input.
     pub fn read(&mut self, buf: &mut [u8]) -> io::Result<usize>
         ensures { IsRead self.old result buf.new self.new }
     {

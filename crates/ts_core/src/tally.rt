@@ -1,11 +1,11 @@
-//! A natural number that only proofs read. It takes no memory, and its methods do nothing at run time.
+//! A ghost counter: it has size 0, and its methods do nothing at run time.
 ghost use Rattle.std.specs.Prelude.{◌≡◌, ℕ, ◌+◌};
 ghost use Rattle.std.specs.Borrow.{ftrue};
 
 use std::marker::{Model, PhantomData};
 use std::mem::size_of;
 
-/// How often something happened. Nothing ties a tally to what it counts but the body that calls `tick`.
+/// Ghost counter of an event. Nothing but the bodies that call `tick` relates it to the event.
 #[derive(Drop)]
 pub(crate) struct Tally {
     marker: PhantomData<u8>,
@@ -17,7 +17,7 @@ impl Model for Tally {
 }
 
 impl Tally {
-    /// Nothing has happened yet.
+    /// Creates a counter at 0.
     pub fn new() -> Tally
         ensures { result.count ≡ 0 }
     {
@@ -26,7 +26,7 @@ impl Tally {
         }
     }
 
-    /// Once more.
+    /// Adds one.
     pub fn tick(&mut self)
         ensures { self.new.count ≡ self.old.count + 1 }
     {}

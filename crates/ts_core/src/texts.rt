@@ -5,14 +5,14 @@ ghost use Rattle.ts_core.specs.Facts.{same_text};
 
 use std::alloc::Allocator;
 
-/// Whether a text is one of others.
+/// Returns true if `text` is one of `texts`.
 pub fn is_among<A: Allocator>(text: &str, texts: &[String<A>]) -> bool
     ensures { result ≡ list_any (same_text text.now) (map string_bytes texts.now) }
 {
     texts.iter().any(|other| text == other.as_str())
 }
 
-/// Whether two lists have the same texts in the same order.
+/// Returns true if two lists have the same texts in the same order.
 pub(crate) fn same_texts<A: Allocator>(texts: &[String<A>], others: &[String<A>]) -> bool
     ensures { IsTrue result ↔ (map string_bytes texts.now ≡ map string_bytes others.now) }
 {

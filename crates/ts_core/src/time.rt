@@ -1,4 +1,4 @@
-//! Valid times: nanoseconds of the Unix epoch, but for the three numbers of 64 bits that no time has.
+//! Valid times: nanoseconds of the Unix epoch, without three of the values of an `i64`.
 ghost use Rattle.std.specs.Prelude.{◌≡◌, ◌↔◌, IsSome, IfSome};
 ghost use Rattle.ts_core.specs.Times.{IsTime, least_time};
 
@@ -24,7 +24,7 @@ impl Model for Time {
 }
 
 impl Time {
-    /// The time of that many nanoseconds, or `None` where it is not valid.
+    /// Creates a time of nanoseconds of the Unix epoch, or returns `None` if it isn't valid.
     pub fn new(nanos: i64) -> Option<Time>
         ensures valid { IsSome result ↔ IsTime nanos }
         ensures value { IfSome result (λ t. t ≡ nanos) }
@@ -36,7 +36,7 @@ impl Time {
         }
     }
 
-    /// The least valid time.
+    /// Returns the least valid time.
     pub fn least() -> Time
         ensures { result ≡ least_time }
     {
@@ -45,7 +45,7 @@ impl Time {
         }
     }
 
-    /// Its nanoseconds of the Unix epoch.
+    /// Returns the nanoseconds of the Unix epoch.
     pub fn nanos(self) -> i64
         ensures value { result ≡ self }
         ensures valid { IsTime result }

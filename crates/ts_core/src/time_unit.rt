@@ -1,4 +1,4 @@
-//! Units of time, and the names of them that each place takes, side by side.
+//! Units of time, and their names in timestamps, durations and scripts.
 ghost use Rattle.std.specs.Prelude.{◌≡◌};
 ghost use Rattle.ts_core.specs.TimeUnits.{nanoseconds_of, precision_of, duration_unit_of, moment_unit_of, unit_begun};
 
@@ -16,7 +16,7 @@ pub enum TimeUnit {
 }
 
 impl TimeUnit {
-    /// How many nanoseconds one has.
+    /// Returns the unit in nanoseconds.
     pub fn nanoseconds(self) -> i64
         ensures { result ≡ nanoseconds_of self }
     {
@@ -32,7 +32,7 @@ impl TimeUnit {
         }
     }
 
-    /// The unit of the timestamps of lines, by its name: `ns`, `n`, `u`, `ms`, `s`, `m` or `h`.
+    /// Parses the name of a timestamp precision: `ns`, `n`, `u`, `ms`, `s`, `m` or `h`.
     #[tactic(auto, unfolding(crate::specs::TimeUnits::precision_of))]
     pub fn of_precision(name: &str) -> Option<TimeUnit>
         ensures { result ≡ precision_of name.now }
@@ -48,14 +48,14 @@ impl TimeUnit {
         }
     }
 
-    /// The unit of a duration, by its name: `ns`, `u`, `µ`, `ms`, `s`, `m`, `h`, `d` or `w`.
+    /// Parses the name of a duration's unit: `ns`, `u`, `µ`, `ms`, `s`, `m`, `h`, `d` or `w`.
     pub fn of_duration(name: &str) -> Option<TimeUnit>
         ensures { result ≡ duration_unit_of name.now }
     {
         TimeUnit::of_duration_name(name.as_bytes())
     }
 
-    /// The unit of a duration, by the bytes of its name.
+    /// Parses the bytes of the name of a duration's unit.
     #[tactic(auto, unfolding(crate::specs::TimeUnits::duration_unit_of))]
     pub(crate) fn of_duration_name(name: &[u8]) -> Option<TimeUnit>
         ensures { result ≡ duration_unit_of name.now }
@@ -73,8 +73,8 @@ impl TimeUnit {
         }
     }
 
-    /// The unit of a duration that begins with a byte before another, and how many bytes its name has: the longest name
-    /// counts.
+    /// Parses a duration's unit at the start of a text whose first two bytes are these. Returns the unit with the
+    /// longest matching name, and the length of the name in bytes.
     #[tactic(auto, unfolding(crate::specs::TimeUnits::unit_begun))]
     pub fn begun_by(byte: u8, next: u8) -> Option<(TimeUnit, usize)>
         ensures { result ≡ unit_begun byte next }
@@ -86,7 +86,7 @@ impl TimeUnit {
         Some((unit, 1))
     }
 
-    /// The unit of a script's moment, by its name: a duration's units, and nanoseconds without a name.
+    /// Parses the unit of a time in a script: a duration's unit, or the empty text for nanoseconds.
     #[tactic(auto, unfolding(crate::specs::TimeUnits::moment_unit_of, crate::specs::TimeUnits::duration_unit_of))]
     pub fn of_moment(name: &str) -> Option<TimeUnit>
         ensures { result ≡ moment_unit_of name.now }

@@ -1,4 +1,4 @@
-//! What functions give of aggregates.
+//! Values of InfluxQL functions of aggregates.
 ghost use Rattle.std.specs.Prelude.{◌≡◌};
 ghost use Rattle.std.specs.Option.{option_map_or};
 ghost use Rattle.ts_core.specs.Fills.{value_of, number_value};
@@ -7,33 +7,33 @@ use crate::aggregate::Agg;
 use crate::means::{Frac, mean};
 use crate::partial::Partial;
 
-/// The function of a column. (InfluxData 1.8: InfluxQL functions.)
+/// Function of a column. (InfluxData 1.8: InfluxQL functions.)
 #[derive(Clone, Copy, Debug, PartialEq, Eq)]
 pub enum Function {
-    /// The number of values.
+    /// Number of values.
     Count,
-    /// Their sum.
+    /// Sum of the values.
     Sum,
-    /// The least value.
+    /// Least value.
     Min,
-    /// The greatest value.
+    /// Greatest value.
     Max,
-    /// The value at the earliest time.
+    /// Value at the earliest time.
     First,
-    /// The value at the latest time.
+    /// Value at the latest time.
     Last,
-    /// The arithmetic mean.
+    /// Arithmetic mean.
     Mean,
 }
 
-/// What stands in a column of a row.
+/// Value of a column in a row.
 #[derive(Clone, Copy, Debug, PartialEq, Eq)]
 pub enum Value {
-    /// There is no data.
+    /// No data.
     Null,
-    /// A whole number.
+    /// Integer.
     Number(i128),
-    /// A mean.
+    /// Mean.
     Fraction(Frac),
 }
 
@@ -66,7 +66,7 @@ fn number_or_null(number: Option<i64>) -> Value
 }
 
 impl Function {
-    /// The value of the function; without data it is null, but 0 for `Count`.
+    /// Returns the value of the function. Without data it is null, or 0 for `Count`.
     pub fn value_of(self, aggregate: &Agg) -> Value
         ensures { result ≡ value_of aggregate.now self }
     {
@@ -81,7 +81,7 @@ impl Function {
         }
     }
 
-    /// What stands for a number in place of data: the number, and for `Mean` the fraction that it is.
+    /// Returns the value of a fill number: the number itself, or for `Mean` the number as a fraction.
     pub fn number_value(self, number: i64) -> Value
         ensures { result ≡ number_value number self }
     {

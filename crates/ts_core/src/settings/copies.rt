@@ -1,10 +1,10 @@
-//! Copies of rules and of settings, in memory of their own.
+//! Deep copies of rules and settings.
 ghost use Rattle.std.specs.Prelude.{◌≡◌, map, string_bytes, IfOk};
 
 use super::{Rule, Settings};
 use std::alloc::{AllocError, Allocator};
 
-/// The same texts, in their order.
+/// Copies a list of texts.
 pub fn copied_texts<A: Allocator + Copy>(
     alloc: A,
     texts: &[String<A>],
@@ -18,7 +18,7 @@ pub fn copied_texts<A: Allocator + Copy>(
     Ok(all)
 }
 
-/// The same rules, in their order.
+/// Copies a list of rules.
 fn copied_rules<A: Allocator + Copy>(
     alloc: A,
     rules: &[Rule<A>],
@@ -33,7 +33,7 @@ fn copied_rules<A: Allocator + Copy>(
 }
 
 impl<A: Allocator + Copy> Rule<A> {
-    /// The same rule.
+    /// Returns a copy of the rule.
     pub fn copied(&self, alloc: A) -> Result<Rule<A>, AllocError>
         ensures { IfOk result (λ r. r ≡ self.now) }
     {
@@ -49,7 +49,7 @@ impl<A: Allocator + Copy> Rule<A> {
 }
 
 impl<A: Allocator + Copy> Settings<A> {
-    /// The same settings.
+    /// Returns a copy of the settings.
     pub fn copied(&self, alloc: A) -> Result<Settings<A>, AllocError>
         ensures { IfOk result (λ s. s ≡ self.now) }
     {

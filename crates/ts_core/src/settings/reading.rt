@@ -1,4 +1,4 @@
-//! Settings from a text: a JSON object.
+//! Parses settings from JSON.
 ghost use Rattle.std.specs.Prelude.{◌≡◌, pos, ◌≤ℤ◌, map, string_bytes, unsigned_abs, option_map, option_and_then, Some, Ok, Err, IfOk, IfErr, IfSome};
 ghost use Rattle.serde_json.specs.Find.{get, as_array};
 ghost use Rattle.serde_json.specs.Read.{read};
@@ -16,7 +16,7 @@ use std::alloc::{Allocator, Global};
 
 const NO_FORM: SettingsError = SettingsError::Fault(SettingsFault::Form);
 
-/// Whether a value is an object with so many keys.
+/// Returns true if a value is an object with `count` keys.
 fn has_keys(value: &Value, count: usize) -> bool
     ensures { result ≡ has_keys count (view value.now) }
 {
@@ -26,14 +26,14 @@ fn has_keys(value: &Value, count: usize) -> bool
     }
 }
 
-/// The text of a key.
+/// Returns the text of a key, or `None` if its value isn't a text.
 fn text_at<'v>(value: &'v Value, key: &str) -> Option<&'v str>
     ensures { option_map (λ s. s.now) result ≡ text_at key.now (view value.now) }
 {
     value.get(key).and_then(Value::as_str)
 }
 
-/// The values of a key's array.
+/// Returns the items of a key, or `None` if its value isn't an array.
 fn values_at<'v>(value: &'v Value, key: &str) -> Option<&'v [Value]>
     ensures { option_map (λ vs. items_view vs.now) result ≡ option_and_then as_array (get key.now (view value.now)) }
 {
@@ -41,14 +41,14 @@ fn values_at<'v>(value: &'v Value, key: &str) -> Option<&'v [Value]>
     Some(values.as_slice())
 }
 
-/// A text, if it isn't empty.
+/// Returns the text, or `None` if it is empty.
 fn filled(text: &str) -> Option<&str>
     ensures { option_map (λ s. s.now) result ≡ if_not_empty text.now }
 {
     if text.is_empty() { None } else { Some(text) }
 }
 
-/// The texts of values, none of them empty, in memory of their own.
+/// Copies the texts of a list of values. Returns the error `Form` if a value isn't a text, or is empty.
 fn filled_texts<A: Allocator + Copy>(
     alloc: A,
     values: &[Value],
@@ -64,28 +64,28 @@ fn filled_texts<A: Allocator + Copy>(
     Ok(texts)
 }
 
-/// The text of a key, if it isn't empty.
+/// Returns the text of a key, or `None` if its value isn't a text, or is empty.
 fn filled_text_at<'v>(value: &'v Value, key: &str) -> Option<&'v str>
     ensures { option_map (λ s. s.now) result ≡ option_and_then if_not_empty (text_at key.now (view value.now)) }
 {
     filled(text_at(value, key)?)
 }
 
-/// The nanoseconds of a key's interval.
+/// Parses the interval of a key; returns its nanoseconds.
 fn interval_at(value: &Value, key: &str) -> Option<i64>
     ensures { result ≡ option_and_then span_of (text_at key.now (view value.now)) }
 {
     interval(text_at(value, key)?)
 }
 
-/// The nanoseconds of a key's offset.
+/// Parses the offset of a key; returns its nanoseconds.
 fn offset_at(value: &Value, key: &str) -> Option<i64>
     ensures { result ≡ option_and_then offset_of (text_at key.now (view value.now)) }
 {
     offset(text_at(value, key)?)
 }
 
-/// How many nanoseconds a key says that something is kept; 0 is for ever.
+/// Parses the retention duration of a key; returns its nanoseconds, 0 for ever.
 fn keeping_at(value: &Value, key: &str) -> Option<i64>
     ensures value { result ≡ option_and_then keeping_of (text_at key.now (view value.now)) }
     ensures lasting { IfSome result (λ n. pos 0 ≤ℤ n) }
@@ -93,7 +93,7 @@ fn keeping_at(value: &Value, key: &str) -> Option<i64>
     keeping(text_at(value, key)?)
 }
 
-/// A rule.
+/// Parses a rule. Returns the error `Form` if the value isn't one.
 fn rule<A: Allocator + Copy>(alloc: A, value: &Value) -> Result<Rule<A>, SettingsError>
     ensures ok { IfOk result (λ r. rule_parsed (view value.now) ≡ Some r) }
     ensures err { IfErr result (λ e. IsRefusal e (rule_parsed (view value.now))) }
@@ -130,7 +130,7 @@ fn rule<A: Allocator + Copy>(alloc: A, value: &Value) -> Result<Rule<A>, Setting
     })
 }
 
-/// Rules, in their order.
+/// Parses a list of rules. Returns the error `Form` if a value isn't a rule.
 fn rules<A: Allocator + Copy>(alloc: A, values: &[Value]) -> Result<Vec<Rule<A>, A>, SettingsError>
     ensures ok { IfOk result (λ rules. each rule_parsed (items_view values.now) ≡ Some rules.items) }
     ensures err { IfErr result (λ e. IsRefusal e (each rule_parsed (items_view values.now))) }
@@ -142,7 +142,8 @@ fn rules<A: Allocator + Copy>(alloc: A, values: &[Value]) -> Result<Vec<Rule<A>,
     Ok(rules)
 }
 
-/// How long raw points are kept, in nanoseconds and not negative, and the rules.
+/// Parses the two keys of settings: the retention duration of raw points, in nanoseconds and not negative, and the
+/// rules. Returns the error `Form` if the value doesn't have them.
 fn parts<A: Allocator + Copy>(
     alloc: A,
     value: &Value,
@@ -163,7 +164,7 @@ fn parts<A: Allocator + Copy>(
     Ok((raw, rules(alloc, values)?))
 }
 
-/// The value of a text of JSON, in memory of `json`.
+/// Parses JSON, allocating in `json`. Returns the error `Form` if the text isn't JSON.
 fn value_of(json: Global, text: &str) -> Result<Value, SettingsError>
     ensures ok { IfOk result (λ v. read text.now ≡ Some (view v)) }
     ensures err { IfErr result (λ e. IsRefusal e (read text.now)) }
@@ -181,8 +182,8 @@ fn value_of(json: Global, text: &str) -> Result<Value, SettingsError>
 }
 
 impl<A: Allocator + Copy> Settings<A> {
-    /// The settings that a text says, a JSON object; or its first fault, where the form of the whole text comes
-    /// first. What JSON needs while it is read is in the memory of `json`.
+    /// Parses settings, which are a JSON object, or returns their first error; the form of the whole text is checked
+    /// first. The JSON parser allocates in `json`.
     pub fn read(alloc: A, json: Global, text: &str) -> Result<Settings<A>, SettingsError>
         ensures ok { IfOk result (λ s. settings_read text.now ≡ Ok s) }
         ensures fault { IfErr result (λ e. (f : SettingsFault) → e ≡ errors.Fault f → settings_read text.now ≡ Err f) }
