@@ -1,10 +1,11 @@
--- Columns by the numbers of their series and their fields. (Own rule.)
+-- Columns by the indices of their series and fields. (Own rule.)
 use Rattle.std.specs.Prelude.{◌≡◌, ℕ, ◌<◌, Bool, ◌==◌, ◌&&◌, List, [], length, Option, slice_index_or}
 use Rattle.ts_core.specs.Members.{AllDistinct}
 use Rattle.ts_core.specs.LastBelow.{last_with}
 use Rattle.ts_core.specs.Numbered.{IsAt, numbers_where}
 
--- the columns in the order of making, each as the numbers of its series and its field, and how many fields there is room for
+-- the columns in creation order, each as the indices of its series and its field, and the number of fields that have a
+-- list
 pub record ColumnNumbers : Type 0 where
   pub columns : List (ℕ × ℕ)
   pub fields : ℕ
@@ -16,7 +17,7 @@ same_numbers x y = (x.0 == y.0) && (x.1 == y.1)
 abbrev pub has_field : ℕ → ℕ × ℕ → Bool
 has_field field x = x.1 == field
 
--- each column once; each found by its numbers; of each field its columns
+-- each column is there once, is found by its indices, and is in the list of its field
 pub record IsColumnTable (place : ℕ × ℕ → Option ℕ) (columns : List (ℕ × ℕ)) (members : List (List ℕ)) : Type 0 where
   pub once : AllDistinct columns
   pub placed : (x : ℕ × ℕ) → place x ≡ last_with (0, 0) (λ y. same_numbers y x) columns (length columns)

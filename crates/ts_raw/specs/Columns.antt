@@ -9,27 +9,27 @@ use Rattle.ts_core.specs.Facts.{is_within}
 use Rattle.ts_core.specs.Times.{IsTime}
 use Rattle.ts_core.specs.Buckets.{bucket_of}
 
--- from each time to its value
+-- a map from times to values
 abbrev pub PointMap : Type 0
 PointMap = map.FinMap int_cmp ℤ
 
--- each of these points has a valid time
+-- each point has a valid time
 abbrev pub AreTimed : List (ℤ × ℤ) → Type 0
 AreTimed points = AllByRecursion (λ (p : ℤ × ℤ). IsTime p.0) points
 
--- the points from a on and before b, in the order of time
+-- the points from a, inclusive, to b, exclusive, ordered by time
 abbrev pub points_within : PointMap → ℤ → ℤ → List (ℤ × ℤ)
 points_within points a b = filter (λ (p : ℤ × ℤ). is_within a b p.0) (map.entries points)
 
--- the points of the bucket of this index, in the order of time
+-- the points of the bucket with this index, ordered by time
 abbrev pub points_in_bucket : PointMap → ℤ → ℤ → ℤ → List (ℤ × ℤ)
 points_in_bucket points index interval offset = filter (λ (p : ℤ × ℤ). int_eq (bucket_of p.0 interval offset) index) (map.entries points)
 
--- the points at the mark and after it
+-- the points at or after the mark
 abbrev pub points_from : PointMap → ℤ → PointMap
 points_from points mark = map.retain_keys points (int_le mark)
 
--- a column: its points, beside one set aside or none
+-- a column: its points, and the staged point, if there is one
 pub record ColumnState : Type 0 where
   pub points : PointMap
   pub aside : Option (ℤ × ℤ)

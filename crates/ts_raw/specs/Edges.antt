@@ -1,7 +1,7 @@
--- A moment that stands for another where valid times are parted. (Own rule.)
+-- Search keys that divide valid times as a bucket's bound does. (Own rule.)
 use Rattle.std.specs.Prelude.{◌≡◌, ℤ, int_lt}
 use Rattle.ts_core.specs.Times.{IsTime}
 
--- the same valid times are before it
+-- the same valid times are before both
 abbrev pub IsEdgeAt : ℤ → ℤ → Type 0
 IsEdgeAt moment edge = (t : ℤ) → IsTime t → int_lt t edge ≡ int_lt t moment

@@ -3,7 +3,7 @@ use Rattle.std.specs.Prelude.{ℕ}
 use Rattle.std.specs.Hash.FoldHasher.{initial, write, finish}
 use Rattle.ts_core.specs.Facts.{Text}
 
--- all columns of the measurement that have the field
+-- identifies all columns of the measurement that have the field
 pub record FieldKey : Type 0 where
   pub measurement : Text
   pub field : Text
@@ -11,6 +11,6 @@ pub record FieldKey : Type 0 where
 abbrev pub field_key : Text → Text → FieldKey
 field_key measurement field = record { measurement = measurement; field = field }
 
--- by what it is found
+-- the hash of a field
 unfoldable pub hash_of_field : FieldKey → ℕ
 hash_of_field k = finish (write (write initial k.measurement) k.field)

@@ -1,4 +1,4 @@
--- By what names are found. Which numbers these are means nothing. (Own rule.)
+-- Hashes of names. Their values have no meaning. (Own rule.)
 use Rattle.std.specs.Prelude.{ℕ, List, [], ◌∷◌}
 use Rattle.std.specs.Hash.FoldHasher.{initial, write, finish}
 use Rattle.std.specs.declared.hash.FoldHasher.{FoldHasher}

@@ -1,4 +1,4 @@
--- The texts of an index's faults. (Own rule.)
+-- Messages of the errors of an index. (Own rule.)
 use Rattle.ts_core.specs.Facts.{Text}
 use Rattle.ts_core.specs.FaultTexts.{fault_text, memory_text}
 use Rattle.ts_core.specs.declared.fault_code.FaultCode.TheVariants as code
@@ -6,7 +6,7 @@ use Rattle.ts_core.specs.declared.fault_text.FaultDetail.TheVariants.{Alone}
 use Rattle.ts_raw.specs.declared.index.fault.IndexFault.{IndexFault}
 use Rattle.ts_raw.specs.declared.index.fault.IndexFault.TheVariants.{TooManySeries, OutOfMemory}
 
--- of a series that was not registered
+-- the message of an error
 unfoldable pub index_fault_text : IndexFault → Text
 index_fault_text TooManySeries = fault_text code.TooManySeries Alone
 index_fault_text OutOfMemory = memory_text

@@ -1,4 +1,4 @@
--- An index by its parts: series, fields of measurements, and columns by the numbers of these. (Own rule.)
+-- The parts of an index: series, fields of measurements, and columns by the indices of these. (Own rule.)
 use Rattle.std.specs.Prelude.{◌≡◌, ℕ, ◌<◌, ◌≤◌, List, [], length, map, slice_index_or}
 use Rattle.ts_core.specs.Members.{AllDistinct}
 use Rattle.ts_core.specs.Facts.{Series, Column}
@@ -10,11 +10,11 @@ use Rattle.ts_raw.specs.Indexed.{Indexed, no_series}
 abbrev pub no_field : FieldKey
 no_field = field_key [] []
 
--- the column with those numbers
+-- the column with these indices of series and field
 abbrev pub column_named : List Series → List FieldKey → ℕ × ℕ → Column
 column_named series fields x = record { series = slice_index_or series x.0 no_series; field = (slice_index_or fields x.1 no_field).field }
 
--- there are a series and a field with those numbers, of one measurement
+-- a series and a field with these indices exist, and are of one measurement
 pub record IsNamed (series : List Series) (fields : List FieldKey) (x : ℕ × ℕ) : Type 0 where
   pub series_there : x.0 < length series
   pub field_there : x.1 < length fields
@@ -23,7 +23,7 @@ pub record IsNamed (series : List Series) (fields : List FieldKey) (x : ℕ × �
 abbrev pub index_by_numbers : List Series → List FieldKey → ColumnNumbers → Indexed
 index_by_numbers series fields t = record { series = series; columns = map (column_named series fields) t.columns }
 
--- each part has what it holds once, and each column has its names
+-- the entries of each part are distinct, and each column has its names
 pub record IsIndex (series : List Series) (fields : List FieldKey) (t : ColumnNumbers) : Type 0 where
   pub series_once : AllDistinct series
   pub fields_once : AllDistinct fields

@@ -1,9 +1,9 @@
--- What an index holds. (InfluxData 1.8, key concepts: series, field key; own rule: the order of making.)
+-- The content of an index. (InfluxData 1.8, key concepts: series, field key; own rule: creation order.)
 use Rattle.std.specs.Prelude.{ℕ, List, [], slice_index_or}
 use Rattle.ts_core.specs.Members.{Among, AllDistinct}
 use Rattle.ts_core.specs.Facts.{Text, Series, Column}
 
--- the registered series and the columns, each in the order of making: a number is a place in its list
+-- the registered series and the columns, each in creation order; an id is an index in its list
 pub record Indexed : Type 0 where
   pub series : List Series
   pub columns : List Column
@@ -11,11 +11,11 @@ pub record Indexed : Type 0 where
 abbrev pub no_series : Series
 no_series = record { measurement = []; tags = [] }
 
--- the column of the series with that number, and a field
+-- the column of the series with this index, and a field
 abbrev pub column_in : Indexed → ℕ → Text → Column
 column_in index series field = record { series = slice_index_or index.series series no_series; field = field }
 
--- each series is there once, each column once, and each column is one of a registered series
+-- the series are distinct, the columns are distinct, and each column is of a registered series
 pub record IsSoundIndex (index : Indexed) : Type 0 where
   pub series_once : AllDistinct index.series
   pub columns_once : AllDistinct index.columns

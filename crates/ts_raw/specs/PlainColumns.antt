@@ -1,4 +1,4 @@
--- Points kept as a list in the order of time. (Own rule.)
+-- Points as a list sorted by time. (Own rule.)
 use Rattle.std.specs.Prelude.{◌≡◌, ℕ, ℤ, T, List, Option, Result, IsSome, MatchResult, ◌<◌, int_lt, true, false}
 use Rattle.std.specs.declared.cmp.Ordering.TheVariants.{Less, Equal, Greater}
 use Rattle.std.specs.Ordering.{int_cmp}
@@ -7,22 +7,22 @@ use Rattle.std.specs.List.Sorted.{IsPartitionPoint}
 use Rattle.std.specs.FinMap.{is_sorted}
 use Rattle.ts_raw.specs.Columns.{AreTimed}
 
--- times strictly rise
+-- times are strictly increasing
 abbrev pub IsRising : List (ℤ × ℤ) → Type 0
 IsRising points = T (is_sorted int_cmp points)
 
--- the times rise and are valid, and there is room for the point that is set aside
+-- the times are strictly increasing and valid, and there is capacity for the staged point
 pub record IsReady (points : List (ℤ × ℤ)) (len capacity : ℕ) (aside : Option (ℤ × ℤ)) : Type 0 where
   pub rising : IsRising points
   pub timed : AreTimed points
   pub room : IsSome aside → len < capacity
 
--- where the point of a time is, or where it would go
+-- the index of the point at t, or the index to insert it at
 abbrev pub IsPlaceOf : ℤ → List (ℤ × ℤ) → Result ℕ ℕ → Type 0
 IsPlaceOf t points place =
     MatchResult place (HoldsAt (λ (p : ℤ × ℤ). int_cmp p.0 t ≡ Equal) points)
     (IsPartitionPoint (λ (p : ℤ × ℤ). int_cmp p.0 t ≡ Less) (λ (p : ℤ × ℤ). int_cmp p.0 t ≡ Greater) points)
 
--- i parts the points before t from the others
+-- the first i points are those before t
 abbrev pub IsStartOf : ℤ → List (ℤ × ℤ) → ℕ → Type 0
 IsStartOf t points i = IsPartitionPoint (λ (p : ℤ × ℤ). int_lt p.0 t ≡ true) (λ (p : ℤ × ℤ). int_lt p.0 t ≡ false) points i

@@ -1,12 +1,12 @@
-//! Where a bucket starts and ends, for a search among points.
+//! Bounds of a bucket, as search keys for points.
 ghost use Rattle.std.specs.Prelude.{◌≡◌, ◌≤ℤ◌, ◌+ℤ◌, pos, ℤ, int_lt};
 ghost use Rattle.ts_core.specs.Buckets.{bucket_start};
 ghost use Rattle.ts_raw.specs.Edges.{IsEdgeAt};
 
 use ts_core::Time;
 
-/// The first moment of a bucket and that of the next one (nanoseconds), each as near as an `i128` comes
-/// to it, so that the same times are before it.
+/// Returns the start of a bucket and the start of the next one, in nanoseconds of the Unix epoch. A bound that doesn't
+/// fit an `i128` is clamped, which leaves the same valid times before it.
 pub(crate) fn bucket_edges(index: &i128, interval: i64, offset: i64) -> (i128, i128)
     requires { pos 1 ≤ℤ interval }
     ensures start { IsEdgeAt (bucket_start index.now interval offset) result.0 }
@@ -19,7 +19,7 @@ pub(crate) fn bucket_edges(index: &i128, interval: i64, offset: i64) -> (i128, i
     (start, start.saturating_add(width))
 }
 
-/// Whether a time is before an edge.
+/// Returns true if a time is before a bound.
 pub(crate) fn is_before(time: Time, edge: &i128) -> bool
     ensures { (moment : ℤ) → IsEdgeAt moment edge.now → result ≡ int_lt time moment }
 {

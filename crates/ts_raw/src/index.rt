@@ -1,4 +1,4 @@
-//! Series and columns by name.
+//! Index of series and columns by their names.
 ghost use Rattle.std.specs.Bool.{OnTrue};
 ghost use Rattle.std.specs.Prelude.{◌≡◌, ◌≤◌, ◌<◌, ◌↔◌, [], length, IfSome, IfNone, Err};
 ghost use Rattle.ts_core.specs.Facts.{Column, is_of};
@@ -25,14 +25,16 @@ use std::alloc::{AllocError, Allocator};
 use std::marker::Model;
 use ts_core::{FieldName, Key, KeyRef};
 
-/// How many series are registered at most.
+/// Limit of the number of registered series.
 pub const SERIES_LIMIT: usize = 1_000_000;
 
-/// The registered series and their columns, each found by its names and numbered in the order of making.
+/// Index of the registered series and their columns. Hash tables find them by name; their numbers are in creation
+/// order.
 /// (InfluxData 1.8: series, field key.)
 ///
-/// It guesses which column is asked for next: behind `register` the first of that series, behind `find_column` the one that was made
-/// after the one found. A column that was guessed is found at once; a wrong guess costs one comparison.
+/// It guesses which column is looked up next. After `register`, that is the first column of the series; after
+/// `find_column`, the column created after the one found. A right guess spares the hash look-up; a wrong one costs a
+/// comparison.
 #[derive(Drop)]
 pub struct Index<A: Allocator> {
     series: SeriesTable<A>,
@@ -53,7 +55,7 @@ impl<A: Allocator> Model for Index<A> {
 }
 
 impl<A: Allocator + Copy> Index<A> {
-    /// An index of nothing. It takes no memory.
+    /// Creates an empty index. Does not allocate.
     pub fn new(alloc: A) -> Index<A>
         ensures series { result.series ≡ [] }
         ensures columns { result.columns ≡ [] }
@@ -66,7 +68,7 @@ impl<A: Allocator + Copy> Index<A> {
         }
     }
 
-    /// How many series are registered.
+    /// Returns the number of registered series.
     pub fn series_count(&self) -> usize
         ensures value { result ≡ length self.now.series }
         ensures sound { IsSoundIndex self.now }
@@ -74,7 +76,7 @@ impl<A: Allocator + Copy> Index<A> {
         self.series.len()
     }
 
-    /// How many columns there are.
+    /// Returns the number of columns.
     pub fn column_count(&self) -> usize
         ensures value { result ≡ length self.now.columns }
         ensures sound { IsSoundIndex self.now }
@@ -82,7 +84,7 @@ impl<A: Allocator + Copy> Index<A> {
         self.columns.len()
     }
 
-    /// The series of a key, where it is registered.
+    /// Looks up the series of a key.
     pub fn lookup(&self, key: &KeyRef<'_>) -> Option<SeriesId>
         ensures found { IfSome result (λ id. IsAt self.now.series id key.now) }
         ensures absent { IfNone result (Among key.now self.now.series → ⊥) }
@@ -90,7 +92,8 @@ impl<A: Allocator + Copy> Index<A> {
         self.series.lookup(key)
     }
 
-    /// The series of a key, registered where it is not yet.
+    /// Returns the series of a key, registering it if needed. Fails with `TooManySeries` if it is new and 1,000,000
+    /// series are registered.
     pub fn register(&mut self, key: &KeyRef<'_>) -> Result<SeriesId, IndexFault>
         ensures registered { IsRegistered self.old.series self.new.series result key.now }
         ensures columns { self.new.columns ≡ self.old.columns }
@@ -102,7 +105,7 @@ impl<A: Allocator + Copy> Index<A> {
         Ok(series)
     }
 
-    /// The key of a series.
+    /// Returns the key of a series.
     pub fn key_of(&self, series: SeriesId) -> &Key<A>
         requires { series < length self.now.series }
         ensures { IsAt self.now.series series result.now }
@@ -110,7 +113,7 @@ impl<A: Allocator + Copy> Index<A> {
         self.series.key(series)
     }
 
-    /// The series of a column.
+    /// Returns the series of a column.
     pub fn series_of(&self, column: ColumnId) -> SeriesId
         requires { column < length self.now.columns }
         ensures there { result < length self.now.series }
@@ -120,7 +123,7 @@ impl<A: Allocator + Copy> Index<A> {
         SeriesId { number }
     }
 
-    /// The field of a column.
+    /// Returns the field of a column.
     pub fn field_of(&self, column: ColumnId) -> &FieldName<A>
         requires { column < length self.now.columns }
         ensures { (c : Column) → IsAt self.now.columns column c → result.now ≡ c.field }
@@ -129,7 +132,7 @@ impl<A: Allocator + Copy> Index<A> {
         self.fields.key(number).field()
     }
 
-    /// The column of a series and a field, where there is one. The guess isn't tried.
+    /// Looks up the column of a series and a field, without the guess.
     #[cold]
     fn column(&self, series: SeriesId, field: &str) -> Option<ColumnId>
         requires { series < length self.now.series }
@@ -142,7 +145,7 @@ impl<A: Allocator + Copy> Index<A> {
         self.columns.lookup(series.number, field)
     }
 
-    /// The guess, where it is the column of a series and a field.
+    /// Returns the guessed column if it is that of this series and this field.
     fn guessed(&self, series: SeriesId, field: &str) -> Option<ColumnId>
         ensures { IfSome result (λ id. IsAt self.now.columns id (column_in self.now series field.now)) }
     {
@@ -154,7 +157,7 @@ impl<A: Allocator + Copy> Index<A> {
         }
     }
 
-    /// The column of a series and a field, where there is one.
+    /// Looks up the column of a series and a field, trying the guess first.
     pub fn find_column(&mut self, series: SeriesId, field: &str) -> Option<ColumnId>
         requires { series < length self.old.series }
         ensures found { IfSome result (λ id. IsAt self.old.columns id (column_in self.old series field.now)) }
@@ -170,7 +173,7 @@ impl<A: Allocator + Copy> Index<A> {
         Some(column)
     }
 
-    /// Whether a column is of a series and a field.
+    /// Returns true if a column is of this series and this field.
     fn is_column(&self, column: ColumnId, series: SeriesId, field: &str) -> bool
         requires { column < length self.now.columns }
         ensures { OnTrue result (IsAt self.now.columns column (column_in self.now series field.now)) }
@@ -179,7 +182,7 @@ impl<A: Allocator + Copy> Index<A> {
         of == series.number && self.fields.key(number).field().as_str() == field
     }
 
-    /// The columns of a measurement and a field, in the order of making. It walks these and no others.
+    /// Returns the columns of a measurement and a field, in creation order. Visits no other columns.
     pub fn columns_of(&self, measurement: &str, field: &str) -> &[ColumnId]
         ensures { result.now ≡ numbers_where (is_of measurement.now field.now) self.now.columns }
     {
@@ -189,8 +192,8 @@ impl<A: Allocator + Copy> Index<A> {
         }
     }
 
-    /// The column of a series and a field, made where there is none yet. Fields and columns have numbers of 32 bits, and
-    /// one too many is answered as out of memory.
+    /// Returns the column of a series and a field, creating it if needed. Fails with `AllocError` too if the index of
+    /// the field or the column doesn't fit 32 bits.
     pub fn add_column(&mut self, series: SeriesId, field: &str) -> Result<ColumnId, AllocError>
         requires { series < length self.old.series }
         ensures registered { IsRegistered self.old.columns self.new.columns result (column_in self.old series field.now) }

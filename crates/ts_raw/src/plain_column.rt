@@ -1,4 +1,4 @@
-//! A column kept as a vector in the order of time.
+//! A column stored as a sorted vector.
 ghost use Rattle.std.specs.Prelude.{◌≡◌, ◌<◌, ◌≤◌, ◌≤ℤ◌, pos, ℤ, length, filter, vec_len, vec_capacity, drop};
 ghost use Rattle.std.specs.Ordering.{int_cmp, int_eq};
 ghost use Rattle.std.specs.FinMap as map;
@@ -17,7 +17,7 @@ use std::alloc::{AllocError, Allocator};
 use std::marker::Model;
 use ts_core::Time;
 
-/// Points in a vector: one in the order of time is appended, any other moves those after it.
+/// Points in a vector sorted by time. A point after all others is appended; any other insertion moves those after it.
 #[derive(Drop)]
 pub struct PlainColumn<A: Allocator> {
     points: Vec<(Time, i64), A>,
@@ -39,7 +39,7 @@ impl<A: Allocator> Model for PlainColumn<A> {
     ghost invariant = { λ c. IsReady c.points.items (vec_len c.points) (vec_capacity c.points) c.aside };
 }
 
-/// Where the point of a time is, or where it would go.
+/// Binary search for a time. Returns `Ok` with its index, or `Err` with the index to insert it at.
 fn place_of(points: &[(Time, i64)], time: Time) -> Result<usize, usize>
     requires { IsRising points.now }
     ensures bound { IsSearchInRange result (length points.now) }
@@ -48,7 +48,7 @@ fn place_of(points: &[(Time, i64)], time: Time) -> Result<usize, usize>
     points.binary_search_by(|point| point.0.cmp(&time))
 }
 
-/// Puts a point among the others, in place of the one of its time.
+/// Inserts a point by binary search, replacing the point with its time.
 #[cold]
 fn put_among<A: Allocator>(points: &mut Vec<(Time, i64), A>, point: (Time, i64))
     requires rising { IsRising points.old.items }
@@ -61,7 +61,7 @@ fn put_among<A: Allocator>(points: &mut Vec<(Time, i64), A>, point: (Time, i64))
     }
 }
 
-/// Puts a point in, in place of the one of its time: at the end, where it comes after all others.
+/// Inserts a point, replacing the point with its time. Appends it if it comes after all others.
 fn put_point<A: Allocator>(points: &mut Vec<(Time, i64), A>, point: (Time, i64))
     requires rising { IsRising points.old.items }
     requires room { vec_len points.old < vec_capacity points.old }
@@ -73,7 +73,7 @@ fn put_point<A: Allocator>(points: &mut Vec<(Time, i64), A>, point: (Time, i64))
     }
 }
 
-/// How many points are before a time (nanoseconds).
+/// Returns the number of points before a time in nanoseconds, by binary search.
 fn count_before(points: &[(Time, i64)], time: i64) -> usize
     requires { IsRising points.now }
     ensures bound { result ≤ length points.now }
@@ -82,7 +82,7 @@ fn count_before(points: &[(Time, i64)], time: i64) -> usize
     points.partition_point(|point| point.0.nanos() < time)
 }
 
-/// The points from a time on, before another (nanoseconds).
+/// Returns the points from `from`, inclusive, to `to`, exclusive (nanoseconds).
 fn between<'a>(points: &'a [(Time, i64)], from: i64, to: i64) -> &'a [(Time, i64)]
     requires { IsRising points.now }
     ensures { result.now ≡ filter (λ p. is_within from to p.0) points.now }
@@ -96,7 +96,7 @@ fn between<'a>(points: &'a [(Time, i64)], from: i64, to: i64) -> &'a [(Time, i64
     }
 }
 
-/// The points before a time (nanoseconds).
+/// Returns the points before a time in nanoseconds.
 fn before(points: &[(Time, i64)], time: i64) -> &[(Time, i64)]
     requires { IsRising points.now }
     ensures { result.now ≡ points_below time points.now }
@@ -104,7 +104,7 @@ fn before(points: &[(Time, i64)], time: i64) -> &[(Time, i64)]
     &points[..count_before(points, time)]
 }
 
-/// How many points are before an edge.
+/// Returns the number of points before a bucket's bound, by binary search.
 fn count_before_edge(points: &[(Time, i64)], edge: &i128) -> usize
     requires { IsRising points.now }
     ensures bound { result ≤ length points.now }
@@ -113,7 +113,7 @@ fn count_before_edge(points: &[(Time, i64)], edge: &i128) -> usize
     points.partition_point(|point| is_before(point.0, edge))
 }
 
-/// The points of a bucket.
+/// Returns the points of the bucket with this index. `interval` and `offset` are in nanoseconds.
 fn inside<'a>(
     points: &'a [(Time, i64)],
     index: &i128,
@@ -134,7 +134,7 @@ fn inside<'a>(
     }
 }
 
-/// Drops the points at the front.
+/// Removes the first `count` points.
 fn drop_front<A: Allocator>(points: &mut Vec<(Time, i64), A>, count: usize)
     requires { count ≤ vec_len points.old }
     ensures { points.new.items ≡ drop count points.old.items }
@@ -143,7 +143,7 @@ fn drop_front<A: Allocator>(points: &mut Vec<(Time, i64), A>, count: usize)
 }
 
 impl<A: Allocator> PlainColumn<A> {
-    /// A column of no points, which takes no memory yet.
+    /// Creates an empty column. Does not allocate.
     pub fn new(alloc: A) -> PlainColumn<A>
         ensures points { result.points ≡ map.empty }
         ensures none_aside { result.aside ≡ None }

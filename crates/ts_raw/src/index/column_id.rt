@@ -1,23 +1,23 @@
-//! Small numbers in place of columns' names.
+//! Index of a column, used instead of its names.
 ghost use Rattle.std.specs.Prelude.{◌≡◌, ◌+◌, min};
 
 use std::marker::Model;
 
-/// A column, by its number: the first made has 0.
+/// Index of a column, in creation order from 0.
 #[derive(Clone, Copy, Debug, PartialEq, Eq, PartialOrd, Ord)]
 pub struct ColumnId {
     pub(crate) number: u32,
 }
 
 impl ColumnId {
-    /// How many columns were made before it.
+    /// Returns the index, which is the number of columns created before.
     pub fn number(self) -> usize
         ensures { result ≡ self }
     {
         self.number as usize
     }
 
-    /// The column of the number after it: of the same number, where that is the largest of 32 bits.
+    /// Returns the next index, or the same one if it is `u32::MAX`.
     pub(crate) fn next(self) -> ColumnId
         ensures { result ≡ min (self + 1) 4_294_967_295 }
     {

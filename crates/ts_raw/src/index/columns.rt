@@ -1,4 +1,4 @@
-//! Columns by the numbers of their series and their fields.
+//! Columns by the indices of their series and fields.
 ghost use Rattle.std.specs.Prelude.{◌≡◌, ◌+◌, ◌<◌, ◌≤◌, ◌++◌, [], ◌∷◌, length, IfSome, IfNone, IfOk, OnOk, OnErr};
 ghost use Rattle.ts_core.specs.Members.{Among, AllDistinct};
 ghost use Rattle.ts_raw.specs.ColumnTables.{has_field};
@@ -11,8 +11,8 @@ use std::hash::{BuildHasherDefault, FoldHasher};
 use std::marker::Model;
 use ts_core::next_number;
 
-/// Columns, each by the numbers of its series and its field, and the columns of each field. Of each series it is guessed
-/// which column was made first.
+/// Table of columns: a hash map from pairs of series and field to columns, and a list of the columns of each field.
+/// Caches for each series a guess at its first column.
 #[derive(Drop)]
 pub(crate) struct ColumnTable<A: Allocator> {
     columns: Vec<(u32, u32), A>,
@@ -34,7 +34,7 @@ impl<A: Allocator> Model for ColumnTable<A> {
     ghost invariant = { λ t. IsColumnTable (get same_numbers t.places) t.columns.items (lists_of t.members.items) };
 }
 
-/// Notes a column as the first of its series, and of those before that have none, where none is noted yet.
+/// Caches a column as the first of its series, and of earlier series without an entry. An existing entry stays.
 fn note_first<A: Allocator>(
     firsts: &mut Vec<ColumnId, A>,
     series: u32,
@@ -49,7 +49,7 @@ fn note_first<A: Allocator>(
 }
 
 impl<A: Allocator + Copy> ColumnTable<A> {
-    /// No columns, of no field.
+    /// Creates a table without columns and fields.
     pub(crate) fn new(alloc: A) -> ColumnTable<A>
         ensures columns { result.columns ≡ [] }
         ensures fields { result.fields ≡ 0 }
@@ -62,7 +62,7 @@ impl<A: Allocator + Copy> ColumnTable<A> {
         }
     }
 
-    /// How many columns there are.
+    /// Returns the number of columns.
     pub(crate) fn len(&self) -> usize
         ensures value { result ≡ length self.now.columns }
         ensures once { AllDistinct self.now.columns }
@@ -70,7 +70,7 @@ impl<A: Allocator + Copy> ColumnTable<A> {
         self.columns.len()
     }
 
-    /// The numbers of the series and the field of a column.
+    /// Returns the indices of a column's series and field.
     pub(crate) fn numbers(&self, column: ColumnId) -> (u32, u32)
         requires { column < length self.now.columns }
         ensures { IsAt self.now.columns column result }
@@ -78,7 +78,7 @@ impl<A: Allocator + Copy> ColumnTable<A> {
         self.columns[column.number as usize]
     }
 
-    /// The column of a series and a field.
+    /// Looks up the column of a series and a field.
     pub(crate) fn lookup(&self, series: u32, field: u32) -> Option<ColumnId>
         ensures found { IfSome result (λ n. IsAt self.now.columns n (series, field)) }
         ensures absent { IfNone result (Among (series, field) self.now.columns → ⊥) }
@@ -87,12 +87,12 @@ impl<A: Allocator + Copy> ColumnTable<A> {
         Some(ColumnId { number })
     }
 
-    /// The first column of a series, where one is noted. It is a guess.
+    /// Returns the cached first column of a series. It is only a guess.
     pub(crate) fn first_of(&self, series: u32) -> Option<ColumnId> {
         self.firsts.get(series as usize).copied()
     }
 
-    /// The columns of a field.
+    /// Returns the columns of a field, in creation order.
     pub(crate) fn of_field(&self, field: u32) -> &[ColumnId]
         requires { field < self.now.fields }
         ensures { result.now ≡ numbers_where (has_field field) self.now.columns }
@@ -100,7 +100,7 @@ impl<A: Allocator + Copy> ColumnTable<A> {
         self.members[field as usize].as_slice()
     }
 
-    /// Adds the list of the columns of one more field: it has none yet.
+    /// Adds an empty list of columns for one more field.
     fn add_field(&mut self) -> Result<(), AllocError>
         ensures columns { self.new.columns ≡ self.old.columns }
         ensures ok { OnOk result (self.new.fields ≡ self.old.fields + 1) }
@@ -111,8 +111,7 @@ impl<A: Allocator + Copy> ColumnTable<A> {
         Ok(())
     }
 
-    /// Sees to it that more fields than so many have a list of columns: one is added, without columns, where just so
-    /// many have it, and nothing changes where more have.
+    /// Ensures that more than `fields` fields have a list of columns: adds an empty one if exactly `fields` have one.
     pub(crate) fn make_room(&mut self, fields: usize) -> Result<(), AllocError>
         requires { fields ≤ self.old.fields }
         ensures columns { self.new.columns ≡ self.old.columns }
@@ -125,7 +124,7 @@ impl<A: Allocator + Copy> ColumnTable<A> {
         Ok(())
     }
 
-    /// Makes a column, behind all others.
+    /// Appends a column; returns its index.
     pub(crate) fn push(&mut self, series: u32, field: u32) -> Result<ColumnId, AllocError>
         requires field { field < self.old.fields }
         requires absent { Among (series, field) self.old.columns → ⊥ }

@@ -1,4 +1,4 @@
-//! Why a series was not registered.
+//! Errors of the registration of series, with their messages.
 ghost use Rattle.std.specs.Prelude.{◌≡◌};
 ghost use Rattle.ts_core.specs.FaultTexts.{IsAppended};
 ghost use Rattle.ts_raw.specs.IndexFaultTexts.{index_fault_text};
@@ -8,19 +8,20 @@ use std::alloc::{AllocError, Allocator};
 use thiserror::Error;
 use ts_core::{FaultCode, FaultDetail};
 
-/// Why a series was not registered.
+/// Error of the registration of a series.
 #[derive(Clone, Copy, Debug, PartialEq, Eq, Error)]
 pub enum IndexFault {
-    /// As many series are registered as may be (number 41).
+    /// As many series are registered as the limit allows.
     #[error("too many series")]
     TooManySeries,
-    /// No memory was found.
+    /// Out of memory.
     #[error("out of memory")]
     OutOfMemory,
 }
 
 impl IndexFault {
-    /// Appends its text, or a beginning of it out of memory. Where the room is there, it takes none.
+    /// Appends the message to `text`. When out of memory, `text` may end in part of the message. Does not allocate if
+    /// `text` has the capacity.
     #[tactic(auto, unfolding(crate::specs::IndexFaultTexts::index_fault_text))]
     pub fn text_to<A: Allocator>(&self, text: &mut String<A>) -> Result<(), AllocError>
         ensures { IsAppended (index_fault_text self.now) text.old text.new result }

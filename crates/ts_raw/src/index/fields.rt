@@ -1,4 +1,4 @@
-//! The fields of measurements by their names.
+//! Hash table of fields, by the name of their measurement and their own.
 ghost use Rattle.std.specs.Prelude.{◌≡◌, ◌<◌, ◌↔◌, [], length, IfSome, IfNone, IfOk, IsTrue};
 ghost use Rattle.ts_core.specs.Members.{Among, AllDistinct};
 ghost use Rattle.ts_raw.specs.FieldKeys.{field_key};
@@ -36,7 +36,7 @@ impl<A: Allocator + Copy> FieldKey<A> {
         })
     }
 
-    /// The name of the field.
+    /// Returns the name of the field.
     pub(crate) fn field(&self) -> &FieldName<A>
         ensures { result.now ≡ self.now.field }
     {
@@ -50,7 +50,7 @@ impl<A: Allocator + Copy> FieldKey<A> {
     }
 }
 
-/// The fields of measurements, seen as their list in the order of making.
+/// Hash table of the fields of measurements. Its model is their list, in creation order.
 #[derive(Drop)]
 pub(crate) struct FieldTable<A: Allocator> {
     keys: Vec<FieldKey<A>, A>,
@@ -70,7 +70,7 @@ impl<A: Allocator> Model for FieldTable<A> {
 }
 
 impl<A: Allocator + Copy> FieldTable<A> {
-    /// No fields.
+    /// Creates an empty table.
     pub(crate) fn new(alloc: A) -> FieldTable<A>
         ensures { result ≡ [] }
     {
@@ -80,7 +80,7 @@ impl<A: Allocator + Copy> FieldTable<A> {
         }
     }
 
-    /// How many there are.
+    /// Returns the number of fields.
     pub(crate) fn len(&self) -> usize
         ensures value { result ≡ length self.now }
         ensures once { AllDistinct self.now }
@@ -88,7 +88,7 @@ impl<A: Allocator + Copy> FieldTable<A> {
         self.keys.len()
     }
 
-    /// The field with that number.
+    /// Returns the field with this index.
     pub(crate) fn key(&self, number: u32) -> &FieldKey<A>
         requires { number < length self.now }
         ensures { IsAt self.now number result.now }
@@ -96,7 +96,7 @@ impl<A: Allocator + Copy> FieldTable<A> {
         &self.keys[number as usize]
     }
 
-    /// The number of a field of a measurement.
+    /// Looks up a field of a measurement; returns its index.
     pub(crate) fn lookup(&self, measurement: &str, field: &str) -> Option<u32>
         ensures found { IfSome result (λ n. IsAt self.now n (field_key measurement.now field.now)) }
         ensures absent { IfNone result (Among (field_key measurement.now field.now) self.now → ⊥) }
@@ -112,7 +112,7 @@ impl<A: Allocator + Copy> FieldTable<A> {
         None
     }
 
-    /// The number of a field of a measurement, made where there is none.
+    /// Returns the index of a field of a measurement, creating the field if needed.
     pub(crate) fn register(&mut self, measurement: &str, field: &str) -> Result<u32, AllocError>
         ensures registered { IsRegistered self.old self.new result (field_key measurement.now field.now) }
         ensures once { AllDistinct self.new }

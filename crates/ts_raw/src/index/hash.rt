@@ -6,7 +6,7 @@ ghost use Rattle.ts_raw.specs.Hashes.{hash_of_series};
 use std::hash::{FoldHasher, Hasher};
 use ts_core::KeyRef;
 
-/// The hash of a series.
+/// Returns the hash of a series key.
 pub(crate) fn hash_series(key: &KeyRef<'_>) -> u64
     ensures { result ≡ hash_of_series key.now }
 {
@@ -19,7 +19,7 @@ pub(crate) fn hash_series(key: &KeyRef<'_>) -> u64
     hasher.finish()
 }
 
-/// The hash of a measurement with a field.
+/// Returns the hash of a measurement with a field.
 #[tactic(auto, unfolding(crate::specs::FieldKeys::hash_of_field))]
 pub(crate) fn hash_field(measurement: &str, field: &str) -> u64
     ensures { result ≡ hash_of_field (field_key measurement.now field.now) }

@@ -1,4 +1,4 @@
-//! Series by their keys.
+//! Hash table of series, by their keys.
 ghost use Rattle.std.specs.Prelude.{◌≡◌, ◌≤◌, ◌<◌, ◌↔◌, [], length, IfSome, IfNone, Err, IsTrue, string_bytes};
 ghost use Rattle.std.specs.Bool.{OnTrue};
 ghost use Rattle.ts_core.specs.Members.{Among, AllDistinct};
@@ -15,8 +15,8 @@ use std::cmp::Ordering;
 use std::marker::Model;
 use ts_core::{Chains, Key, KeyRef, next_number};
 
-/// The registered series, seen as their list in the order of making. Of each series the one is known that came after it
-/// last time, so that series which come in one order again and again are found at once.
+/// Hash table of the registered series. Its model is their list, in creation order. Caches for each series the one that
+/// `register` returned after it last time, so series that arrive in a recurring order are found without hashing.
 #[derive(Drop)]
 pub(crate) struct SeriesTable<A: Allocator> {
     keys: Vec<Key<A>, A>,
@@ -38,14 +38,14 @@ impl<A: Allocator> Model for SeriesTable<A> {
     ghost invariant = { λ t. IsTable hash_of_series t.keys.items t.chains };
 }
 
-/// Whether a tag has this key and this value.
+/// Returns true if a tag has this key and this value.
 fn is_tag<A: Allocator>(tag: &(String<A>, String<A>), key: &str, value: &str) -> bool
     ensures { IsTrue result ↔ ((string_bytes tag.now.0 ≡ key.now) × (string_bytes tag.now.1 ≡ value.now)) }
 {
     tag.0.as_str() == key && tag.1.as_str() == value
 }
 
-/// Whether tags are those that are lent, in the same order.
+/// Returns true if the owned tags equal the borrowed ones, in the same order.
 fn are_same<A: Allocator>(tags: &[(String<A>, String<A>)], others: &[(&str, &str)]) -> bool
     ensures { OnTrue result (owned_pairs tags.now ≡ lent_pairs others.now) }
 {
@@ -62,7 +62,7 @@ fn are_same<A: Allocator>(tags: &[(String<A>, String<A>)], others: &[(&str, &str
     }
 }
 
-/// Whether a key is the one that is lent.
+/// Returns true if an owned key equals a borrowed one.
 fn is_same<A: Allocator + Copy>(key: &Key<A>, other: &KeyRef<'_>) -> bool
     ensures { OnTrue result (key.now ≡ other.now) }
 {
@@ -70,7 +70,7 @@ fn is_same<A: Allocator + Copy>(key: &Key<A>, other: &KeyRef<'_>) -> bool
 }
 
 impl<A: Allocator + Copy> SeriesTable<A> {
-    /// No series.
+    /// Creates an empty table.
     pub(crate) fn new(alloc: A) -> SeriesTable<A>
         ensures { result ≡ [] }
     {
@@ -82,7 +82,7 @@ impl<A: Allocator + Copy> SeriesTable<A> {
         }
     }
 
-    /// How many series there are.
+    /// Returns the number of series.
     pub(crate) fn len(&self) -> usize
         ensures value { result ≡ length self.now }
         ensures once { AllDistinct self.now }
@@ -90,7 +90,7 @@ impl<A: Allocator + Copy> SeriesTable<A> {
         self.keys.len()
     }
 
-    /// The key of a series.
+    /// Returns the key of a series.
     pub(crate) fn key(&self, series: SeriesId) -> &Key<A>
         requires { series < length self.now }
         ensures { IsAt self.now series result.now }
@@ -98,7 +98,7 @@ impl<A: Allocator + Copy> SeriesTable<A> {
         &self.keys[series.number as usize]
     }
 
-    /// The series of that key.
+    /// Looks up the series of a key.
     pub(crate) fn lookup(&self, key: &KeyRef<'_>) -> Option<SeriesId>
         ensures found { IfSome result (λ id. IsAt self.now id key.now) }
         ensures absent { IfNone result (Among key.now self.now → ⊥) }
@@ -122,7 +122,7 @@ impl<A: Allocator + Copy> SeriesTable<A> {
         None
     }
 
-    /// The series of that key, where it is the one that came after the last one before.
+    /// Tries the series that followed the last one before; returns it if it has this key.
     fn lookup_follower(&self, key: &KeyRef<'_>) -> Option<SeriesId>
         ensures { IfSome result (λ id. IsAt self.now id key.now) }
     {
@@ -135,7 +135,8 @@ impl<A: Allocator + Copy> SeriesTable<A> {
         }
     }
 
-    /// The series of that key, made where there is none. There may be so many series and no more.
+    /// Returns the series of a key, registering it if needed. Fails with `TooManySeries` if it is new and `limit`
+    /// series are registered.
     pub(crate) fn register(
         &mut self,
         limit: usize,

@@ -1,16 +1,16 @@
-//! Small numbers in place of keys.
+//! Index of a series, used instead of its key.
 ghost use Rattle.std.specs.Prelude.{◌≡◌};
 
 use std::marker::Model;
 
-/// A registered series, by its number: the first registered has 0.
+/// Index of a registered series, in creation order from 0.
 #[derive(Clone, Copy, Debug, PartialEq, Eq, PartialOrd, Ord)]
 pub struct SeriesId {
     pub(crate) number: u32,
 }
 
 impl SeriesId {
-    /// How many series were made before it.
+    /// Returns the index, which is the number of series registered before.
     pub fn number(self) -> usize
         ensures { result ≡ self }
     {
