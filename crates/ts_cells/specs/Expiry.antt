@@ -1,4 +1,4 @@
--- Cells below an index are removed. (Own rules.)
+-- Removal of cells below an index. (Own rules.)
 use Rattle.std.specs.Prelude.{◌≡◌, ◌≢◌, ℕ, zero, suc, ℤ, ◌<◌, ◌≤◌, ◌<ℤ◌, ◌≤ℤ◌, ◌==◌, ◌&&◌, List, length, None, if◌then◌else◌}
 use Rattle.std.specs.Ordering.{int_cmp, eq_by_cmp}
 use Rattle.std.specs.List.{AllWithin}
@@ -7,12 +7,12 @@ use Rattle.std.specs.FinMap.{FinMap}
 use Rattle.ts_core.specs.Cells.{Cell, cell_cmp}
 use Rattle.ts_cells.specs.Grids.{RowOf, held, cells_of_bucket}
 
--- so many rows at the front have no cells
+-- the first `count` rows have no cells
 pub record HasEmptyFront {P : Type 0} (count : ℕ) (rows : List (RowOf P)) : Type 0 where
   pub bound : count ≤ length rows
   pub empty : AllWithin (λ (r : RowOf P). (j : ℕ) → held r.1 j ≡ None) rows 0 count
 
--- rows lost the cell of one lane of one bucket below an index, and no other
+-- the rows lost the cell of one lane in one bucket below an index, and no other
 pub record LosesOne {P : Type 0} (low : ℤ) (before after : List (RowOf P)) : Type 0 where
   pub index : ℤ
   pub lane : ℕ
@@ -25,11 +25,11 @@ pub record HasNoneBelow {P : Type 0} (low : ℤ) (before after : List (RowOf P))
   pub above : (i : ℤ) (j : ℕ) → held (cells_of_bucket after i) j ≢ None → low ≤ℤ i
   pub cells : (i : ℤ) (j : ℕ) → held (cells_of_bucket after i) j ≡ held (cells_of_bucket before i) j
 
--- one cell below the index is removed
+-- removes one cell below the index
 abbrev pub RemovesOne : {P : Type 0} → ℤ → FinMap cell_cmp P → FinMap cell_cmp P → Type 0
 RemovesOne low m n = (k : Cell) × (k.index <ℤ low) × (finmap.get m k ≢ None) × (n ≡ finmap.remove m k)
 
--- so many are, one after another
+-- removes `count` cells, one after another
 abbrev pub Removes : {P : Type 0} → ℤ → ℕ → FinMap cell_cmp P → FinMap cell_cmp P → Type 0
 Removes low zero m n = n ≡ m
 Removes {P} low (suc count) m n = (between : FinMap cell_cmp P) × Removes low count m between × RemovesOne low between n
@@ -38,7 +38,7 @@ Removes {P} low (suc count) m n = (between : FinMap cell_cmp P) × Removes low c
 abbrev pub IsAbove : {P : Type 0} → ℤ → FinMap cell_cmp P → Type 0
 IsAbove low m = (k : Cell) → finmap.get m k ≢ None → low ≤ℤ k.index
 
--- so many cells below an index are removed: 256, or all where there are fewer
+-- removes `count` cells below an index; if that is fewer than 256, none is left below it
 pub record LosesBelow {P : Type 0} (low : ℤ) (count : ℕ) (before after : FinMap cell_cmp P) : Type 0 where
   pub few : count ≤ 256
   pub removed : Removes low count before after

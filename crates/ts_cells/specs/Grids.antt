@@ -1,4 +1,4 @@
--- Cells kept by buckets and lanes: a lane is a field with a group, named by its number. (Own rules.)
+-- Cells by buckets and lanes. A lane is a field with a group, referred to by its index. (Own rules.)
 use Rattle.std.specs.Prelude.{◌≡◌, ℕ, ℤ, ◌≤◌, T, List, [], ◌∷◌, ◌++◌, length, get_or, Option, Some, None, refl, ◌≢◌, ◌==◌, if◌then◌else◌, map}
 use Rattle.std.specs.Ordering.{int_cmp}
 use Rattle.std.specs.List.{AllByRecursion}
@@ -12,7 +12,7 @@ use Rattle.ts_core.specs.Cells.{Cell, cell_cmp}
 use Rattle.ts_core.specs.Changes.{or_else}
 use Rattle.ts_core.specs.StoreCodes.{coded_text, coded_cell}
 
--- what the cells of one field and one group share
+-- a field with a group, shared by its cells in all buckets
 pub record Lane : Type 0 where
   pub field : Text
   pub group : List Text
@@ -20,7 +20,7 @@ pub record Lane : Type 0 where
 abbrev pub no_lane : Lane
 no_lane = record { field = []; group = [] }
 
--- what is lent, by its values
+-- the values of borrowed texts
 abbrev pub lent_texts : List (Bor Text) → List Text
 lent_texts xs = map (λ (x : Bor Text). x.now) xs
 
@@ -33,18 +33,18 @@ lane_of k = record { field = k.field; group = k.group }
 abbrev pub cell_at : ℤ → Lane → Cell
 cell_at index l = record { index = index; field = l.field; group = l.group }
 
--- the cell of a bucket in the lane of a number
+-- the cell of a bucket in the lane with this index
 abbrev pub cell_in : List Lane → ℤ → ℕ → Cell
 cell_in lanes index lane = cell_at index (get_or lanes lane no_lane)
 
--- the lanes in the order of making, and the cells with what each holds
+-- the lanes in creation order, and the cells with their values
 pub record Grid (P : Type 0) : Type 0 where
   pub lanes : List Lane
   pub cells : FinMap cell_cmp P
 
 -- ---- rows
 
--- a bucket's index, with its cells by the numbers of their lanes
+-- a bucket's index, with its cells by the indices of their lanes
 abbrev pub RowOf : Type 0 → Type 0
 RowOf P = ℤ × List (Option P)
 
@@ -72,11 +72,11 @@ pub record IsGrid {P : Type 0} (ls : List Lane) (rows : List (RowOf P)) : Type 0
   pub rising : RowsRise rows
   pub narrow : AllByRecursion (λ (r : RowOf P). length r.1 ≤ length ls) rows
 
--- what a bucket's cells are
+-- the cells of a bucket
 abbrev pub cells_of_bucket : {P : Type 0} → List (RowOf P) → ℤ → List (Option P)
 cells_of_bucket rows index = or_else [] (find int_cmp index rows)
 
--- a row lost the cell of one lane, and no other
+-- the row lost the cell of one lane, and no other
 pub record HasLost {P : Type 0} (before after : List (Option P)) : Type 0 where
   pub lane : ℕ
   pub was : held before lane ≢ None

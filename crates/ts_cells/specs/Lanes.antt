@@ -1,4 +1,4 @@
--- The lanes of a rule, numbered in the order of making, found by their hashes, and in order of their texts. (Own rules.)
+-- The lanes of a rule, indexed in creation order, found by their hashes, and sorted by their texts. (Own rules.)
 use Rattle.std.specs.Prelude.{◌≡◌, ℕ, ◌<◌, T, List, [], ◌∷◌, map, length, get_or, Option, Some, None}
 use Rattle.std.specs.Hash.FoldHasher.{initial, write, finish}
 use Rattle.std.specs.declared.hash.FoldHasher.{FoldHasher}
@@ -12,30 +12,30 @@ use Rattle.ts_core.specs.Facts.{Text, text_cmp}
 use Rattle.ts_core.specs.Tables.{IsTable}
 use Rattle.ts_cells.specs.Grids.{Lane, no_lane}
 
--- lanes stand in order of field, group
+-- lanes are ordered by field, then group
 abbrev pub lane_cmp : Lane → Lane → Ordering
 lane_cmp a b = ordering_then (text_cmp a.field b.field) (slice_cmp text_cmp a.group b.group)
 
--- what is looked up compares with a lane; what isn't there comes first
+-- compares the result of a look-up with a lane; a missing lane comes first
 abbrev pub found_cmp : Option Lane → Lane → Ordering
 found_cmp None l = Less
 found_cmp (Some m) l = lane_cmp m l
 
--- the lanes of some numbers, with these
+-- the lanes with these indices, each with its index
 abbrev pub lanes_numbered : List Lane → List ℕ → List (Lane × ℕ)
 lanes_numbered lanes order = map (λ (n : ℕ). (get_or lanes n no_lane, n)) order
 
--- the numbers are those of lanes
+-- the indices are in range
 abbrev pub AreInside : List Lane → List ℕ → Type 0
 AreInside lanes order = AllByRecursion (λ (n : ℕ). n < length lanes) order
 
--- the numbers of all lanes, in the order of the lanes
+-- the indices of all lanes, in the order of the lanes
 pub record IsOrdered (lanes : List Lane) (order : List ℕ) : Type 0 where
   pub rising : T (is_sorted lane_cmp (lanes_numbered lanes order))
   pub inside : AreInside lanes order
   pub all : (j : ℕ) → j < length lanes → find lane_cmp (get_or lanes j no_lane) (lanes_numbered lanes order) ≡ Some j
 
--- ---- by what lanes are found; which numbers these are means nothing
+-- ---- hashes of lanes; their values have no meaning
 
 abbrev pub hash_of_texts : FoldHasher → List Text → FoldHasher
 hash_of_texts h [] = h

@@ -1,9 +1,9 @@
--- what public contracts and laws cite
+-- cited by public contracts and laws
 pub mod Grids
 pub mod CellChanges
 pub mod Expiry
 pub mod Walks
--- what only models and proofs of the code need
+-- used only by models and proofs of the code
 pub mod Lanes
 pub mod Rows
 pub mod RowChanges

@@ -1,4 +1,4 @@
--- What a step does to the rows of buckets. (Own rules.)
+-- Effects of calls on the rows of buckets. (Own rules.)
 use Rattle.std.specs.Prelude.{◌≡◌, ℕ, ℤ, ◌<◌, ◌≤◌, List, length}
 use Rattle.std.specs.declared.cmp.Ordering.TheVariants.{Equal}
 use Rattle.std.specs.Ordering.{int_cmp}
@@ -10,18 +10,18 @@ use Rattle.ts_cells.specs.Expiry.{HasEmptyFront}
 abbrev pub NoWider : {P : Type 0} → List (RowOf P) → List (RowOf P) → Type 0
 NoWider {P} before after = (n : ℕ) → AllByRecursion (λ (r : RowOf P). length r.1 ≤ n) before → AllByRecursion (λ (r : RowOf P). length r.1 ≤ n) after
 
--- each bucket has the cells that it had, in a row or in none
+-- each bucket has the same cells as before, even if its row was added or removed
 pub record KeepsBuckets {P : Type 0} (before after : List (RowOf P)) : Type 0 where
   pub rising : RowsRise after
   pub cells : (i : ℤ) → cells_of_bucket after i ≡ cells_of_bucket before i
   pub narrow : NoWider before after
 
--- a bucket's row stands at a place
+-- the row with this index has the bucket
 pub record IsRowAt {P : Type 0} (index : ℤ) (rows : List (RowOf P)) (at : ℕ) : Type 0 where
   pub inside : at < length rows
   pub place : HoldsAt (λ (r : RowOf P). int_cmp r.0 index ≡ Equal) rows at
 
--- rows that cells are removed from, with so many empty ones at the front
+-- rows after removals, of which the first `emptied` are empty
 pub record IsSweptTo {P : Type 0} (emptied : ℕ) (before after : List (RowOf P)) : Type 0 where
   pub rising : RowsRise after
   pub front : HasEmptyFront emptied after

@@ -1,23 +1,23 @@
--- The cells of one bucket in the order of making, with the place of each lane's cell. (Own rules.)
+-- The cells of one bucket in creation order, with the position of each lane's cell. (Own rules.)
 use Rattle.std.specs.Prelude.{◌≡◌, ℕ, ◌<◌, ◌≤◌, List, ◌++◌, replicate, length, get_or, map, Option, slice_get}
 
--- stands where a lane has no cell
+-- marks a lane without a cell
 abbrev pub no_place : ℕ
 no_place = 4294967295
 
--- the place of a lane's cell
+-- the position of a lane's cell
 abbrev pub place_of : List ℕ → ℕ → ℕ
 place_of places lane = get_or places lane no_place
 
--- the places of all lanes, from those of a first lane on
+-- the positions of all lanes, if the list begins at lane `first`
 abbrev pub from_first : ℕ → List ℕ → List ℕ
 from_first first places = replicate first no_place ++ places
 
--- what is kept of each lane
+-- the part of each lane
 abbrev pub by_lane : {P : Type 0} → List P → List ℕ → List (Option P)
 by_lane parts places = map (slice_get parts) places
 
--- each cell stands at the place of its lane, and at no other's
+-- each cell is at the position of its lane, and at no other's
 pub record IsPlaced (places lanes : List ℕ) (count : ℕ) : Type 0 where
   pub few : count ≤ no_place
   pub as_many : length lanes ≡ count

@@ -1,4 +1,4 @@
--- A walk over cells in order of index, field and group. (Own rules.)
+-- Iteration over cells, ordered by index, field and group. (Own rules.)
 use Rattle.std.specs.Prelude.{ℕ, ℤ, List, [], ◌∷◌, ◌++◌, filter, Option, Some, None, refl}
 use Rattle.std.specs.FinMap as finmap
 use Rattle.std.specs.FinMap.{FinMap}
@@ -8,7 +8,7 @@ use Rattle.ts_core.specs.Cells.{Cell, cell_cmp}
 use Rattle.ts_core.specs.StoreCodes.{coded_cell}
 use Rattle.ts_cells.specs.Grids.{Lane, cell_in, RowOf, held}
 
--- a cell that is kept, with the number of its lane
+-- a cell with its part and the index of its lane
 pub record KeptCell (P : Type 0) : Type 0 where
   pub lane : ℕ
   pub cell : Cell
@@ -17,23 +17,23 @@ pub record KeptCell (P : Type 0) : Type 0 where
 abbrev pub entry_of : {P : Type 0} → KeptCell P → Cell × P
 entry_of k = (k.cell, k.part)
 
--- the cells from an index on, before another, in their order
+-- the cells from index `from`, inclusive, to index `to`, exclusive, in their order
 abbrev pub entries_within : {P : Type 0} → ℤ → ℤ → FinMap cell_cmp P → List (Cell × P)
 entries_within {P} from to m = filter (λ (e : Cell × P). is_within from to e.0.index) (finmap.entries m)
 
--- ---- what a walk has left
+-- ---- the remaining cells of an iterator
 
--- a cell that is there comes before others
+-- prepends a cell, if it exists
 abbrev pub with_kept : {P : Type 0} → Option P → ℕ → Cell → List (KeptCell P) → List (KeptCell P)
 with_kept None n k rest = rest
 with_kept (Some p) n k rest = record { lane = n; cell = k; part = p } ∷ rest
 
--- the cells of a bucket in the lanes of some numbers
+-- the cells of a bucket in the lanes with these indices
 abbrev pub row_left : {P : Type 0} → List Lane → ℤ → List (Option P) → List ℕ → List (KeptCell P)
 row_left lanes i cs [] = []
 row_left lanes i cs (n ∷ ns) = with_kept (held cs n) n (cell_in lanes i n) (row_left lanes i cs ns)
 
--- those of the first row in the lanes that are left, and those of the other rows in all lanes
+-- the cells of the first row in the remaining lanes, and those of the other rows in all lanes
 abbrev pub walk_left : {P : Type 0} → List Lane → List ℕ → List (RowOf P) → List ℕ → List (KeptCell P)
 walk_left lanes order [] left = []
 walk_left lanes order (r ∷ rs) left = row_left lanes r.0 r.1 left ++ walk_left lanes order rs order

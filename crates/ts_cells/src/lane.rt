@@ -1,4 +1,4 @@
-//! What the cells of one field and one group share.
+//! A lane: one rollup series of a rule, which is a field with the values of the kept tags.
 ghost use Rattle.std.specs.Prelude.{◌≡◌, ◌↔◌, IsTrue, IfOk, map, string_bytes};
 ghost use Rattle.std.specs.Cmp.Lexicographic.{slice_cmp};
 ghost use Rattle.ts_core.specs.Facts.{text_cmp};
@@ -10,21 +10,21 @@ use std::cmp::Ordering;
 use std::hash::{FoldHasher, Hasher};
 use std::marker::Model;
 
-/// A lane, by its number: the first made has 0.
+/// Index of a lane, in creation order from 0.
 #[derive(Clone, Copy, Debug, PartialEq, Eq)]
 pub struct LaneId {
     number: u32,
 }
 
 impl LaneId {
-    /// The lane of a number.
+    /// Creates the id of an index.
     pub(crate) fn of(number: u32) -> LaneId
         ensures { result ≡ number }
     {
         LaneId { number }
     }
 
-    /// How many lanes were made before it.
+    /// Returns the index, which is the number of lanes created before.
     pub fn number(self) -> u32
         ensures { result ≡ self }
     {
@@ -42,7 +42,7 @@ impl Model for LaneId {
     ghost inverse = { λ n. record { number = n } };
 }
 
-/// A field with a group: the values of a rule's kept tags.
+/// A field with a group, which has the values of a rule's kept tags.
 #[derive(Drop)]
 pub(crate) struct Lane<A: Allocator> {
     field: String<A>,
@@ -70,7 +70,7 @@ fn owned<A: Allocator + Copy>(alloc: A, texts: &[&str]) -> Result<Vec<String<A>,
     Ok(all)
 }
 
-/// The hash of the lane of a field and a group.
+/// Returns the hash of a lane.
 pub(crate) fn hash_lane(field: &str, group: &[&str]) -> u64
     ensures { result ≡ hash_of_lane (lane_named field.now group.now) }
 {
@@ -82,7 +82,7 @@ pub(crate) fn hash_lane(field: &str, group: &[&str]) -> u64
     hasher.finish()
 }
 
-/// The order of texts, each by its bytes.
+/// Compares two lists of texts lexicographically, each text by its bytes.
 fn compare_texts<A: Allocator>(texts: &[String<A>], others: &[&str]) -> Ordering
     ensures { result ≡ slice_cmp text_cmp (map string_bytes texts.now) (lent_texts others.now) }
 {
@@ -107,21 +107,21 @@ impl<A: Allocator + Copy> Lane<A> {
         })
     }
 
-    /// The field.
+    /// Returns the field.
     pub(crate) fn field(&self) -> &str
         ensures { result.now ≡ self.now.field }
     {
         self.field.as_str()
     }
 
-    /// The group.
+    /// Returns the group.
     pub(crate) fn group(&self) -> &[String<A>]
         ensures { map string_bytes result.now ≡ self.now.group }
     {
         self.group.as_slice()
     }
 
-    /// The order of this lane and the one of a field and a group.
+    /// Compares this lane with that of a field and a group.
     pub(crate) fn compare(&self, field: &str, group: &[&str]) -> Ordering
         ensures { result ≡ lane_cmp self.now (lane_named field.now group.now) }
     {
@@ -130,7 +130,7 @@ impl<A: Allocator + Copy> Lane<A> {
             order => order,
         }
     }
-    /// Whether this is the lane of a field and a group.
+    /// Returns true if this is the lane of a field and a group.
     pub(crate) fn is(&self, field: &str, group: &[&str]) -> bool
         ensures { IsTrue result ↔ (self.now ≡ lane_named field.now group.now) }
     {

@@ -1,4 +1,4 @@
-//! The lanes of a rule, numbered in the order of making, and found by field and group.
+//! The lanes of a rule, indexed in creation order: a hash table by field and group, with a sorted list.
 ghost use Rattle.std.specs.Prelude.{◌≡◌, ◌≤◌, [], length, IfSome, IfNone, IfOk, OnOk, OnErr, slice_get};
 ghost use Rattle.std.specs.declared.cmp.Ordering.{Ordering};
 ghost use Rattle.std.specs.List.Sorted.{IsPartitionPoint};
@@ -13,13 +13,13 @@ use std::cmp::Ordering;
 use std::marker::Model;
 use ts_core::{Chains, next_number, reserve_eighth};
 
-/// Lanes, numbered in the order of making.
+/// Hash table of lanes, indexed in creation order.
 #[derive(Drop)]
 pub(crate) struct Lanes<A: Allocator> {
     lanes: Vec<Lane<A>, A>,
-    /// The hashes of the lanes: a lane is found by its own.
+    /// Hash chains over the lanes.
     chains: Chains<A>,
-    /// The numbers of all lanes, in order of field and group: walks go along it.
+    /// Indices of all lanes, sorted by field and group. Iterators follow it.
     order: Vec<u32, A>,
 }
 
@@ -38,7 +38,7 @@ impl<A: Allocator> Model for Lanes<A> {
     ghost invariant = { λ s. AreFound s.lanes.items s.chains s.order.items };
 }
 
-/// The order of the lane of a number and the one of a field and a group. One that isn't there comes first.
+/// Compares the lane with this index with that of a field and a group. A missing lane comes first.
 fn compare_at<A: Allocator + Copy>(
     lanes: &[Lane<A>],
     number: u32,
@@ -53,7 +53,7 @@ fn compare_at<A: Allocator + Copy>(
     }
 }
 
-/// Where the number of a lane that isn't there goes in the order of fields and groups.
+/// Binary search for the slot in `order` at which to insert a new lane.
 fn place_in_order<A: Allocator + Copy>(
     lanes: &[Lane<A>],
     order: &[u32],
@@ -69,7 +69,7 @@ fn place_in_order<A: Allocator + Copy>(
 }
 
 impl<A: Allocator + Copy> Lanes<A> {
-    /// No lanes. It takes no memory.
+    /// Creates an empty table. Does not allocate.
     pub(crate) fn new(alloc: A) -> Lanes<A>
         ensures { result ≡ [] }
     {
@@ -80,21 +80,21 @@ impl<A: Allocator + Copy> Lanes<A> {
         }
     }
 
-    /// The lanes by number.
+    /// Returns the lanes in creation order.
     pub(crate) fn as_slice(&self) -> &[Lane<A>]
         ensures { result.now ≡ self.now }
     {
         self.lanes.as_slice()
     }
 
-    /// The numbers of all lanes, in order of field and group.
+    /// Returns the indices of all lanes, sorted by field and group.
     pub(crate) fn order(&self) -> &[u32]
         ensures { IsOrdered self.now result.now }
     {
         self.order.as_slice()
     }
 
-    /// The number of the lane of a field and a group.
+    /// Looks up the lane of a field and a group; returns its index.
     fn lookup(&self, field: &str, group: &[&str]) -> Option<u32>
         ensures found { IfSome result (λ n. IsAt self.now n (lane_named field.now group.now)) }
         ensures absent { IfNone result (Among (lane_named field.now group.now) self.now → ⊥) }
@@ -110,7 +110,7 @@ impl<A: Allocator + Copy> Lanes<A> {
         None
     }
 
-    /// The number of the lane of a field and a group, which is made where there is none.
+    /// Returns the index of the lane of a field and a group, creating the lane if needed.
     pub(crate) fn register(&mut self, field: &str, group: &[&str]) -> Result<u32, AllocError>
         ensures number { IfOk result (λ n. IsAt self.new n (lane_named field.now group.now)) }
         ensures ok { OnOk result (Gains self.old self.new (lane_named field.now group.now)) }

@@ -1,4 +1,4 @@
-//! Where the cell of a lane stands in its bucket: one number for each lane, of 32 bits.
+//! Dense index of the cells of a bucket: maps lanes to positions in `Row::parts`, with 4 bytes per lane.
 ghost use Rattle.std.specs.Prelude.{◌≡◌, ◌≤◌, ◌<◌, ◌+◌, ℕ, ◌==◌, [], length, max, OnOk, OnErr, if◌then◌else◌};
 ghost use Rattle.ts_cells.specs.Rows.{no_place, place_of, from_first};
 
@@ -6,14 +6,14 @@ use std::alloc::{AllocError, Allocator};
 use std::marker::Model;
 use ts_core::reserve_eighth;
 
-/// Stands in place of the place of a cell where a lane has none.
+/// Marks a lane without a cell.
 pub(crate) const NO_CELL: u32 = u32::MAX;
 
-/// Of each lane the place of its cell. It keeps 4 bytes for each lane from the lowest to the highest that had a cell, and
-/// for at most an eighth of them below.
+/// Dense index from lanes to cells. Takes 4 bytes per lane between the lowest and the highest lane used, plus up to an
+/// eighth of slack in front.
 #[derive(Drop)]
 pub(crate) struct Places<A: Allocator> {
-    /// The lane that the places begin at.
+    /// Lane of the first entry.
     first: u32,
     places: Vec<u32, A>,
 }
@@ -30,7 +30,7 @@ impl<A: Allocator> Model for Places<A> {
     ghost view = { λ p. from_first p.first p.places.items };
 }
 
-/// The place at an offset from the first lane.
+/// Returns the entry at an offset from the first lane, or `NO_CELL` past the end.
 fn place_at(places: &[u32], offset: u32) -> u32
     ensures { result ≡ place_of places.now offset }
 {
@@ -40,8 +40,8 @@ fn place_at(places: &[u32], offset: u32) -> u32
     }
 }
 
-/// Makes the places begin at a lane or below it. They grow at the front by an eighth, at least, or down to lane 0: so lanes
-/// that come in falling order are put in linear time together.
+/// Extends the index at the front so that it has an entry for `lane`. Grows by at least an eighth, or down to lane 0,
+/// so lanes that arrive in descending order take linear time in total.
 fn widen_front<A: Allocator>(
     first: &mut u32,
     places: &mut Vec<u32, A>,
@@ -68,7 +68,7 @@ fn widen_front<A: Allocator>(
     Ok(())
 }
 
-/// Makes the places reach an offset from the first lane.
+/// Extends the index at the back so that it has an entry at this offset from the first lane.
 fn widen_back<A: Allocator>(places: &mut Vec<u32, A>, offset: u32) -> Result<(), AllocError>
     ensures places { (j : ℕ) → place_of places.new.items j ≡ place_of places.old.items j }
     ensures ok { OnOk result (offset < length places.new.items) }
@@ -83,7 +83,7 @@ fn widen_back<A: Allocator>(places: &mut Vec<u32, A>, offset: u32) -> Result<(),
 }
 
 impl<A: Allocator> Places<A> {
-    /// No lane has a place. It takes no memory.
+    /// Creates an empty index. Does not allocate.
     pub(crate) fn new(alloc: A) -> Places<A>
         ensures { result ≡ [] }
     {
@@ -93,7 +93,7 @@ impl<A: Allocator> Places<A> {
         }
     }
 
-    /// The place of a lane's cell, `NO_CELL` where it has none.
+    /// Returns the position of a lane's cell, or `NO_CELL` if it has none.
     pub(crate) fn get(&self, lane: u32) -> u32
         ensures { result ≡ place_of self.now lane }
     {
@@ -103,7 +103,7 @@ impl<A: Allocator> Places<A> {
         }
     }
 
-    /// Gives a lane a place. Without the memory for it each lane keeps its own.
+    /// Sets the position of a lane's cell. On allocation failure, all positions stay.
     pub(crate) fn put(&mut self, lane: u32, place: u32) -> Result<(), AllocError>
         ensures ok { OnOk result ((j : ℕ) → place_of self.new j ≡ (if j == lane then place else place_of self.old j)) }
         ensures err { OnErr result ((j : ℕ) → place_of self.new j ≡ place_of self.old j) }
@@ -116,7 +116,7 @@ impl<A: Allocator> Places<A> {
         Ok(())
     }
 
-    /// Takes the place of a lane away.
+    /// Removes the entry of a lane.
     pub(crate) fn remove(&mut self, lane: u32)
         ensures places { (j : ℕ) → place_of self.new j ≡ (if j == lane then no_place else place_of self.old j) }
         ensures len { length self.new ≡ length self.old }
@@ -129,7 +129,7 @@ impl<A: Allocator> Places<A> {
             self.places[offset] = NO_CELL;
         }
     }
-    /// Gives back the memory that waits for places.
+    /// Releases unused capacity.
     pub(crate) fn shrink(&mut self)
         ensures { self.new ≡ self.old }
     {
