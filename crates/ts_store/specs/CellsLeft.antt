@@ -1,4 +1,4 @@
--- What is left of a walk over cells. (Own rule.)
+-- The remaining cells of an iterator. (Own rule.)
 use Rattle.std.specs.Prelude.{List}
 use Rattle.ts_store.specs.Seats.{CellTotal}
 use Rattle.ts_store.specs.declared.cell_walk.Left as declared

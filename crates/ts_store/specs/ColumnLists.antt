@@ -1,10 +1,10 @@
--- The columns of a lane as they are kept: one lies there itself, more in a vector of their own. (Own rule.)
+-- The columns of a lane in memory: one is inline, more are in a vector of their own. (Own rule.)
 use Rattle.std.specs.Prelude.{ℕ, Bool, true, false, nat_lt, vec_len, vec_capacity, List, [], ◌∷◌, map, Some, None, get_or, ◌≡◌, refl}
 use Rattle.std.specs.Coded.{Coded, code_by, coded×, coded_ℕ, coded_list, coded_bool}
 use Rattle.ts_store.specs.declared.lane_columns.Kept.{Kept}
 use Rattle.ts_store.specs.declared.lane_columns.Kept.TheVariants.{One, Many}
 
--- the columns, and whether there is a place for one more
+-- the columns, and whether there is capacity for one more
 pub record ColumnList : Type 0 where
   pub items : List ℕ
   pub place : Bool
@@ -21,10 +21,10 @@ coded_list_of_columns = code_by (List ℕ × Bool) (coded× (coded_list coded_�
 abbrev pub lists_in : List ColumnList → List (List ℕ)
 lists_in ls = map (λ (l : ColumnList). l.items) ls
 
--- which lanes have a place for one more
+-- whether each lane has capacity for one more
 abbrev pub places_in : List ColumnList → List Bool
 places_in ls = map (λ (l : ColumnList). l.place) ls
 
--- the lane of a number has one
+-- the lane with this index has it
 abbrev pub HasPlaceAt : List ColumnList → ℕ → Type 0
 HasPlaceAt ls n = get_or (places_in ls) n false ≡ true

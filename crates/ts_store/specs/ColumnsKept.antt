@@ -1,4 +1,4 @@
--- The facts of columns, each with its points, and what becomes of points that were set aside. (Own rule.)
+-- Columns with their points, and the effect of committing staged points. (Own rule.)
 use Rattle.std.specs.Prelude.{◌≡◌, ◌⊎◌, ℕ, ℤ, List, [], ◌∷◌, ◌++◌, ◌<◌, length, map, IsSome, Option, Some, None, Result, IfOk, OnOk, OnErr, slice_get, set, get_or, refl}
 use Rattle.std.specs.FinMap as finmap
 use Rattle.ts_core.specs.Members.{Among, AllDistinct}
@@ -17,13 +17,13 @@ facts_in c points = map (fact_at c) (finmap.entries points)
 abbrev pub point_maps : List ColumnState → List PointMap
 point_maps states = map (λ (s : ColumnState). s.points) states
 
--- the columns with their points, in the order of making
+-- the columns with their points, in creation order
 abbrev pub with_points : List Column → List PointMap → List ColumnPoints
 with_points [] maps = []
 with_points (c ∷ cs) [] = []
 with_points (c ∷ cs) (m ∷ ms) = record { column = c; points = finmap.entries m } ∷ with_points cs ms
 
--- those of an index
+-- the columns of an index with their points
 abbrev pub columns_in : Indexed → List ColumnState → List ColumnPoints
 columns_in index states = with_points index.columns (point_maps states)
 
@@ -34,13 +34,13 @@ facts_of_columns cs ms = facts_of (with_points cs ms)
 abbrev pub no_column : ColumnState
 no_column = record { points = finmap.empty; aside = None }
 
--- this column is there, or is made behind the others, without points
+-- the column was there, or it is appended without points
 abbrev pub MayGrow : Column → List Column → List ColumnState → List Column → List ColumnState → Type 0
 MayGrow c columns states columns' states' =
     (Among c columns × (columns' ≡ columns) × (states' ≡ states)) ⊎ ((Among c columns → ⊥) × (columns' ≡ columns ++ c ∷ []) × (states' ≡ states ++ no_column ∷ []))
 
--- what is left by a call that asks for the number of a column, and makes it where it isn't there: no other column is made, no
--- series is registered, and a refusal changes no column
+-- the effect of a call that returns the index of a column and creates it if needed. It creates no other column and
+-- registers no series; on an error, no column changes.
 pub record IsColumnFor {E : Type 0} (c : Column) (before : Indexed) (states : List ColumnState) (after : Indexed) (states' : List ColumnState) (result : Result ℕ E) : Type 0 where
   pub number : IfOk result (λ n. IsAt after.columns n c)
   pub grown : OnOk result (MayGrow c before.columns states after.columns states')
@@ -48,12 +48,12 @@ pub record IsColumnFor {E : Type 0} (c : Column) (before : Indexed) (states : Li
   pub series : after.series ≡ before.series
   pub sound : IsSoundIndex before → IsSoundIndex after
 
--- ---- points aside
+-- ---- staged points
 
 abbrev pub with_point_aside : ColumnState → ℤ → ℤ → ColumnState
 with_point_aside s time value = record { points = s.points; aside = Some (time, value) }
 
--- the point that is aside is put among the others
+-- inserts the staged point
 abbrev pub with_aside : PointMap → Option (ℤ × ℤ) → PointMap
 with_aside points None = points
 with_aside points (Some p) = finmap.insert points p.0 p.1
@@ -61,17 +61,17 @@ with_aside points (Some p) = finmap.insert points p.0 p.1
 abbrev pub committed : ColumnState → ColumnState
 committed s = record { points = with_aside s.points s.aside; aside = None }
 
--- so in each of the columns of these numbers
+-- commits the staged point of each of these columns
 abbrev pub all_committed : List ColumnState → List ℕ → List ColumnState
 all_committed states [] = states
 all_committed states (n ∷ ns) = all_committed (set states n (committed (get_or states n no_column))) ns
 
--- each of these columns is there and has something aside; each number stands once
+-- each of these columns exists and has a staged point; the indices are distinct
 abbrev pub AreReady : List ColumnState → List ℕ → Type 0
 AreReady states [] = Unit {0}
 AreReady states (n ∷ ns) = (n < length states) × IsSome (get_or states n no_column).aside × (Among n ns → ⊥) × AreReady states ns
 
--- in the columns of these numbers the facts are aside, each in its column
+-- the facts are staged, each in its column; the columns are those with these indices
 abbrev pub AreAside : List Column → List ColumnState → List ℕ → List Fact → Type 0
 AreAside columns states [] [] = Unit {0}
 AreAside columns states [] (f ∷ fs) = ⊥
@@ -79,9 +79,9 @@ AreAside columns states (n ∷ ns) [] = ⊥
 AreAside columns states (n ∷ ns) (f ∷ fs) =
     (slice_get columns n ≡ Some f.column) × ((get_or states n no_column).aside ≡ Some (f.time, f.value)) × AreAside columns states ns fs
 
--- ---- an index with the points of its columns, and with the cells of rules
+-- ---- an index with the points of its columns, and with rollups
 
--- the registered series, the columns with their points, and what is kept for each rule
+-- the registered series, the columns with their points, and the rollup of each rule
 pub record Held : Type 0 where
   pub series : List Series
   pub columns : List ColumnPoints
@@ -95,7 +95,7 @@ coded_held =
     code_by (List Series × (List ColumnPoints × List RollupState)) (coded× (coded_list coded_series) (coded× (coded_list coded_column_points) (coded_list coded_rollup)))
     (λ k. (k.series, (k.columns, k.rollups))) (λ p. record { series = p.0; columns = p.1.0; rollups = p.1.1 }) (λ _. refl)
 
--- each column is there once, and its series is registered
+-- the columns are distinct, and their series are registered
 pub record AreKnown (held : Held) : Type 0 where
   pub once : AllDistinct (map column_of held.columns)
   pub registered : (c : Column) → Among c (map column_of held.columns) → Among c.series held.series

@@ -1,4 +1,4 @@
--- what public contracts and laws cite
+-- cited by public contracts and laws
 pub mod PointsRead
 pub mod Seats
 pub mod Registered
@@ -6,7 +6,7 @@ pub mod Refusals
 pub mod StoreFaultTexts
 pub mod LinesPut
 pub mod WholeRuns
--- what only models and proofs of the code need
+-- used only by models and proofs of the code
 pub mod ColumnLists
 pub mod Rollups
 pub mod ColumnsKept

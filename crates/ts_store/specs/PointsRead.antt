@@ -1,4 +1,4 @@
--- What is read from columns: how many points they have, and the points of one of them. (Own rule.)
+-- Reads of columns: the number of their points, and the points of one of them. (Own rule.)
 use Rattle.std.specs.Prelude.{◌≡◌, ◌↔◌, ◌≤ℤ◌, ℕ, ℤ, true, List, filter}
 use Rattle.std.specs.List.{sum_by}
 use Rattle.std.specs.FinMap as finmap
@@ -10,15 +10,16 @@ use Rattle.ts_core.specs.Latest.{latest_of}
 use Rattle.ts_core.specs.StoreStates.{fact_at}
 use Rattle.ts_raw.specs.Columns.{ColumnState}
 
--- how many points there are in all columns
+-- the number of points of all columns
 abbrev pub number_of_points : List ColumnState → ℕ
 number_of_points states = sum_by (λ (s : ColumnState). finmap.len s.points) states
 
--- the points of a list from a on and before b
+-- the points of a list from a, inclusive, to b, exclusive
 abbrev pub points_between : ℤ → ℤ → List (ℤ × ℤ) → List (ℤ × ℤ)
 points_between a b ps = filter (λ (p : ℤ × ℤ). is_within a b p.0) ps
 
--- these are the points of a column from a on and before b: from the raw mark on, just those of the latest facts
+-- the points of a column from a, inclusive, to b, exclusive; at or above the raw mark, they are exactly those of the
+-- latest facts
 abbrev pub AreLatestOf : Column → ℤ → ℤ → List (ℤ × ℤ) → Settings → History → Type 0
 AreLatestOf c a b ps opening h =
     (p : ℤ × ℤ) → raw_mark opening h ≤ℤ p.0 → Among p ps ↔ (Among (fact_at c p) (latest_of h) × (is_within a b p.0 ≡ true))

@@ -1,5 +1,6 @@
--- When a write is refused, and by which number. (Own rules: no time below the raw mark, number 51; 1,000,000 series at most, number
--- 41; 2^62 accepted facts at most, number 52. InfluxData 1.8, downsampling and data retention: points beyond a policy are dropped.)
+-- When a write is refused, and with which error. (Own rules: `BelowRawMark` for a time below the raw mark,
+-- `TooManySeries` above 1,000,000 series, `TooManyFacts` above 2^62 accepted facts. InfluxData 1.8, downsampling and
+-- data retention: points beyond a policy are dropped.)
 use Rattle.std.specs.Prelude.{ℕ, ℤ, int_le, ◌+◌, ◌^◌, nat_le, Bool, not, ◌&&◌, List, length, Option, None}
 use Rattle.std.specs.List.{list_any}
 use Rattle.std.specs.Ordering.{eq_by_cmp}
@@ -12,11 +13,11 @@ use Rattle.ts_store.specs.declared.fault.WriteFault.TheVariants.{BelowRawMark, T
 abbrev pub is_registered : List Series → Series → Bool
 is_registered series s = list_any (eq_by_cmp series_cmp s) series
 
--- so many series are registered that another one is refused
+-- the series is new, and 1,000,000 are registered
 abbrev pub is_too_many : List Series → Series → Bool
 is_too_many series s = nat_le 1000000 (length series) && not (is_registered series s)
 
--- what a line is refused by, where the raw mark stands here, these series are registered and so many facts were accepted
+-- the error of a line under this raw mark, with these registered series and this number of accepted facts
 abbrev pub write_fault : ℤ → List Series → ℕ → Parts → Option WriteFault
 write_fault mark series accepted p =
     unless (int_le mark p.time) (BelowRawMark mark)

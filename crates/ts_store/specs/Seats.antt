@@ -1,4 +1,4 @@
--- What a view lends: columns by number, points of a column, and cells with their totals. (Own rules.)
+-- Results of a view: columns by index, points of a column, and cells with their totals. (Own rules.)
 use Rattle.std.specs.Prelude.{ℕ, ◌+◌, ℤ, pos, Bool, List, [], ◌∷◌, filter, map, if◌then◌else◌, slice_index_or}
 use Rattle.ts_core.specs.Facts.{Series, Column, is_within}
 use Rattle.ts_core.specs.Aggregates.{Aggregate, empty_aggregate}
@@ -7,12 +7,12 @@ use Rattle.ts_core.specs.StoreStates.{ColumnPoints}
 use Rattle.ts_core.specs.Views.{RuleTotals}
 use Rattle.ts_store.specs.PointsRead.{points_between}
 
--- a column by its number, with its series
+-- a column by its index, with its series
 pub record Seat : Type 0 where
   pub number : ℕ
   pub series : Series
 
--- the columns that pass, numbered from n on
+-- the columns that pass, indexed from n on
 abbrev pub seats_from : (Column → Bool) → ℕ → List ColumnPoints → List Seat
 seats_from p n [] = []
 seats_from p n (c ∷ cs) = if p c.column then record { number = n; series = c.column.series } ∷ seats_from p (n + 1) cs else seats_from p (n + 1) cs
@@ -23,7 +23,7 @@ seats_where p cs = seats_from p 0 cs
 abbrev pub no_points : ColumnPoints
 no_points = record { column = record { series = record { measurement = []; tags = [] }; field = [] }; points = [] }
 
--- the points of the column of a number, from a on and before b
+-- the points of the column with this index, from a, inclusive, to b, exclusive
 abbrev pub points_at : List ColumnPoints → ℕ → ℤ → ℤ → List (ℤ × ℤ)
 points_at cs n a b = points_between a b (slice_index_or cs n no_points).points
 
@@ -38,7 +38,7 @@ with_total total k = record { cell = k; total = total k }
 abbrev pub no_rule : RuleTotals
 no_rule = record { rule = record { name = []; measurement = []; interval = pos 1; offset = pos 0; kept_tags = []; duration = 0 }; low = pos 0; cells = []; total = λ k. empty_aggregate }
 
--- the cells of a rule from an index on and before another
+-- the cells of a rule from index a, inclusive, to index b, exclusive
 abbrev pub cells_within : RuleTotals → ℤ → ℤ → List CellTotal
 cells_within r a b = map (with_total r.total) (filter (λ (k : Cell). is_within a b k.index) r.cells)
 
@@ -48,6 +48,6 @@ cells_at rs n a b = cells_within (slice_index_or rs n no_rule) a b
 abbrev pub seat_of : ℕ × Series → Seat
 seat_of p = record { number = p.0; series = p.1 }
 
--- the column of a number of an index, with its series
+-- the column with this index in an index's list, with its series
 abbrev pub seat_in : List Column → ℕ → Seat
 seat_in columns n = record { number = n; series = (slice_index_or columns n (record { series = record { measurement = []; tags = [] }; field = [] })).series }

@@ -1,4 +1,4 @@
--- The texts of a store's faults. (Own rule.)
+-- Messages of a store's errors. (Own rule.)
 use Rattle.ts_core.specs.Facts.{Text}
 use Rattle.ts_core.specs.FaultTexts.{fault_text, memory_text}
 use Rattle.ts_core.specs.declared.fault_code.FaultCode.TheVariants as code
@@ -6,13 +6,13 @@ use Rattle.ts_core.specs.declared.fault_text.FaultDetail.TheVariants.{Alone, Mar
 use Rattle.ts_store.specs.declared.fault.WriteFault.{WriteFault}
 use Rattle.ts_store.specs.declared.fault.WriteFault.TheVariants.{BelowRawMark, TooManySeries, TooManyFacts, OutOfMemory}
 
--- of a write that was not done
+-- the message of a write's error
 unfoldable pub write_fault_text : WriteFault → Text
 write_fault_text (BelowRawMark mark) = fault_text code.BelowRawMark (Mark mark)
 write_fault_text TooManySeries = fault_text code.TooManySeries Alone
 write_fault_text TooManyFacts = fault_text code.TooManyFacts Alone
 write_fault_text OutOfMemory = memory_text
 
--- of a run that did not begin
+-- the message of a run that didn't begin
 abbrev pub run_in_progress_text : Text
 run_in_progress_text = fault_text code.RunInProgress Alone

@@ -1,4 +1,4 @@
-//! What is read from columns: how many points there are, and the points of one column.
+//! Reads of columns: numbers of points, and the points of one column.
 ghost use Rattle.std.specs.Prelude.{◌≡◌, ◌+◌, ◌*◌, ◌≤◌, ◌<◌, ◌^◌, length, get_or};
 ghost use Rattle.std.specs.FinMap as map;
 ghost use Rattle.ts_raw.specs.Columns.{AreTimed, points_within};
@@ -9,7 +9,7 @@ ghost use Rattle.ts_store.specs.PointsRead.{number_of_points};
 use std::alloc::Allocator;
 use ts_raw::{Column, PlainColumn, Points};
 
-/// How many points there are in all columns.
+/// Returns the number of points of all columns.
 pub(crate) fn raw_points<A: Allocator + Copy>(columns: &[PlainColumn<A>]) -> u64
     requires { number_of_points columns.now ≤ 2 ^ 62 }
     ensures { result ≡ number_of_points columns.now }
@@ -21,8 +21,7 @@ pub(crate) fn raw_points<A: Allocator + Copy>(columns: &[PlainColumn<A>]) -> u64
     count
 }
 
-/// How many points all columns store: those that there are, and at most 256 in each that
-/// were dropped.
+/// Returns the number of points of all columns in memory, which may include up to 256 removed ones per column.
 pub(crate) fn held_points<A: Allocator + Copy>(columns: &[PlainColumn<A>]) -> u64
     requires { number_of_points columns.now ≤ 2 ^ 62 }
     ensures all { number_of_points columns.now ≤ result }
@@ -35,7 +34,7 @@ pub(crate) fn held_points<A: Allocator + Copy>(columns: &[PlainColumn<A>]) -> u6
     count
 }
 
-/// The points of one of the columns, from a time on and before another (nanoseconds).
+/// Returns the points of the column at index `at` from `from`, inclusive, to `to`, exclusive (nanoseconds).
 pub(crate) fn raw_range<'a, A: Allocator + Copy>(
     columns: &'a [PlainColumn<A>],
     at: usize,

@@ -1,4 +1,4 @@
-//! Columns by an index, as a store lends them.
+//! Iterator over the columns that a store shows.
 ghost use Rattle.std.specs.Prelude.{◌≡◌, ◌<◌, map, length};
 ghost use Rattle.std.specs.Iterator.{YieldsFirst, item_count};
 ghost use Rattle.std.specs.List.{AllByRecursion};
@@ -9,7 +9,7 @@ use std::alloc::Allocator;
 use std::marker::Model;
 use ts_raw::{ColumnId, Index};
 
-/// Columns that are left to give, seen as the list of them.
+/// Iterator over columns. Its model is the list of those that remain.
 #[derive(Drop)]
 pub struct Columns<'a, A: Allocator> {
     left: &'a [ColumnId],
@@ -29,7 +29,7 @@ impl<'a, A: Allocator> Model for Columns<'a, A> {
 }
 
 impl<'a, A: Allocator> Columns<'a, A> {
-    /// The columns of these numbers.
+    /// Creates an iterator over the columns with these ids.
     pub fn of(left: &'a [ColumnId], index: &'a Index<A>) -> Columns<'a, A>
         requires { AllByRecursion (λ n. n < length index.now.columns) left.now }
         ensures { result ≡ map (seat_in index.now.columns) left.now }

@@ -1,4 +1,4 @@
-//! Why a line was not written, and why a run didn't begin.
+//! Errors of writes and of the start of a retention run, with their messages.
 ghost use Rattle.std.specs.Prelude.{◌≡◌, ◌≤◌, length};
 ghost use Rattle.ts_core.specs.FaultTexts.{IsAppended};
 ghost use Rattle.ts_store.specs.StoreFaultTexts.{write_fault_text, run_in_progress_text};
@@ -7,25 +7,26 @@ use std::alloc::{AllocError, Allocator};
 use thiserror::Error;
 use ts_core::{FaultCode, FaultDetail, Time};
 
-/// Why a line was not written.
+/// Error of a write.
 #[derive(Clone, Copy, Debug, PartialEq, Eq, Error)]
 pub enum WriteFault {
-    /// Its time is below the raw mark, which it carries (number 51).
+    /// Line with a time below the raw mark, which is attached.
     #[error("below the raw mark, {}", .0.nanos())]
     BelowRawMark(Time),
-    /// 1,000,000 series are registered, and this one isn't (number 41).
+    /// New series while 1,000,000 are registered.
     #[error("too many series")]
     TooManySeries,
-    /// The facts that were accepted, repeats counted, would pass 2^62 (number 52).
+    /// More than 2^62 accepted facts, including repeats.
     #[error("too many facts")]
     TooManyFacts,
-    /// No memory was found.
+    /// Out of memory.
     #[error("out of memory")]
     OutOfMemory,
 }
 
 impl WriteFault {
-    /// Appends its text, or a beginning of it out of memory. Where the room is there, it takes none.
+    /// Appends the message to `text`. When out of memory, `text` may end in part of the message. Does not allocate if
+    /// `text` has the capacity.
     #[tactic(auto, using(crate::proofs::StoreFaultLemmas::below_mark_short), unfolding(crate::specs::StoreFaultTexts::write_fault_text))]
     pub fn text_to<A: Allocator>(&self, text: &mut String<A>) -> Result<(), AllocError>
         ensures appended { IsAppended (write_fault_text self.now) text.old text.new result }
@@ -53,13 +54,14 @@ impl From<AllocError> for WriteFault {
     }
 }
 
-/// A run of retention is open (number 53).
+/// Error: a retention run is in progress.
 #[derive(Clone, Copy, Debug, PartialEq, Eq, Error)]
 #[error("a run is in progress")]
 pub struct RunInProgress;
 
 impl RunInProgress {
-    /// Appends its text, or a beginning of it out of memory. Where the room is there, it takes none.
+    /// Appends the message to `text`. When out of memory, `text` may end in part of the message. Does not allocate if
+    /// `text` has the capacity.
     pub fn text_to<A: Allocator>(&self, text: &mut String<A>) -> Result<(), AllocError>
         ensures { IsAppended run_in_progress_text text.old text.new result }
     {

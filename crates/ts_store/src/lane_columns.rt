@@ -1,4 +1,5 @@
-//! The columns of a lane. Most lanes have one, which lies here itself; more lie in a list of their own.
+//! A small vector of the columns of a lane: most lanes have one, which is stored inline; more are in a vector on the
+//! heap.
 ghost use Rattle.std.specs.Prelude.{◌≡◌, ◌++◌, ◌∷◌, [], true, OnOk};
 
 use std::alloc::{AllocError, Allocator};
@@ -8,13 +9,13 @@ use ts_raw::ColumnId;
 
 #[derive(Drop)]
 enum Kept<A: Allocator> {
-    /// One at most.
+    /// At most one, inline.
     One(Option<ColumnId>),
-    /// More. The box keeps the lanes of one column small.
+    /// More. The box keeps the inline case small.
     Many(Box<Vec<ColumnId, A>, A>),
 }
 
-/// The columns of a lane, in the order of making.
+/// Small vector of the columns of a lane, in creation order.
 #[derive(Drop)]
 pub(crate) struct LaneColumns<A: Allocator> {
     kept: Kept<A>,
@@ -31,7 +32,7 @@ impl<A: Allocator> Model for LaneColumns<A> {
 }
 
 impl<A: Allocator + Copy> LaneColumns<A> {
-    /// No columns. It takes no memory.
+    /// Creates an empty list. Does not allocate.
     pub(crate) fn new() -> LaneColumns<A>
         ensures { result.items ≡ [] }
     {
@@ -40,7 +41,7 @@ impl<A: Allocator + Copy> LaneColumns<A> {
         }
     }
 
-    /// The columns, in the order of making.
+    /// Returns the columns, in creation order.
     pub(crate) fn as_slice(&self) -> &[ColumnId]
         ensures { result.now ≡ self.now.items }
     {
@@ -51,7 +52,7 @@ impl<A: Allocator + Copy> LaneColumns<A> {
         }
     }
 
-    /// Makes room for one column more. The first needs none.
+    /// Reserves capacity for one more column. Does not allocate for the first.
     pub(crate) fn reserve(&mut self, alloc: A) -> Result<(), AllocError>
         ensures items { self.new.items ≡ self.old.items }
         ensures ok { OnOk result (self.new.place ≡ true) }
@@ -68,7 +69,7 @@ impl<A: Allocator + Copy> LaneColumns<A> {
         }
     }
 
-    /// Puts a column behind the others. It takes no memory.
+    /// Appends a column within the reserved capacity. Does not allocate.
     pub(crate) fn push(&mut self, column: ColumnId)
         requires { self.old.place ≡ true }
         ensures { self.new.items ≡ self.old.items ++ column ∷ [] }

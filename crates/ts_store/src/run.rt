@@ -1,8 +1,8 @@
-//! An open run of retention: which column it moves next, and how many columns there were when it began.
+//! A retention run in progress: the column that it moves next, and the number of columns at its start.
 use std::marker::Model;
 
-/// An open run: which column it moves next, and how many columns there were when it began. Those made since then count
-/// as moved.
+/// A retention run in progress: the column that it moves next, and the number of columns at its start. Columns created
+/// since then count as moved.
 #[derive(Clone, Copy)]
 pub(crate) struct Run {
     pub(crate) next: usize,

@@ -1,4 +1,4 @@
-//! What an executor sees of a store.
+//! Read access for the executor.
 ghost use Rattle.std.specs.Prelude.{◌≡◌, ◌<◌, length, map};
 ghost use Rattle.std.specs.Iterator.{YieldsFirst, item_count};
 ghost use Rattle.ts_core.specs.Facts.{is_of};
@@ -12,12 +12,12 @@ use std::marker::Model;
 use ts_core::{Key, Marks, Settings};
 use ts_raw::{ColumnId, Points};
 
-/// A column by its number, with the key of its series.
+/// A column's id, with the key of its series.
 #[derive(Drop)]
 pub struct ColumnSeen<'a, A: Allocator> {
-    /// Its number.
+    /// Id of the column.
     pub id: ColumnId,
-    /// The key of its series.
+    /// Key of its series.
     pub key: &'a Key<A>,
 }
 
@@ -29,30 +29,31 @@ impl<'a, A: Allocator> Model for ColumnSeen<'a, A> {
     ghost view = { λ c. record { number = c.id; series = c.key.now } };
 }
 
-/// What an executor sees of a store: its settings, its marks, and from there on its raw points and its cells.
+/// Read access for the executor: settings, marks, raw points at or above the raw mark, and cells at or above the low
+/// indices.
 pub trait View<A: Allocator> {
-    // All that is seen.
+    // Everything that the view shows.
     ghost seen: { Self → Seen };
 
-    /// The settings. Of each of their rules cells are shown, in their order.
+    /// Returns the settings. The view shows the cells of each of their rules, in their order.
     fn settings(&self) -> &Settings<A>
         ensures value { result.now ≡ (seen self.now).settings }
         ensures rules { map seen_rule (seen self.now).rules ≡ (seen self.now).settings.rules };
 
-    /// The marks.
+    /// Returns the marks.
     fn marks(&self) -> &Marks<A>
         ensures { result.now ≡ (seen self.now).marks };
 
-    /// The columns of a measurement and a field, in the order of making.
+    /// Returns the columns of a measurement and a field, in creation order.
     fn columns_of(&self, measurement: &str, field: &str) -> Columns<'_, A>
         ensures { result ≡ seats_where (is_of measurement.now field.now) (seen self.now).columns };
 
-    /// The points of a column, from a time on and before another (nanoseconds).
+    /// Returns the points of a column from `from`, inclusive, to `to`, exclusive (nanoseconds).
     fn raw_range(&self, column: ColumnId, from: i64, to: i64) -> Points<'_>
         requires { column < length (seen self.now).columns }
         ensures { result ≡ points_at (seen self.now).columns column from to };
 
-    /// The cells of a rule, by its number, from a bucket's index on and before another.
+    /// Returns the cells of the rule with this index, from bucket `from`, inclusive, to bucket `to`, exclusive.
     fn cell_walk(&self, rule: usize, from: &i128, to: &i128) -> CellWalk<'_, A>
         requires { rule < length (seen self.now).rules }
         ensures { result ≡ cells_at (seen self.now).rules rule from.now to.now };
