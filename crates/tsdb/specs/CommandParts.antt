@@ -1,4 +1,4 @@
--- A command as it was read, by its texts. (Own rule.)
+-- Parsed commands, by the values of their texts. (Own rule.)
 use Rattle.tsdb.specs.Commands.{Command, OpenWith, At, SetPrecision, SetEpoch, Write, Live, Retain, SetCertificate, Query, Explain, Count, CountFault, Unknown}
 use Rattle.tsdb.specs.declared.command.Command.{Command as ReadCommand}
 use Rattle.tsdb.specs.declared.command.Command.TheVariants as read

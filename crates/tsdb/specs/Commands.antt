@@ -1,4 +1,4 @@
--- The commands of a script, by their lines. (Own rule.)
+-- The commands of a script, and their lines. (Own rule.)
 use Rattle.std.specs.Prelude.{ℕ, ℤ, pos, length, drop, Bool, not, ◌&&◌, ◌||◌, ◌==◌, nat_eq, if◌then◌else◌, Option, Some, None, codes}
 use Rattle.std.specs.List.{list_all, starts_with, before_first, after_first}
 use Rattle.ts_core.specs.Facts.{Text, same_text}
@@ -10,29 +10,29 @@ use Rattle.ts_reply.specs.declared.epoch.Epoch.{Epoch}
 use Rattle.tsdb.specs.Moments.{moment_in, moment_of}
 
 pub data Command : Type 0 where
-  -- the script is to open with the settings of this text
+  -- opens the script with the settings of this text
   OpenWith : Text → Command
-  -- the moment is this
+  -- sets the script's time
   At : ℤ → Command
-  -- timestamps count units of this precision
+  -- sets the precision of timestamps
   SetPrecision : TimeUnit → Command
-  -- replies write times so
+  -- sets the format of times in replies
   SetEpoch : Epoch → Command
-  -- a line to be written
+  -- writes a line
   Write : Text → Command
-  -- how many raw facts are kept
+  -- prints the number of raw facts
   Live : Command
-  -- a run of retention at the moment
+  -- runs retention at the script's time
   Retain : Command
-  -- this text is the certificate of the next query
+  -- sets the certificate of the next query
   SetCertificate : Text → Command
-  -- a text of queries
+  -- prints the reply to queries
   Query : Text → Command
-  -- a text of queries, of which the plans are asked
+  -- prints the plans of queries
   Explain : Text → Command
-  -- how many values of a measurement and a field stand from one time on and before another
+  -- prints the number of values of a measurement and a field from one time, inclusive, to another, exclusive
   Count : Text → Text → ℤ → ℤ → Command
-  -- the same, with a time that isn't valid
+  -- a count with an invalid time
   CountFault : Command
   -- any other line
   Unknown : Command
@@ -40,7 +40,7 @@ pub data Command : Type 0 where
 abbrev pub is_space : ℕ → Bool
 is_space b = b == 32
 
--- nothing but spaces
+-- only spaces
 abbrev pub is_blank : Text → Bool
 is_blank line = list_all is_space line
 
@@ -48,7 +48,7 @@ is_blank line = list_all is_space line
 abbrev pub is_comment : Text → Bool
 is_comment line = starts_with nat_eq line (codes "#")
 
--- the line asks for nothing
+-- the line is blank or a comment
 abbrev pub is_skipped : Text → Bool
 is_skipped line = is_blank line || is_comment line
 
@@ -72,7 +72,8 @@ count_between m f (Some a) (Some b) = Count m f a b
 count_between m f (Some a) None = CountFault
 count_between m f None b = CountFault
 
--- count M F A B, parted by one space each: M and F aren't empty and stand as they are, without escapes; A and B are numbers of nanoseconds
+-- count M F A B, separated by one space each. M and F aren't empty and have no escapes; A and B are numbers of
+-- nanoseconds.
 unfoldable pub count_from_parts : Text → Text → Text → Text → Command
 count_from_parts m f a b =
     if not (length m == 0) && not (length f == 0) && is_number a && is_number b
@@ -88,7 +89,7 @@ unfoldable pub count_from : Text → Command
 count_from text =
     count_from_parts (word text) (word (after_word text)) (word (after_word (after_word text))) (after_word (after_word (after_word text)))
 
--- what a line that isn't skipped asks for: a command's name and one space, and then its rest
+-- the command of a line that isn't skipped: a command's name and one space, and then its argument
 unfoldable pub command_of : Text → Command
 command_of line =
     if starts_with nat_eq line (codes "settings ") then OpenWith (drop 9 line)

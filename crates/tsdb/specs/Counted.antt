@@ -1,4 +1,4 @@
--- What the code answers to a query that counts. (Own rule.)
+-- Results of a counting query. (Own rule.)
 use Rattle.std.specs.Prelude.{◌≡◌, ℕ, List, length, filter, Result, Ok, Err, ⊤}
 use Rattle.ts_core.specs.History.{History, settings_of}
 use Rattle.ts_core.specs.Latest.{latest_of}
@@ -10,7 +10,7 @@ use Rattle.ts_plan.specs.Planning.{IsPlanFor}
 use Rattle.ts_plan.specs.declared.fault.PlanError.{PlanError}
 use Rattle.ts_plan.specs.declared.fault.PlanError.TheVariants as errors
 
--- how many match a query that has a plan, of all facts ever accepted; or why there is no plan
+-- the number of matching facts, of all facts ever accepted, if the query has a plan; else the error of the planner
 abbrev pub IsCounted : Settings → History → Query → Result ℕ PlanError → Type 0
 IsCounted opening h q (Ok n) =
     ((plan : List Piece) × IsPlanFor (settings_of opening h) (marks_of opening h) q (Ok plan)) × (n ≡ length (filter (matches q) (latest_of h)))

@@ -1,4 +1,4 @@
--- The rows of the table of faults, number by number. (Own rule.)
+-- The rows of the table of faults, by number. (Own rule.)
 use Rattle.std.specs.Prelude.{ℕ, Bool, [], if◌then◌else◌}
 use Rattle.std.specs.Option.{option_map_or}
 use Rattle.ts_core.specs.Facts.{Text}
@@ -6,10 +6,10 @@ use Rattle.ts_core.specs.FaultCodes.{code_of_number}
 use Rattle.ts_core.specs.declared.fault_code.FaultCode.{FaultCode}
 use Rattle.tsdb.specs.FaultTables.{fault_row}
 
--- the row of a fault that may be asked for
+-- the row of a fault, if it is requested
 abbrev pub row_where : (FaultCode → Bool) → FaultCode → Text
 row_where asked code = if asked code then fault_row code else []
 
--- the row of the number's fault, where there is one
+-- the row of the fault with this number, if it exists
 abbrev pub asked_row : (FaultCode → Bool) → ℕ → Text
 asked_row asked number = option_map_or (row_where asked) (code_of_number number) []

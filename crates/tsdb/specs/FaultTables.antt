@@ -1,4 +1,4 @@
--- The table of all faults, and which part of it a command line asks for. (Own rule.)
+-- The table of all faults, and which part of it a command line requests. (Own rule.)
 use Rattle.std.specs.Prelude.{Bool, true, List, [], ◌∷◌, ◌++◌, map, filter, codes, if◌then◌else◌, Option, Some, None}
 use Rattle.std.specs.Fmt.{decimal}
 use Rattle.std.specs.List.{concat}
@@ -7,7 +7,8 @@ use Rattle.ts_core.specs.FaultCodes.{code_number, code_words, all_codes}
 use Rattle.ts_core.specs.declared.fault_code.FaultCode.{FaultCode}
 use Rattle.tsdb.specs.ScriptReplies.{line}
 
--- the words behind the program's name: `faults` asks for all, `faults N` for the one of a number; others ask for none
+-- the words after the program's name: `faults` requests all, `faults N` the one with this number, and others request
+-- none
 abbrev pub faults_asked : List Text → Option (Option Text)
 faults_asked [] = None
 faults_asked (word ∷ []) = if same_text word (codes "faults") then Some None else None
@@ -21,7 +22,7 @@ is_wanted (Some number) digits = same_text digits number
 abbrev pub is_listed : Option Text → FaultCode → Bool
 is_listed number code = is_wanted number (decimal (code_number code))
 
--- a fault's number and its words
+-- a fault's number and its description
 abbrev pub fault_row : FaultCode → Text
 fault_row code = line (decimal (code_number code) ++ (codes " " ++ code_words code))
 

@@ -1,4 +1,4 @@
--- The machine that a script runs: what each line prints, and what it changes. (Own rule.)
+-- The state machine of a script: the output of each line, and the new state. (Own rule.)
 use Rattle.std.specs.Prelude.{◌≡◌, ℕ, ℤ, pos, ◌-ℤ◌, ◌≤ℤ◌, ◌<ℤ◌, ◌<◌, ◌≤◌, Bool, true, false, List, [], ◌∷◌, length, codes, Option, Some, None, Result, Ok, Err}
 use Rattle.std.specs.Fmt.{decimal}
 use Rattle.std.specs.Str.{IsUtf8}
@@ -43,15 +43,15 @@ use Rattle.ts_store.specs.StoreFaultTexts.{write_fault_text}
 use Rattle.tsdb.specs.ScriptReplies.{line, unknown_text, bad_range_text}
 
 pub record State : Type 0 where
-  -- the moment that the script has set, in nanoseconds, the precision of its timestamps, and how replies write times
+  -- the script's time, in nanoseconds, the precision of its timestamps, and the format of times in replies
   pub moment : ℤ
   pub precision : TimeUnit
   pub epoch : Epoch
-  -- no line has come but skipped ones, so settings may come
+  -- only skipped lines have come, so settings may follow
   pub fresh : Bool
-  -- what the next query has for a certificate
+  -- the certificate of the next query
   pub certificate : Option Text
-  -- the settings that the script opened with, what happened since, and the series that are registered
+  -- the settings that the script opened with, the events since, and the registered series
   pub opening : Settings
   pub history : History
   pub series : List Series
@@ -84,59 +84,60 @@ no_longer_fresh s = record s { fresh = false }
 abbrev pub with_certificate : Option Text → State → State
 with_certificate certificate s = record s { certificate = certificate }
 
--- a store with these settings, to which nothing has happened
+-- an empty store with these settings
 abbrev pub opened_with : Settings → State → State
 opened_with settings s = record s { opening = settings; history = []; series = [] }
 
--- a whole run of retention, of so many steps and a last one
+-- a whole retention run, of `steps` steps and a last one
 abbrev pub with_run : ℕ → State → State
 with_run steps s = record s { history = whole_run s.moment steps s.history }
 
--- the marks that the state leaves, as text
+-- the marks of the state, as text
 abbrev pub marks_told : State → Text
 marks_told s = marks_text (settings_of s.opening s.history) (marks_of s.opening s.history)
 
--- these series are registered
+-- registers these series
 abbrev pub with_series : List Series → State → State
 with_series series s = record s { series = series }
 
--- the line's facts are accepted, and these series are registered
+-- accepts the line's facts, and registers these series
 abbrev pub with_line : Parts → List Series → State → State
 with_line parts series s = record s { history = Line (line_facts parts) ∷ s.history; series = series }
 
--- what a line says here: its parts, nothing, or a fault; without a time it has the script's moment
+-- the result of parsing a line in this state: its parts, nothing, or an error. Without a timestamp, a line has the
+-- script's time.
 abbrev pub line_in : State → Text → Result (Option Parts) LineFault
 line_in s text = line_of (nanoseconds_of s.precision) s.moment text
 
--- what a line is refused by
+-- the error that a line is refused with
 abbrev pub refusal_in : State → Parts → Option WriteFault
 refusal_in s parts = write_fault (marks_of s.opening s.history).raw s.series (length (accepted s.history)) parts
 
--- From `old` a line of these parts may print this and leave that.
+-- From `old`, a line with these parts may print this text and lead to that state.
 pub data Takes (old : State) (parts : Parts) : Text → State → Type 0 where
   refused : (fault : WriteFault) → refusal_in old parts ≡ Some fault → Takes old parts (line (write_fault_text fault)) old
-  -- its series is registered where it wasn't, and its facts are accepted
+  -- its series is registered if needed, and its facts are accepted
   accepted_whole : (series : List Series) → refusal_in old parts ≡ None → Gains old.series series (series_of parts) → Takes old parts (line (codes "ok")) (with_line parts series old)
-  -- there is no memory; its series may be registered
+  -- out of memory; its series may be registered
   found_no_memory : (series : List Series) → refusal_in old parts ≡ None → MayGain old.series series (series_of parts) → Takes old parts (line memory_text) (with_series series old)
 
--- what a planner answers for the query that counts
+-- a planner's result for the counting query
 abbrev pub CountIsPlanned : Settings → History → Text → Text → ℤ → ℤ → Result (List Piece) PlanError → Type 0
 CountIsPlanned opening h measurement field a b answer =
     IsInterval (b -ℤ a) × IsPlanFor (settings_of opening h) (marks_of opening h) (count_select measurement field a b).query answer
 
--- After a history a count over a range that isn't empty may print this.
+-- After a history, a count over a non-empty range may print this text.
 pub data Counts (opening : Settings) (h : History) (measurement field : Text) (a b : ℤ) : Text → Type 0 where
-  -- of all facts ever accepted, of each id the latest
+  -- the number of matching facts ever accepted, of each id the latest
   counted : (plan : List Piece) → CountIsPlanned opening h measurement field a b (Ok plan) → Counts opening h measurement field a b (line (decimal (count_of h measurement field a b)))
   has_no_plan : (fault : PlanFault) → CountIsPlanned opening h measurement field a b (Err (errors.Fault fault)) → Counts opening h measurement field a b (line (plan_fault_text fault))
   is_too_long : (IsInterval (b -ℤ a) → ⊥) → Counts opening h measurement field a b (line bad_range_text)
-  -- to plan and to execute may run out of memory
+  -- planning and execution may run out of memory
   counts_no_memory : IsInterval (b -ℤ a) → Counts opening h measurement field a b (line memory_text)
 
--- From `old` a command may print this and leave that.
+-- From `old`, a command may print this text and lead to that state.
 pub data Does (old : State) : Command → Text → State → Type 0 where
-  -- settings come before all else; at fault, they leave the opening ones
+  -- settings come before everything else; with an error, the opening ones stay
   opens : (text : Text) (settings : Settings) → old.fresh ≡ true → settings_read text ≡ Ok settings → Does old (OpenWith text) [] (opened_with settings old)
   refuses_settings : (text : Text) (fault : SettingsFault) → old.fresh ≡ true → settings_read text ≡ Err fault → Does old (OpenWith text) (line (settings_fault_text fault)) old
   opens_no_memory : (text : Text) → old.fresh ≡ true → Does old (OpenWith text) (line memory_text) old
@@ -147,28 +148,28 @@ pub data Does (old : State) : Command → Text → State → Type 0 where
   -- a comment or a blank line
   passes_over : (text : Text) → line_in old text ≡ Ok None → Does old (Write text) (line (codes "none")) old
   refuses : (text : Text) (fault : LineFault) → line_in old text ≡ Err fault → Does old (Write text) (line (line_fault_text fault)) old
-  -- to read a line may run out of memory
+  -- parsing a line may run out of memory
   reads_no_memory : (text : Text) → Does old (Write text) (line memory_text) old
   shows : (e : Epoch) → Does old (SetEpoch e) [] (in_epoch e old)
-  -- retention runs at the moment, and the marks that it leaves are printed
+  -- retention runs at the script's time, and the new marks are printed
   retains : (steps : ℕ) → Does old Retain (line (marks_told (with_run steps old))) (with_run steps old)
   retains_no_memory : Does old Retain (line memory_text) old
-  -- a certificate waits for the next query, in place of an earlier one
+  -- the certificate is set for the next query, replacing an earlier one
   hands_in : (text : Text) → Does old (SetCertificate text) [] (with_certificate (Some (with_line_feeds text)) old)
   hands_in_no_memory : (text : Text) → Does old (SetCertificate text) (line memory_text) old
-  -- the reply's body, be the reply good or not; the certificate is forgotten
+  -- the body of the reply, good or not; the certificate is consumed
   replies : (text body : Text) (good : Bool) → IsReply old.opening old.history old.moment text old.certificate old.epoch good body → Does old (Query text) (line body) (with_certificate None old)
   replies_no_memory : (text : Text) → Does old (Query text) (line memory_text) (with_certificate None old)
   explains : (text body : Text) (good : Bool) → IsExplanation old.opening old.history old.moment text good body → Does old (Explain text) (line body) old
   explains_no_memory : (text : Text) → Does old (Explain text) (line memory_text) old
-  -- how many of the latest facts have their raw points
+  -- the number of latest facts with raw points
   tells_live : Does old Live (line (decimal (length (raw_facts old.opening old.history)))) old
   counts : (measurement field answer : Text) (a b : ℤ) → a <ℤ b → Counts old.opening old.history measurement field a b answer → Does old (Count measurement field a b) answer old
   counts_nothing : (measurement field : Text) (a b : ℤ) → b ≤ℤ a → Does old (Count measurement field a b) (line (codes "0")) old
   refuses_count : Does old CountFault (line bad_range_text) old
   refuses_unknown : Does old Unknown (line unknown_text) old
 
--- From `old` a line of a script may print this and leave that.
+-- From `old`, a line of a script may print this text and lead to that state.
 pub data Step (old : State) : Text → Text → State → Type 0 where
   too_long : (bytes : Text) → script_line_limit < length bytes → Step old bytes (line unknown_text) (no_longer_fresh old)
   no_text : (bytes : Text) → (IsUtf8 bytes → ⊥) → Step old bytes (line unknown_text) (no_longer_fresh old)

@@ -1,4 +1,4 @@
--- What a text of settings makes of a script's store. (Own rule.)
+-- The store of a script that begins with settings. (Own rule.)
 use Rattle.std.specs.Prelude.{◌≡◌, [], ⊤, Result, Ok, Err}
 use Rattle.ts_core.specs.Facts.{Text}
 use Rattle.ts_core.specs.Settings.{Settings}
@@ -13,7 +13,7 @@ pub record IsEmptyWith (settings : Settings) (k : StoreData) : Type 0 where
   pub stands : StandsFor settings [] (state_of k)
   pub series : k.series ≡ []
 
--- an empty store with the settings that the text says, or their fault, or no memory
+-- an empty store with the settings of the text, or their first error, or out of memory
 abbrev pub IsOpening : Text → Result StoreData SettingsError → Type 0
 IsOpening text (Ok k) = (settings : Settings) × (settings_read text ≡ Ok settings) × IsEmptyWith settings k
 IsOpening text (Err (Fault fault)) = settings_read text ≡ Err fault

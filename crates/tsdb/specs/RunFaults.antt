@@ -1,4 +1,4 @@
--- The faults of a run: their texts, and the device that each is of. (Own rule.)
+-- The errors of a run: their messages, and the device that each belongs to. (Own rule.)
 use Rattle.std.specs.Prelude.{ℕ, Result, Ok, Err}
 use Rattle.ts_core.specs.Facts.{Text}
 use Rattle.ts_core.specs.FaultTexts.{fault_text, memory_text}
@@ -19,7 +19,7 @@ abbrev pub fault_of_read : ReadFault → RunFault
 fault_of_read read.Device = Reader
 fault_of_read read.Turns = Turns
 
--- how much a run adds to its reader's failures
+-- 1 for a failure of the reader, else 0
 abbrev pub one_if_reader : {T : Type 0} → Result T RunFault → ℕ
 one_if_reader (Ok x) = 0
 one_if_reader (Err OutOfMemory) = 0
@@ -27,7 +27,7 @@ one_if_reader (Err Reader) = 1
 one_if_reader (Err Writer) = 0
 one_if_reader (Err Turns) = 0
 
--- how much it adds to its writer's
+-- 1 for a failure of the writer, else 0
 abbrev pub one_if_writer : {T : Type 0} → Result T RunFault → ℕ
 one_if_writer (Ok x) = 0
 one_if_writer (Err OutOfMemory) = 0

@@ -1,4 +1,4 @@
--- How the program ends: its exit status, and its line on standard error. (Own rule.)
+-- The exit status of the program, and its line on standard error. (Own rule.)
 use Rattle.std.specs.Prelude.{ℕ, ◌++◌, codes, Option, Some, None}
 use Rattle.ts_core.specs.Facts.{Text}
 use Rattle.tsdb.specs.RunFaults.{run_fault_text}
@@ -8,7 +8,7 @@ use Rattle.tsdb.specs.declared.run_fault.RunFault.TheVariants.{OutOfMemory, Read
 use Rattle.tsdb.specs.declared.outcome.Outcome.{Outcome}
 use Rattle.tsdb.specs.declared.outcome.Outcome.TheVariants.{Answered, Stopped, NoScript, NoFault, NoText}
 
--- 0: done; 1: a device, or an input without an end; 2: the command line; 3: no memory
+-- 0 for success, 1 for a device error or endless input, 2 for a wrong command line, 3 when out of memory
 abbrev pub status_of : Outcome → ℕ
 status_of Answered = 0
 status_of (NoScript told.Done) = 0
@@ -22,18 +22,18 @@ status_of NoText = 2
 status_of (NoScript told.OutOfMemory) = 3
 status_of (Stopped OutOfMemory) = 3
 
--- what a fault of a run means
+-- the meaning of an error of a run
 abbrev pub meaning_of : RunFault → Text
 meaning_of Reader = codes "standard input could not be read"
 meaning_of Writer = codes "standard output could not be written"
 meaning_of Turns = codes "standard input did not end within 4294967296 reads"
 meaning_of OutOfMemory = codes "there is no memory for reading the script"
 
--- a fault's text, and what it means
+-- the message of a fault, with its meaning
 abbrev pub stopped_line : RunFault → Text
 stopped_line fault = run_fault_text fault ++ codes ": " ++ meaning_of fault
 
--- the line for standard error, if any; of a wrong command line clap has told it
+-- the line for standard error, if there is one; for a wrong command line, clap has already printed the error
 abbrev pub error_line : Outcome → Option Text
 error_line Answered = None
 error_line (Stopped fault) = Some (stopped_line fault)

@@ -1,4 +1,4 @@
--- What a script prints. (Own rule.)
+-- The output of a script. (Own rule.)
 use Rattle.std.specs.Prelude.{◌≡◌, ◌+◌, ◌≤◌, List, ◌++◌, Option, IfSome, Result, Err, OnOk, OnErr}
 use Rattle.std.specs.List.{concat}
 use Rattle.std.specs.Io.KnownBytes.{Appends}
@@ -10,14 +10,14 @@ use Rattle.tsdb.specs.RunFaults.{one_if_reader, one_if_writer}
 use Rattle.tsdb.specs.declared.run_fault.RunFault.{RunFault}
 use Rattle.tsdb.specs.declared.run_fault.RunFault.TheVariants.{OutOfMemory, Turns}
 
--- the output is the answers to all lines of the input
+-- the output consists of the answers to all lines of the input
 pub record IsScript (input output : Text) : Type 0 where
   pub answers : List Text
   pub state : State
   pub run : Prints start (lines_of input) answers state
   pub output_is : output ≡ concat answers
 
--- the output is the answers to the first lines of the input
+-- the output consists of the answers to the first lines of the input
 pub record IsScriptSoFar (input output : Text) : Type 0 where
   pub done : List Text
   pub rest : List Text
@@ -27,25 +27,25 @@ pub record IsScriptSoFar (input output : Text) : Type 0 where
   pub run : Prints start done answers state
   pub output_is : output ≡ concat answers
 
--- where the input is known, its answers were written
+-- if the input is known, its answers were written
 abbrev pub AnswersAll : Option Text → Option Text → Option Text → Type 0
 AnswersAll input old new = IfSome input (λ bytes. (output : Text) × IsScript bytes output × Appends old new output)
 
--- where the input is known, a beginning of such answers was written
+-- if the input is known, a prefix of such answers was written
 abbrev pub AnswersSome : Option Text → Option Text → Option Text → Type 0
 AnswersSome input old new = IfSome input (λ bytes. (output : Text) × IsScriptSoFar bytes output × AppendsFront old new output)
 
--- what a replay does: from its devices as they were, with this result, to how it leaves them
+-- the effect of a replay on its devices, with this result
 pub record IsReplay {T : Type 0} (source : Input) (sink : Output) (result : Result T RunFault) (source' : Input) (sink' : Output) : Type 0 where
-  -- all lines are answered, or a beginning of the answers went out
+  -- all lines are answered, or a prefix of the answers was written
   pub answered : OnOk result (AnswersAll source.remaining sink.contents sink'.contents)
   pub begun : OnErr result (AnswersSome source.remaining sink.contents sink'.contents)
-  -- memory runs out before anything is read or written, and not later
+  -- it runs out of memory before anything is read or written, and not later
   pub memory : result ≡ Err OutOfMemory → (source' ≡ source) × (sink' ≡ sink)
-  -- a device's fault is answered, and only then
+  -- a device's failure is reported, and nothing else is reported as one
   pub reader : source'.failures ≡ source.failures + one_if_reader result
   pub writer : sink'.failures ≡ sink.failures + one_if_writer result
-  -- the end was read, or so many turns were taken
+  -- the end was read, or the limit of reads was reached
   pub end : OnOk result (source'.ends ≡ source.ends + 1)
   pub within : source'.turns ≤ source.turns + turn_limit
   pub limit : result ≡ Err Turns → (source'.turns ≡ source.turns + turn_limit) × (source'.ends ≡ source.ends)

@@ -1,10 +1,10 @@
--- Certificates in a script, whose lines have no LF. (Own rule.)
+-- Certificates in a script, with `;` instead of LF. (Own rule.)
 use Rattle.std.specs.Prelude.{ℕ, Bool, map, ◌==◌, if◌then◌else◌}
 use Rattle.ts_core.specs.Facts.{Text}
 
 abbrev pub is_semicolon : ℕ → Bool
 is_semicolon b = b == 59
 
--- each `;` stands for an LF
+-- replaces each `;` by an LF
 abbrev pub with_line_feeds : Text → Text
 with_line_feeds text = map (λ b. if is_semicolon b then 10 else b) text

@@ -1,16 +1,16 @@
 -- The lines of a script, each ended by LF; the last may lack it. (Own rule.)
 use Rattle.std.specs.Prelude.{ℕ, List, [], ◌∷◌, ◌==◌, if◌then◌else◌}
 
--- a byte before the first line
+-- prepends a byte to the first line
 abbrev pub onto_first : ℕ → List (List ℕ) → List (List ℕ)
 onto_first b [] = (b ∷ []) ∷ []
 onto_first b (line ∷ lines) = (b ∷ line) ∷ lines
 
--- how many bytes a line has at most: 128 KiB
+-- limit of a line's length in bytes: 128 KiB
 abbrev pub script_line_limit : ℕ
 script_line_limit = 131072
 
--- how many reads a script may take
+-- limit of the number of reads
 abbrev pub turn_limit : ℕ
 turn_limit = 4294967296
 

@@ -1,4 +1,4 @@
--- The answers to commands, by their texts. (Own rule: a fault is answered by its number.)
+-- The replies to commands, by their texts. (Own rule: a fault is reported by its number.)
 use Rattle.std.specs.Prelude.{[], ◌∷◌, ◌++◌, codes, string_bytes}
 use Rattle.std.specs.Fmt.{decimal}
 use Rattle.ts_core.specs.Facts.{Text}
@@ -15,11 +15,11 @@ use Rattle.tsdb.specs.declared.reply.Reply.TheVariants.{Nothing, Done, NoLine, B
 abbrev pub line : Text → Text
 line text = text ++ 10 ∷ []
 
--- no command
+-- not a command
 abbrev pub unknown_text : Text
 unknown_text = fault_text code.UnknownCommand detail.Alone
 
--- a range that no query has
+-- a range that no query can have
 abbrev pub bad_range_text : Text
 bad_range_text = fault_text code.OutOfRange (detail.At 0)
 

@@ -1,4 +1,4 @@
--- A machine that serves a script, and the state that it is in. (Own rule.)
+-- The machine that serves a script, and the state that it represents. (Own rule.)
 use Rattle.std.specs.Prelude.{◌≡◌, ℕ, zero, suc, ℤ, Bool, ◌∷◌, Option, Some, None, refl}
 use Rattle.std.specs.Coded.{Coded, code_by, coded×, coded_ℕ, coded_ℤ, coded_bool, coded_option}
 use Rattle.ts_core.specs.Facts.{Text}
@@ -26,7 +26,7 @@ pub record Serving : Type 0 where
   pub certificate : Option Text
   pub kept : StoreData
 
--- a machine with this store in place of its own
+-- a machine with this store instead of its own
 abbrev pub keeping : StoreData → Serving → Serving
 keeping k m = record m { kept = k }
 
@@ -38,33 +38,33 @@ pub record IsIn (s : State) (m : Serving) : Type 0 where
   pub certificate : m.certificate ≡ s.certificate
   pub stands : StandsFor s.opening s.history (state_of m.kept)
   pub series : m.kept.series ≡ s.series
-  -- a run of retention is whole before the next line comes
+  -- a retention run ends before the next line comes
   pub idle : IsRunOpen s.history → ⊥
 
--- in this state a text of queries has a reply with this body, here with an LF
+-- in this state, queries have a reply with this body, here with an LF
 abbrev pub Replied : State → Text → Option Text → Text → Type 0
 Replied s text certificate answer = (body : Text) × ((good : Bool) × IsReply s.opening s.history s.moment text certificate s.epoch good body) × (answer ≡ line body)
 
--- in this state a text of queries has an explanation with this body, here with an LF
+-- in this state, queries have an explanation with this body, here with an LF
 abbrev pub HasExplanation : State → Text → Text → Type 0
 HasExplanation s text answer = (body : Text) × ((good : Bool) × IsExplanation s.opening s.history s.moment text good body) × (answer ≡ line body)
 
--- from this state a machine that was given a line of these parts is in a state that it may leave
+-- from this state, the machine represents a state that a line with these parts may lead to
 abbrev pub Took : Parts → State → Text → Serving → Type 0
 Took parts s answer m = (s' : State) × Takes s parts answer s' × IsIn s' m
 
--- from this state a machine that did the command, or was given the line, is in a state that it may leave
+-- from this state, the machine represents a state that the command may lead to
 abbrev pub Did : Command → State → Text → Serving → Type 0
 Did command s answer m = (s' : State) × Does s command answer s' × IsIn s' m
 
--- a line that can't be read was answered as no command
+-- a line that isn't text or is too long was answered as an unknown command
 abbrev pub Refused : State → Text → Serving → Type 0
 Refused s answer m = (answer ≡ line unknown_text) × IsIn (no_longer_fresh s) m
 
 abbrev pub Stepped : Text → State → Text → Serving → Type 0
 Stepped text s answer m = (s' : State) × Step s text answer s' × IsIn s' m
 
--- the first line of the bytes is answered so, and what stands behind it is left
+-- the first line of the bytes is answered with `answer`, and the bytes after it remain
 pub record IsAnswered (bytes : Text) (left : Option Text) (s : State) (m : Serving) (answer : Text) : Type 0 where
   pub rest : Text
   pub left_is : left ≡ Some rest

@@ -1,10 +1,10 @@
-//! Certificates in a script, whose lines have no LF.
+//! Certificates in a script, with `;` instead of LF.
 ghost use Rattle.std.specs.Prelude.{◌≡◌, IfOk, string_bytes};
 ghost use Rattle.tsdb.specs.ScriptCertificates.{with_line_feeds};
 
 use std::alloc::{AllocError, Global};
 
-/// A text with an LF in place of each `;`.
+/// Copies a text, replacing each `;` by an LF.
 pub(crate) fn with_line_feeds(alloc: Global, text: &str) -> Result<String, AllocError>
     ensures { IfOk result (λ lines. string_bytes lines ≡ with_line_feeds text.now) }
 {

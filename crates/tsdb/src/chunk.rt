@@ -1,4 +1,4 @@
-//! The parts of a line as they come.
+//! Chunks of a line that crosses reads.
 ghost use Rattle.std.specs.Prelude.{◌≡◌, ℕ, ◌≤◌, ◌++◌, List, length, IfSome, vec_len, vec_capacity};
 ghost use Rattle.tsdb.specs.ScriptLines.{script_line_limit};
 ghost use Rattle.tsdb.specs.HeldLine.{line_held};
@@ -6,10 +6,10 @@ ghost use Rattle.tsdb.specs.LineReading.{IsLineEnd, LineIs};
 
 use memchr::memchr;
 
-/// How many bytes a line has at most.
+/// Limit of a line's length, in bytes.
 pub const LINE_LIMIT: usize = 131_072;
 
-/// How many bytes stand before the first LF, or all of them.
+/// Returns the offset of the first LF, or the length if there is none.
 pub(crate) fn line_end(bytes: &[u8]) -> usize
     ensures { IsLineEnd bytes.now result }
 {
@@ -19,7 +19,7 @@ pub(crate) fn line_end(bytes: &[u8]) -> usize
     }
 }
 
-/// Adds bytes to a line that is kept while it is short. Answers whether it is too long now.
+/// Appends bytes to a line, unless it gets longer than the limit. Returns true if the line is too long.
 pub(crate) fn extend_line(line: &mut Vec<u8>, long: bool, bytes: &[u8]) -> bool
     requires room { script_line_limit ≤ vec_capacity line.old }
     requires short { vec_len line.old ≤ script_line_limit }
@@ -40,7 +40,8 @@ pub(crate) fn extend_line(line: &mut Vec<u8>, long: bool, bytes: &[u8]) -> bool
     }
 }
 
-/// Copies a line that is lent, so that it outlasts what was read.
+/// Copies a line that is borrowed from the read buffer to `line`, so that it survives the next read. Does nothing if
+/// none is borrowed.
 pub(crate) fn keep_lent(line: &mut Vec<u8>, lent: Option<(usize, usize)>, used: &[u8])
     requires room { script_line_limit ≤ vec_capacity line.old }
     requires within { IfSome lent (λ lent. (lent.0 ≤ lent.1) × (lent.1 ≤ length used.now)) }

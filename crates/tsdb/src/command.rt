@@ -1,4 +1,4 @@
-//! The commands of a script and how they are read.
+//! The commands of a script, and their parser.
 ghost use Rattle.std.specs.Prelude.{◌≡◌, length, MatchOption, drop, true, false, nat_eq};
 ghost use Rattle.std.specs.List.{starts_with};
 ghost use Rattle.tsdb.specs.Commands.{is_blank, is_comment, is_skipped, word, after_word, count_from, at_of, precision_from, epoch_from, command_of, count_between};
@@ -12,64 +12,64 @@ use ts_core::{Time, TimeUnit};
 use ts_line::is_number;
 use ts_reply::Epoch;
 
-/// What a line asks for.
+/// Command of a script.
 #[derive(Clone, Copy, Drop)]
 pub enum Command<'a> {
-    /// To open the script with the settings of this text.
+    /// Opens the script with the settings of this text.
     OpenWith(&'a str),
-    /// To have this moment from now on.
+    /// Sets the script's time.
     At(Time),
-    /// To take timestamps in this unit from now on.
+    /// Sets the precision of timestamps.
     SetPrecision(TimeUnit),
-    /// To write times so in replies from now on.
+    /// Sets the format of times in replies.
     SetEpoch(Epoch),
-    /// To write this line.
+    /// Writes this line.
     Write(&'a str),
-    /// To answer how many raw facts are kept.
+    /// Prints the number of raw facts.
     Live,
-    /// To run retention at the moment.
+    /// Runs retention at the script's time.
     Retain,
-    /// To take this text for the certificate of the next query; each `;` in it stands for an LF.
+    /// Sets the certificate of the next query. The text has `;` instead of LF.
     SetCertificate(&'a str),
-    /// To answer this text of queries.
+    /// Prints the reply to these queries.
     Query(&'a str),
-    /// To answer the plans of this text of queries.
+    /// Prints the plans of these queries.
     Explain(&'a str),
-    /// To count the values of a measurement and a field from one time on and before another.
+    /// Prints the number of values of a measurement and a field from one time, inclusive, to another, exclusive.
     Count {
         measurement: &'a str,
         field: &'a str,
         from: Time,
         to: Time,
     },
-    /// The same, with a time that isn't valid.
+    /// A count with an invalid time.
     CountFault,
-    /// Nothing that is known.
+    /// Not a command.
     Unknown,
 }
 
-/// Whether the line has nothing but spaces.
+/// Returns true if the line has only spaces.
 fn is_blank(line: &[u8]) -> bool
     ensures { result ≡ is_blank line.now }
 {
     line.iter().all(|b| *b == b' ')
 }
 
-/// Whether the line asks for nothing: it is blank or a comment.
+/// Returns true if the line is blank or a comment.
 pub fn is_skipped(line: &[u8]) -> bool
     ensures { result ≡ is_skipped line.now }
 {
     is_blank(line) || line.starts_with(b"#")
 }
 
-/// What stands behind the name, where the line begins with it.
+/// Returns the text after the name, or `None` if the line doesn't begin with it.
 fn rest_behind<'a>(line: &'a str, name: &str) -> Option<&'a str>
     ensures { MatchOption result (starts_with nat_eq line.now name.now ≡ false) (λ rest. (starts_with nat_eq line.now name.now ≡ true) × (rest.now ≡ drop (length name.now) line.now)) }
 {
     line.strip_prefix(name)
 }
 
-/// The text before the first space and the text behind it; all and nothing where there is none.
+/// Splits a text at the first space. Without a space, returns the whole text and an empty one.
 fn first_word(text: &str) -> (&str, &str)
     ensures word { result.0.now ≡ word text.now }
     ensures rest { result.1.now ≡ after_word text.now }
@@ -110,7 +110,7 @@ fn epoch(text: &str) -> Command<'_>
     }
 }
 
-/// The count over a range, where both times are valid.
+/// Returns the count over a range, or `CountFault` if a time isn't valid.
 #[tactic(auto, unfolding(crate::specs::Commands::count_between))]
 fn count_between<'a>(
     measurement: &'a str,
@@ -154,7 +154,7 @@ fn count(text: &str) -> Command<'_>
 }
 
 impl<'a> Command<'a> {
-    /// What a line that isn't skipped asks for. Most lines are to be written.
+    /// Parses a line that isn't skipped. Tries `write` first, as most lines are writes.
     #[tactic(auto, using(crate::proofs::CommandLemmas::write_alone), unfolding(crate::specs::Commands::command_of))]
     pub fn of(line: &'a str) -> Command<'a>
         ensures { command_view result ≡ command_of line.entry.now }

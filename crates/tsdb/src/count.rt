@@ -1,4 +1,4 @@
-//! The command `count`: a query that counts is planned and checked, and its points are counted.
+//! The command `count`: plans and checks a counting query, and counts its points.
 ghost use Rattle.std.specs.Prelude.{◌≡◌, ◌<ℤ◌, length, filter, IfOk};
 ghost use Rattle.ts_core.specs.Latest.{latest_of};
 ghost use Rattle.ts_core.specs.Pieces.{IsValid};
@@ -17,7 +17,7 @@ use ts_plan::{PlanError, plan};
 use ts_ql::{ParseError, Query, count_query};
 use ts_store::{Store, View};
 
-/// How many points a query asks for, by a valid plan, over all facts that the store ever accepted.
+/// Returns the number of points that match a query, by a valid plan, of all facts that the store ever accepted.
 fn counted_by(
     alloc: Global,
     store: &Store<Global>,
@@ -39,7 +39,8 @@ fn counted_by(
     }
 }
 
-/// How many points a query asks for, over all facts that the store ever accepted; or why the query has no plan.
+/// Returns the number of points that match a query, of all facts that the store ever accepted, or the error of the
+/// planner.
 fn counted(alloc: Global, store: &Store<Global>, query: &Query<Global>) -> Result<u64, PlanError>
     ensures { OfEachHistory store.now (λ opening h. IsCounted opening h query.now.query result) }
 {
@@ -49,7 +50,7 @@ fn counted(alloc: Global, store: &Store<Global>, query: &Query<Global>) -> Resul
     }
 }
 
-/// Counts the values of a field from one time on and before another, over all facts that the store ever
+/// Counts the values of a field from one time, inclusive, to another, exclusive, of all facts that the store ever
 /// accepted.
 pub(crate) fn count(
     alloc: Global,

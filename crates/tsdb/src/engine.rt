@@ -1,4 +1,4 @@
-//! The engine of `tsdb replay`: a script is read line by line, and each line is answered.
+//! The engine of `tsdb replay`: reads a script line by line, and answers each line.
 ghost use Rattle.std.specs.Prelude.{◌≡◌, ◌≢◌, ◌≤◌, [], false, Option, length, string_capacity};
 ghost use Rattle.ts_core.specs.Facts.{Text};
 ghost use Rattle.ts_core.specs.ReadingAhead.{nothing_ahead};
@@ -20,7 +20,7 @@ use std::alloc::Global;
 use std::io::{Read, Write};
 use ts_core::{Refused, Sink, Source};
 
-/// Answers the line that came.
+/// Answers the line that was read.
 fn answer(machine: &mut Machine, next: Next, line: &[u8]) -> Reply
     requires { length line.now ≤ script_line_limit }
     ensures { (bytes : Text) (left : Option Text) (s : State) → next ≢ Next.End → NextOf bytes next line.now left → IsIn s machine.old → IsAnswered bytes left s machine.new (text_of result) }
@@ -32,7 +32,8 @@ fn answer(machine: &mut Machine, next: Next, line: &[u8]) -> Reply
     }
 }
 
-/// Sends the answers that are kept, unless the next line is here already: nobody waits for an answer that is kept.
+/// Flushes the buffered answers unless the next line is already in the read buffer, so that nobody waits for a buffered
+/// answer.
 fn send_before_wait<W: Write>(
     lines: &LineReader,
     answers: &mut Gathered,
@@ -47,7 +48,7 @@ fn send_before_wait<W: Write>(
     answers.send(sink)
 }
 
-/// Answers all lines that are left. Answers go out together, but none is kept while the next line is waited for.
+/// Answers all remaining lines. Answers are buffered, but are flushed before the reader waits for input.
 fn answer_all<R: Read, W: Write>(
     machine: &mut Machine,
     lines: &mut LineReader,
@@ -74,8 +75,8 @@ fn answer_all<R: Read, W: Write>(
     }
 }
 
-/// Answers each line of a script on the sink, from an empty store and the moment 0 on. All memory of
-/// reading, of the texts of faults and of gathering answers is taken before the first line.
+/// Answers each line of a script on the sink, beginning with an empty store and the time 0. Allocates all buffers
+/// before the first line.
 pub fn run<R: Read, W: Write>(
     alloc: Global,
     source: &mut Source<R>,

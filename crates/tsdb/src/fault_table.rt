@@ -1,4 +1,4 @@
-//! The table of all faults, as `tsdb faults` prints it.
+//! Table of all faults, as `tsdb faults` prints it.
 ghost use Rattle.std.specs.Prelude.{◌≡◌, ◌++◌, map, drop, IfOk, OnOk, MatchOption, None, Some, option_map, string_bytes};
 ghost use Rattle.ts_reply.specs.Told.{handed_in};
 ghost use Rattle.tsdb.specs.FaultTables.{faults_asked, is_wanted, is_listed, fault_table};
@@ -9,8 +9,8 @@ use std::alloc::{AllocError, Global};
 use std::convert::AsStr;
 use ts_core::{FaultCode, append_words};
 
-/// Which faults the words of a command line ask for, if they ask for any: all, or the one of a number. The first word is
-/// the program's name.
+/// Parses the words of a command line, of which the first is the program's name. Returns `Some(None)` for `faults`,
+/// `Some(Some(number))` for `faults N`, and else `None`.
 pub fn faults_asked<'a, S: AsStr>(words: &'a [S]) -> Option<Option<&'a str>>
     ensures { option_map handed_in result ≡ faults_asked (drop 1 (map S.text words.entry.now)) }
 {
@@ -21,7 +21,7 @@ pub fn faults_asked<'a, S: AsStr>(words: &'a [S]) -> Option<Option<&'a str>>
     }
 }
 
-/// Whether a number is asked for, by its digits.
+/// Returns true if these are the requested digits, or if all faults are requested.
 fn is_wanted(asked: Option<&str>, digits: &str) -> bool
     ensures { result ≡ is_wanted (handed_in asked.entry) digits.now }
 {
@@ -31,7 +31,7 @@ fn is_wanted(asked: Option<&str>, digits: &str) -> bool
     }
 }
 
-/// Appends the row of a fault, where it is asked for.
+/// Appends the row of a fault, if it is requested.
 fn row_to(text: &mut String, asked: Option<&str>, code: FaultCode) -> Result<(), AllocError>
     ensures { OnOk result (string_bytes text.new ≡ string_bytes text.old ++ row_where (is_listed (handed_in asked.entry)) code) }
 {
@@ -43,7 +43,7 @@ fn row_to(text: &mut String, asked: Option<&str>, code: FaultCode) -> Result<(),
     append_words(text, &[digits, " ", code.words(), "\n"])
 }
 
-/// Appends the row of the fault of a number, where there is one and it is asked for.
+/// Appends the row of the fault with this number, if it exists and is requested.
 fn numbered_row_to(text: &mut String, asked: Option<&str>, number: u8) -> Result<(), AllocError>
     ensures { OnOk result (string_bytes text.new ≡ string_bytes text.old ++ asked_row (is_listed (handed_in asked.entry)) number) }
 {
@@ -53,7 +53,7 @@ fn numbered_row_to(text: &mut String, asked: Option<&str>, number: u8) -> Result
     }
 }
 
-/// The rows of the faults that are asked for: all, or the one of a number, if there is one.
+/// Returns the rows of the requested faults: all, or the one with this number, if it exists.
 pub fn fault_table(alloc: Global, asked: Option<&str>) -> Result<String, AllocError>
     ensures { IfOk result (λ text. string_bytes text ≡ fault_table (handed_in asked.entry)) }
 {

@@ -1,4 +1,4 @@
-//! The lines of a script as they are read: each is held whole, up to a limit on its length.
+//! Reads a script line by line, up to a limit of the line's length.
 ghost use Rattle.std.specs.Prelude.{◌≡◌, ◌≤◌, [], length, IfOk, true, false};
 ghost use Rattle.std.specs.Bool.{OnFalse, OnTrue};
 ghost use Rattle.ts_core.specs.ReadingAhead.{EndIsEnd, nothing_ahead};
@@ -11,22 +11,23 @@ use std::io::Read;
 use std::marker::Model;
 use ts_core::{ReadAhead, ReadFault, Source};
 
-/// How many reads a script may take.
+/// Limit of the number of reads.
 const TURN_LIMIT: u64 = 4_294_967_296;
 
-/// What came next.
+/// Result of reading the next line.
 #[derive(Clone, Copy, Drop)]
 pub enum Next {
-    /// A line, which the reader holds.
+    /// A line, available from `line`.
     Line,
-    /// A line over the limit. It was passed over.
+    /// A line over the limit, which was skipped.
     TooLong,
-    /// No line is left.
+    /// End of input.
     End,
 }
 
-/// Reads lines from a source that it is lent for each. `end` is where the first line ends of what was read ahead, so that each end is
-/// looked for once. A line that was read whole is lent where it lies: from one place of what was used to another.
+/// Reads lines from a source. A line that lies whole in the read buffer is returned as a slice of it: `lent` has its
+/// two offsets. Only a line that crosses a read is copied to `line`. `end` caches the offset of the first LF among the
+/// buffered bytes, so that it is searched only once.
 #[derive(Drop)]
 pub struct LineReader {
     ahead: ReadAhead<Global>,
@@ -50,7 +51,7 @@ impl Model for LineReader {
 }
 
 impl LineReader {
-    /// Takes all the memory that reading needs.
+    /// Allocates all buffers.
     pub fn new(alloc: Global) -> Result<LineReader, AllocError>
         ensures { IfOk result (λ r. r.ahead ≡ nothing_ahead turn_limit) }
     {
@@ -63,7 +64,7 @@ impl LineReader {
         })
     }
 
-    /// The line that `next` found.
+    /// Returns the line that `next` found.
     pub fn line(&self) -> &[u8]
         ensures line { result.now ≡ self.now.line }
         ensures short { length result.now ≤ script_line_limit }
@@ -74,14 +75,14 @@ impl LineReader {
         }
     }
 
-    /// Whether the next line, with its LF, was read ahead, so that it comes without a read.
+    /// Returns true if the next line, including its LF, is in the read buffer.
     pub fn holds_line(&self) -> bool
         ensures { result ≡ has_lf self.now.ahead.buffered }
     {
         self.end < self.ahead.buffered().len()
     }
 
-    /// Forgets the line.
+    /// Clears the line.
     fn start_line(&mut self)
         ensures line { LineIs [] self.new.line self.new.long }
         ensures ahead { self.new.ahead ≡ self.old.ahead }
@@ -91,7 +92,7 @@ impl LineReader {
         self.long = false;
     }
 
-    /// Lends the next line, where it was read whole. Answers whether it was.
+    /// Takes the next line as a slice of the read buffer, if it is there whole; returns false if it isn't.
     fn lend_line(&mut self) -> bool
         requires { LineIs [] self.old.line self.old.long }
         ensures whole { result ≡ has_lf self.old.ahead.buffered }
@@ -110,7 +111,7 @@ impl LineReader {
         true
     }
 
-    /// Moves what was read ahead to the line, up to an LF. Answers whether there was one.
+    /// Appends buffered bytes to the line, up to an LF; returns true if there was one.
     fn take_chunk(&mut self) -> bool
         ensures taken { IsTaken self.old result self.new }
         ensures line { IsLonger self.old self.new }
@@ -126,7 +127,7 @@ impl LineReader {
         found
     }
 
-    /// Reads ahead once. Answers whether there is more.
+    /// Reads once; returns false at the end of input.
     fn read_on<R: Read>(&mut self, source: &mut Source<R>) -> Result<bool, ReadFault>
         requires empty { self.old.ahead.buffered ≡ [] }
         requires going { self.old.ahead.ended ≡ false }
@@ -139,7 +140,7 @@ impl LineReader {
         more
     }
 
-    /// Reads the next line from its parts on, as they come.
+    /// Reads the next line chunk by chunk.
     fn gather<R: Read>(&mut self, source: &mut Source<R>) -> Result<Next, ReadFault>
         requires none { LineIs [] self.old.line self.old.long }
         requires going { self.old.ahead.ended ≡ false }
@@ -176,14 +177,14 @@ impl LineReader {
         self.gather(source)
     }
 
-    /// What the line is, where it was ended by an LF.
+    /// Returns the result for a line that an LF ended.
     fn found(&self) -> Next
         ensures { result ≡ next_of self.now.long }
     {
         if self.long { Next::TooLong } else { Next::Line }
     }
 
-    /// What the line is, where the input has ended.
+    /// Returns the result for a line that the end of input ended.
     fn last(&self) -> Next
         ensures { result ≡ last_of self.now.line self.now.long }
     {

@@ -1,4 +1,4 @@
-//! The machine that a script runs: each line that is a command takes one step of it, and has one reply.
+//! The state machine of a script: each command takes one step and has one reply.
 ghost use Rattle.std.specs.Prelude.{◌≡◌, ◌≤◌, length, IfOk, option_map, string_bytes, string_len, string_capacity};
 ghost use Rattle.ts_reply.specs.Told.{handed_in};
 ghost use Rattle.tsdb.specs.CommandParts.{command_view};
@@ -24,8 +24,8 @@ use ts_line::{Line, ReadLineError, read_line};
 use ts_reply::{Epoch, answer, explain};
 use ts_store::{Store, View};
 
-/// The moment, the precision and the epoch that a script has set, whether settings may still come, the certificate for its next query,
-/// its store, and an arena for the lists of a line's tags and fields.
+/// State of a script: what its commands have set, whether settings may still come, and its store. `line_room` is an
+/// arena for the tags and fields of a line.
 #[derive(Drop)]
 pub struct Machine {
     alloc: Global,
@@ -50,8 +50,7 @@ impl Model for Machine {
 }
 
 impl Machine {
-    /// A machine with an empty store, at the moment 0, with timestamps in nanoseconds and times of replies as
-    /// text.
+    /// Creates a machine with an empty store, at time 0, with timestamps in nanoseconds, and times of replies as text.
     pub fn new(alloc: Global) -> Result<Machine, AllocError>
         ensures { IfOk result (λ m. IsIn start m) }
     {
@@ -67,8 +66,7 @@ impl Machine {
         })
     }
 
-    /// Answers a line of a script. Where no memory is found, no fact is accepted; the line's series may be
-    /// registered.
+    /// Answers a line of a script. When out of memory, no fact is accepted, but the line's series may be registered.
     pub fn serve(&mut self, line: &[u8]) -> Reply
         requires { length line.now ≤ script_line_limit }
         ensures { (s : State) → IsIn s self.old → Stepped line.now s (text_of result) self.new }
@@ -86,7 +84,7 @@ impl Machine {
         }
     }
 
-    /// Answers a line that can't be read: it is no command, and no settings may come any more.
+    /// Answers a line that isn't text or is too long: it isn't a command, and settings may no longer follow.
     pub fn refuse(&mut self) -> Reply
         ensures { (s : State) → IsIn s self.old → Refused s (text_of result) self.new }
     {
@@ -94,7 +92,7 @@ impl Machine {
         Reply::Unknown
     }
 
-    /// Does what a command asks.
+    /// Executes a command.
     fn apply(&mut self, command: Command<'_>) -> Reply
         ensures { (s : State) → IsIn s self.old → Did (command_view command.entry) s (text_of result) self.new }
     {
@@ -129,8 +127,8 @@ impl Machine {
         }
     }
 
-    /// Opens the script with the settings of a text, where no line but skipped ones has come: an empty store takes the place of what
-    /// there was.
+    /// Replaces the store by an empty one with the settings of a text, or replies with their first error. Not a command
+    /// once a line that isn't skipped has come.
     fn open_with(&mut self, text: &str) -> Reply
         ensures { (s : State) → IsIn s self.old → Did (OpenWithCommand text.now) s (text_of result) self.new }
     {
@@ -147,7 +145,7 @@ impl Machine {
         }
     }
 
-    /// Runs retention at the moment, and answers the marks. Room for these is taken before the run.
+    /// Runs retention at the script's time, and replies with the marks. Allocates the text of these before the run.
     fn retain(&mut self) -> Reply
         ensures { (s : State) → IsIn s self.old → Did RetainCommand s (text_of result) self.new }
     {
@@ -157,7 +155,7 @@ impl Machine {
         }
     }
 
-    /// Runs retention at the moment, and answers the marks in a text that has room for them.
+    /// Runs retention at the script's time, and replies with the marks in an empty text that has the capacity.
     fn retain_and_tell(&mut self, text: String) -> Reply
         requires empty { string_len text ≡ 0 }
         requires room { MARKS_ROOM ≤ string_capacity text }
@@ -169,7 +167,7 @@ impl Machine {
         self.marks(text)
     }
 
-    /// Answers the marks in a text that has room for them.
+    /// Replies with the marks in an empty text that has the capacity.
     fn marks(&self, text: String) -> Reply
         requires empty { string_len text ≡ 0 }
         requires room { MARKS_ROOM ≤ string_capacity text }
@@ -178,7 +176,7 @@ impl Machine {
         Reply::Body(marks_line(text, self.store.settings(), self.store.marks()))
     }
 
-    /// Keeps a certificate for the next query.
+    /// Sets the certificate of the next query.
     fn hand_in(&mut self, text: &str) -> Reply
         ensures { (s : State) → IsIn s self.old → Did (CertificateCommand text.now) s (text_of result) self.new }
     {
@@ -191,7 +189,7 @@ impl Machine {
         }
     }
 
-    /// Answers a text of queries, by the certificate that waited for it, which is forgotten.
+    /// Answers queries, by the certificate if one is set, which is consumed.
     fn query(&mut self, text: &str) -> Reply
         ensures { (s : State) → IsIn s self.old → Did (QueryCommand text.now) s (text_of result) self.new }
     {
@@ -202,7 +200,7 @@ impl Machine {
         }
     }
 
-    /// The body of the reply to a text of queries, with an LF.
+    /// Returns the body of the reply to queries, with an LF.
     fn reply(&self, text: &str, certificate: Option<&str>) -> Result<String, AllocError>
         ensures { IfOk result (λ body. (s : State) → IsIn s self.now → Replied s text.now (handed_in certificate.entry) (string_bytes body)) }
     {
@@ -218,7 +216,7 @@ impl Machine {
         ended(reply.body)
     }
 
-    /// Answers the plans of a text of queries.
+    /// Answers with the plans of queries.
     fn explain(&self, text: &str) -> Reply
         ensures { (s : State) → IsIn s self.now → Did (ExplainCommand text.now) s (text_of result) self.now }
     {
@@ -228,7 +226,7 @@ impl Machine {
         }
     }
 
-    /// The body of the explanation of a text of queries, with an LF.
+    /// Returns the body of the explanation of queries, with an LF.
     fn explanation(&self, text: &str) -> Result<String, AllocError>
         ensures { IfOk result (λ body. (s : State) → IsIn s self.now → HasExplanation s text.now (string_bytes body)) }
     {
@@ -237,7 +235,7 @@ impl Machine {
         ended(reply.body)
     }
 
-    /// Counts the values of a field from one time on and before another.
+    /// Counts the values of a field from one time, inclusive, to another, exclusive.
     fn count(&self, measurement: &str, field: &str, from: Time, to: Time) -> Reply
         ensures { (s : State) → IsIn s self.now → Did (CountCommand measurement.now field.now from to) s (text_of result) self.now }
     {
@@ -248,17 +246,17 @@ impl Machine {
         }
     }
 
-    /// Reads a line and writes it to the store. The room of its parts is used again for the next line.
+    /// Parses a line and writes it to the store. Resets the arena for the next line.
     fn write(&mut self, text: &str) -> Reply
         ensures { (s : State) → IsIn s self.old → Did (WriteCommand text.now) s (text_of result) self.new }
     {
         let reply = self.write_in_room(text);
-        // no block of the line is left, so its room is free again
+        // nothing borrows from the arena any more
         let _ = self.line_room.reset();
         reply
     }
 
-    /// Reads a line in the arena, and writes it to the store.
+    /// Parses a line in the arena, and writes it to the store.
     fn write_in_room(&mut self, text: &str) -> Reply
         ensures { (s : State) → IsIn s self.old → Did (WriteCommand text.now) s (text_of result) self.new }
     {
@@ -281,7 +279,7 @@ fn accept<L: Allocator>(store: &mut Store<Global>, line: &Line<'_, L>) -> Reply
     }
 }
 
-/// The certificate's text, where there is one.
+/// Returns the certificate's text, if there is one.
 fn lent(certificate: &Option<String>) -> Option<&str>
     ensures { handed_in result ≡ option_map string_bytes certificate.now }
 {
@@ -291,7 +289,7 @@ fn lent(certificate: &Option<String>) -> Option<&str>
     }
 }
 
-/// A text with an LF behind it.
+/// Appends an LF to a text; returns it.
 fn ended(mut text: String) -> Result<String, AllocError>
     ensures { IfOk result (λ ended. string_bytes ended ≡ line (string_bytes text)) }
 {

@@ -9,17 +9,17 @@ use itoa::Buffer;
 use std::alloc::{AllocError, Global};
 use ts_core::{Marks, Rule, Settings, append_words};
 
-/// How much room the text of marks takes at most, with its LF: 32 rules with names of 32 bytes, and 40 for a number.
+/// Upper bound on the text of marks with its LF, in bytes: 32 rules with names of 32 bytes, and 40 bytes per number.
 pub(crate) const MARKS_ROOM: usize = 2_415;
 
-/// Appends a rule's name and its low index. Where the room is there, no memory is taken.
+/// Appends a rule's name and its low index. Does not allocate if `text` has the capacity.
 fn low_to(text: &mut String, name: &str, low: i128) -> Result<(), AllocError>
     ensures { IsAppendedWithin (length name.now + 42) (low_text name.now low) text.old text.new result }
 {
     append_words(text, &[" ", name, "=", Buffer::new().format(low)])
 }
 
-/// Appends the name and the low index of each rule. Where the room is there, no memory is taken.
+/// Appends the name and the low index of each rule. Does not allocate if `text` has the capacity.
 fn lows_to(text: &mut String, rules: &[Rule<Global>], lows: &[i128]) -> Result<(), AllocError>
     requires { AllByRecursion (λ (r : RuleValue). length r.name ≤ 32) rules.now }
     ensures { IsAppendedWithin (74 * length rules.now) (lows_text rules.now lows.now) text.old text.new result }
@@ -33,14 +33,14 @@ fn lows_to(text: &mut String, rules: &[Rule<Global>], lows: &[i128]) -> Result<(
     }
 }
 
-/// Appends the raw mark. Where the room is there, no memory is taken.
+/// Appends the raw mark. Does not allocate if `text` has the capacity.
 fn raw_to(text: &mut String, mark: i64) -> Result<(), AllocError>
     ensures { IsAppendedWithin 46 (raw_text mark) text.old text.new result }
 {
     append_words(text, &["marks ", Buffer::new().format(mark)])
 }
 
-/// Appends the raw mark and the low index of each rule. Where the room is there, no memory is taken.
+/// Appends the raw mark and the low index of each rule. Does not allocate if `text` has the capacity.
 fn marks_to(
     text: &mut String,
     settings: &Settings<Global>,
@@ -52,7 +52,7 @@ fn marks_to(
     lows_to(text, settings.rules(), marks.lows())
 }
 
-/// Makes an empty text that of marks, with an LF. The room is there, so no memory is taken.
+/// Appends the marks and an LF to an empty text that has the capacity; returns it. Does not allocate.
 pub(crate) fn marks_line(
     mut text: String,
     settings: &Settings<Global>,

@@ -1,4 +1,4 @@
-//! Moments as commands write them: a number, and perhaps its unit.
+//! Parses the times of commands: a number with an optional unit.
 ghost use Rattle.std.specs.Prelude.{◌≡◌, ◌==◌, ◌||◌};
 ghost use Rattle.std.specs.Char.{is_ascii_digit};
 ghost use Rattle.std.specs.Str.{IsCharBoundary};
@@ -8,7 +8,7 @@ ghost use Rattle.tsdb.specs.Moments.{moment_in, moment_of, number_len};
 use ts_core::{Time, TimeUnit};
 use ts_line::{is_number, moment};
 
-/// The moment that a number of units stands for, where it is a valid time.
+/// Parses a number of units; returns the time, or `None` if the number is malformed or the time isn't valid.
 #[tactic(auto, unfolding(crate::specs::Moments::moment_in))]
 pub(crate) fn moment_in(unit: TimeUnit, number: &str) -> Option<Time>
     ensures { result ≡ moment_in (nanoseconds_of unit) number.now }
@@ -25,7 +25,7 @@ fn is_in_number(b: u8) -> bool
     b == b'-' || b.is_ascii_digit()
 }
 
-/// How many bytes stand before the first that is no minus and no digit.
+/// Returns the length of the leading digits and minus signs, in bytes.
 fn number_len(text: &str) -> usize
     ensures len { result ≡ number_len text.now }
     ensures cut { IsCharBoundary text.now result }
@@ -38,7 +38,7 @@ fn number_len(text: &str) -> usize
     text.len()
 }
 
-/// The moment that a number with its unit stands for.
+/// Parses a number with a unit; returns the time, or `None` if the text is malformed or the time isn't valid.
 #[tactic(auto, unfolding(crate::specs::Moments::moment_of))]
 pub(crate) fn moment_of(text: &str) -> Option<Time>
     ensures { result ≡ moment_of text.now }

@@ -1,4 +1,4 @@
-//! The command `settings`: a store to open a script with.
+//! The command `settings`: creates the store of a script.
 ghost use Rattle.std.specs.Prelude.{◌≡◌, ◌⊎◌, IfOk, string_bytes};
 ghost use Rattle.ts_core.specs.SettingsFaults.{settings_fault_text};
 ghost use Rattle.tsdb.specs.Opening.{IsOpening};
@@ -9,7 +9,7 @@ use std::alloc::{AllocError, Global};
 use ts_core::{Settings, SettingsError, SettingsFault};
 use ts_store::Store;
 
-/// An empty store with the settings of a text, or their first fault.
+/// Creates an empty store with the settings of a text, or returns their first error.
 pub(crate) fn store_with(alloc: Global, text: &str) -> Result<Store<Global>, SettingsError>
     ensures { IsOpening text.now result }
 {
@@ -20,7 +20,7 @@ pub(crate) fn store_with(alloc: Global, text: &str) -> Result<Store<Global>, Set
     }
 }
 
-/// The text of the fault of settings, with an LF.
+/// Returns the message of an error of settings, with an LF.
 fn settings_fault_line(alloc: Global, fault: SettingsFault) -> Result<String, AllocError>
     ensures { IfOk result (λ text. string_bytes text ≡ line (settings_fault_text fault)) }
 {
@@ -30,7 +30,7 @@ fn settings_fault_line(alloc: Global, fault: SettingsFault) -> Result<String, Al
     Ok(text)
 }
 
-/// Answers the fault of settings.
+/// Returns the reply for an error of settings.
 pub(crate) fn bad_settings(alloc: Global, fault: SettingsFault) -> Reply
     ensures { (text_of result ≡ line (settings_fault_text fault)) ⊎ (result ≡ Reply.OutOfMemory) }
 {

@@ -1,4 +1,4 @@
-//! How the program ends: its exit status, and its line on standard error.
+//! Exit status of the program, and its line on standard error.
 ghost use Rattle.std.specs.Prelude.{◌≡◌, None, Some, MatchOption};
 ghost use Rattle.std.specs.Process.{exit_status};
 ghost use Rattle.tsdb.specs.RunOutcomes.{status_of, stopped_line, error_line};
@@ -7,23 +7,24 @@ use crate::command_line::Told;
 use crate::run_fault::RunFault;
 use std::process::ExitCode;
 
-/// How a call of the program came out.
+/// Outcome of a call of the program.
 #[derive(Clone, Copy, Drop)]
 pub enum Outcome {
     /// A script was answered to its end.
     Answered,
-    /// A script was not answered to its end.
+    /// A script wasn't answered to its end.
     Stopped(RunFault),
-    /// The command line asked for no script.
+    /// Command line that requests no script.
     NoScript(Told),
-    /// No fault has the number that the command line asks for.
+    /// Command line that requests a number that no fault has.
     NoFault,
-    /// The command line can't be read as text.
+    /// Command line that isn't valid text.
     NoText,
 }
 
 impl Outcome {
-    /// The exit status: 0 is done, 1 a device or an input without an end, 2 the command line, 3 no memory.
+    /// Returns the exit status: 0 for success, 1 for a device error or endless input, 2 for a wrong command line, 3
+    /// when out of memory.
     pub fn exit_code(self) -> ExitCode
         ensures { exit_status result ≡ status_of self }
     {
@@ -42,7 +43,8 @@ impl Outcome {
         }
     }
 
-    /// The line for standard error, if any. Of a wrong command line clap has told it.
+    /// Returns the line for standard error, if there is one. For a wrong command line, clap has already printed the
+    /// error.
     pub fn error_line(self) -> Option<&'static str>
         ensures { MatchOption result (error_line self ≡ None) (λ line. error_line self ≡ Some line.now) }
     {
@@ -63,7 +65,7 @@ impl Outcome {
     }
 }
 
-/// A fault's text, and what it means.
+/// Returns the message of a fault with its meaning.
 fn stopped_line(fault: RunFault) -> &'static str
     ensures { result.now ≡ stopped_line fault }
 {

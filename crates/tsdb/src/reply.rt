@@ -1,4 +1,4 @@
-//! What a line of a script prints.
+//! Replies to the lines of a script.
 ghost use Rattle.std.specs.Prelude.{◌≡◌, ◌≤◌, ◌+◌, IsOk, string_bytes, string_len, string_capacity};
 ghost use Rattle.std.specs.Fmt.{decimal};
 ghost use Rattle.ts_plan.specs.PlanTexts.{plan_fault_text};
@@ -14,41 +14,41 @@ use ts_line::LineFault;
 use ts_plan::PlanFault;
 use ts_store::WriteFault;
 
-/// The answer to a line.
+/// Reply to a line.
 #[derive(Drop)]
 pub enum Reply {
-    /// Nothing is printed.
+    /// Prints nothing.
     Nothing,
     /// A line was accepted.
     Done,
-    /// The line was a comment or blank.
+    /// Comment or blank line instead of a line to write.
     NoLine,
-    /// The line is at fault (numbers 11 to 21).
+    /// Line that couldn't be parsed.
     BadLine(LineFault),
-    /// So many values there are.
+    /// A number of values.
     Count(u64),
-    /// Any other text, with its LF: the reply to queries, marks, or the fault of settings.
+    /// Any other text, with its LF: the reply to queries, marks, or an error of settings.
     Body(String),
-    /// What is counted has no plan (numbers 91 and 92).
+    /// Count without a plan.
     NoPlan(PlanFault),
-    /// It is no command (number 95).
+    /// Not a command.
     Unknown,
-    /// A time isn't valid, or a range is too long (number 74).
+    /// Invalid time, or a range that is too long.
     BadRange,
-    /// A line was read and not written (numbers 51, 41 and 52, or out of memory). A series may be registered then.
+    /// Line that was parsed but not written. Its series may have been registered.
     Refused(WriteFault),
-    /// A run of retention is open (number 53).
+    /// Retention run in progress.
     RunInProgress,
-    /// No memory was found. No fact was accepted; a line's series may be registered.
+    /// Out of memory. No fact was accepted, but a line's series may have been registered.
     OutOfMemory,
 }
 
-/// How much room a reply needs for the text of a fault.
+/// Capacity that a reply needs for the message of a fault, in bytes.
 pub const TEXT_ROOM: usize = 35;
 
 impl Reply {
-    /// Puts it behind the answers before it, with its LF. The text is where a fault's is made: its room is there before, so that no
-    /// memory is taken.
+    /// Appends the reply with its LF to the buffered answers. The message of a fault is built in `text`, which has the
+    /// capacity, so nothing is allocated.
     pub fn send<W: Write>(
         self,
         text: &mut String,
@@ -77,7 +77,7 @@ impl Reply {
     }
 }
 
-/// Puts a text that was made, with an LF, behind the answers before it.
+/// Appends a message that was built in `text`, with an LF, to the buffered answers.
 fn send_made<W: Write>(
     made: Result<(), AllocError>,
     text: &mut String,
@@ -95,7 +95,7 @@ fn send_made<W: Write>(
     }
 }
 
-/// The text of the fault of a plan, with an LF.
+/// Returns the message of a planning error, with an LF.
 #[tactic(auto, unfolding(ts_plan::specs::PlanTexts::plan_fault_text))]
 fn plan_fault_line(fault: PlanFault) -> &'static [u8]
     ensures { result.now ≡ line (plan_fault_text fault) }
@@ -106,7 +106,7 @@ fn plan_fault_line(fault: PlanFault) -> &'static [u8]
     }
 }
 
-/// Puts a number with an LF behind the answers before it.
+/// Appends a number with an LF to the buffered answers.
 fn send_count<W: Write>(
     answers: &mut Gathered,
     sink: &mut Sink<W>,

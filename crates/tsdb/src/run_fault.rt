@@ -1,17 +1,17 @@
-//! Why a script was not answered to its end.
+//! Errors that stop a script.
 use std::alloc::AllocError;
 use ts_core::{ReadFault, Refused};
 
-/// Why a script was not answered to its end.
+/// Error that stops a script before its end.
 #[derive(Clone, Copy, Drop)]
 pub enum RunFault {
-    /// No memory was found for reading.
+    /// Out of memory when allocating the buffers.
     OutOfMemory,
-    /// The reader failed (number 96).
+    /// Reading standard input failed.
     Reader,
-    /// The writer failed (number 97).
+    /// Writing standard output failed.
     Writer,
-    /// 2^32 reads saw no end (number 98).
+    /// Input without an end within 2^32 reads.
     Turns,
 }
 
