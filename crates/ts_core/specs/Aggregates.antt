@@ -1,7 +1,7 @@
 -- Aggregates of points: their count, sum and extremes.
 -- (InfluxData 1.8, InfluxQL functions: COUNT, SUM, MIN, MAX, FIRST, LAST. Own rule: if several points have the extreme
 -- time, the one with the greatest value is the first, or the last.)
-use Rattle.std.specs.Prelude.{◌≡◌, ◌⊎◌, ℕ, ◌+◌, ◌<◌, ℤ, pos, ◌+ℤ◌, ◌*ℤ◌, ◌≤ℤ◌, ◌<ℤ◌, List, [], ◌∷◌, length, map, Option, Some, None, MatchOption}
+use Rattle.std.specs.Prelude.{◌≡◌, ◌⊎◌, ℕ, ◌+◌, ◌<◌, ◌≤◌, ◌^◌, ℤ, pos, ◌+ℤ◌, ◌*ℤ◌, ◌≤ℤ◌, ◌<ℤ◌, List, [], ◌∷◌, length, map, Option, Some, None, MatchOption}
 use Rattle.std.specs.Ordering.{int_cmp}
 use Rattle.ts_core.specs.declared.aggregate.Extremes.{Extremes}
 use Rattle.ts_core.specs.Members.{Among}
@@ -95,3 +95,8 @@ pub record IsSpread (count : ℕ) (sum : ℤ) (e : Extremes) : Type 0 where
 -- A sound aggregate without extremes is empty.
 abbrev pub IsSound : Aggregate → Type 0
 IsSound a = MatchOption a.extremes (a ≡ empty_aggregate) (IsSpread a.count a.sum)
+
+-- a sound aggregate of at most 2^62 points
+pub record IsCountable (a : Aggregate) : Type 0 where
+  pub few : a.count ≤ 2 ^ 62
+  pub sound : IsSound a

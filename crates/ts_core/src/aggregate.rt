@@ -3,7 +3,7 @@ ghost use Rattle.std.specs.Prelude.{◌≡◌, ◌↔◌, ◌+◌, ◌*◌, ◌^
 ghost use Rattle.std.specs.declared.cmp.Ordering.{Ordering};
 ghost use Rattle.std.specs.Ordering.{int_cmp};
 ghost use Rattle.ts_core.specs.Orders.{lesser, down_cmp, early_cmp, late_cmp};
-ghost use Rattle.ts_core.specs.Aggregates.{Aggregate, empty_aggregate, aggregate_of_one, merged, merged_extremes, extremes_of_both, IsSpread, IsSound};
+ghost use Rattle.ts_core.specs.Aggregates.{Aggregate, empty_aggregate, aggregate_of_one, merged, merged_extremes, extremes_of_both, IsSpread, IsSound, IsCountable};
 ghost use Rattle.ts_core.specs.MergeLaws.{aggregate_laws};
 ghost use Rattle.ts_core.specs.SoundLaws.{sound_laws};
 ghost use Rattle.ts_core.specs.Remainders.{AreBeyond, LiesInside, inner_rest, IsDetermined};
@@ -12,6 +12,9 @@ use crate::partial::Partial;
 use crate::remainder::Remainder;
 use crate::time::Time;
 use std::marker::Model;
+
+/// Greatest number of points in an aggregate: 2^62.
+pub const MAX_COUNT: u64 = 4_611_686_018_427_387_904;
 
 /// Extremes of at least one point. A point is a time with a value.
 #[derive(Clone, Copy, Debug, PartialEq, Eq)]
@@ -140,7 +143,34 @@ fn merge_extremes(a: Option<Extremes>, b: Option<Extremes>) -> Option<Extremes>
     }
 }
 
+/// Returns true if some aggregate can have these parts.
+fn are_countable(count: u64, sum: i128, extremes: &Option<Extremes>) -> bool
+    ensures { IsTrue result ↔ IsCountable (record { count = count; sum = sum; extremes = extremes.now }) }
+{
+    match extremes {
+        None => count == 0 && sum == 0,
+        Some(bounds) => count <= MAX_COUNT && bounds.are_spread(count, sum),
+    }
+}
+
 impl Agg {
+    /// Creates an aggregate, or returns `None` if no aggregate of at most 2^62 points can have these parts. Without points
+    /// there are no extremes and the sum is 0. With points, the sum lies between `count` times the minimum and `count`
+    /// times the maximum.
+    pub fn from_parts(count: u64, sum: i128, extremes: Option<Extremes>) -> Option<Agg>
+        ensures possible { IsSome result ↔ IsCountable (record { count = count; sum = sum; extremes = extremes }) }
+        ensures parts { IfSome result (λ a. a ≡ record { count = count; sum = sum; extremes = extremes }) }
+    {
+        if !are_countable(count, sum, &extremes) {
+            return None;
+        }
+        Some(Agg {
+            count,
+            sum,
+            extremes,
+        })
+    }
+
     fn without_inner(self, part: Agg) -> Option<Agg>
         ensures inside { IsSome result ↔ LiesInside part self }
         ensures rest { IfSome result (λ rest. rest ≡ inner_rest self part) }
