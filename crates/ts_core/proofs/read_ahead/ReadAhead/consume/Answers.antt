@@ -1,4 +1,4 @@
-use Rattle.std.proofs.Common.{rules, ◌≡◌, ℕ, zero, suc, ◌+◌, ◌-◌, ◌≤◌, List, [], ◌∷◌, ◌++◌, length, take, drop, slice_range, Option, None, Some, sym, ap, ◌∙◌, subst, refl, arith, append_assoc, length-drop}
+use Rattle.std.proofs.Common.{rules, ◌≡◌, ℕ, zero, suc, ◌+◌, ◌-◌, ◌≤◌, List, [], ◌∷◌, ◌++◌, length, take, drop, slice_range, Option, None, Some, sym, ap, ◌∙◌, subst, arith, append_assoc, length-drop}
 use Rattle.std.proofs.lemmas.List.{drop-drop, drop-take, take-append-drop}
 use Rattle.std.proofs.Math.ListN.{length-take}
 use Rattle.std.proofs.Math.Seq.{take-add}

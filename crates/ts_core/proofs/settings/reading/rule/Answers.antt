@@ -1,7 +1,10 @@
-use Rattle.std.proofs.Common.{rules, ◌≡◌, ◌∙◌, option_and_then, SFits, to_z, of_z, to_z-of_z, true, false, Some, None, codes, refl, sym, ap, string_bytes, map, unsigned_abs}
+use Rattle.std.proofs.Common.{rules, arith, subst, ◌≢◌, ◌≤ℤ◌, pos, [], ◌≡◌, ◌∙◌, option_and_then, SFits, to_z, of_z, to_z-of_z, true, false, Some, None, codes, refl, sym, ap, string_bytes, map, unsigned_abs}
 use Rattle.std.specs.Int.{w64}
+use Rattle.std.proofs.lemmas.Int.{ints}
+use Rattle.ts_core.specs.Facts.{Text}
 use Rattle.serde_json.specs.View.{view, items_view}
-use Rattle.ts_core.specs.SettingsTexts.{has_keys, each, filled_text, rule_parsed, IsRefusal}
+use Rattle.ts_core.specs.SettingsTexts.{has_keys, text_at, each, filled_text, rule_parsed, IsRefusal}
+use Rattle.ts_core.proofs.FilledTexts.{filled, all_filled}
 use Rattle.ts_core.proofs.SettingsForms.{name_in, measurement_in, interval_in, offset_in, values_in, duration_in, other_keys, no_name, no_measurement, no_interval, no_offset, no_tags, no_tag_values, no_duration, rule_read, same_rule, refused_by}
 use Rattle.ts_core.proofs.settings.reading.rule.Goals as goal
 
@@ -34,6 +37,20 @@ returns-in_err-kept_tags-clause-err g c =
     let refusal : IsRefusal c.in_err-kept_tags.field-0.0 (rule_parsed d) =
     refused_by c.in_err-kept_tags.field-0.0 (each filled_text values) (rule_parsed d) (λ none. no_tags d (ap (option_and_then (each filled_text)) found ∙ none)) c.in_err-kept_tags.ensures.err in
     search rules
+
+pub invariant_of-result : goal.invariant_of-result
+invariant_of-result g c =
+    let d = view c.args.value.now in
+    let fits : SFits w64 c.in-Some-keeping_at.duration = search rules in
+    let lasting : pos 0 ≤ℤ c.in-Some-keeping_at.duration = c.in-Some-keeping_at.ensures.lasting in
+    let lasts : unsigned_abs c.in-Some-keeping_at.duration ≡ c.unsigned_abs.result = search rules in
+    record {
+      measured = subst (λ (t : Text). t ≢ []) (sym c.in_ok-from_str-2.ensures.ok) (filled (text_at (codes "measurement") d) _ (sym c.in-Some-filled_text_at.ensures));
+      tagged = all_filled (items_view c.in-Some-values_at.tags.now) _ c.in_ok-kept_tags.ensures.ok;
+      interval = search rules;
+      offset = search rules;
+      duration = omega (arith, ints);
+    }
 
 pub returns-clause-ok : goal.returns-clause-ok
 returns-clause-ok g c =
