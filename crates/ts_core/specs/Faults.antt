@@ -8,6 +8,8 @@ pub use Rattle.ts_core.specs.declared.fault.Fault.TheVariants.{Gap, BelowMark, N
 use Rattle.ts_core.specs.declared.fault_code.FaultCode.{FaultCode}
 use Rattle.ts_core.specs.declared.fault_code.FaultCode.TheVariants as coded
 use Rattle.ts_core.specs.FaultCodes.{code_number}
+use Rattle.ts_core.specs.declared.fault_text.FaultDetail.TheVariants as detailed
+use Rattle.ts_core.specs.FaultTexts.{fault_text}
 use Rattle.ts_core.specs.Facts.{Text, same_text}
 use Rattle.ts_core.specs.Settings.{Rule, Settings}
 use Rattle.ts_core.specs.SettingsFaults.{unless}
@@ -36,6 +38,10 @@ piece_fault_code TagNotKept = coded.TagNotKept
 -- the number of an error
 abbrev pub fault_number : Fault → ℕ
 fault_number fault = code_number (piece_fault_code fault)
+
+-- the message of an error
+abbrev pub piece_fault_text : Fault → Text
+piece_fault_text fault = fault_text (piece_fault_code fault) detailed.Alone
 
 -- ---- errors of one piece
 

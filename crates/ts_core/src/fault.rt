@@ -1,8 +1,11 @@
 //! Errors of a list of pieces.
 ghost use Rattle.std.specs.Prelude.{◌≡◌};
-ghost use Rattle.ts_core.specs.Faults.{piece_fault_code, fault_number};
+ghost use Rattle.ts_core.specs.Faults.{piece_fault_code, fault_number, piece_fault_text};
+ghost use Rattle.ts_core.specs.FaultTexts.{IsAppended};
 
 use crate::fault_code::FaultCode;
+use crate::fault_text::FaultDetail;
+use std::alloc::{AllocError, Allocator};
 
 /// Error of a list of pieces that doesn't cover all points of a query.
 #[derive(Clone, Copy, Debug, PartialEq, Eq)]
@@ -47,5 +50,13 @@ impl Fault {
         ensures { result ≡ fault_number self }
     {
         self.code().number()
+    }
+
+    /// Appends the message to `text`. When out of memory, `text` may end in part of the message. Does not allocate if
+    /// `text` has the capacity.
+    pub fn text_to<A: Allocator>(&self, text: &mut String<A>) -> Result<(), AllocError>
+        ensures { IsAppended (piece_fault_text self.now) text.old text.new result }
+    {
+        self.code().text_to(FaultDetail::Alone, text)
     }
 }
