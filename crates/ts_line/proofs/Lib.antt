@@ -12,6 +12,8 @@ pub mod PartsTold
 pub mod Suffixes
 -- Spans: the parts stand in the line
 pub mod SpansLemmas
+-- Names: what a line that was read names
+pub mod NamesTold
 -- Lines: its parts in turn
 pub mod LineLemmas
 -- TagParts, Fields, NameMarks: tag by tag, field by field

@@ -26,15 +26,15 @@ use Rattle.ts_line.proofs.LineTold.{IsGap, gap_told, IsTimeAt, time_told, IsCont
 -- ---- the measurement
 
 pub record IsMeasurement (line : Text) (n : ℕ) (m : LinePart) (end : ℕ) : Type 0 where
-  raw : Text
-  spelled : drop n line ≡ raw ++ drop end line
-  some : 1 ≤ length raw
-  closed : end < length line → is_closed Comma 0 raw ≡ true
-  told : m ≡ written_piece Comma n raw
-  end_is : end ≡ n + length raw
-  inside : end ≤ length line
-  ends : EndsKey line end
-  short : end_of Space line n ≤ n + 4096
+  pub raw : Text
+  pub spelled : drop n line ≡ raw ++ drop end line
+  pub some : 1 ≤ length raw
+  pub closed : end < length line → is_closed Comma 0 raw ≡ true
+  pub told : m ≡ written_piece Comma n raw
+  pub end_is : end ≡ n + length raw
+  pub inside : end ≤ length line
+  pub ends : EndsKey line end
+  pub short : end_of Space line n ≤ n + 4096
 
 comma_cases : (b : ℕ) (s : Bool) → eqb b 32 ≡ s → is_stop Comma b ≡ true → (b ≡ 44) ⊎ (b ≡ 32)
 comma_cases b true s e = inr (eqb-true b 32 s)
@@ -87,17 +87,17 @@ tags_inside (suc n) before line at r le e = inside_by n before line at r (eqb (s
 -- ---- the parts from a place on
 
 pub record ArePartsAt (unit now : ℤ) (line : Text) (n : ℕ) (parts : Parts) : Type 0 where
-  m : LinePart × ℕ
-  tags : List (LinePart × LinePart) × ℕ
-  fields : List (LinePart × ℤ) × ℕ
-  time : ℤ
-  measurement_is : IsMeasurement line n m.0 m.1
-  inside : tags.1 < length line
-  tags_are : AreTold line m.1 [] tags.0 tags.1
-  gap_is : IsGap line tags.1
-  fields_are : AreFieldsTold 256 line (spaces_end line tags.1) [] fields.0 fields.1
-  time_is : IsTimeAt unit now line fields.1 time
-  told : parts ≡ record { measurement = m.0; tags = tags.0; fields = fields.0; time = time }
+  pub m : LinePart × ℕ
+  pub tags : List (LinePart × LinePart) × ℕ
+  pub fields : List (LinePart × ℤ) × ℕ
+  pub time : ℤ
+  pub measurement_is : IsMeasurement line n m.0 m.1
+  pub inside : tags.1 < length line
+  pub tags_are : AreTold line m.1 [] tags.0 tags.1
+  pub gap_is : IsGap line tags.1
+  pub fields_are : AreFieldsTold 256 line (spaces_end line tags.1) [] fields.0 fields.1
+  pub time_is : IsTimeAt unit now line fields.1 time
+  pub told : parts ≡ record { measurement = m.0; tags = tags.0; fields = fields.0; time = time }
 
 tags_gap : (unit now : ℤ) (line : Text) (n : ℕ) (parts : Parts) (m : LinePart × ℕ) (tags : List (LinePart × LinePart) × ℕ) (fields : List (LinePart × ℤ) × ℕ) (time : ℤ) → IsMeasurement line n m.0 m.1
     → tags_at 65 [] line m.1 ≡ Ok tags → eqb (spaces_end line tags.1) (length line) ≡ false → fields_at 256 [] line (spaces_end line tags.1) ≡ Ok fields → time_at unit now line fields.1 ≡ Ok time

@@ -1,4 +1,5 @@
 -- cited by public contracts and laws
+pub mod Names
 pub mod Parts
 pub mod FaultText
 pub mod Numbers

@@ -4,6 +4,7 @@ use Rattle.std.specs.Prelude.{ℕ, ℤ, ◌≤◌, List, map, length}
 use Rattle.std.specs.FinMap as finmap
 use Rattle.ts_core.specs.Facts.{Text, text_cmp, Series, Fact}
 use Rattle.ts_core.specs.Members.{AllDistinct}
+use Rattle.ts_line.specs.Names.{IsName, AreKeys, AreTagTexts}
 
 -- a part of a line: its byte offset, its bytes as written, and its unescaped text
 pub record LinePart : Type 0 where
@@ -44,7 +45,10 @@ pub record AreFields (fields : List (LinePart × ℤ)) : Type 0 where
   pub few : length fields ≤ 256
   pub once : AllDistinct (map field_text fields)
 
--- the tags and fields of a line: at most 64 tags
-pub record AreParts (ts : List (LinePart × LinePart)) (fs : List (LinePart × ℤ)) : Type 0 where
+-- the measurement, tags and fields of a line: at most 64 tags, and each name is one that a line can state
+pub record AreParts (m : LinePart) (ts : List (LinePart × LinePart)) (fs : List (LinePart × ℤ)) : Type 0 where
+  pub measurement : IsName m.text
   pub few_tags : length ts ≤ 64
+  pub tags : AreTagTexts (map tag_texts ts)
   pub fields : AreFields fs
+  pub field_names : AreKeys (map field_text fs)

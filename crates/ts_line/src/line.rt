@@ -6,6 +6,7 @@ ghost use Rattle.std.specs.FinMap.{put};
 ghost use Rattle.ts_core.specs.Facts.{text_cmp};
 ghost use Rattle.ts_core.specs.Members.{AllDistinct};
 ghost use Rattle.ts_core.specs.Texts.{lent_pairs, IsTagSet};
+ghost use Rattle.ts_line.specs.Names.{AreKeys, AreTagTexts, IsNamed};
 ghost use Rattle.ts_line.specs.Parts.{field_text, series_of, tag_texts};
 ghost use Rattle.ts_line.specs.Sorting.{key_place_from, rise};
 
@@ -171,11 +172,11 @@ impl<'a, A: Allocator> Model for Line<'a, A> {
 
     ghost view = { λ l. record { measurement = l.measurement; tags = l.tags.items; fields = l.fields.items; time = l.time } };
 
-    ghost invariant = { λ l. AreParts l.tags.items l.fields.items };
+    ghost invariant = { λ l. AreParts l.measurement l.tags.items l.fields.items };
 }
 
 impl<'a, A: Allocator> Line<'a, A> {
-    ghost use Rattle.ts_line.specs.Parts.{AreFields};
+    ghost use Rattle.ts_line.specs.Parts.{AreParts};
 
     pub(crate) fn new(
         measurement: Part<'a, A>,
@@ -183,8 +184,7 @@ impl<'a, A: Allocator> Line<'a, A> {
         fields: Vec<Field<'a, A>, A>,
         time: Time,
     ) -> Self
-        requires tags { length tags.items ≤ 64 }
-        requires fields { AreFields fields.items }
+        requires { AreParts measurement tags.items fields.items }
         ensures { result ≡ record { measurement = measurement.entry; tags = tags.entry.items; fields = fields.entry.items; time = time } }
     {
         Line {
@@ -202,20 +202,23 @@ impl<'a, A: Allocator> Line<'a, A> {
         &self.measurement
     }
 
-    /// Returns the tags as ordered in the line: at most 64.
+    /// Returns the tags as ordered in the line: at most 64. No key or value is empty, and no key is `time`.
     pub fn tags(&self) -> &[Tag<'a, A>]
         ensures value { result.now ≡ self.now.tags }
         ensures few { length result.now ≤ 64 }
+        ensures named { AreTagTexts (map tag_texts result.now) }
     {
         self.tags.as_slice()
     }
 
-    /// Returns the fields, ordered by where their names first appear in the line: 1 to 256, with distinct names.
+    /// Returns the fields, ordered by where their names first appear in the line: 1 to 256, with distinct names. No name
+    /// is empty or `time`.
     pub fn fields(&self) -> &[Field<'a, A>]
         ensures value { result.now ≡ self.now.fields }
         ensures some { 1 ≤ length result.now }
         ensures few { length result.now ≤ 256 }
         ensures once { AllDistinct (map field_text result.now) }
+        ensures named { AreKeys (map field_text result.now) }
     {
         self.fields.as_slice()
     }
@@ -229,12 +232,13 @@ impl<'a, A: Allocator> Line<'a, A> {
 
     /// Writes the tags as (key, value) pairs into `pairs`, sorted by key in byte order. Does not allocate. `pairs` must
     /// be empty and have room for all tags. Creating an `ArrayVec` blanks all of it, so pass a small one if the line
-    /// has few tags.
+    /// has few tags. The line's series is one that a line can state: no name is empty, no key is `time`.
     pub fn tags_by_key<'b, const N: usize>(&'b self, pairs: &mut ArrayVec<(&'b str, &'b str), N>)
         requires none { pairs.old.items ≡ [] }
         requires room { length self.now.tags ≤ N }
         ensures value { lent_pairs pairs.new.items ≡ (series_of self.now).tags }
         ensures set { IsTagSet (lent_pairs pairs.new.items) }
+        ensures named { IsNamed (series_of self.now) }
     {
         if rise(&self.tags) {
             push_all(pairs, &self.tags);
