@@ -4,10 +4,12 @@ use Rattle.ts_core.specs.Facts.{Text}
 use Rattle.ts_core.specs.declared.fault_code.FaultCode.{FaultCode}
 use Rattle.ts_core.specs.declared.fault_code.FaultCode.TheVariants as coded
 use Rattle.ts_core.specs.declared.fault_text.FaultDetail.TheVariants.{At}
-use Rattle.ts_core.specs.FaultTexts.{fault_text}
+use Rattle.ts_core.specs.FaultTexts.{fault_text, memory_text}
 use Rattle.ts_line.specs.declared.fault.LineFaultKind.{LineFaultKind}
 use Rattle.ts_line.specs.declared.fault.LineFaultKind.TheVariants.{NoMeasurement, BadTag, RepeatedTagKey, NoField, BadField, FieldType, IntegerRange, BadTimestamp, TimestampRange, OverLimit, ReservedKey}
 use Rattle.ts_line.specs.declared.fault.LineFault.{LineFault}
+use Rattle.ts_line.specs.declared.fault.ReadLineError.{ReadLineError}
+use Rattle.ts_line.specs.declared.fault.ReadLineError.TheVariants as errors
 
 -- `at` is a byte offset in the line, from 0: of the first byte of the tag, field or timestamp in error.
 -- `LineFaultKind` states it for each kind.
@@ -29,3 +31,8 @@ line_fault_code ReservedKey = coded.ReservedKey
 
 unfoldable pub line_fault_text : LineFault → Text
 line_fault_text fault = fault_text (line_fault_code fault.kind) (At fault.at)
+
+-- the message of a call's error
+abbrev pub read_line_error_text : ReadLineError → Text
+read_line_error_text errors.OutOfMemory = memory_text
+read_line_error_text (errors.Fault fault) = line_fault_text fault

@@ -1,12 +1,12 @@
 //! Errors of a line: their kinds, their byte offsets and their texts.
 ghost use Rattle.std.specs.Prelude.{◌≡◌, ◌≤◌, length};
 ghost use Rattle.ts_core.specs.FaultTexts.{IsAppended};
-ghost use Rattle.ts_line.specs.FaultText.{fault_at, line_fault_code, line_fault_text};
+ghost use Rattle.ts_line.specs.FaultText.{fault_at, line_fault_code, line_fault_text, read_line_error_text};
 ghost use Rattle.ts_line.specs.declared.fault.ReadLineError.TheVariants as errors;
 
 use std::alloc::{AllocError, AllocFailed, Allocator};
 use thiserror::Error;
-use ts_core::{FaultCode, FaultDetail};
+use ts_core::{FaultCode, FaultDetail, append_words};
 
 /// Kind of error in a line.
 #[derive(Clone, Copy, Debug, PartialEq, Eq)]
@@ -95,6 +95,20 @@ pub enum ReadLineError {
     /// Out of memory.
     #[error("out of memory")]
     OutOfMemory,
+}
+
+impl ReadLineError {
+    /// Appends the message to `text`. When out of memory, `text` may end in part of the message. Does not allocate if
+    /// `text` has the capacity; a message has at most 32 bytes.
+    pub fn text_to<A: Allocator>(&self, text: &mut String<A>) -> Result<(), AllocError>
+        ensures appended { IsAppended (read_line_error_text self.now) text.old text.new result }
+        ensures short { length (read_line_error_text self.now) ≤ 32 }
+    {
+        match self {
+            ReadLineError::Fault(fault) => fault.text_to(text),
+            ReadLineError::OutOfMemory => append_words(text, &["fault memory"]),
+        }
+    }
 }
 
 impl From<LineFault> for ReadLineError {
