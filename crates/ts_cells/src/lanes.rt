@@ -1,5 +1,5 @@
 //! The lanes of a rule, indexed in creation order: a hash table by field and group, with a sorted list.
-ghost use Rattle.std.specs.Prelude.{◌≡◌, ◌≤◌, [], length, IfSome, IfNone, IfOk, OnOk, OnErr, slice_get};
+ghost use Rattle.std.specs.Prelude.{◌≡◌, ◌≤◌, [], length, IsOk, IfSome, IfNone, IfOk, OnOk, OnErr, slice_get};
 ghost use Rattle.std.specs.declared.cmp.Ordering.{Ordering};
 ghost use Rattle.std.specs.List.Sorted.{IsPartitionPoint};
 ghost use Rattle.ts_core.specs.Members.{Among};
@@ -110,11 +110,12 @@ impl<A: Allocator + Copy> Lanes<A> {
         None
     }
 
-    /// Returns the index of the lane of a field and a group, creating the lane if needed.
+    /// Returns the index of the lane of a field and a group, creating the lane if needed. Doesn't fail if it exists.
     pub(crate) fn register(&mut self, field: &str, group: &[&str]) -> Result<u32, AllocError>
         ensures number { IfOk result (λ n. IsAt self.new n (lane_named field.now group.now)) }
         ensures ok { OnOk result (Gains self.old self.new (lane_named field.now group.now)) }
         ensures err { OnErr result (self.new ≡ self.old) }
+        ensures known { Among (lane_named field.now group.now) self.old → IsOk result }
     {
         if let Some(number) = self.lookup(field, group) {
             return Ok(number);
