@@ -41,3 +41,15 @@ returns-in_ok-insert-in-Err-clause-place g c =
           ap (λ (rs : List (RowOf g.row.P.Denot)). int_cmp (get_or rs c.in-Err.at d).0 c.args.index.now) (items g c)
           ∙ ap (λ (r : RowOf g.row.P.Denot). int_cmp r.0 c.args.index.now) (get_or-insert_at rows c.in-Err.at (c.args.index.now, []) d bound) ∙ tied_itself int_cmp_total c.args.index.now;
     }
+
+pub returns-in_err-reserve_eighth-in-Err-clause-known : goal.returns-in_err-reserve_eighth-in-Err-clause-known
+returns-in_err-reserve_eighth-in-Err-clause-known g c = λ some.
+    let bound = rw c.as_slice.ensures.value at c.in-Err.ensures.bound in
+    let place = rw c.as_slice.ensures.value at c.in-Err.ensures.place in
+    absurd (some (cells_missing c.args.rows.now.items c.args.index.now c.in-Err.at bound place))
+
+pub returns-in_err-insert-in-Err-clause-known : goal.returns-in_err-insert-in-Err-clause-known
+returns-in_err-insert-in-Err-clause-known g c = λ some.
+    let bound = rw c.as_slice.ensures.value at c.in-Err.ensures.bound in
+    let place = rw c.as_slice.ensures.value at c.in-Err.ensures.place in
+    absurd (some (cells_missing c.args.rows.now.items c.args.index.now c.in-Err.at bound place))
