@@ -33,6 +33,7 @@ mod requests;
 mod run_fault;
 mod serve_line;
 mod service;
+mod timed;
 
 use call::{answer_words, read_words};
 use serve_line::is_serve;

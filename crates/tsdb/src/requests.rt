@@ -1,23 +1,21 @@
-//! The loop of `tsdb serve`: the requests of a listener are served one after another.
+//! The loop of `tsdb serve`: serves the connections of a listener one after another.
 ghost use Rattle.std.specs.Prelude.{◌≤◌};
 ghost use Rattle.tsdb.specs.Requests.{WentBy};
 
+use crate::timed::Timed;
 use std::alloc::Global;
 use std::io::Read;
 use std::net::{Shutdown, TcpListener, TcpStream};
 use std::rt::Clock;
-use std::time::{Duration, SystemTime, UNIX_EPOCH};
+use std::time::{SystemTime, UNIX_EPOCH};
 use ts_core::{Sink, Source, Time};
 use ts_http::{Served, serve_one};
 use ts_store::Store;
 
-/// How many seconds a read waits for a peer; then the connection is closed.
-const PATIENCE: u64 = 10;
-
-/// How many reads behind a request are dropped at most, of 4 KiB each.
+/// How many reads after a reply are dropped at most, of 4 KiB each.
 const DRAINS: u32 = 512;
 
-/// The moment by the machine's clock; the least one where the clock fails or is beyond all moments.
+/// Returns the moment by the machine's clock, or the least one if the clock fails or is beyond all moments.
 fn moment(clock: &impl Clock) -> Time {
     let Ok(now) = SystemTime::now(clock) else {
         return Time::least();
@@ -31,14 +29,15 @@ fn moment(clock: &impl Clock) -> Time {
     }
 }
 
-/// Ends a connection so that its peer gets the reply: what it still sends is read for a while and dropped.
-fn drain(mut stream: &TcpStream) {
+/// Closes a connection so that its client gets the reply: reads and drops what it still sends, at most 2 MiB.
+fn drain(stream: &TcpStream, clock: &impl Clock) {
     if stream.shutdown(Shutdown::Write).is_err() {
         return;
     }
+    let mut timed = Timed::new(stream, clock);
     let mut room = [0; 4096];
     for _ in 0..DRAINS {
-        match stream.read(&mut room) {
+        match timed.read(&mut room) {
             Ok(n) if n > 0 => {}
             _ => return,
         }
@@ -46,26 +45,31 @@ fn drain(mut stream: &TcpStream) {
 }
 
 /// Serves the request of a connection at a moment.
-fn serve_stream(alloc: Global, store: &mut Store<Global>, now: Time, stream: &TcpStream)
+fn serve_stream(
+    alloc: Global,
+    store: &mut Store<Global>,
+    now: Time,
+    stream: &TcpStream,
+    clock: &impl Clock,
+)
     ensures { WentBy store.old store.new }
 {
-    let _ = stream.set_read_timeout(Some(Duration::from_secs(PATIENCE)));
     let _ = stream.set_nodelay(true);
-    let mut source = Source::new(stream);
-    let mut sink = Sink::new(stream);
+    let mut source = Source::new(Timed::new(stream, clock));
+    let mut sink = Sink::new(Timed::new(stream, clock));
     match serve_one(alloc, store, now, &mut source, &mut sink) {
         Ok(
             Served::Reply {
                 status: _,
                 route: _,
             },
-        ) => drain(stream),
+        ) => drain(stream, clock),
         _ => {}
     }
 }
 
-/// Serves so many connections of a listener, one request each, at the moments of a clock. A connection that fails is closed, and the next
-/// one is served.
+/// Serves `count` connections of a listener, one request each, at the moments of a clock. A connection that fails is
+/// closed, and the next one is served.
 #[tactic(auto, using(crate::proofs::RequestLemmas::stayed))]
 pub fn serve_on(
     alloc: Global,
@@ -82,7 +86,7 @@ pub fn serve_on(
         let Ok(stream) = stream else {
             continue;
         };
-        serve_stream(alloc, store, moment(clock), &stream);
+        serve_stream(alloc, store, moment(clock), &stream, clock);
         left -= 1;
         if left == 0 {
             return;

@@ -1,0 +1,64 @@
+//! One direction of a connection, with a deadline: a client that is silent or slow can't hold up the next one.
+use std::io;
+use std::io::{ErrorKind, Read, Write};
+use std::net::TcpStream;
+use std::rt::Clock;
+use std::time::{Duration, Instant};
+
+/// How many seconds a client has to send its request, and as many to take the reply.
+const SECONDS: u64 = 10;
+
+/// A connection whose reads or writes fail with `TimedOut` 10 seconds after the first of them began. Reads and writes
+/// each take one of their own, so that the time that a query takes counts for neither.
+#[derive(Drop)]
+pub struct Timed<'a, C: Clock> {
+    stream: &'a TcpStream,
+    clock: &'a C,
+    started: Option<Instant>,
+}
+
+impl<'a, C: Clock> Timed<'a, C> {
+    /// Creates one whose time hasn't begun.
+    pub fn new(stream: &'a TcpStream, clock: &'a C) -> Timed<'a, C> {
+        Timed {
+            stream,
+            clock,
+            started: None,
+        }
+    }
+
+    /// Returns the time that is left, or `TimedOut`. The first call begins it.
+    fn time_left(&mut self) -> io::Result<Duration> {
+        let all = Duration::from_secs(SECONDS);
+        let now = Instant::now(self.clock)?;
+        let Some(started) = self.started else {
+            self.started = Some(now);
+            return Ok(all);
+        };
+        let left = all.saturating_sub(now.duration_since(started));
+        if left.is_zero() {
+            return Err(io::Error::from(ErrorKind::TimedOut));
+        }
+        Ok(left)
+    }
+}
+
+impl<'a, C: Clock> Read for Timed<'a, C> {
+    fn read(&mut self, buf: &mut [u8]) -> io::Result<usize> {
+        let left = self.time_left()?;
+        self.stream.set_read_timeout(Some(left))?;
+        self.stream.read(buf)
+    }
+}
+
+impl<'a, C: Clock> Write for Timed<'a, C> {
+    fn write(&mut self, buf: &[u8]) -> io::Result<usize> {
+        let left = self.time_left()?;
+        self.stream.set_write_timeout(Some(left))?;
+        self.stream.write(buf)
+    }
+
+    fn flush(&mut self) -> io::Result<()> {
+        Ok(())
+    }
+}
