@@ -12,14 +12,14 @@ use Rattle.std.specs.List.{list_all}
 use Rattle.std.specs.Str.Parse.{IsNumeral, AllDigits, without_leading_plus, digits_value}
 use Rattle.ts_core.specs.Facts.{Text}
 use Rattle.ts_line.proofs.NumberLemmas.{all_digits, digit_not_plus}
-use Rattle.ts_http.specs.Requests.{is_length}
+use Rattle.ts_http.specs.Requests.{is_number}
 
 record Digits (value : Text) : Type 0 where
   some : 0 < length value
   few : length value ≤ 18
   digits : list_all is_ascii_digit value ≡ true
 
-digits_of : (value : Text) → is_length value ≡ true → Digits value
+digits_of : (value : Text) → is_number value ≡ true → Digits value
 digits_of value e =
     let a = and_parts (nat_lt 0 (length value)) (nat_le (length value) 18 && list_all is_ascii_digit value) e in
     let b = and_parts (nat_le (length value) 18) (list_all is_ascii_digit value) a.1 in
@@ -40,10 +40,10 @@ digits_ascii (c ∷ cs) e =
     let p = and_parts (is_ascii_digit c) (list_all is_ascii_digit cs) e in
     IsAscii-cons c cs (small c p.0) (digits_ascii cs p.1)
 
-pub length_is_text : (value : Text) → is_length value ≡ true → IsUtf8 value
+pub length_is_text : (value : Text) → is_number value ≡ true → IsUtf8 value
 length_is_text value e = IsUtf8-from_ascii value (digits_ascii value (digits_of value e).digits)
 
-pub length_parses : (value : Text) → is_length value ≡ true → IsNumeral 10 (without_leading_plus value) × (digits_value 10 (without_leading_plus value) < 18446744073709551616)
+pub length_parses : (value : Text) → is_number value ≡ true → IsNumeral 10 (without_leading_plus value) × (digits_value 10 (without_leading_plus value) < 18446744073709551616)
 length_parses value e =
     let d = digits_of value e in
     let all = all_digits value d.digits in

@@ -27,7 +27,8 @@ use Rattle.ts_http.specs.declared.serve.IoFault.TheVariants.{Reader, Writer}
 use Rattle.ts_http.specs.declared.serve.Served.{Served}
 use Rattle.ts_http.specs.declared.serve.Served.TheVariants as served
 use Rattle.ts_http.specs.Batches.{State, IsIn}
-use Rattle.ts_http.specs.Outcomes.{WritesAs, QueriesAs, ActsAs, reply_of}
+use Rattle.ts_http.specs.Maintaining.{left_in}
+use Rattle.ts_http.specs.Outcomes.{WritesAs, QueriesAs, MaintainsAs, ActsAs, reply_of}
 use Rattle.ts_http.specs.declared.outcome.Outcome.{Outcome}
 use Rattle.ts_http.specs.declared.outcome.Outcome.TheVariants as outcomes
 use Rattle.ts_http.specs.declared.route.Route.{Route}
@@ -40,6 +41,9 @@ acted_write now query body old new o w = λ s i. let d = w s i in (d.0, Acts.wri
 
 pub acted_query : (now : ℤ) (query body : Text) (k : StoreData) (o : Outcome) → QueriesAs now query body k o → ActsAs now to.Query query body k o k
 acted_query now query body k o q = λ s i. (s, Acts.queries (reply_of false o) (q s i), i)
+
+pub acted_maintain : (now : ℤ) (query body : Text) (old new : StoreData) (o : Outcome) → MaintainsAs now query old o new → ActsAs now to.Maintain query body old o new
+acted_maintain now query body old new o m = λ s i. let d = m s i in (d.0, Acts.maintains (reply_of false o) d.0 d.1, d.2)
 
 pub acted_ping : (now : ℤ) (query body : Text) (k : StoreData) → ActsAs now to.Ping query body k outcomes.Done k
 acted_ping now query body k = λ s i. (s, Acts.pings, i)
@@ -59,8 +63,8 @@ spans_within came spans found w = spans_by_parts found.len (length came) (take f
 -- ---- what was asked
 
 refusal_served : (now : ℤ) (s : State) (bytes : Text) (route : Route) (old new : StoreData) (o : Outcome) (r : Refusal) → IsIn s old → o ≡ outcomes.Refused r → new ≡ old → Asks bytes (Refuses r route false)
-    → (s' : State) × Serves now s bytes (served.Reply (reply_of false o).0 route) (reply_of false o).1 s' × IsIn s' new
-refusal_served now s bytes route old new o r i oe ne asks = (s, subst (λ (p : Outcome). Serves now s bytes (served.Reply (reply_of false p).0 route) (reply_of false p).1 s) (sym oe) (Serves.refuses r route false asks), subst (IsIn s) (sym ne) i)
+    → (s' : State) × Serves now (left_in now old) s bytes (served.Reply (reply_of false o).0 route) (reply_of false o).1 s' × IsIn s' new
+refusal_served now s bytes route old new o r i oe ne asks = (s, subst (λ (p : Outcome). Serves now (left_in now old) s bytes (served.Reply (reply_of false p).0 route) (reply_of false p).1 s) (sym oe) (Serves.refuses r route false asks), subst (IsIn s) (sym ne) i)
 
 module _ (came : Text) (spans : List HeaderSpan) (found : RequestSpans) (head : RequestHead) (at : IsRequestAt came spans found head) where
   -- a head that is refused
@@ -78,19 +82,19 @@ module _ (came : Text) (spans : List HeaderSpan) (found : RequestSpans) (head : 
       → route ≡ route_of (path_of (span_bytes came found.path)) → method ≡ method_of (span_bytes came found.method) → query ≡ query_of (span_bytes came found.path)
       → refused route method (map (header_bytes came) (take found.headers spans)) ≡ None → len ≡ body_length method (map (header_bytes came) (take found.headers spans))
       → ActedOn now route query rest len old o new → IsIn s old
-      → (s' : State) × Serves now s bytes (served.Reply (reply_of false o).0 route) (reply_of false o).1 s' × IsIn s' new
+      → (s' : State) × Serves now (left_in now old) s bytes (served.Reply (reply_of false o).0 route) (reply_of false o).1 s' × IsIn s' new
   asks_taken bytes rest now route method query len old new o s whole er em eq e size acted i =
       let route_is : route ≡ route_in head = er ∙ ap (λ t. route_of (path_of t)) at.path in
       let method_is : method ≡ method_in head = em ∙ ap method_of at.method in
       let query_is : query ≡ query_of head.target = eq ∙ ap query_of at.path in
       let taken : is_taken head = sym (λ j. refused (route_is j) (method_is j) (at.fields j)) ∙ e in
       let len_is : len ≡ body_length (method_in head) (fields_of head) = size ∙ (λ j. body_length (method_is j) (at.fields j)) in
-      ⊎_elim {C = (s' : State) × Serves now s bytes (served.Reply (reply_of false o).0 route) (reply_of false o).1 s' × IsIn s' new}
+      ⊎_elim {C = (s' : State) × Serves now (left_in now old) s bytes (served.Reply (reply_of false o).0 route) (reply_of false o).1 s' × IsIn s' new}
       (λ w.
       let d = w.4 s i in
       let asks : Asks bytes (Wants route query w.0) = subst (λ q. Asks bytes (Wants q query w.0)) (sym route_is) (subst (λ q. Asks bytes (Wants (route_in head) q w.0)) (sym query_is) (Asks.wants head rest w.0 w.1 whole taken w.2 (w.3 ∙ len_is))) in
       (d.0, Serves.acts route query w.0 (reply_of false o) d.0 asks d.1, d.2))
-      (λ w. ⊎_elim {C = (s' : State) × Serves now s bytes (served.Reply (reply_of false o).0 route) (reply_of false o).1 s' × IsIn s' new}
+      (λ w. ⊎_elim {C = (s' : State) × Serves now (left_in now old) s bytes (served.Reply (reply_of false o).0 route) (reply_of false o).1 s' × IsIn s' new}
       (λ cut.
       let asks : Asks bytes (Refuses refusals.BodyEndsEarly route false) = subst (λ q. Asks bytes (Refuses refusals.BodyEndsEarly q false)) (sym route_is) (Asks.cut head rest whole taken (omega (arith, cut.0, len_is))) in
       refusal_served now s bytes route old new o refusals.BodyEndsEarly i cut.1 cut.2 asks)
@@ -143,10 +147,10 @@ nothing_served now old source source' sink came c h f t = record {
 }
 
 pub sent_told : (now : ℤ) (old new : StoreData) (source source' : Input) (sink sink' : Output) (o : Outcome) (route : Route) (to_head : Bool) (came : Text) (result : Result Served IoFault) → IsSent o route to_head sink result sink' → Consumes source.remaining source'.remaining came
-    → ((s : State) → IsIn s old → (s' : State) × Serves now s (request_of came source') (served.Reply (reply_of to_head o).0 route) (reply_of to_head o).1 s' × IsIn s' new)
+    → ((s : State) → IsIn s old → (s' : State) × Serves now (left_in now old) s (request_of came source') (served.Reply (reply_of to_head o).0 route) (reply_of to_head o).1 s' × IsIn s' new)
     → source'.failures ≡ source.failures → source'.turns ≤ source.turns + request_turns → IsServed now old source sink result new source' sink'
 sent_told now old new source source' sink sink' o route to_head came (Ok x) sent c did f t = record {
-  answered = (came, c, λ s i. let d = did s i in ((reply_of to_head o).1, d.0, subst (λ (v : Served). Serves now s (request_of came source') v (reply_of to_head o).1 d.0) (sym sent.ok.0) d.1, d.2, sent.ok.1));
+  answered = (came, c, λ s i. let d = did s i in ((reply_of to_head o).1, d.0, subst (λ (v : Served). Serves now (left_in now old) s (request_of came source') v (reply_of to_head o).1 d.0) (sym sent.ok.0) d.1, d.2, sent.ok.1));
   begun = λ b. absurd cc;
   unread = λ b. absurd cc;
   reader = omega (arith, f);

@@ -1,8 +1,9 @@
--- What a request does, and what it is answered. (InfluxData 1.8, API reference: /ping, /query, /write. Own rules: parameters that aren't named
--- here mean nothing, and each path examines its own in this order.)
+-- The effect of a request, and its reply. (InfluxData 1.8, API reference: /ping, /query, /write. Own rules: /maintain;
+-- parameters that aren't named here are ignored, and each path examines its own in this order.)
 use Rattle.std.specs.Prelude.{◌≡◌, ℕ, ℤ, Bool, true, false, List, [], ◌∷◌, ◌++◌, length, codes, if◌then◌else◌, Option, Some, None}
 use Rattle.std.specs.Str.{IsUtf8}
 use Rattle.ts_core.specs.Facts.{Text, same_text}
+use Rattle.ts_core.specs.Marks.{marks_of}
 use Rattle.ts_core.specs.TimeUnits.{precision_of}
 use Rattle.ts_core.specs.declared.time_unit.TimeUnit.{TimeUnit}
 use Rattle.ts_core.specs.declared.time_unit.TimeUnit.TheVariants.{Nanoseconds}
@@ -12,10 +13,11 @@ use Rattle.ts_reply.specs.Epochs.{epoch_of}
 use Rattle.ts_reply.specs.declared.epoch.Epoch.{Epoch}
 use Rattle.ts_reply.specs.declared.epoch.Epoch.TheVariants as epochs
 use Rattle.ts_http.specs.Batches.{State, TakesLines, StopsAtLine, body_lines, refusals_of, partial_text}
+use Rattle.ts_http.specs.Maintaining.{steps_in, OpensRun, with_steps, run_text}
 use Rattle.ts_http.specs.HttpReplies.{reply_text, error_text, refusal_status, refusal_reply}
 use Rattle.ts_http.specs.Parameters.{parameters, first_named}
 use Rattle.ts_http.specs.declared.refusal.Refusal.{Refusal}
-use Rattle.ts_http.specs.declared.refusal.Refusal.TheVariants.{BodyNotText, BadPrecision, BadEpoch, BadExplain, MissingQuery, OutOfMemory}
+use Rattle.ts_http.specs.declared.refusal.Refusal.TheVariants.{BodyNotText, BadPrecision, BadEpoch, BadExplain, BadSteps, MissingQuery, OutOfMemory}
 use Rattle.ts_http.specs.declared.route.Route.{Route}
 use Rattle.ts_http.specs.declared.route.Route.TheVariants as to
 use Rattle.ts_http.specs.declared.status.Status.{Status}
@@ -25,11 +27,11 @@ use Rattle.ts_http.specs.declared.status.Status.TheVariants as status
 abbrev pub Replied : Type 0
 Replied = Status × Text
 
--- a refusal of a request whose body was read; no such one is by HEAD
+-- a refusal after the body was read; no such request is by HEAD
 abbrev pub refusing : Refusal → Replied
 refusing r = (refusal_status r, refusal_reply false r)
 
--- all is done
+-- everything is done
 abbrev pub done_reply : Replied
 done_reply = (status.NoContent, reply_text status.NoContent [] None)
 
@@ -50,7 +52,7 @@ precision_asked (Some name) = precision_of name
 abbrev pub precision_in : Text → Option TimeUnit
 precision_in query = precision_asked (first_named (codes "precision") (parameters query))
 
--- what is told of lines, of which these were refused
+-- the reply to lines of which these were refused, with their numbers and fault texts
 abbrev pub batch_reply : List (ℕ × Text) → Replied
 batch_reply [] = done_reply
 batch_reply (first ∷ others) = bad_reply (error_text (partial_text first (length (first ∷ others))))
@@ -62,7 +64,7 @@ abbrev pub epoch_asked : Option Text → Option Epoch
 epoch_asked None = Some epochs.Text
 epoch_asked (Some name) = if same_text name (codes "text") then None else epoch_of name
 
--- whether plans are asked for
+-- whether the reply has plans
 abbrev pub explain_asked : Option Text → Option Bool
 explain_asked None = Some false
 explain_asked (Some value) =
@@ -70,20 +72,20 @@ explain_asked (Some value) =
     else if same_text value (codes "1") then Some true
     else None
 
--- the parameters of the target, and behind them those of the body
+-- the first value with a name; the parameters of the target stand before those of the body
 abbrev pub value_in : Text → Text → Text → Option Text
 value_in name query body = first_named name (parameters query ++ parameters body)
 
--- ---- both
+-- ---- /write and /query
 
--- From `old` a request may be answered so, and leave that.
+-- From `old`, a request may have this reply and lead to this state.
 module _ (now : ℤ) (old : State) (query body : Text) where
   pub data Writes : Replied → State → Type 0 where
     not_text : (IsUtf8 body → ⊥) → Writes (refusing BodyNotText) old
     bad_precision : IsUtf8 body → precision_in query ≡ None → Writes (refusing BadPrecision) old
     wants_memory : IsUtf8 body → Writes (refusing OutOfMemory) old
     writes : (precision : TimeUnit) (outcomes : List (Option Text)) (new : State) → IsUtf8 body → precision_in query ≡ Some precision → TakesLines precision now old (body_lines body) outcomes new → Writes (batch_reply (refusals_of outcomes)) new
-    -- the lines before one for which there was no memory are written
+    -- out of memory at a line; the lines before it are written
     stops : (precision : TimeUnit) (new : State) → IsUtf8 body → precision_in query ≡ Some precision → StopsAtLine precision now old (body_lines body) new → Writes (refusing OutOfMemory) new
 
   pub data Queries : Replied → Type 0 where
@@ -97,8 +99,17 @@ module _ (now : ℤ) (old : State) (query body : Text) where
     explains : (epoch : Epoch) (text : Text) (good : Bool) (answer : Text) → IsUtf8 body → epoch_asked (value_in (codes "epoch") query body) ≡ Some epoch → explain_asked (value_in (codes "explain") query body) ≡ Some true → value_in (codes "q") query body ≡ Some text
         → IsExplanation old.opening old.history now text good answer → Queries (answer_reply good answer)
 
--- What a request does that isn't refused by its head, and whose body was read.
-pub data Acts (now : ℤ) (old : State) (query body : Text) : Route → Replied → State → Type 0 where
-  pings : Acts now old query body to.Ping done_reply old
-  writes : (reply : Replied) (new : State) → Writes now old query body reply new → Acts now old query body to.Write reply new
-  queries : (reply : Replied) → Queries now old query body reply → Acts now old query body to.Query reply old
+-- ---- /maintain, where a run has this number of steps left once it is open
+
+pub data Maintains (now : ℤ) (left : ℕ) (old : State) (query : Text) : Replied → State → Type 0 where
+  bad_steps : steps_in query ≡ None → Maintains now left old query (refusing BadSteps) old
+  wants_memory : Maintains now left old query (refusing OutOfMemory) old
+  steps : (n : ℕ) (opened : State) → steps_in query ≡ Some n → OpensRun now old opened
+      → Maintains now left old query (answer_reply true (run_text n left (marks_of opened.opening opened.history).raw)) (with_steps n left opened)
+
+-- The effect of a request that isn't refused by its head, after its body was read.
+pub data Acts (now : ℤ) (left : ℕ) (old : State) (query body : Text) : Route → Replied → State → Type 0 where
+  pings : Acts now left old query body to.Ping done_reply old
+  writes : (reply : Replied) (new : State) → Writes now old query body reply new → Acts now left old query body to.Write reply new
+  queries : (reply : Replied) → Queries now old query body reply → Acts now left old query body to.Query reply old
+  maintains : (reply : Replied) (new : State) → Maintains now left old query reply new → Acts now left old query body to.Maintain reply new

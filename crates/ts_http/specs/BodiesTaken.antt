@@ -1,4 +1,4 @@
--- What was taken of a body. (Own rules.)
+-- The outcome of reading a body. (Own rules.)
 use Rattle.std.specs.Prelude.{◌≡◌, ◌<◌, ◌≤◌, ◌+◌, ℕ, ⊤, [], ◌++◌, length, unwrap_or, Result, IfOk}
 use Rattle.std.specs.Io.KnownBytes.{Consumes}
 use Rattle.ts_core.specs.Facts.{Text}
@@ -6,13 +6,13 @@ use Rattle.ts_core.specs.Devices.{Input, one_if_err}
 use Rattle.ts_http.specs.declared.body.Body.{Body}
 use Rattle.ts_http.specs.declared.body.Body.TheVariants.{Whole, Cut, NoMemory}
 
--- of these bytes, behind a head
+-- of these bytes after a head
 abbrev pub TellsBody : ℕ → Text → Body → Type 0
 TellsBody len rest (Whole body) = (others : Text) × (rest ≡ body.items ++ others) × (length body.items ≡ len)
 TellsBody len rest Cut = length rest < len
 TellsBody len rest NoMemory = ⊤
 
--- what came behind the head, and what was read then, begin with the body, or are cut short
+-- the bytes after the head, and those read then, begin with the body or end inside it
 pub record IsBodyTaken {E : Type 0} (old : Input) (behind : Text) (len : ℕ) (result : Result Body E) (new : Input) : Type 0 where
   pub body : IfOk result (λ body. (got : Text) × Consumes old.remaining new.remaining got × TellsBody len (behind ++ (got ++ unwrap_or new.remaining [])) body)
   pub failures : new.failures ≡ old.failures + one_if_err result

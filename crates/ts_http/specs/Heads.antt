@@ -1,6 +1,5 @@
--- The head of a request, as it is read: whole, at fault, or not there.
--- (RFC 9112, sections 2 to 5, by the grammar of the kit's `httparse`, which also takes lines that end in LF alone. Own rules: a head has
--- 8,192 bytes and 64 fields at most.)
+-- The head of a request: whole, at fault, or absent. (RFC 9112, sections 2 to 5, by the grammar of the kit's `httparse`,
+-- which also takes lines that end in LF alone. Own rules: at most 8,192 bytes and 64 fields.)
 use Rattle.std.specs.Prelude.{◌≡◌, ◌≢◌, ◌≤◌, ◌<◌, ℕ, [], length, take}
 use Rattle.httparse.specs.Grammar.{RequestHead, ReadsRequest, print_request, HasNoRequest, NeverHasRequest, MayBecomeRequest}
 use Rattle.httparse.specs.Spans.{RequestOverflows, RequestExceeds}
@@ -8,41 +7,41 @@ use Rattle.ts_core.specs.Facts.{Text}
 use Rattle.ts_http.specs.declared.head.HeadFault.{HeadFault}
 use Rattle.ts_http.specs.declared.head.HeadFault.TheVariants.{EndsEarly, TooLarge, Malformed}
 
--- how many bytes a head has at most
+-- the most bytes of a head
 abbrev pub head_limit : ℕ
 head_limit = 8192
 
--- how many fields
+-- and the most fields
 abbrev pub field_limit : ℕ
 field_limit = 64
 
--- What a reader of a head found in a request.
+-- The outcome of reading a head.
 pub data Found : Type 0 where
-  -- there is no request
+  -- the input is empty
   Nothing : Found
-  -- a head, and the bytes behind it
+  -- a head, and the bytes after it
   Whole : RequestHead → Text → Found
   Fault : HeadFault → Found
 
--- The bytes begin with a head that is taken, and these stand behind it.
+-- The bytes begin with a head within the limits, and these bytes follow it.
 pub record IsWhole (bytes : Text) (head : RequestHead) (rest : Text) : Type 0 where
   pub reads : ReadsRequest bytes head rest
   pub short : length (print_request head) ≤ head_limit
   pub few : length head.fields ≤ field_limit
 
--- The bytes have no head yet, and may be the beginning of one.
+-- The bytes have no whole head, and may be the beginning of one.
 abbrev pub IsUnfinished : Text → Type 0
 IsUnfinished bytes = HasNoRequest bytes × MayBecomeRequest bytes
 
--- What reading a head from the first of these bytes may come to. A head that is taken is always found, and nothing else is found then.
--- Else which faults there may be is told here; where more than one fits, either may be found.
+-- The possible outcomes of reading a head from the front of these bytes. A head within the limits is always found, and
+-- nothing else then. Otherwise these faults are possible; if more than one fits, either may be found.
 pub data ReadsHead (bytes : Text) : Found → Type 0 where
   nothing : bytes ≡ [] → ReadsHead bytes Nothing
   whole : (head : RequestHead) (rest : Text) → IsWhole bytes head rest → ReadsHead bytes (Whole head rest)
   -- all of the bytes are the beginning of a head, or end inside its target
   ends_early : bytes ≢ [] → length bytes < head_limit → IsUnfinished bytes → ReadsHead bytes (Fault EndsEarly)
   too_long : head_limit ≤ length bytes → IsUnfinished (take head_limit bytes) → ReadsHead bytes (Fault TooLarge)
-  -- a start line with too many fields stands in front, and no head with so few
+  -- the bytes begin with a start line and too many fields
   too_many : RequestExceeds field_limit bytes → RequestOverflows field_limit bytes → ReadsHead bytes (Fault TooLarge)
   -- whatever follows the bytes, there is no head
   malformed : NeverHasRequest bytes → ReadsHead bytes (Fault Malformed)

@@ -1,12 +1,12 @@
--- The bytes of a reply. (RFC 9112, section 4; InfluxData 1.8, API reference: status codes and responses. Own rules: which fields a reply has,
--- and that the connection is closed behind it.)
+-- The bytes of a reply. (RFC 9112, section 4; InfluxData 1.8, API reference: status codes and responses. Own rules: which
+-- fields a reply has, and that the connection is closed after it.)
 use Rattle.std.specs.Prelude.{ℕ, Bool, [], ◌∷◌, ◌++◌, length, codes, if◌then◌else◌, Option, Some, None, option_map, unwrap_or, decimal}
 use Rattle.http.specs.StatusCode.{code_digits, reason_phrase}
 use Rattle.ts_core.specs.Facts.{Text}
 use Rattle.ts_http.specs.Requests.{allowed_methods}
 use Rattle.ts_http.specs.declared.head.HeadFault.TheVariants.{EndsEarly, TooLarge, Malformed}
 use Rattle.ts_http.specs.declared.refusal.Refusal.{Refusal}
-use Rattle.ts_http.specs.declared.refusal.Refusal.TheVariants.{Head, NotFound, MethodNotAllowed, LengthRequired, BadLength, BodyTooLarge, EncodingNotSupported, BodyEndsEarly, BodyNotText, BadPrecision, BadEpoch, BadExplain, MissingQuery, OutOfMemory}
+use Rattle.ts_http.specs.declared.refusal.Refusal.TheVariants.{Head, NotFound, MethodNotAllowed, LengthRequired, BadLength, BodyTooLarge, EncodingNotSupported, BodyEndsEarly, BodyNotText, BadPrecision, BadEpoch, BadExplain, BadSteps, MissingQuery, OutOfMemory}
 use Rattle.ts_http.specs.declared.status.Status.{Status}
 use Rattle.ts_http.specs.declared.status.Status.TheVariants as status
 
@@ -26,16 +26,16 @@ status_code status.ServerError = 500
 abbrev pub status_text : Status → Text
 status_text s = code_digits (status_code s) ++ (32 ∷ unwrap_or (reason_phrase (status_code s)) [])
 
--- CR LF, with which lines end
+-- CR LF, the end of a line
 abbrev pub line_end : Text
 line_end = 13 ∷ 10 ∷ []
 
--- the methods that a path has, where the method was none of them
+-- the field Allow, unless there are no methods
 abbrev pub allow_text : Text → Text
 allow_text [] = []
 allow_text (b ∷ bs) = codes "Allow: " ++ ((b ∷ bs) ++ line_end)
 
--- the type and the length of the body, where there is one
+-- type and length of the body, if there is one
 abbrev pub length_text : Option ℕ → Text
 length_text None = []
 length_text (Some n) = codes "Content-Type: application/json" ++ (line_end ++ (codes "Content-Length: " ++ (decimal n ++ line_end)))
@@ -46,7 +46,7 @@ head_text s allow n = codes "HTTP/1.1 " ++ (status_text s ++ (line_end ++ (allow
 abbrev pub reply_text : Status → Text → Option Text → Text
 reply_text s allow body = head_text s allow (option_map length body) ++ unwrap_or body []
 
--- JSON that tells why all or some of a request was refused; the text has no quotes, backslashes or control characters
+-- JSON with an error; the text has no quotes, backslashes or control characters
 abbrev pub error_text : Text → Text
 error_text text = codes "{\"error\":\"" ++ (text ++ codes "\"}")
 
@@ -67,6 +67,7 @@ refusal_status BodyNotText = status.BadRequest
 refusal_status BadPrecision = status.BadRequest
 refusal_status BadEpoch = status.BadRequest
 refusal_status BadExplain = status.BadRequest
+refusal_status BadSteps = status.BadRequest
 refusal_status MissingQuery = status.BadRequest
 refusal_status OutOfMemory = status.ServerError
 
@@ -85,6 +86,7 @@ refusal_words BodyNotText = codes "body is not UTF-8"
 refusal_words BadPrecision = codes "bad precision"
 refusal_words BadEpoch = codes "bad epoch"
 refusal_words BadExplain = codes "bad explain"
+refusal_words BadSteps = codes "bad steps"
 refusal_words MissingQuery = codes "missing q"
 refusal_words OutOfMemory = codes "out of memory"
 
@@ -92,10 +94,10 @@ abbrev pub refusal_allow : Refusal → Text
 refusal_allow (MethodNotAllowed route) = allowed_methods route
 refusal_allow refusal = []
 
--- the body of a reply, which one to HEAD hasn't
+-- the body of a reply, which a HEAD doesn't get
 abbrev pub unless_head : Bool → Text → Option Text
 unless_head to_head body = if to_head then None else Some body
 
--- the reply to a request that is refused, to HEAD or not
+-- the reply to a refused request
 abbrev pub refusal_reply : Bool → Refusal → Text
 refusal_reply to_head r = reply_text (refusal_status r) (refusal_allow r) (unless_head to_head (error_text (refusal_words r)))

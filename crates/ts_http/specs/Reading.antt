@@ -1,4 +1,4 @@
--- What the reader of a head answers, by what came of the request. (Own rules.)
+-- Reading a head and a body from a reader, by the bytes that came. (Own rules.)
 use Rattle.std.specs.Prelude.{◌≡◌, ℕ, ◌+◌, ◌≤◌, ◌<◌, Bool, List, [], ◌++◌, length, take, drop, Option, Some, None, unwrap_or, Result, IfOk}
 use Rattle.std.specs.Bool.{OnTrue, OnFalse}
 use Rattle.std.specs.Io.KnownBytes.{Consumes, IsAtEnd}
@@ -12,11 +12,11 @@ use Rattle.ts_http.specs.declared.head.HeadFault.TheVariants.{EndsEarly, TooLarg
 use Rattle.ts_http.specs.declared.head.HeadRead.{HeadRead}
 use Rattle.ts_http.specs.declared.head.HeadRead.TheVariants as read
 
--- all bytes of a request of which some came and others are left: where it isn't known what is left, what came is all of it
+-- all bytes of a request: those that came, and those that are left, if known
 abbrev pub request_of : Text → Input → Text
 request_of came left = came ++ unwrap_or left.remaining []
 
--- one read into a buffer behind the bytes that it holds
+-- one read into a buffer, after its first `count` bytes
 pub record IsReadBehind {E : Type 0} (old : Input) (count : ℕ) (room : Text) (result : Result ℕ E) (room' : Text) (new : Input) : Type 0 where
   pub size : length room' ≡ length room
   pub kept : take count room' ≡ take count room
@@ -26,14 +26,14 @@ pub record IsReadBehind {E : Type 0} (old : Input) (count : ℕ) (room : Text) (
   pub failures : new.failures ≡ old.failures + one_if_err result
   pub turns : new.turns ≡ old.turns + 1
 
--- the answer tells what was found in the request, of which these bytes came
+-- the outcome is one of reading the request's head, of which these bytes came
 abbrev pub TellsHead : Text → Text → List HeaderSpan → HeadRead → Type 0
 TellsHead bytes came spans read.Nothing = ReadsHead bytes Nothing
 TellsHead bytes came spans (read.Fault fault) = ReadsHead bytes (Fault fault)
 TellsHead bytes came spans (read.Whole found) =
     IsRequestWithin came spans found × ((head : RequestHead) × IsRequestAt came spans found head × IsWhole bytes head (drop found.len bytes))
 
--- one reading of a head into a buffer, of which so many bytes are the request's
+-- a head is read into a buffer, whose first bytes are the request's
 pub record IsHeadRead {E : Type 0} (old : Input) (result : Result (ℕ × HeadRead) E) (room : Text) (spans : List HeaderSpan) (new : Input) : Type 0 where
   pub within : IfOk result (λ r. r.0 ≤ length room)
   pub bytes : IfOk result (λ r. Consumes old.remaining new.remaining (take r.0 room))
@@ -41,7 +41,7 @@ pub record IsHeadRead {E : Type 0} (old : Input) (result : Result (ℕ × HeadRe
   pub failures : new.failures ≡ old.failures + one_if_err result
   pub turns : new.turns ≤ old.turns + head_limit
 
--- the rest of a body is read, of which so many bytes are there; it answers whether it is whole
+-- the rest of a body is read, whose first `count` bytes are there; the result is whether it is whole
 pub record IsBodyRead {E : Type 0} (old : Input) (count : ℕ) (body : Text) (result : Result Bool E) (body' : Text) (new : Input) : Type 0 where
   pub size : length body' ≡ length body
   pub whole : IfOk result (λ whole. OnTrue whole ((got : Text) × (body' ≡ take count body ++ got) × Consumes old.remaining new.remaining got))
@@ -49,7 +49,7 @@ pub record IsBodyRead {E : Type 0} (old : Input) (count : ℕ) (body : Text) (re
   pub failures : new.failures ≡ old.failures + one_if_err result
   pub turns : new.turns + count ≤ old.turns + length body
 
--- what stands in front of the bytes that came; none where they may still become a head
+-- the outcome so far; none if the bytes may still become a head
 abbrev pub TellsFront : Text → List HeaderSpan → Option HeadRead → Type 0
 TellsFront came spans None = IsUnfinished came
 TellsFront came spans (Some read.Nothing) = ⊥

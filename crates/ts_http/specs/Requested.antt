@@ -1,5 +1,5 @@
--- What a request asks for, as it is read: its head, and then its body. (RFC 9112, sections 2 to 6. Own rules: the body is read whole before
--- anything is done; bytes behind it mean nothing.)
+-- A request, by its bytes: its head, and then its body. (RFC 9112, sections 2 to 6. Own rules: the body is read whole
+-- before anything is executed; bytes after it mean nothing.)
 use Rattle.std.specs.Prelude.{◌≡◌, ◌<◌, Bool, true, false, ◌++◌, length, Some, None}
 use Rattle.httparse.specs.Grammar.{RequestHead}
 use Rattle.ts_core.specs.Facts.{Text}
@@ -13,10 +13,10 @@ use Rattle.ts_http.specs.declared.route.Route.TheVariants as to
 use Rattle.ts_http.specs.declared.route.Method.{Method}
 use Rattle.ts_http.specs.declared.route.Method.TheVariants as by
 
--- What a request is.
+-- The kinds of requests.
 pub data Request : Type 0 where
   NoRequest : Request
-  -- it is refused before anything is done; whether its head was read whole, and was by HEAD
+  -- it is refused before anything is executed; whether its head was read whole, and was a HEAD
   Refuses : Refusal → Route → Bool → Request
   -- a path, the parameters of the target, and a body
   Wants : Route → Text → Text → Request
@@ -37,12 +37,12 @@ refused_in head r = refused (route_in head) (method_in head) (fields_of head) �
 abbrev pub is_taken : RequestHead → Type 0
 is_taken head = refused (route_in head) (method_in head) (fields_of head) ≡ None
 
--- What these bytes may be read as.
+-- The requests that these bytes may be.
 pub data Asks (bytes : Text) : Request → Type 0 where
   nothing : ReadsHead bytes Nothing → Asks bytes NoRequest
   no_head : (fault : HeadFault) → ReadsHead bytes (Fault fault) → Asks bytes (Refuses (Head fault) to.Other false)
   refuses : (head : RequestHead) (rest : Text) (r : Refusal) → IsWhole bytes head rest → refused_in head r → Asks bytes (Refuses r (route_in head) (is_head (method_in head)))
   cut : (head : RequestHead) (rest : Text) → IsWhole bytes head rest → is_taken head → length rest < body_length (method_in head) (fields_of head) → Asks bytes (Refuses BodyEndsEarly (route_in head) false)
-  -- there is no memory for the body
+  -- out of memory for the body
   wants_memory : (head : RequestHead) (rest : Text) → IsWhole bytes head rest → is_taken head → Asks bytes (Refuses OutOfMemory (route_in head) false)
   wants : (head : RequestHead) (rest body others : Text) → IsWhole bytes head rest → is_taken head → rest ≡ body ++ others → length body ≡ body_length (method_in head) (fields_of head) → Asks bytes (Wants (route_in head) (query_of head.target) body)

@@ -1,6 +1,6 @@
--- What the head of a request asks for, and why it may be refused before its body is read.
--- (InfluxData 1.8, API reference: /ping, /query, /write. RFC 9110: methods, Content-Length, Content-Encoding; names of fields don't mind
--- case. Own rules: no chunked bodies, bodies of 1,048,576 bytes at most, and the order in which all this is examined.)
+-- The parts of a request's head, and why it is refused before its body is read.
+-- (InfluxData 1.8, API reference: /ping, /query, /write. RFC 9110: methods, Content-Length, Content-Encoding; names of
+-- fields ignore case. Own rules: /maintain, no chunked bodies, at most 1,048,576 bytes, and the order of refusals.)
 use Rattle.std.specs.Prelude.{ℕ, nat_lt, nat_le, Bool, true, false, not, ◌&&◌, ◌||◌, ◌==◌, List, [], ◌∷◌, length, map, codes, if◌then◌else◌, Option, None}
 use Rattle.std.specs.List.{list_any, list_all, before_first, after_first}
 use Rattle.std.specs.Char.{is_ascii_digit, to_ascii_lowercase}
@@ -16,7 +16,7 @@ use Rattle.ts_http.specs.declared.route.Method.TheVariants as by
 use Rattle.ts_http.specs.declared.refusal.Refusal.{Refusal}
 use Rattle.ts_http.specs.declared.refusal.Refusal.TheVariants.{NotFound, MethodNotAllowed, LengthRequired, BadLength, BodyTooLarge, EncodingNotSupported}
 
--- ---- the target: a path, and parameters behind a question mark
+-- ---- the target: a path, and parameters after a question mark
 
 abbrev pub is_question : ℕ → Bool
 is_question b = b == 63
@@ -31,6 +31,7 @@ unfoldable pub route_of : Text → Route
 route_of path =
     if same_text path (codes "/write") then to.Write
     else if same_text path (codes "/query") then to.Query
+    else if same_text path (codes "/maintain") then to.Maintain
     else if same_text path (codes "/ping") then to.Ping
     else to.Other
 
@@ -46,14 +47,16 @@ abbrev pub is_allowed : Route → Method → Bool
 is_allowed to.Write by.Post = true
 is_allowed to.Query by.Get = true
 is_allowed to.Query by.Post = true
+is_allowed to.Maintain by.Post = true
 is_allowed to.Ping by.Get = true
 is_allowed to.Ping by.Head = true
 is_allowed route method = false
 
--- and how a reply tells them
+-- and as `Allow` writes them
 abbrev pub allowed_methods : Route → Text
 allowed_methods to.Write = codes "POST"
 allowed_methods to.Query = codes "GET, POST"
+allowed_methods to.Maintain = codes "POST"
 allowed_methods to.Ping = codes "GET, HEAD"
 allowed_methods to.Other = []
 
@@ -83,7 +86,7 @@ is_named name field = same_ignoring_case field.0 name
 abbrev pub has_field : Text → Fields → Bool
 has_field name fields = list_any (is_named name) fields
 
--- the values of the fields of a name
+-- the values of the fields with a name
 abbrev pub values_of : Text → Fields → List Text
 values_of name [] = []
 values_of name (field ∷ fields) = if is_named name field then field.1 ∷ values_of name fields else values_of name fields
@@ -94,37 +97,37 @@ abbrev pub body_limit : ℕ
 body_limit = 1048576
 
 -- 1 to 18 digits
-abbrev pub is_length : Text → Bool
-is_length value = nat_lt 0 (length value) && (nat_le (length value) 18 && list_all is_ascii_digit value)
+abbrev pub is_number : Text → Bool
+is_number value = nat_lt 0 (length value) && (nat_le (length value) 18 && list_all is_ascii_digit value)
 
--- at most one length is told, and of this form
+-- there is at most one length, and it has this form
 abbrev pub is_good_length : List Text → Bool
 is_good_length [] = true
-is_good_length (value ∷ []) = is_length value
+is_good_length (value ∷ []) = is_number value
 is_good_length (value ∷ other ∷ others) = false
 
--- a body of which no length is told is empty
-abbrev pub length_told : List Text → ℕ
-length_told [] = 0
-length_told (value ∷ others) = digits_value 10 value
+-- without a length the body is empty
+abbrev pub length_given : List Text → ℕ
+length_given [] = 0
+length_given (value ∷ others) = digits_value 10 value
 
 abbrev pub lengths_of : Fields → List Text
 lengths_of fields = values_of (codes "content-length") fields
 
-abbrev pub is_told : List Text → Bool
-is_told [] = false
-is_told (value ∷ values) = true
+abbrev pub is_given : List Text → Bool
+is_given [] = false
+is_given (value ∷ values) = true
 
--- the body is coded
+-- a Content-Encoding other than identity
 abbrev pub is_coded : Text × Text → Bool
 is_coded field = is_named (codes "content-encoding") field && not (same_ignoring_case field.1 (codes "identity"))
 
--- why the body of a POST isn't read
+-- the reason why the body of a POST isn't read
 abbrev pub body_refused : Route → Fields → Option Refusal
 body_refused route fields =
-    unless (not (has_field (codes "transfer-encoding") fields) && (not (is_write route) || is_told (lengths_of fields))) LengthRequired
+    unless (not (has_field (codes "transfer-encoding") fields) && (not (is_write route) || is_given (lengths_of fields))) LengthRequired
     (unless (is_good_length (lengths_of fields)) BadLength
-    (unless (nat_le (length_told (lengths_of fields)) body_limit) BodyTooLarge
+    (unless (nat_le (length_given (lengths_of fields)) body_limit) BodyTooLarge
     (unless (not (list_any is_coded fields)) EncodingNotSupported None)))
 
 -- ---- a head
@@ -132,13 +135,13 @@ body_refused route fields =
 abbrev pub fields_of : RequestHead → Fields
 fields_of head = map name_and_value head.fields
 
--- why a head is refused; what is first in this order is told
+-- the first reason, in this order, why a head is refused
 abbrev pub refused : Route → Method → Fields → Option Refusal
 refused route method fields =
     unless (is_known route) NotFound
     (unless (is_allowed route method) (MethodNotAllowed route)
     (if is_post method then body_refused route fields else None))
 
--- how many bytes of a body are read
+-- the length of the body
 abbrev pub body_length : Method → Fields → ℕ
-body_length method fields = if is_post method then length_told (lengths_of fields) else 0
+body_length method fields = if is_post method then length_given (lengths_of fields) else 0

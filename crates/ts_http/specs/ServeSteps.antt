@@ -1,4 +1,4 @@
--- The steps of serving one request, as the code takes them. (Own rules.)
+-- Steps of serving one request, as the code takes them. (Own rules.)
 use Rattle.std.specs.Prelude.{◌≡◌, ◌⊎◌, ◌<◌, ◌≤◌, ◌+◌, ℕ, ℤ, Bool, [], ◌++◌, length, unwrap_or, Some, None, Result, Ok, Err, IfOk, OnErr}
 use Rattle.std.specs.Io.KnownBytes.{Consumes, Appends}
 use Rattle.ts_core.specs.Facts.{Text}
@@ -17,12 +17,12 @@ use Rattle.ts_http.specs.declared.serve.IoFault.TheVariants.{Writer}
 use Rattle.ts_http.specs.declared.serve.Served.{Served}
 use Rattle.ts_http.specs.declared.serve.Served.TheVariants as served
 
--- how long the body is, or why the head is refused
+-- the length of the body, or why the head is refused
 abbrev pub IsLengthAnswer : Route → Method → Fields → Result ℕ Refusal → Type 0
 IsLengthAnswer route method fields (Ok n) = (refused route method fields ≡ None) × (n ≡ body_length method fields) × (n ≤ body_limit)
 IsLengthAnswer route method fields (Err r) = refused route method fields ≡ Some r
 
--- what became of these bytes behind a head, which begin with a body of that length
+-- a request whose bytes after the head begin with a body of that length
 abbrev pub ActedOn : ℤ → Route → Text → Text → ℕ → StoreData → Outcome → StoreData → Type 0
 ActedOn now route query rest len old outcome new =
     ((body : Text) × (others : Text) × (rest ≡ body ++ others) × (length body ≡ len) × ActsAs now route query body old outcome new)

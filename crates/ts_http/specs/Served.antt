@@ -1,4 +1,4 @@
--- One request served: what is read of a reader, done to a store, and written to a writer. (Own rules.)
+-- A request served: the bytes read, the store afterwards, and the bytes written. (Own rules.)
 use Rattle.std.specs.Prelude.{◌≡◌, ℕ, ℤ, Bool, ◌+◌, ◌≤◌, [], Result, Ok, Err, IfOk}
 use Rattle.std.specs.Io.KnownBytes.{Consumes, Appends}
 use Rattle.ts_core.specs.Facts.{Text}
@@ -7,6 +7,7 @@ use Rattle.ts_core.specs.StoreData.{StoreData}
 use Rattle.ts_http.specs.Acts.{Replied, Acts}
 use Rattle.ts_http.specs.Batches.{State, IsIn}
 use Rattle.ts_http.specs.HttpReplies.{refusal_status, refusal_reply}
+use Rattle.ts_http.specs.Maintaining.{left_in}
 use Rattle.ts_http.specs.Reading.{request_of}
 use Rattle.ts_http.specs.Requested.{NoRequest, Refuses, Wants, Asks}
 use Rattle.ts_http.specs.declared.refusal.Refusal.{Refusal}
@@ -16,21 +17,22 @@ use Rattle.ts_http.specs.declared.serve.IoFault.TheVariants.{Reader, Writer}
 use Rattle.ts_http.specs.declared.serve.Served.{Served}
 use Rattle.ts_http.specs.declared.serve.Served.TheVariants as served
 
--- how many reads a request may take: one for each byte of the longest head and the longest body, and one for the end
+-- the most reads of a request: one per byte of the longest head and body, and one for the end
 abbrev pub request_turns : ℕ
 request_turns = 1056769
 
--- From `old`, at a moment, a request of these bytes may be served so, be answered with these, and leave that.
-pub data Serves (now : ℤ) (old : State) (bytes : Text) : Served → Text → State → Type 0 where
-  nothing : Asks bytes NoRequest → Serves now old bytes served.Nothing [] old
-  refuses : (r : Refusal) (route : Route) (to_head : Bool) → Asks bytes (Refuses r route to_head) → Serves now old bytes (served.Reply (refusal_status r) route) (refusal_reply to_head r) old
-  acts : (route : Route) (query body : Text) (reply : Replied) (new : State) → Asks bytes (Wants route query body) → Acts now old query body route reply new → Serves now old bytes (served.Reply reply.0 route) reply.1 new
+-- From `old`, at a moment, a request of these bytes may be served so, be answered with these, and leave that. A retention
+-- run has this number of steps left once it is open.
+pub data Serves (now : ℤ) (left : ℕ) (old : State) (bytes : Text) : Served → Text → State → Type 0 where
+  nothing : Asks bytes NoRequest → Serves now left old bytes served.Nothing [] old
+  refuses : (r : Refusal) (route : Route) (to_head : Bool) → Asks bytes (Refuses r route to_head) → Serves now left old bytes (served.Reply (refusal_status r) route) (refusal_reply to_head r) old
+  acts : (route : Route) (query body : Text) (reply : Replied) (new : State) → Asks bytes (Wants route query body) → Acts now left old query body route reply new → Serves now left old bytes (served.Reply reply.0 route) reply.1 new
 
--- In each state that the store was in, the request was served so, and all of its reply or a beginning of it was sent.
+-- In each state that the store was in, the request was served so, and its whole reply or a beginning of it was sent.
 abbrev pub ServedAs : ℤ → Text → StoreData → Served → StoreData → (Text → Type 0) → Type 0
-ServedAs now bytes old served new Sent = (s : State) → IsIn s old → (text : Text) × (s' : State) × Serves now s bytes served text s' × IsIn s' new × Sent text
+ServedAs now bytes old served new Sent = (s : State) → IsIn s old → (text : Text) × (s' : State) × Serves now (left_in now old) s bytes served text s' × IsIn s' new × Sent text
 
--- how much a call adds to its reader's failures, and to its writer's
+-- the failures that a call adds to its reader's, and to its writer's
 abbrev pub one_if_reader : {T : Type 0} → Result T IoFault → ℕ
 one_if_reader (Ok x) = 0
 one_if_reader (Err Reader) = 1
@@ -41,12 +43,12 @@ one_if_writer (Ok x) = 0
 one_if_writer (Err Reader) = 0
 one_if_writer (Err Writer) = 1
 
--- One request served. Where a reader doesn't tell its bytes, the request's are those that were read.
+-- One request served. If a reader's bytes are unknown, the request's are those that were read.
 pub record IsServed (now : ℤ) (old : StoreData) (source : Input) (sink : Output) (result : Result Served IoFault) (new : StoreData) (source' : Input) (sink' : Output) : Type 0 where
   pub answered : IfOk result (λ served. (came : Text) × Consumes source.remaining source'.remaining came × ServedAs now (request_of came source') old served new (Appends sink.contents sink'.contents))
-  -- what was asked has happened, and a beginning of the reply went out
+  -- the request was executed, and a beginning of the reply went out
   pub begun : result ≡ Err Writer → (came : Text) × Consumes source.remaining source'.remaining came × ((served : Served) × ServedAs now (request_of came source') old served new (AppendsFront sink.contents sink'.contents))
-  -- nothing was done, and nothing was written
+  -- nothing was executed, and nothing was written
   pub unread : result ≡ Err Reader → (new ≡ old) × (sink' ≡ sink)
   pub reader : source'.failures ≡ source.failures + one_if_reader result
   pub writer : sink'.failures ≡ sink.failures + one_if_writer result

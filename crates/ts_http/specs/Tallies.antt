@@ -1,4 +1,4 @@
--- What the code keeps of the lines of a batch. (Own rules.)
+-- The code's record of a batch. (Own rules.)
 use Rattle.std.specs.Prelude.{◌≡◌, ℕ, ℤ, List, [], ◌∷◌, length, Option, Some, None, option_map, Result, Ok, Err}
 use Rattle.ts_core.specs.Facts.{Text}
 use Rattle.ts_core.specs.StoreData.{StoreData}
@@ -25,29 +25,29 @@ first_of (x ∷ xs) = Some x
 abbrev pub numbered_text : ℕ × LineRefusal → ℕ × Text
 numbered_text x = (x.0, line_refusal_text x.1)
 
--- the lines so far, the number of those that were refused, and the first of these
+-- the number of lines so far, the number refused, and the first refused one
 pub record TallyIs (outcomes : List (Option Text)) (t : Tally) : Type 0 where
   pub lines : t.lines ≡ length outcomes
   pub dropped : t.dropped ≡ length (refusals_of outcomes)
   pub first : option_map numbered_text t.first ≡ first_of (refusals_of outcomes)
 
--- what a line did in a store that was in a state
+-- a line in a store that was in this state
 abbrev pub DidLine : TimeUnit → ℤ → State → Text → {E : Type 0} → Result (Option LineRefusal) E → StoreData → Type 0
 DidLine precision now s text (Ok refusal) new = (s' : State) × TakesLine precision now s text (option_map line_refusal_text refusal) s' × IsIn s' new
 DidLine precision now s text (Err e) new = (s' : State) × WantsMemory precision now s text s' × IsIn s' new
 
--- and what the lines of a body did
+-- and the lines of a body
 abbrev pub DidLines : TimeUnit → ℤ → State → Text → {E : Type 0} → Result Tally E → StoreData → Type 0
 DidLines precision now s body (Ok tally) new = (outcomes : List (Option Text)) × (s' : State) × TakesLines precision now s (body_lines body) outcomes s' × TallyIs outcomes tally × IsIn s' new
 DidLines precision now s body (Err e) new = (s' : State) × StopsAtLine precision now s (body_lines body) s' × IsIn s' new
 
--- what a store that was in a state made of a line of these parts
+-- a line of these parts in a store that was in this state
 abbrev pub WroteLine : State → Parts → {E : Type 0} → Result (Option LineRefusal) E → StoreData → Type 0
 WroteLine s parts (Ok None) new = (refusal_in s parts ≡ None) × ((series : List Series) × Gains s.series series (series_of parts) × IsIn (with_line parts series s) new)
 WroteLine s parts (Ok (Some (Refused fault))) new = (refusal_in s parts ≡ Some fault) × IsIn s new
 WroteLine s parts (Ok (Some (Misread fault))) new = ⊥
 WroteLine s parts (Err e) new = (refusal_in s parts ≡ None) × ((series : List Series) × MayGain s.series series (series_of parts) × IsIn (with_series series s) new)
 
--- and that of each state that it was in
+-- and in each state that it was in
 abbrev pub WritesTold : StoreData → Parts → {E : Type 0} → Result (Option LineRefusal) E → StoreData → Type 0
 WritesTold old parts result new = (s : State) → IsIn s old → WroteLine s parts result new

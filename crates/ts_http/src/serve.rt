@@ -1,4 +1,4 @@
-//! One request: it is read whole, done, and answered.
+//! Serves one request: reads it whole, executes it, and sends the reply.
 ghost use Rattle.std.specs.Prelude.{◌≡◌, ◌≤◌, length, map, drop, false, true};
 ghost use Rattle.std.specs.List.{AllByRecursion};
 ghost use Rattle.httparse.specs.Spans.{IsHeaderWithin, IsRequestWithin, header_bytes, span_bytes};
@@ -12,6 +12,7 @@ ghost use Rattle.ts_http.specs.Served.{IsServed};
 use crate::body::{Body, take_body};
 use crate::fields::body_of;
 use crate::head::{FIELD_LIMIT, HEAD_LIMIT, HeadRead, read_head};
+use crate::maintaining::maintain;
 use crate::outcome::Outcome;
 use crate::querying::{Form, query};
 use crate::reading::ReadFailed;
@@ -25,21 +26,21 @@ use std::io::{Read, Write};
 use ts_core::{Refused, Sink, Source, Time};
 use ts_store::Store;
 
-/// How a request was served.
+/// The outcome of serving a request.
 #[derive(Clone, Copy, Debug, PartialEq, Eq)]
 pub enum Served {
-    /// There was no request.
+    /// The input was empty.
     Nothing,
-    /// It was answered.
+    /// A reply was sent.
     Reply { status: Status, route: Route },
 }
 
-/// Why a request was not served.
+/// Device faults while serving a request.
 #[derive(Clone, Copy, Debug, PartialEq, Eq)]
 pub enum IoFault {
-    /// The reader failed (number 101). Nothing was done.
+    /// The reader failed. Nothing was executed.
     Reader,
-    /// The writer failed (number 102). What was asked is done, and a beginning of the reply went out.
+    /// The writer failed. The request was executed, and a beginning of the reply went out.
     Writer,
 }
 
@@ -65,7 +66,7 @@ impl From<Refused> for IoFault {
     }
 }
 
-/// A head in the bytes that came, and what it asks for.
+/// A head that is whole, with the bytes that came after it.
 #[derive(Clone, Copy, Drop)]
 struct Asked<'a> {
     route: Route,
@@ -74,7 +75,7 @@ struct Asked<'a> {
     behind: &'a [u8],
 }
 
-/// What stands before the question mark of a target, and behind it.
+/// Splits a target at its first question mark.
 fn split_target(target: &[u8]) -> (&[u8], &[u8])
     ensures path { result.0.now ≡ path_of target.now }
     ensures query { result.1.now ≡ query_of target.now }
@@ -85,7 +86,7 @@ fn split_target(target: &[u8]) -> (&[u8], &[u8])
     }
 }
 
-/// What a head asks for.
+/// Returns the parts of a head.
 fn asked_by<'a>(came: &'a [u8], found: &RequestSpans) -> Asked<'a>
     requires method { (found.now.method.start ≤ found.now.method.end) × (found.now.method.end ≤ length came.now) }
     requires path { (found.now.path.start ≤ found.now.path.end) × (found.now.path.end ≤ length came.now) }
@@ -104,7 +105,7 @@ fn asked_by<'a>(came: &'a [u8], found: &RequestSpans) -> Asked<'a>
     }
 }
 
-/// How many bytes of a body are to be read, or why the head is refused.
+/// Returns the length of the body in bytes, or the reason why the head is refused.
 fn body_len(
     came: &[u8],
     spans: &[HeaderSpan],
@@ -126,7 +127,7 @@ fn body_len(
     Ok(0)
 }
 
-/// Does what is asked.
+/// Executes a request.
 fn act(
     alloc: Global,
     store: &mut Store<Global>,
@@ -149,12 +150,13 @@ fn act(
                 body,
             },
         ),
+        Route::Maintain => maintain(alloc, store, now, asked.query),
         Route::Ping => Outcome::Done,
         Route::Other => unreachable!(),
     }
 }
 
-/// Reads the body, and does what is asked.
+/// Reads the body, and executes the request.
 fn act_on_body<R: Read>(
     alloc: Global,
     store: &mut Store<Global>,
@@ -174,7 +176,7 @@ fn act_on_body<R: Read>(
     }
 }
 
-/// Sends a reply, to HEAD or not, and tells how the request was served.
+/// Sends a reply, without a body if it is to HEAD.
 fn reply<W: Write>(
     outcome: &Outcome,
     route: Route,
@@ -192,7 +194,8 @@ fn reply<W: Write>(
     }
 }
 
-/// Serves one request at a moment: it is read whole, done, and answered.
+/// Serves one request at a moment: reads it whole, executes it, and sends the reply. Replies but the answer to a query do
+/// not allocate.
 pub fn serve_one<R: Read, W: Write>(
     alloc: Global,
     store: &mut Store<Global>,

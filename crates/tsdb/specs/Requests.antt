@@ -9,6 +9,8 @@ use Rattle.ts_http.specs.declared.serve.Served.{Served}
 -- one request: at which moment it was served, its bytes, how it was served, and the whole of its reply
 pub record Request : Type 0 where
   pub now : ℤ
+  -- how many steps the run had left once one was open
+  pub left : ℕ
   pub bytes : Text
   pub served : Served
   pub reply : Text
@@ -16,7 +18,7 @@ pub record Request : Type 0 where
 -- From `old` these requests, the newest first, may leave that.
 abbrev pub Leave : List Request → State → State → Type 0
 Leave [] old new = new ≡ old
-Leave (r ∷ rs) old new = (mid : State) × Leave rs old mid × Serves r.now mid r.bytes r.served r.reply new
+Leave (r ∷ rs) old new = (mid : State) × Leave rs old mid × Serves r.now r.left mid r.bytes r.served r.reply new
 
 -- From each state that a store was in, some requests may leave the one that it is in.
 abbrev pub WentBy : StoreData → StoreData → Type 0

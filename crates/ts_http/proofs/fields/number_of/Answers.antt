@@ -1,6 +1,6 @@
 use Rattle.std.proofs.Common.{rules, ◌≡◌}
 use Rattle.ts_http.proofs.LengthLemmas.{length_is_text, length_parses}
-use Rattle.ts_http.proofs.fields.length_of.Goals as goal
+use Rattle.ts_http.proofs.fields.number_of.Goals as goal
 
 pub unreachable-requires : goal.unreachable-requires
 unreachable-requires c = c.in_default.ensures.cases.0 (length_is_text c.args.value.now c.requires)

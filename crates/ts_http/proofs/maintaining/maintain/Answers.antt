@@ -1,0 +1,21 @@
+use Rattle.std.proofs.Common.{rules, ◌≡◌, true, ap, subst}
+use Rattle.ts_core.specs.Facts.{Text}
+use Rattle.ts_core.specs.StoreData.{StoreData}
+use Rattle.ts_http.specs.Acts.{Replied, answer_reply}
+use Rattle.ts_http.specs.Maintaining.{progress_text}
+use Rattle.ts_http.specs.MaintainSteps.{HasStepped}
+use Rattle.ts_http.specs.declared.outcome.Outcome.TheVariants.{Brief}
+use Rattle.ts_http.specs.declared.status.Status.TheVariants.{Success}
+use Rattle.ts_http.proofs.MaintainLemmas.{steps_refused, maintained}
+use Rattle.ts_http.proofs.maintaining.maintain.Goals as goal
+
+pub returns-in-Err : goal.returns-in-Err
+returns-in-Err c = steps_refused c.args.now c.args.query.now c.args.store.now c.in-Err.refusal c.in-Err.ensures
+
+pub returns : goal.returns
+returns c =
+    let k : StoreData = c.take_steps-progress.new.store in
+    let text : c.progress_note.result.bytes ≡ progress_text c.take_steps-progress.result.done k.marks.raw c.take_steps-progress.result.taken = search rules in
+    maintained c.args.now c.args.query.now c.args.store.now c.in-Ok.limit k c.take_steps-progress.result.taken c.take_steps-progress.result.done (Brief Success c.progress_note.result) c.in-Ok.ensures c.open_run.ensures.begins
+    (subst (λ (old : StoreData). HasStepped c.in-Ok.limit old k c.take_steps-progress.result.taken c.take_steps-progress.result.done) c.open_run.ensures.opened c.take_steps-progress.ensures)
+    (ap (λ (t : Text). answer_reply true t) text)

@@ -1,0 +1,116 @@
+//! `/maintain`: steps of a retention run.
+ghost use Rattle.std.specs.Prelude.{◌≡◌, OnOk, Option, true, false};
+ghost use Rattle.ts_core.specs.History.{Begin};
+ghost use Rattle.ts_core.specs.StoreData.{GoesOn};
+ghost use Rattle.ts_core.specs.StoreMoves.{run_begun};
+ghost use Rattle.ts_http.specs.Maintaining.{steps_asked, steps_in, run_opened, progress_text};
+ghost use Rattle.ts_http.specs.MaintainSteps.{HasStepped};
+ghost use Rattle.ts_http.specs.Outcomes.{IsAsked, MaintainsAs};
+ghost use Rattle.ts_reply.specs.Told.{handed_in};
+
+use crate::fields::{is_number, number_of};
+use crate::outcome::Outcome;
+use crate::parameters::first_named;
+use crate::refusal::Refusal;
+use crate::reply::Note;
+use crate::status::Status;
+use itoa::Buffer;
+use std::alloc::Global;
+use ts_core::Time;
+use ts_store::{StepAnswer, Store, View};
+
+/// The most steps that a request may ask for.
+const MAX_STEPS: usize = 10_000;
+
+/// The steps that a request took.
+#[derive(Clone, Copy, Debug, Drop)]
+struct Progress {
+    taken: usize,
+    done: bool,
+}
+
+/// Parses a number of steps: 1 to 5 digits, at most 10,000.
+fn step_count(value: &[u8]) -> Option<usize>
+    ensures { result ≡ steps_asked (Option.Some value.now) }
+{
+    if !is_number(value) || value.len() > 5 {
+        return None;
+    }
+    let count = number_of(value);
+    if count > MAX_STEPS { None } else { Some(count) }
+}
+
+/// Returns the number of steps that a request asks for.
+fn steps(alloc: Global, query: &[u8]) -> Result<usize, Refusal>
+    ensures { IsAsked (steps_in query.now) Refusal.BadSteps result }
+{
+    match first_named(alloc, query, "steps") {
+        Ok(None) => Err(Refusal::BadSteps),
+        Ok(Some(value)) => match step_count(value.as_str().as_bytes()) {
+            Some(count) => Ok(count),
+            None => Err(Refusal::BadSteps),
+        },
+        Err(_) => Err(Refusal::OutOfMemory),
+    }
+}
+
+/// Begins a run at a moment if none is open.
+fn open_run(store: &mut Store<Global>, now: Time)
+    ensures opened { store.new ≡ run_opened now store.old }
+    ensures begins { store.old.running ≡ false → GoesOn store.old (Begin now) (run_begun now store.old) }
+{
+    match store.begin(now) {
+        Ok(_) => {}
+        Err(_) => {}
+    }
+}
+
+/// Takes steps of the open run until it ends, at most `limit`.
+fn take_steps(store: &mut Store<Global>, limit: usize) -> Progress
+    requires { store.old.running ≡ true }
+    ensures { HasStepped limit store.old store.new result.taken result.done }
+{
+    for taken in 0..limit {
+        if store.step() == StepAnswer::Done {
+            return Progress {
+                taken: taken + 1,
+                done: true,
+            };
+        }
+    }
+    Progress {
+        taken: limit,
+        done: false,
+    }
+}
+
+/// Returns JSON with the steps taken, whether the run ended, and the raw mark.
+fn progress_note(progress: Progress, raw: Time) -> Note
+    ensures { result.bytes ≡ progress_text progress.done raw progress.taken }
+{
+    let mut note = Note::new();
+    note.push_str("{\"done\":");
+    note.push_str(if progress.done { "true" } else { "false" });
+    note.push_str(",\"raw\":");
+    note.push_str(Buffer::new().format(raw.nanos()));
+    note.push_str(",\"steps\":");
+    note.push_str(Buffer::new().format(progress.taken));
+    note.push_str("}");
+    note
+}
+
+/// Takes the steps that a request asks for. After the number of steps is known this does not allocate.
+pub(crate) fn maintain(alloc: Global, store: &mut Store<Global>, now: Time, query: &[u8]) -> Outcome
+    ensures { MaintainsAs now query.now store.old result store.new }
+{
+    let limit = match steps(alloc, query) {
+        Ok(limit) => limit,
+        Err(refusal) => return Outcome::Refused(refusal),
+    };
+    open_run(store, now);
+    let progress = take_steps(store, limit);
+    Outcome::Brief(
+        Status::Success,
+        progress_note(progress, store.marks().raw()),
+    )
+}
