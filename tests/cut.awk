@@ -102,7 +102,7 @@ function begin_request() {
   in_body = lines = replied = 0
 }
 
-# Ends a request and its reply, which is empty if there is no line of it.
+# Ends a request with its reply.
 function end_request() {
   if (request == "") return
   printf "\n<< %d\n", requests > (script ".out")
@@ -116,15 +116,16 @@ function put_reply(line) {
   put_part(line, script ".out")
 }
 
-# Puts a line of a head or a body.
+# Puts a line of a head or a body. Each of `N lines of TEXT` has an end in a body, too.
 function put_part(line, file) {
   if (!in_body) {
     put_line(line, "\r\n", file)
     in_body = line == ""
-  } else {
-    if (lines++ > 0) printf "\n" > file
-    put_line(line, "", file)
+    return
   }
+  if (lines > 0) printf "\n" > file
+  lines = line !~ /^[0-9]+ lines of /
+  put_line(line, lines ? "" : "\n", file)
 }
 
 # Puts a row of a page's table: the line, query or settings at fault, and the fault.

@@ -1,6 +1,7 @@
 // A library to preload: it refuses memory, lets reads and writes fail or fall short, and sets the clock of a program, as the environment says.
 //   cc -shared -fPIC -O1 -o devices.so tests/devices.c && FAIL_ALLOC=7 LD_PRELOAD=./devices.so tsdb replay
 //   FAIL_ALLOC=N                the Nth allocation is refused
+//   MOST_BYTES=N                allocations are refused while more than N bytes would be in use
 //   FAIL_READ=N, FAIL_WRITE=N   the Nth read or write fails
 //   ZERO_WRITE=N                the Nth write takes no byte
 //   SHORT_READ=N, SHORT_WRITE=N each read or write takes at most N bytes
@@ -11,6 +12,7 @@
 #define _GNU_SOURCE
 #include <errno.h>
 #include <fcntl.h>
+#include <malloc.h>
 #include <stddef.h>
 #include <stdio.h>
 #include <stdlib.h>
@@ -23,8 +25,9 @@ extern void *__libc_malloc(size_t);
 extern void *__libc_calloc(size_t, size_t);
 extern void *__libc_realloc(void *, size_t);
 extern void *__libc_memalign(size_t, size_t);
+extern void __libc_free(void *);
 
-static long allocations, reads, writes, refused_size, reads_before;
+static long allocations, bytes, reads, writes, refused_size, reads_before;
 
 // Returns the number in a variable of the environment, -1 if it isn't there.
 static long number(const char *name) {
@@ -32,9 +35,17 @@ static long number(const char *name) {
   return text ? atol(text) : -1;
 }
 
-static int is_refused(size_t size) {
-  static long refused;
-  if (refused == 0) refused = number("FAIL_ALLOC");
+// Returns whether an allocation of a size is refused, in place of an old block if there is one.
+static int is_refused(size_t size, void *old) {
+  static long refused, most;
+  if (refused == 0) {
+    refused = number("FAIL_ALLOC");
+    most = number("MOST_BYTES");
+  }
+  if (most > 0 && bytes - (long)malloc_usable_size(old) + (long)size > most) {
+    errno = ENOMEM;
+    return 1;
+  }
   if (++allocations != refused) return 0;
   refused_size = size;
   reads_before = reads;
@@ -42,10 +53,27 @@ static int is_refused(size_t size) {
   return 1;
 }
 
-void *malloc(size_t size) { return is_refused(size) ? NULL : __libc_malloc(size); }
-void *calloc(size_t count, size_t size) { return is_refused(count * size) ? NULL : __libc_calloc(count, size); }
-void *realloc(void *old, size_t size) { return is_refused(size) ? NULL : __libc_realloc(old, size); }
-void *memalign(size_t align, size_t size) { return is_refused(size) ? NULL : __libc_memalign(align, size); }
+// Counts a block that is in use from now on.
+static void *counted(void *block) {
+  bytes += malloc_usable_size(block);
+  return block;
+}
+
+void free(void *block) {
+  bytes -= malloc_usable_size(block);
+  __libc_free(block);
+}
+
+void *malloc(size_t size) { return is_refused(size, NULL) ? NULL : counted(__libc_malloc(size)); }
+void *calloc(size_t count, size_t size) { return is_refused(count * size, NULL) ? NULL : counted(__libc_calloc(count, size)); }
+void *memalign(size_t align, size_t size) { return is_refused(size, NULL) ? NULL : counted(__libc_memalign(align, size)); }
+void *realloc(void *old, size_t size) {
+  long before = malloc_usable_size(old);
+  void *block = is_refused(size, old) ? NULL : __libc_realloc(old, size);
+  if (!block) return NULL;
+  bytes -= before;
+  return counted(block);
+}
 void *aligned_alloc(size_t align, size_t size) { return memalign(align, size); }
 int posix_memalign(void **place, size_t align, size_t size) {
   void *block = memalign(align, size);
