@@ -1,0 +1,99 @@
+"""Starts `tsdb serve` on a free port and sends it requests, a connection each. The scripts of tests/ and bench/ use it."""
+import os
+import socket
+import subprocess
+import tempfile
+import time
+
+OPEN_SETTINGS = '{"raw":"INF","rules":[]}'
+
+
+def free_port():
+    with socket.socket() as probe:
+        probe.bind(('127.0.0.1', 0))
+        return probe.getsockname()[1]
+
+
+class Server:
+    """A running `tsdb serve` that ends after a number of connections, 0 for no end. A moment sets its clock (devices.c)."""
+
+    def __init__(self, program, requests=0, settings=OPEN_SETTINGS, moment=None, **variables):
+        self.folder = tempfile.TemporaryDirectory()
+        self.port = free_port()
+        self.moment = self.path('moment')
+        self.errors = open(self.path('errors'), 'w+b')
+        with open(self.path('settings'), 'w', encoding='utf8') as file:
+            file.write(settings)
+        if moment is not None:
+            self.set_moment(moment)
+            variables.update(MOMENT=self.moment, LD_PRELOAD=os.environ['DEVICES'])
+        call = [program, 'serve', self.path('settings'), self.path('image'), str(self.port), str(requests)]
+        self.process = subprocess.Popen(
+            call, env=dict(os.environ, **variables), stdin=subprocess.DEVNULL, stdout=subprocess.DEVNULL, stderr=self.errors
+        )
+
+    def path(self, name):
+        return os.path.join(self.folder.name, name)
+
+    def set_moment(self, nanoseconds):
+        """Sets the clock of a server that was started with a moment."""
+        with open(self.moment + '.new', 'w') as file:
+            file.write(str(nanoseconds))
+        os.replace(self.moment + '.new', self.moment)
+
+    def connect(self, patience=15):
+        """Returns a connection, as soon as the server listens. A refused one isn't among its requests."""
+        end = time.monotonic() + patience
+        while True:
+            try:
+                return socket.create_connection(('127.0.0.1', self.port), timeout=patience)
+            except ConnectionRefusedError:
+                if self.process.poll() is not None or time.monotonic() > end:
+                    raise
+                time.sleep(0.002)
+
+    def ask(self, request, patience=15):
+        """Returns the reply to a request behind which the client's side ends."""
+        with self.connect(patience) as peer:
+            try:
+                peer.sendall(request)
+                peer.shutdown(socket.SHUT_WR)
+            except OSError:
+                pass  # the reply came before the whole request was read
+            return everything(peer)
+
+    def wait(self, patience=30):
+        """Returns the exit status and the bytes on standard error, once the server ends by itself."""
+        status = self.process.wait(patience)
+        self.errors.seek(0)
+        return status, self.errors.read()
+
+    def __enter__(self):
+        return self
+
+    def __exit__(self, *_):
+        if self.process.poll() is None:
+            self.process.kill()
+            self.process.wait()
+        self.errors.close()
+        self.folder.cleanup()
+
+
+def everything(peer):
+    """Returns what a connection gives up to its end, or until it is reset."""
+    received = b''
+    try:
+        while more := peer.recv(65536):
+            received += more
+    except ConnectionResetError:
+        pass
+    return received
+
+
+def body_of(reply):
+    return reply.partition(b'\r\n\r\n')[2]
+
+
+def with_body(head, body):
+    """Returns a request with the lines of a head, and a body with its length."""
+    return f'{head}\r\nContent-Length: {len(body)}\r\n\r\n'.encode() + body
