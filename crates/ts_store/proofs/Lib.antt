@@ -1,6 +1,9 @@
 -- StandsFor of ts_core, LinesPut, Refusals: a store goes on standing for its history
 pub mod Stands
 pub mod RunsGoOn
+-- SizedStores
+pub mod SizesKept
+pub mod LivesGrown
 -- ColumnsKept, Registered, PointsRead: columns and their points
 pub mod ColumnsReads
 pub mod ColumnsAside

@@ -19,9 +19,8 @@ use Rattle.ts_core.specs.Marks.{Marks, marks_of}
 use Rattle.ts_core.specs.RawFacts.{same_column, raw_facts, is_waiting, kept_from}
 use Rattle.ts_core.specs.StoreStates.{ColumnPoints, StandsFor, column_of, fact_at, facts_at, facts_of}
 use Rattle.ts_core.specs.StoreData.{CellMap, StoreData, state_of, new_data, AreLive}
-use Rattle.ts_core.proofs.StoreNew.{new_stands_for}
-use Rattle.ts_core.specs.StoreMoves.{put_cells, PutsFacts, HaveRoom}
-use Rattle.ts_core.proofs.LivesKept.{no_live, lives_line, lives_grow}
+use Rattle.ts_core.specs.StoreMoves.{PutsFacts, HaveRoom, grown}
+use Rattle.ts_core.proofs.LivesKept.{no_live, lives_line}
 use Rattle.ts_core.proofs.Ids.{series_total, exact_series, equal_of}
 use Rattle.ts_core.proofs.MembersLemmas.{Among-left, Among-right, Among-map, Among-filter_passes, Among-filter_was, Among-filter_stays, AllDistinct-filter}
 use Rattle.ts_core.proofs.Folds.{length-same}
@@ -33,7 +32,7 @@ use Rattle.ts_core.proofs.Shown.{stands_shows}
 use Rattle.ts_core.proofs.ColumnFacts.{facts_of-there, facts_of-here}
 use Rattle.ts_core.proofs.MovesStand.{grows}
 use Rattle.ts_core.proofs.LineStands.{length_before, line_put}
-use Rattle.ts_core.specs.SettingsFaults.{unless, settings_fault}
+use Rattle.ts_core.specs.SettingsFaults.{unless}
 use Rattle.ts_line.specs.Parts.{LinePart, Parts, series_of, fact_of, line_facts as line_facts}
 use Rattle.ts_core.specs.Numbered.{IsAt}
 use Rattle.ts_core.proofs.NumberedLemmas.{at_among}
@@ -45,13 +44,16 @@ use Rattle.ts_store.specs.declared.fault.WriteFault.TheVariants.{BelowRawMark, T
 use Rattle.ts_store.specs.Refusals.{is_registered, is_too_many, write_fault}
 use Rattle.ts_store.specs.OpenRuns.{Run, waiting_in, kept_data, IsKept}
 use Rattle.ts_store.specs.CellCounts.{HoldFew}
+use Rattle.ts_store.specs.SizedStores.{IsSized}
 use Rattle.ts_store.specs.Rollups.{new_rollup, AreRollups, cells_of}
 use Rattle.ts_store.specs.LinesInColumns.{PutsLine, GrowsForLine}
 use Rattle.ts_store.specs.LivePuts.{StayLive}
 use Rattle.ts_store.specs.LinesPut.{Accepts, Leaves}
 use Rattle.ts_store.proofs.ColumnsAside.{names_with, same_facts}
 use Rattle.ts_store.proofs.ColumnsLemmas.{in_column}
-use Rattle.ts_store.proofs.CountsKept.{counts-put, counts-grown, counts-new, lows-length}
+use Rattle.ts_store.proofs.CountsKept.{counts-put, counts-grown, counts-new}
+use Rattle.ts_store.proofs.SizesKept.{puts_names, sized_new, sized_grown, sized_put}
+use Rattle.ts_store.proofs.LivesGrown.{lives_grown}
 
 -- ---- columns that wait
 
@@ -117,16 +119,15 @@ data_new settings marks held m h =
     (λ i. kept_data settings (m i) 0 (h i) None)
     ∙ (λ i. record { settings = settings; marks = marks_of settings []; running = false; waiting = []; series = []; columns = []; accepted = 0; cells = new_cells settings.rules i })
 
-pub kept_new : (settings : Settings) (marks : Marks) (held : Held) → settings_fault settings ≡ None → marks ≡ marks_of settings [] → held ≡ held_new settings → IsKept (kept_data settings marks 0 held None) held None
-kept_new settings marks held well m h =
-    let stands : StandsFor settings [] (state_of (kept_data settings marks 0 held None)) = subst (λ (k : StoreData). StandsFor settings [] (state_of k)) (sym (data_new settings marks held m h)) (new_stands_for settings well) in
+pub kept_new : (settings : Settings) (marks : Marks) (held : Held) → marks ≡ marks_of settings [] → held ≡ held_new settings → IsKept (kept_data settings marks 0 held None) held None
+kept_new settings marks held m h =
     let rs : List Rule = settings.rules in
     record {
       rollups = subst (λ (x : Held). AreRollups rs (map column_of x.columns) x.rollups) (sym h) (new_rollups rs);
       few = tt;
       counts = subst (λ (x : Held). HoldFew 0 x.columns rs (cells_of x.rollups)) (sym h) (subst (λ ms. HoldFew 0 [] rs ms) (sym (new_cells rs)) (counts-new rs));
       live = subst (λ (x : Held). AreLive x.columns rs (cells_of x.rollups)) (sym h) (subst (λ ms. AreLive [] rs ms) (sym (new_cells rs)) (no_live [] rs));
-      reached = record { opening = settings; history = []; stands = stands };
+      sized = subst IsSized (sym (data_new settings marks held m h)) (sized_new settings);
     }
 
 -- a store of these parts
@@ -155,6 +156,19 @@ waits settings marks n run waiting series columns ms = record {
   cells = ms;
 }
 
+-- the plain facts don't depend on which columns wait
+sized_waits : (settings : Settings) (marks : Marks) (n : ℕ) (run : Option Run) (before after : List Column) (series : List Series) (columns : List ColumnPoints) (ms : List CellMap) → IsSized (waits settings marks n run before series columns ms) → IsSized (waits settings marks n run after series columns ms)
+sized_waits settings marks n run before after series columns ms s = record {
+  accepted = s.accepted;
+  facts = s.facts;
+  columns = s.columns;
+  registered = s.registered;
+  once = s.once;
+  lows = s.lows;
+  cells = s.cells;
+  rules = s.rules;
+}
+
 -- a store that has only grown
 grown_stands : (opening : Settings) (h : History) (settings : Settings) (marks : Marks) (n : ℕ) (before : Held) (run : Option Run) (made : List Column) (facts : List Fact) (series : List Series) (columns : List ColumnPoints) (ms : List CellMap)
     → columns ≡ with_columns before.columns made → AllDistinct (map column_of columns) → ((c : Column) → Among c (map column_of columns) → Among c.series series) → HaveRoom settings.rules marks.lows facts (cells_of before.rollups) ms → IsWithin run before.columns
@@ -179,20 +193,18 @@ pub kept_left : (settings : Settings) (marks : Marks) (n : ℕ) (before after : 
     → IsKept (kept_data settings marks n after run) after run
 kept_left settings marks n before after run p kept g =
     let made : List Column = g.columns.made in
-    let reached = kept.reached in
+    let k : StoreData = kept_data settings marks n before run in
+    let same : facts_of after.columns ≡ facts_of before.columns = ap facts_of g.columns.columns ∙ same_facts before.columns made in
     record {
       rollups = g.rollups;
       few = within_more run before.columns after.columns made (ap (map column_of) g.columns.columns ∙ names_with before.columns made) kept.few;
-      counts = counts-grown n before.columns after.columns (ap facts_of g.columns.columns ∙ same_facts before.columns made) [] settings.rules marks.lows (cells_of before.rollups) (cells_of after.rollups) (lows-length reached.opening reached.history (kept_data settings marks n before run) reached.stands) g.rooms kept.counts;
-      live = lives_grow reached.opening reached.history (kept_data settings marks n before run) after.columns (cells_of after.rollups) [] reached.stands (ap facts_of g.columns.columns ∙ same_facts before.columns made) g.rooms kept.live;
-      reached = record { opening = reached.opening; history = reached.history; stands = (left_by settings marks n before after run p kept g).history reached.opening reached.history reached.stands };
+      counts = counts-grown n before.columns after.columns same [] settings.rules marks.lows (cells_of before.rollups) (cells_of after.rollups) kept.sized.lows g.rooms kept.counts;
+      live = lives_grown before.columns after.columns same settings.rules marks.lows [] (cells_of before.rollups) (cells_of after.rollups) kept.sized.lows g.rooms kept.sized.rules kept.live;
+      sized = sized_waits settings marks n run (waiting_in run before.columns) (waiting_in run after.columns) after.series after.columns (cells_of after.rollups)
+          (sized_grown k after.series after.columns (cells_of after.rollups) [] g.known.once g.known.registered same g.rooms kept.sized);
     }
 
 -- ---- a line
-
-puts_names : (rs : List Rule) (before : List ColumnPoints) (ms : List CellMap) (after : List ColumnPoints) (ns : List CellMap) (fs : List Fact) → PutsFacts rs before ms after ns fs → map column_of after ≡ map column_of before
-puts_names rs before ms after ns [] p = ap (map column_of) p.0
-puts_names rs before ms after ns (f ∷ fs) p = puts_names rs p.0 (put_cells rs f (facts_of p.0) ms) after ns fs p.2 ∙ p.1.0
 
 waiting_among : (c : Column) (ds : List Column) → is_waiting ds c ≡ true → Among c ds
 waiting_among c [] e = absurd (true≢false (sym e))
@@ -213,15 +225,6 @@ column_new before facts f a =
       | true ↦ λ e. Among-left f.column names (new_columns names facts) (waiting_among f.column names e)
       | false ↦ λ e. Among-right f.column names (new_columns names facts) (Among-filter_stays q f.column (map (λ (g : Fact). g.column) facts) there (ap not e))
     ] refl)
-
--- where room was made for facts, it is there
-room_there : (rs : List Rule) (lows : List ℤ) (facts : List Fact) (ms ns : List CellMap) → HaveRoom rs lows facts ms ns → HaveRoom rs lows facts ns ns
-room_there rs lows facts [] [] room = tt
-room_there rs lows facts [] (n ∷ ns) room = absurd room
-room_there rs lows facts (m ∷ ms) [] room = absurd room
-room_there [] lows facts (m ∷ ms) (n ∷ ns) room = tt
-room_there (r ∷ rs) [] facts (m ∷ ms) (n ∷ ns) room = tt
-room_there (r ∷ rs) (low ∷ lows) facts (m ∷ ms) (n ∷ ns) room = (record { there = room.0.there; stays = λ k e. e; parts = λ k. refl; above = λ k l. refl }, room_there rs lows facts ms ns room.1)
 
 -- the columns of a line are made, and its facts put
 line_names : (rs : List Rule) (before : List ColumnPoints) (ms : List CellMap) (after : List ColumnPoints) (ns : List CellMap) (fs : List Fact) → PutsFacts rs (with_columns before (new_columns (map column_of before) fs)) ms after ns fs → NamesMore before after (new_columns (map column_of before) fs)
@@ -259,9 +262,7 @@ accepted_by settings marks n before after run p kept put taken few =
 
 -- live parts stay those of the raw facts, when room is made
 pub stay_live : (settings : Settings) (marks : Marks) (n : ℕ) (before : Held) (run : Option Run) → IsKept (kept_data settings marks n before run) before run → StayLive settings.rules marks.lows before.columns (cells_of before.rollups)
-stay_live settings marks n before run kept = λ facts ms room.
-    let reached = kept.reached in
-    lives_grow reached.opening reached.history (kept_data settings marks n before run) before.columns ms facts reached.stands refl room kept.live
+stay_live settings marks n before run kept = λ facts ms room. lives_grown before.columns before.columns refl settings.rules marks.lows facts (cells_of before.rollups) ms kept.sized.lows room kept.sized.rules kept.live
 
 -- the store is again what it is between two calls
 pub kept_accepted : (settings : Settings) (marks : Marks) (n : ℕ) (before after : Held) (run : Option Run) (p : Parts) → IsKept (kept_data settings marks n before run) before run → PutsLine settings.rules marks.lows before after p
@@ -270,16 +271,21 @@ kept_accepted settings marks n before after run p kept put taken few =
     let fs : List Fact = line_facts p in
     let made : List Column = new_columns (map column_of before.columns) fs in
     let columns : List ColumnPoints = with_columns before.columns made in
-    let reached = kept.reached in
+    let ms : List CellMap = cells_of before.rollups in
+    let ns : List CellMap = cells_of after.rollups in
+    let k : StoreData = kept_data settings marks n before run in
     let same : facts_of columns ≡ facts_of before.columns = same_facts before.columns made in
-    let roomy : AreLive columns settings.rules put.roomy = lives_grow reached.opening reached.history (kept_data settings marks n before run) columns put.roomy fs reached.stands same put.rooms kept.live in
+    let names : map column_of after.columns ≡ map column_of columns = puts_names settings.rules columns put.roomy after.columns ns fs put.facts in
+    let roomy : AreLive columns settings.rules put.roomy = lives_grown before.columns columns same settings.rules marks.lows fs ms put.roomy kept.sized.lows put.rooms kept.sized.rules kept.live in
+    let sized : IsSized (grown after.series columns put.roomy k) =
+    sized_grown k after.series columns put.roomy fs (subst AllDistinct names put.known.once) (λ c a. put.known.registered c (subst (Among c) (sym names) a)) same put.rooms kept.sized in
     record {
       rollups = put.rollups;
-      few = within_more run before.columns after.columns made (line_names settings.rules before.columns put.roomy after.columns (cells_of after.rollups) fs put.facts) kept.few;
-      counts = counts-put n settings.rules columns put.roomy after.columns (cells_of after.rollups) fs put.facts
-          (counts-grown n before.columns columns same fs settings.rules marks.lows (cells_of before.rollups) put.roomy (lows-length reached.opening reached.history (kept_data settings marks n before run) reached.stands) put.rooms kept.counts);
-      live = lives_line settings.rules fs columns after.columns put.roomy (cells_of after.rollups) (subst AllDistinct (sym same) reached.stands.once) put.facts roomy;
-      reached = record { opening = reached.opening; history = Line fs ∷ reached.history; stands = (accepted_by settings marks n before after run p kept put taken few).history reached.opening reached.history reached.stands };
+      few = within_more run before.columns after.columns made (line_names settings.rules before.columns put.roomy after.columns ns fs put.facts) kept.few;
+      counts = counts-put n settings.rules columns put.roomy after.columns ns fs put.facts (counts-grown n before.columns columns same fs settings.rules marks.lows ms put.roomy kept.sized.lows put.rooms kept.counts);
+      live = lives_line settings.rules fs columns after.columns put.roomy ns sized.once put.facts roomy;
+      sized = sized_waits settings marks (n + length fs) run (waiting_in run before.columns) (waiting_in run after.columns) after.series after.columns ns
+          (sized_put (grown after.series columns put.roomy k) after.columns fs ms ns put.rooms put.facts few sized);
     }
 
 -- ---- what is told

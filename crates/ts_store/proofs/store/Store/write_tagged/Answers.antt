@@ -12,7 +12,6 @@ use Rattle.ts_store.specs.OpenRuns.{IsKept, kept_data}
 use Rattle.ts_store.specs.Refusals.{write_fault}
 use Rattle.ts_store.specs.LivePuts.{StayLive}
 use Rattle.ts_store.specs.Rollups.{AreRollups, cells_of}
-use Rattle.ts_store.proofs.CountsKept.{facts-within}
 use Rattle.ts_store.proofs.Stands.{series_from, accepted_by, left_by, kept_left, kept_accepted, not_refused, taken_from, stay_live}
 use Rattle.ts_store.proofs.store.Store.write_tagged.Goals as goal
 
@@ -51,8 +50,7 @@ put_line-requires-clause-fit g c =
     let line : Parts = c.args.line.now in
     let none : write_fault before.marks.raw before.facts.series before.accepted line ≡ None = ap (λ (k : StoreData). write_fault k.marks.raw k.series k.accepted line) c.self.view_is ∙ sym c.refusal.ensures ∙ c.in_default.is in
     let welcome = not_refused before.marks.raw before.facts.series before.accepted line none in
-    let reached = c.self.invariant.reached in
-    let held = facts-within reached.opening reached.history (kept_data before.settings before.marks before.accepted before.facts before.run) reached.stands in
+    let held = c.self.invariant.sized.facts in
     let few = welcome.few in
     omega (arith, held, few)
 
