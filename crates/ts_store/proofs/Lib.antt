@@ -3,6 +3,7 @@ pub mod Stands
 pub mod RunsGoOn
 -- SizedStores
 pub mod SizesKept
+pub mod SeriesLimit
 pub mod LivesGrown
 -- ColumnsKept, Registered, PointsRead: columns and their points
 pub mod ColumnsReads

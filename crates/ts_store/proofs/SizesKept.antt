@@ -171,6 +171,7 @@ pub sized_new : (opening : Settings) → IsSized (new_data opening)
 sized_new opening = record {
   accepted = omega arith;
   facts = omega arith;
+  series = omega arith;
   columns = tt;
   registered = λ c a. absurd a;
   once = tt;
@@ -183,6 +184,7 @@ pub sized_begun : (k : StoreData) (now : ℤ) → IsSized k → IsSized (run_beg
 sized_begun k now s = record {
   accepted = s.accepted;
   facts = s.facts;
+  series = s.series;
   columns = s.columns;
   registered = s.registered;
   once = s.once;
@@ -201,6 +203,7 @@ sized_moved k c ps rest s =
     record {
       accepted = s.accepted;
       facts = let most = length-left (is_left c mark) (facts_of k.columns) in let all = s.facts in omega (arith, fewer, most, all);
+      series = s.series;
       columns = subst AllDistinct (sym names) s.columns;
       registered = λ d a. s.registered d (subst (Among d) names a);
       once = subst AllDistinct (sym left) (AllDistinct-filter (is_left c mark) (facts_of k.columns) s.once);
@@ -213,6 +216,7 @@ pub sized_gone : (k : StoreData) (ms : List CellMap) → Expired k.marks.lows k.
 sized_gone k ms e s = record {
   accepted = s.accepted;
   facts = s.facts;
+  series = s.series;
   columns = s.columns;
   registered = s.registered;
   once = s.once;
@@ -225,6 +229,7 @@ pub sized_ended : (k : StoreData) → IsSized k → IsSized (run_ended k)
 sized_ended k s = record {
   accepted = s.accepted;
   facts = s.facts;
+  series = s.series;
   columns = s.columns;
   registered = s.registered;
   once = s.once;
@@ -233,11 +238,12 @@ sized_ended k s = record {
   rules = s.rules;
 }
 
-pub sized_grown : (k : StoreData) (series : List Series) (columns : List ColumnPoints) (ms : List CellMap) (facts : List Fact) → AllDistinct (map column_of columns) → ((c : Column) → Among c (map column_of columns) → Among c.series series)
+pub sized_grown : (k : StoreData) (series : List Series) (columns : List ColumnPoints) (ms : List CellMap) (facts : List Fact) → length series ≤ 1000000 → AllDistinct (map column_of columns) → ((c : Column) → Among c (map column_of columns) → Among c.series series)
     → facts_of columns ≡ facts_of k.columns → HaveRoom k.settings.rules k.marks.lows facts k.cells ms → IsSized k → IsSized (grown series columns ms k)
-sized_grown k series columns ms facts distinct registered same room s = record {
+sized_grown k series columns ms facts few distinct registered same room s = record {
   accepted = s.accepted;
   facts = subst (λ (fs : List Fact). length fs ≤ k.accepted) (sym same) s.facts;
+  series = few;
   columns = distinct;
   registered = registered;
   once = subst AllDistinct (sym same) s.once;
@@ -256,6 +262,7 @@ sized_put k columns facts ms ns room put few s =
     record {
       accepted = few;
       facts = let most = facts-put rs k.columns k.cells columns ns facts put in let all = s.facts in omega (arith, most, all);
+      series = s.series;
       columns = subst AllDistinct (sym names) s.columns;
       registered = λ c a. s.registered c (subst (Among c) names a);
       once = puts-once rs k.columns k.cells columns ns facts s.once put;

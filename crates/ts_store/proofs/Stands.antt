@@ -54,6 +54,7 @@ use Rattle.ts_store.proofs.ColumnsLemmas.{in_column}
 use Rattle.ts_store.proofs.CountsKept.{counts-put, counts-grown, counts-new}
 use Rattle.ts_store.proofs.SizesKept.{puts_names, sized_new, sized_grown, sized_put}
 use Rattle.ts_store.proofs.LivesGrown.{lives_grown}
+use Rattle.ts_store.proofs.SeriesLimit.{registered-there, registered-not, gains_few, may_gain_few}
 
 -- ---- columns that wait
 
@@ -161,6 +162,7 @@ sized_waits : (settings : Settings) (marks : Marks) (n : ℕ) (run : Option Run)
 sized_waits settings marks n run before after series columns ms s = record {
   accepted = s.accepted;
   facts = s.facts;
+  series = s.series;
   columns = s.columns;
   registered = s.registered;
   once = s.once;
@@ -189,9 +191,9 @@ left_by settings marks n before after run p kept g = record {
 }
 
 -- the store is as it was between two calls
-pub kept_left : (settings : Settings) (marks : Marks) (n : ℕ) (before after : Held) (run : Option Run) (p : Parts) → IsKept (kept_data settings marks n before run) before run → GrowsForLine settings.rules marks.lows before after p
+pub kept_left : (settings : Settings) (marks : Marks) (n : ℕ) (before after : Held) (run : Option Run) (p : Parts) → IsKept (kept_data settings marks n before run) before run → is_too_many before.series (series_of p) ≡ false → GrowsForLine settings.rules marks.lows before after p
     → IsKept (kept_data settings marks n after run) after run
-kept_left settings marks n before after run p kept g =
+kept_left settings marks n before after run p kept registers g =
     let made : List Column = g.columns.made in
     let k : StoreData = kept_data settings marks n before run in
     let same : facts_of after.columns ≡ facts_of before.columns = ap facts_of g.columns.columns ∙ same_facts before.columns made in
@@ -201,7 +203,7 @@ kept_left settings marks n before after run p kept g =
       counts = counts-grown n before.columns after.columns same [] settings.rules marks.lows (cells_of before.rollups) (cells_of after.rollups) kept.sized.lows g.rooms kept.counts;
       live = lives_grown before.columns after.columns same settings.rules marks.lows [] (cells_of before.rollups) (cells_of after.rollups) kept.sized.lows g.rooms kept.sized.rules kept.live;
       sized = sized_waits settings marks n run (waiting_in run before.columns) (waiting_in run after.columns) after.series after.columns (cells_of after.rollups)
-          (sized_grown k after.series after.columns (cells_of after.rollups) [] g.known.once g.known.registered same g.rooms kept.sized);
+          (sized_grown k after.series after.columns (cells_of after.rollups) [] (may_gain_few before.series after.series (series_of p) kept.sized.series registers g.series) g.known.once g.known.registered same g.rooms kept.sized);
     }
 
 -- ---- a line
@@ -265,9 +267,9 @@ pub stay_live : (settings : Settings) (marks : Marks) (n : ℕ) (before : Held) 
 stay_live settings marks n before run kept = λ facts ms room. lives_grown before.columns before.columns refl settings.rules marks.lows facts (cells_of before.rollups) ms kept.sized.lows room kept.sized.rules kept.live
 
 -- the store is again what it is between two calls
-pub kept_accepted : (settings : Settings) (marks : Marks) (n : ℕ) (before after : Held) (run : Option Run) (p : Parts) → IsKept (kept_data settings marks n before run) before run → PutsLine settings.rules marks.lows before after p
-    → AllByRecursion (MayBeTaken marks.raw) (line_facts p) → n + length (line_facts p) ≤ 2 ^ 62 → IsKept (kept_data settings marks (n + length (line_facts p)) after run) after run
-kept_accepted settings marks n before after run p kept put taken few =
+pub kept_accepted : (settings : Settings) (marks : Marks) (n : ℕ) (before after : Held) (run : Option Run) (p : Parts) → IsKept (kept_data settings marks n before run) before run → is_too_many before.series (series_of p) ≡ false → PutsLine settings.rules marks.lows before after p
+    → n + length (line_facts p) ≤ 2 ^ 62 → IsKept (kept_data settings marks (n + length (line_facts p)) after run) after run
+kept_accepted settings marks n before after run p kept registers put few =
     let fs : List Fact = line_facts p in
     let made : List Column = new_columns (map column_of before.columns) fs in
     let columns : List ColumnPoints = with_columns before.columns made in
@@ -278,7 +280,7 @@ kept_accepted settings marks n before after run p kept put taken few =
     let names : map column_of after.columns ≡ map column_of columns = puts_names settings.rules columns put.roomy after.columns ns fs put.facts in
     let roomy : AreLive columns settings.rules put.roomy = lives_grown before.columns columns same settings.rules marks.lows fs ms put.roomy kept.sized.lows put.rooms kept.sized.rules kept.live in
     let sized : IsSized (grown after.series columns put.roomy k) =
-    sized_grown k after.series columns put.roomy fs (subst AllDistinct names put.known.once) (λ c a. put.known.registered c (subst (Among c) (sym names) a)) same put.rooms kept.sized in
+    sized_grown k after.series columns put.roomy fs (gains_few before.series after.series (series_of p) kept.sized.series registers put.series) (subst AllDistinct names put.known.once) (λ c a. put.known.registered c (subst (Among c) (sym names) a)) same put.rooms kept.sized in
     record {
       rollups = put.rollups;
       few = within_more run before.columns after.columns made (line_names settings.rules before.columns put.roomy after.columns ns fs put.facts) kept.few;
@@ -329,23 +331,6 @@ taken_more mark [] f all one = (one, tt)
 taken_more mark (g ∷ facts) f all one = (all.0, taken_more mark facts f all.1 one)
 
 -- ---- refusals
-
-same_series : (a b : Series) → eq_by_cmp series_cmp a b ≡ true → a ≡ b
-same_series a b e = exact_series a b (equal_of (series_cmp a b) e)
-
-registered-there : (s : Series) (xs : List Series) → Among s xs → is_registered xs s ≡ true
-registered-there s [] a = absurd a
-registered-there s (x ∷ xs) a =
-    ⊎_elim {C = eq_by_cmp series_cmp s x || is_registered xs s ≡ true} (λ e. ap (λ b. b || is_registered xs s) (ap (eq_by_cmp series_cmp s) (sym e) ∙ ap is_eq (tied_itself series_total s)))
-    (λ k. ap (λ b. eq_by_cmp series_cmp s x || b) (registered-there s xs k) ∙ or_right (eq_by_cmp series_cmp s x) true refl) a
-
-registered-not : (s : Series) (xs : List Series) → (Among s xs → ⊥) → is_registered xs s ≡ false
-registered-not s [] n = refl
-registered-not s (x ∷ xs) n =
-    elim (eq_by_cmp series_cmp s x) as (λ b. eq_by_cmp series_cmp s x ≡ b → b || is_registered xs s ≡ false) [
-      | true ↦ λ e. absurd (n (inl (same_series s x e)))
-      | false ↦ λ e. registered-not s xs (λ a. n (inr a))
-    ] refl
 
 -- what is looked for in an index is registered, or not
 is_refused : (series : List Series) (s : Series) (r : Option ℕ) → IfSome r (λ id. slice_get series id ≡ Some s) → IfNone r (Among s series → ⊥) → not (is_registered series s) ≡ not (is_some r)

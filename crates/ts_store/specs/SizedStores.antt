@@ -12,11 +12,12 @@ use Rattle.ts_core.specs.StoreData.{StoreData, rules_of}
 pub record IsSizedRule (facts : List Fact) (r : RuleCells) : Type 0 where
   pub there : (f : Fact) → Among f facts → IsTrue (is_rolled r.rule f) → r.low ≤ℤ (cell_of r.rule f).index → Among (cell_of r.rule f) r.cells
 
--- No count overflows. Columns are distinct, their series are registered, and each raw fact exists once. Each rule has a low
--- index and a map of cells.
+-- No count overflows, and there are at most 1,000,000 series. Columns are distinct, their series are registered, and each
+-- raw fact exists once. Each rule has a low index and a map of cells.
 pub record IsSized (k : StoreData) : Type 0 where
   pub accepted : k.accepted ≤ 2 ^ 62
   pub facts : length (facts_of k.columns) ≤ k.accepted
+  pub series : length k.series ≤ 1000000
   pub columns : AllDistinct (map column_of k.columns)
   pub registered : (c : Column) → Among c (map column_of k.columns) → Among c.series k.series
   pub once : AllDistinct (facts_of k.columns)
