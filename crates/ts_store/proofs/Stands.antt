@@ -1,16 +1,14 @@
 -- A store goes on standing for its history, and what it tells is of that history.
-use Rattle.std.proofs.Common.{◌≡◌, ℕ, ℤ, ◌+◌, ◌<◌, ◌≤◌, ◌≤ℤ◌, ◌^◌, Bool, int_le, int_lt, Less, Equal, Greater, true, false, cond, not, ◌&&◌, ◌||◌, nat_le, List, [], ◌∷◌, ◌++◌, length, map, take, drop, replicate, refl, sym, ◌∙◌, ap, subst, inl, inr, ⊎_elim, arith, true≢false, Option, Some, None, IfSome, IfNone, is_eq}
+use Rattle.std.proofs.Common.{◌≡◌, ℕ, ℤ, ◌+◌, ◌<◌, ◌≤◌, ◌≤ℤ◌, ◌^◌, Bool, int_le, int_lt, Less, Equal, Greater, true, false, cond, not, ◌&&◌, ◌||◌, nat_le, List, [], ◌∷◌, ◌++◌, length, map, take, drop, replicate, refl, sym, ◌∙◌, ap, subst, inl, inr, arith, true≢false, Option, Some, None, IfSome, IfNone}
 use Rattle.std.specs.Option.{is_some}
 use Rattle.std.specs.FinMap as finmap
 use Rattle.std.specs.List.{slice_get, AllByRecursion}
-use Rattle.std.specs.Ordering.{eq_by_cmp, int_cmp, is_lt}
+use Rattle.std.specs.Ordering.{int_cmp, is_lt}
 use Rattle.std.proofs.lemmas.Int.{ints}
-use Rattle.std.proofs.lemmas.Cmp.{tied_itself}
-use Rattle.std.proofs.lemmas.Bool.{or_right}
 use Rattle.std.proofs.lemmas.Option.{none-some}
 use Rattle.std.proofs.lemmas.List.{append-nil, length-append, length-map, take-map, drop-map, take-append-le}
 use Rattle.ts_core.specs.Members.{Among, AllDistinct}
-use Rattle.ts_core.specs.Facts.{Text, Series, Column, Fact, series_cmp, is_within}
+use Rattle.ts_core.specs.Facts.{Text, Series, Column, Fact, is_within}
 use Rattle.ts_core.specs.Settings.{Rule, Settings}
 use Rattle.ts_core.specs.Times.{least_time}
 use Rattle.ts_core.specs.History.{History, Line, MayBeTaken, accepted, raw_mark}
@@ -21,7 +19,6 @@ use Rattle.ts_core.specs.StoreStates.{ColumnPoints, StandsFor, column_of, fact_a
 use Rattle.ts_core.specs.StoreData.{CellMap, StoreData, state_of, new_data, AreLive}
 use Rattle.ts_core.specs.StoreMoves.{PutsFacts, HaveRoom, grown}
 use Rattle.ts_core.proofs.LivesKept.{no_live, lives_line}
-use Rattle.ts_core.proofs.Ids.{series_total, exact_series, equal_of}
 use Rattle.ts_core.proofs.MembersLemmas.{Among-left, Among-right, Among-map, Among-filter_passes, Among-filter_was, Among-filter_stays, AllDistinct-filter}
 use Rattle.ts_core.proofs.Folds.{length-same}
 use Rattle.ts_core.proofs.Comparisons.{le_from, le_true, lt_not}
@@ -32,7 +29,7 @@ use Rattle.ts_core.proofs.Shown.{stands_shows}
 use Rattle.ts_core.proofs.ColumnFacts.{facts_of-there, facts_of-here}
 use Rattle.ts_core.proofs.MovesStand.{grows}
 use Rattle.ts_core.proofs.LineStands.{length_before, line_put}
-use Rattle.ts_core.specs.SettingsFaults.{unless}
+use Rattle.ts_core.specs.SettingsFaults.{unless, settings_fault}
 use Rattle.ts_line.specs.Parts.{LinePart, Parts, series_of, fact_of, line_facts as line_facts}
 use Rattle.ts_core.specs.Numbered.{IsAt}
 use Rattle.ts_core.proofs.NumberedLemmas.{at_among}
@@ -120,15 +117,15 @@ data_new settings marks held m h =
     (λ i. kept_data settings (m i) 0 (h i) None)
     ∙ (λ i. record { settings = settings; marks = marks_of settings []; running = false; waiting = []; series = []; columns = []; accepted = 0; cells = new_cells settings.rules i })
 
-pub kept_new : (settings : Settings) (marks : Marks) (held : Held) → marks ≡ marks_of settings [] → held ≡ held_new settings → IsKept (kept_data settings marks 0 held None) held None
-kept_new settings marks held m h =
+pub kept_new : (settings : Settings) (marks : Marks) (held : Held) → settings_fault settings ≡ None → marks ≡ marks_of settings [] → held ≡ held_new settings → IsKept (kept_data settings marks 0 held None) held None
+kept_new settings marks held well m h =
     let rs : List Rule = settings.rules in
     record {
       rollups = subst (λ (x : Held). AreRollups rs (map column_of x.columns) x.rollups) (sym h) (new_rollups rs);
       few = tt;
       counts = subst (λ (x : Held). HoldFew 0 x.columns rs (cells_of x.rollups)) (sym h) (subst (λ ms. HoldFew 0 [] rs ms) (sym (new_cells rs)) (counts-new rs));
       live = subst (λ (x : Held). AreLive x.columns rs (cells_of x.rollups)) (sym h) (subst (λ ms. AreLive [] rs ms) (sym (new_cells rs)) (no_live [] rs));
-      sized = subst IsSized (sym (data_new settings marks held m h)) (sized_new settings);
+      sized = subst IsSized (sym (data_new settings marks held m h)) (sized_new settings well);
     }
 
 -- a store of these parts
@@ -160,6 +157,7 @@ waits settings marks n run waiting series columns ms = record {
 -- the plain facts don't depend on which columns wait
 sized_waits : (settings : Settings) (marks : Marks) (n : ℕ) (run : Option Run) (before after : List Column) (series : List Series) (columns : List ColumnPoints) (ms : List CellMap) → IsSized (waits settings marks n run before series columns ms) → IsSized (waits settings marks n run after series columns ms)
 sized_waits settings marks n run before after series columns ms s = record {
+  settings = s.settings;
   accepted = s.accepted;
   facts = s.facts;
   series = s.series;
@@ -201,7 +199,7 @@ kept_left settings marks n before after run p kept registers g =
       rollups = g.rollups;
       few = within_more run before.columns after.columns made (ap (map column_of) g.columns.columns ∙ names_with before.columns made) kept.few;
       counts = counts-grown n before.columns after.columns same [] settings.rules marks.lows (cells_of before.rollups) (cells_of after.rollups) kept.sized.lows g.rooms kept.counts;
-      live = lives_grown before.columns after.columns same settings.rules marks.lows [] (cells_of before.rollups) (cells_of after.rollups) kept.sized.lows g.rooms kept.sized.rules kept.live;
+      live = lives_grown marks.raw before.columns after.columns same settings.rules marks.lows [] (cells_of before.rollups) (cells_of after.rollups) kept.sized.lows g.rooms kept.sized.rules kept.live;
       sized = sized_waits settings marks n run (waiting_in run before.columns) (waiting_in run after.columns) after.series after.columns (cells_of after.rollups)
           (sized_grown k after.series after.columns (cells_of after.rollups) [] (may_gain_few before.series after.series (series_of p) kept.sized.series registers g.series) g.known.once g.known.registered same g.rooms kept.sized);
     }
@@ -264,7 +262,7 @@ accepted_by settings marks n before after run p kept put taken few =
 
 -- live parts stay those of the raw facts, when room is made
 pub stay_live : (settings : Settings) (marks : Marks) (n : ℕ) (before : Held) (run : Option Run) → IsKept (kept_data settings marks n before run) before run → StayLive settings.rules marks.lows before.columns (cells_of before.rollups)
-stay_live settings marks n before run kept = λ facts ms room. lives_grown before.columns before.columns refl settings.rules marks.lows facts (cells_of before.rollups) ms kept.sized.lows room kept.sized.rules kept.live
+stay_live settings marks n before run kept = λ facts ms room. lives_grown marks.raw before.columns before.columns refl settings.rules marks.lows facts (cells_of before.rollups) ms kept.sized.lows room kept.sized.rules kept.live
 
 -- the store is again what it is between two calls
 pub kept_accepted : (settings : Settings) (marks : Marks) (n : ℕ) (before after : Held) (run : Option Run) (p : Parts) → IsKept (kept_data settings marks n before run) before run → is_too_many before.series (series_of p) ≡ false → PutsLine settings.rules marks.lows before after p
@@ -278,7 +276,7 @@ kept_accepted settings marks n before after run p kept registers put few =
     let k : StoreData = kept_data settings marks n before run in
     let same : facts_of columns ≡ facts_of before.columns = same_facts before.columns made in
     let names : map column_of after.columns ≡ map column_of columns = puts_names settings.rules columns put.roomy after.columns ns fs put.facts in
-    let roomy : AreLive columns settings.rules put.roomy = lives_grown before.columns columns same settings.rules marks.lows fs ms put.roomy kept.sized.lows put.rooms kept.sized.rules kept.live in
+    let roomy : AreLive columns settings.rules put.roomy = lives_grown marks.raw before.columns columns same settings.rules marks.lows fs ms put.roomy kept.sized.lows put.rooms kept.sized.rules kept.live in
     let sized : IsSized (grown after.series columns put.roomy k) =
     sized_grown k after.series columns put.roomy fs (gains_few before.series after.series (series_of p) kept.sized.series registers put.series) (subst AllDistinct names put.known.once) (λ c a. put.known.registered c (subst (Among c) (sym names) a)) same put.rooms kept.sized in
     record {
