@@ -9,6 +9,7 @@ pub mod ColumnsLemmas
 pub mod RollupsPut
 pub mod RollupsGrow
 pub mod RoomLemmas
+pub mod CellsMade
 pub mod RollupLemmas
 -- RollupSteps: the steps of a run
 pub mod RollupMoves
