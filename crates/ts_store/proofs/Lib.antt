@@ -1,6 +1,7 @@
 -- StandsFor of ts_core, LinesPut, Refusals: a store goes on standing for its history
 pub mod Stands
 pub mod RunsGoOn
+pub mod RawReads
 pub mod RunsStay
 -- ColumnsKept, Registered, PointsRead: columns and their points
 pub mod ColumnsReads
