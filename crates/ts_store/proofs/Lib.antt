@@ -1,6 +1,8 @@
 -- StandsFor of ts_core, LinesPut, Refusals: a store goes on standing for its history
 pub mod Stands
 pub mod RunsGoOn
+pub mod RawReads
+pub mod RunsStay
 -- SizedStores
 pub mod SizesKept
 pub mod SeriesLimit
@@ -13,6 +15,7 @@ pub mod ColumnsLemmas
 pub mod RollupsPut
 pub mod RollupsGrow
 pub mod RoomLemmas
+pub mod CellsMade
 pub mod RollupLemmas
 -- RollupSteps: the steps of a run
 pub mod RollupMoves

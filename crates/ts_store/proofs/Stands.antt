@@ -17,7 +17,7 @@ use Rattle.ts_core.specs.Marks.{Marks, marks_of}
 use Rattle.ts_core.specs.RawFacts.{same_column, raw_facts, is_waiting, kept_from}
 use Rattle.ts_core.specs.StoreStates.{ColumnPoints, StandsFor, column_of, fact_at, facts_at, facts_of}
 use Rattle.ts_core.specs.StoreData.{CellMap, StoreData, state_of, new_data, AreLive}
-use Rattle.ts_core.specs.StoreMoves.{PutsFacts, HaveRoom, grown}
+use Rattle.ts_core.specs.StoreMoves.{PutsFacts, HaveRoom, grown, put_facts}
 use Rattle.ts_core.proofs.LivesKept.{no_live, lives_line}
 use Rattle.ts_core.proofs.MembersLemmas.{Among-left, Among-right, Among-map, Among-filter_passes, Among-filter_was, Among-filter_stays, AllDistinct-filter}
 use Rattle.ts_core.proofs.Folds.{length-same}
@@ -29,6 +29,8 @@ use Rattle.ts_core.proofs.Shown.{stands_shows}
 use Rattle.ts_core.proofs.ColumnFacts.{facts_of-there, facts_of-here}
 use Rattle.ts_core.proofs.MovesStand.{grows}
 use Rattle.ts_core.proofs.LineStands.{length_before, line_put}
+use Rattle.ts_core.proofs.LeftOnData.{left-grows, left-puts}
+use Rattle.ts_core.specs.Runs.{steps_left}
 use Rattle.ts_core.specs.SettingsFaults.{unless, settings_fault}
 use Rattle.ts_line.specs.Parts.{LinePart, Parts, series_of, fact_of, line_facts as line_facts}
 use Rattle.ts_core.specs.Numbered.{IsAt}
@@ -182,11 +184,19 @@ grown_stands opening h settings marks n before run made facts series columns ms 
 -- after out of memory
 pub left_by : (settings : Settings) (marks : Marks) (n : ℕ) (before after : Held) (run : Option Run) (p : Parts) → IsKept (kept_data settings marks n before run) before run → GrowsForLine settings.rules marks.lows before after p
     → Leaves (kept_data settings marks n before run) (kept_data settings marks n after run) p
-left_by settings marks n before after run p kept g = record {
-  history = λ opening h st. grown_stands opening h settings marks n before run g.columns.made [] after.series after.columns (cells_of after.rollups) g.columns.columns g.known.once g.known.registered g.rooms kept.few st;
-  series = g.series;
-  columns = g.columns;
-}
+left_by settings marks n before after run p kept g =
+    let old : StoreData = kept_data settings marks n before run in
+    let more : NamesMore before.columns after.columns g.columns.made = ap (map column_of) g.columns.columns ∙ names_with before.columns g.columns.made in
+    let others : kept_data settings marks n after run ≡ grown after.series after.columns (cells_of after.rollups) old =
+    ap (λ ws. waits settings marks n run ws after.series after.columns (cells_of after.rollups)) (waiting_more run before.columns after.columns g.columns.made more kept.few) in
+    record {
+      history = λ opening h st. grown_stands opening h settings marks n before run g.columns.made [] after.series after.columns (cells_of after.rollups) g.columns.columns g.known.once g.known.registered g.rooms kept.few st;
+      series = g.series;
+      columns = g.columns;
+      cells = g.cells;
+      others = others;
+      left = ap (λ (k : StoreData). steps_left (state_of k)) others ∙ left-grows old after.series after.columns (cells_of after.rollups) [] g.rooms;
+    }
 
 -- the store is as it was between two calls
 pub kept_left : (settings : Settings) (marks : Marks) (n : ℕ) (before after : Held) (run : Option Run) (p : Parts) → IsKept (kept_data settings marks n before run) before run → is_too_many before.series (series_of p) ≡ false → GrowsForLine settings.rules marks.lows before after p
@@ -240,24 +250,33 @@ write_stands opening h settings marks n before after run p put taken few within 
     let made : List Column = new_columns (map column_of before.columns) fs in
     let columns : List ColumnPoints = with_columns before.columns made in
     let names : map column_of after.columns ≡ map column_of columns = puts_names settings.rules columns put.roomy after.columns (cells_of after.rollups) fs put.facts in
-    let grown : StandsFor opening h (state_of (data_of settings marks n run after.series columns put.roomy)) =
+    let room : StandsFor opening h (state_of (data_of settings marks n run after.series columns put.roomy)) =
     grown_stands opening h settings marks n before run made fs after.series columns put.roomy refl (subst AllDistinct names put.known.once) (λ c a. put.known.registered c (subst (Among c) (sym names) a)) put.rooms within st in
     let mark : marks.raw ≡ raw_mark opening h = ap (λ (m : Marks). m.raw) st.marks in
     let more = length_before fs (accepted h) in
     let none : NamesMore columns after.columns [] = names ∙ sym (append-nil (map column_of columns)) in
     subst (λ ws. StandsFor opening (Line fs ∷ h) (state_of (waits settings marks (n + length fs) run ws after.series after.columns (cells_of after.rollups))))
     (sym (waiting_more run columns after.columns [] none (within_more run before.columns columns made (names_with before.columns made) within)))
-    (line_put opening h (data_of settings marks n run after.series columns put.roomy) after.columns fs (cells_of before.rollups) (cells_of after.rollups) grown put.rooms
+    (line_put opening h (data_of settings marks n run after.series columns put.roomy) after.columns fs (cells_of before.rollups) (cells_of after.rollups) room put.rooms
     (λ f a. column_new before.columns fs f a) put.facts (st.lawful, subst (λ (m : ℤ). AllByRecursion (MayBeTaken m) fs) mark taken, omega (arith, st.accepted, more, few)))
 
 pub accepted_by : (settings : Settings) (marks : Marks) (n : ℕ) (before after : Held) (run : Option Run) (p : Parts) → IsKept (kept_data settings marks n before run) before run → PutsLine settings.rules marks.lows before after p
     → AllByRecursion (MayBeTaken marks.raw) (line_facts p) → n + length (line_facts p) ≤ 2 ^ 62 → Accepts (kept_data settings marks n before run) (kept_data settings marks (n + length (line_facts p)) after run) p
 accepted_by settings marks n before after run p kept put taken few =
     let fs : List Fact = line_facts p in
+    let made : List Column = new_columns (map column_of before.columns) fs in
+    let old : StoreData = kept_data settings marks n before run in
+    let others : kept_data settings marks (n + length fs) after run ≡ put_facts after.columns (cells_of after.rollups) (length fs) (grown after.series after.columns (cells_of after.rollups) old) =
+    ap (λ ws. waits settings marks (n + length fs) run ws after.series after.columns (cells_of after.rollups))
+    (waiting_more run before.columns after.columns made (line_names settings.rules before.columns put.roomy after.columns (cells_of after.rollups) fs put.facts) kept.few) in
+    let roomy : StoreData = grown after.series (with_columns before.columns made) put.roomy old in
     record {
       history = λ opening h st. write_stands opening h settings marks n before after run p put taken few kept.few st;
       series = put.series;
-      columns = puts_names settings.rules (with_columns before.columns (new_columns (map column_of before.columns) fs)) put.roomy after.columns (cells_of after.rollups) fs put.facts;
+      columns = puts_names settings.rules (with_columns before.columns made) put.roomy after.columns (cells_of after.rollups) fs put.facts;
+      cells = put.cells;
+      others = others;
+      left = ap (λ (k : StoreData). steps_left (state_of k)) others ∙ left-puts roomy after.columns fs (cells_of after.rollups) (length fs) put.facts ∙ left-grows old after.series (with_columns before.columns made) put.roomy fs put.rooms;
     }
 
 -- live parts stay those of the raw facts, when room is made

@@ -3,6 +3,7 @@ use Rattle.std.specs.Bool.{OnFalse}
 use Rattle.ts_core.specs.RawFacts.{raw_facts}
 use Rattle.ts_core.specs.StoreStates.{facts_of}
 use Rattle.ts_core.specs.StoreData.{StoreData, OfEachHistory}
+use Rattle.ts_store.proofs.RawReads.{raw_count}
 use Rattle.ts_store.proofs.Stands.{idle_stands}
 use Rattle.ts_store.proofs.store.Store.raw_points.Goals as goal
 
@@ -19,3 +20,6 @@ returns-clause-facts g c =
       | true ↦ λ runs. tt
       | false ↦ λ idle opening h st. c.raw_points.ensures ∙ ap (λ (k : StoreData). length (facts_of k.columns)) c.self.view_is ∙ idle_stands opening h now idle st
     ] refl
+
+pub returns-clause-raw : goal.returns-clause-raw
+returns-clause-raw g c = λ opening h st. c.raw_points.ensures ∙ ap (λ (k : StoreData). length (facts_of k.columns)) c.self.view_is ∙ raw_count opening h c.args.self.now st
