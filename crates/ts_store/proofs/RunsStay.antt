@@ -1,4 +1,4 @@
--- What a step of a run leaves as it is: settings, the order of columns, the number of accepted facts; and it creates no cell.
+-- A step of a run keeps settings, the order of columns and the number of accepted facts, and creates no cell.
 use Rattle.std.proofs.Common.{◌≡◌, ◌≢◌, ◌⊎◌, ℤ, List, [], ◌∷◌, map, refl, sym, ◌∙◌, subst, ⊎_elim, Some, None}
 use Rattle.std.specs.FinMap as finmap
 use Rattle.std.proofs.lemmas.Option.{none-some}

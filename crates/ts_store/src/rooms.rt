@@ -10,8 +10,8 @@ use std::alloc::{AllocError, Allocator};
 use ts_core::{Rule, Time, index_of};
 use ts_raw::ColumnId;
 
-/// Makes room under a rule for the cells of points of columns at one time, if that is not below the low index. After out of
-/// memory, there is room for those of the first columns.
+/// Makes room under a rule for the cells of points of columns at one time, if that is not below the low index. After
+/// out of memory, there is room for those of the first columns.
 fn make_rooms_of<A: Allocator + Copy>(
     rule: &Rule<A>,
     low: &i128,
@@ -35,8 +35,8 @@ fn make_rooms_of<A: Allocator + Copy>(
     Ok(())
 }
 
-/// Makes room under each rule for the cells of points of columns at one time, from its low index on. After out of memory,
-/// there is room for some of them.
+/// Makes room under each rule for the cells of points of columns at one time, from its low index on. After out of
+/// memory, there is room for some of them.
 pub(crate) fn make_rooms<A: Allocator + Copy>(
     rules: &[Rule<A>],
     lows: &[i128],
