@@ -5,6 +5,8 @@ pub mod RawReads
 pub mod RunsStay
 -- SizedStores
 pub mod SizesKept
+-- CellIndices
+pub mod IndicesKept
 pub mod SeriesLimit
 pub mod LivesGrown
 -- ColumnsKept, Registered, PointsRead: columns and their points

@@ -1,5 +1,5 @@
 -- A store goes on standing for its history, and what it tells is of that history.
-use Rattle.std.proofs.Common.{◌≡◌, ℕ, ℤ, ◌+◌, ◌<◌, ◌≤◌, ◌≤ℤ◌, ◌^◌, Bool, int_le, int_lt, Less, Equal, Greater, true, false, cond, not, ◌&&◌, ◌||◌, nat_le, List, [], ◌∷◌, ◌++◌, length, map, take, drop, replicate, refl, sym, ◌∙◌, ap, subst, inl, inr, arith, true≢false, Option, Some, None, IfSome, IfNone}
+use Rattle.std.proofs.Common.{◌≡◌, ℕ, ℤ, ◌+◌, ◌<◌, ◌≤◌, ◌≤ℤ◌, ◌^◌, Bool, int_le, int_lt, Less, Equal, Greater, true, false, cond, not, ◌&&◌, ◌||◌, nat_le, List, [], ◌∷◌, ◌++◌, length, map, take, drop, replicate, refl, sym, ◌∙◌, ap, subst, inl, inr, ⊎_elim, arith, true≢false, Option, Some, None, IfSome, IfNone}
 use Rattle.std.specs.Option.{is_some}
 use Rattle.std.specs.FinMap as finmap
 use Rattle.std.specs.List.{slice_get, AllByRecursion}
@@ -44,6 +44,7 @@ use Rattle.ts_store.specs.Refusals.{is_registered, is_too_many, write_fault}
 use Rattle.ts_store.specs.OpenRuns.{Run, waiting_in, kept_data, IsKept}
 use Rattle.ts_store.specs.CellCounts.{HoldFew}
 use Rattle.ts_store.specs.SizedStores.{IsSized}
+use Rattle.ts_store.specs.CellIndices.{HaveIndices}
 use Rattle.ts_store.specs.Rollups.{new_rollup, AreRollups, cells_of}
 use Rattle.ts_store.specs.LinesInColumns.{PutsLine, GrowsForLine}
 use Rattle.ts_store.specs.LivePuts.{StayLive}
@@ -53,6 +54,7 @@ use Rattle.ts_store.proofs.ColumnsLemmas.{in_column}
 use Rattle.ts_store.proofs.CountsKept.{counts-put, counts-grown, counts-new}
 use Rattle.ts_store.proofs.SizesKept.{puts_names, sized_new, sized_grown, sized_put}
 use Rattle.ts_store.proofs.LivesGrown.{lives_grown}
+use Rattle.ts_store.proofs.IndicesKept.{indices_new, taken_valid, indices_gained, indices_put}
 use Rattle.ts_store.proofs.SeriesLimit.{registered-there, registered-not, gains_few, may_gain_few}
 
 -- ---- columns that wait
@@ -127,6 +129,7 @@ kept_new settings marks held well m h =
       few = tt;
       counts = subst (λ (x : Held). HoldFew 0 x.columns rs (cells_of x.rollups)) (sym h) (subst (λ ms. HoldFew 0 [] rs ms) (sym (new_cells rs)) (counts-new rs));
       live = subst (λ (x : Held). AreLive x.columns rs (cells_of x.rollups)) (sym h) (subst (λ ms. AreLive [] rs ms) (sym (new_cells rs)) (no_live [] rs));
+      indices = subst (λ (x : Held). HaveIndices rs (cells_of x.rollups)) (sym h) (subst (HaveIndices rs) (sym (new_cells rs)) (indices_new rs));
       sized = subst IsSized (sym (data_new settings marks held m h)) (sized_new settings well);
     }
 
@@ -210,6 +213,8 @@ kept_left settings marks n before after run p kept registers g =
       few = within_more run before.columns after.columns made (ap (map column_of) g.columns.columns ∙ names_with before.columns made) kept.few;
       counts = counts-grown n before.columns after.columns same [] settings.rules marks.lows (cells_of before.rollups) (cells_of after.rollups) kept.sized.lows g.rooms kept.counts;
       live = lives_grown marks.raw before.columns after.columns same settings.rules marks.lows [] (cells_of before.rollups) (cells_of after.rollups) kept.sized.lows g.rooms kept.sized.rules kept.live;
+      indices = ⊎_elim {C = HaveIndices settings.rules (cells_of after.rollups)} (λ e. subst (HaveIndices settings.rules) (sym e) kept.indices)
+          (λ taken. indices_gained (line_facts p) (taken_valid least_time (line_facts p) taken) settings.rules marks.lows (cells_of before.rollups) (cells_of after.rollups) kept.sized.lows g.cells kept.indices) g.taken;
       sized = sized_waits settings marks n run (waiting_in run before.columns) (waiting_in run after.columns) after.series after.columns (cells_of after.rollups)
           (sized_grown k after.series after.columns (cells_of after.rollups) [] (may_gain_few before.series after.series (series_of p) kept.sized.series registers g.series) g.known.once g.known.registered same g.rooms kept.sized);
     }
@@ -303,6 +308,7 @@ kept_accepted settings marks n before after run p kept registers put few =
       few = within_more run before.columns after.columns made (line_names settings.rules before.columns put.roomy after.columns ns fs put.facts) kept.few;
       counts = counts-put n settings.rules columns put.roomy after.columns ns fs put.facts (counts-grown n before.columns columns same fs settings.rules marks.lows ms put.roomy kept.sized.lows put.rooms kept.counts);
       live = lives_line settings.rules fs columns after.columns put.roomy ns sized.once put.facts roomy;
+      indices = indices_put fs (taken_valid least_time fs put.taken) settings.rules marks.lows ms ns kept.sized.lows put.cells kept.indices;
       sized = sized_waits settings marks (n + length fs) run (waiting_in run before.columns) (waiting_in run after.columns) after.series after.columns ns
           (sized_put (grown after.series columns put.roomy k) after.columns fs ms ns put.rooms put.facts few sized);
     }

@@ -16,6 +16,7 @@ pub mod Rooms
 pub mod CellCounts
 pub mod OpenRuns
 pub mod SizedStores
+pub mod CellIndices
 pub mod LivePoints
 pub mod LivePuts
 pub mod LiveCells

@@ -1,5 +1,5 @@
 -- What a line leaves in columns and in what is kept for rules: its facts are put, or there was no memory. (Own rules.)
-use Rattle.std.specs.Prelude.{◌≡◌, ℕ, ℤ, List, [], map, Result, OnOk}
+use Rattle.std.specs.Prelude.{◌≡◌, ◌⊎◌, ℕ, ℤ, List, [], map, Result, OnOk}
 use Rattle.std.specs.List.{AllByRecursion}
 use Rattle.ts_core.specs.Settings.{Rule}
 use Rattle.ts_core.specs.Times.{least_time}
@@ -47,3 +47,5 @@ pub record GrowsForLine (rules : List Rule) (lows : List ℤ) (old new : Held) (
   pub rollups : AreRollups rules (map column_of new.columns) new.rollups
   pub rooms : HaveRoom rules lows [] (cells_of old.rollups) (cells_of new.rollups)
   pub cells : OfEachRule (GainsCells (line_facts p)) rules lows (cells_of old.rollups) (cells_of new.rollups)
+  -- cells are created only for facts that may be taken
+  pub taken : (cells_of new.rollups ≡ cells_of old.rollups) ⊎ AllByRecursion (MayBeTaken least_time) (line_facts p)

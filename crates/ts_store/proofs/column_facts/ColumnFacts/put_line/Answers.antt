@@ -1,9 +1,11 @@
-use Rattle.std.proofs.Common.{◌≡◌, ◌∙◌, List, [], ℕ, ℤ, length, map, ap, sym, subst, inl, inr, refl, ◌<◌, arith}
+use Rattle.std.proofs.Common.{◌≡◌, ◌⊎◌, ◌∙◌, List, [], ℕ, ℤ, length, map, ap, sym, subst, inl, inr, refl, ◌<◌, arith}
 use Rattle.std.specs.Vec.{with_items}
 use Rattle.std.proofs.lemmas.List.{append-nil, with_items_is, length-map}
 use Rattle.ts_core.specs.Members.{AllDistinct}
 use Rattle.ts_core.specs.Facts.{Series, Column, Fact}
 use Rattle.ts_core.specs.Settings.{Rule}
+use Rattle.ts_core.specs.Times.{least_time}
+use Rattle.ts_core.specs.History.{MayBeTaken}
 use Rattle.ts_core.specs.StoreStates.{ColumnPoints, column_of, facts_of}
 use Rattle.ts_core.specs.StoreMoves.{PutsFacts, HaveRoom}
 use Rattle.ts_line.specs.Parts.{LinePart, Parts, series_of, fact_of, line_facts}
@@ -51,8 +53,8 @@ still_rollups rules old before after states us was same held have =
 grown : (rules : List Rule) (lows : List ℤ) (p : Parts) (key : Series) (old : Held) (before between after : Indexed) (states states' : List ColumnState) (us us' us'' : List RollupState) → key ≡ series_of p → held_of before states us ≡ old
     → MayGain before.series between.series key → between.columns ≡ before.columns → after.series ≡ between.series → MakesFirst (columns_in between states) (columns_in after states') (line_facts p)
     → IsHeld after states' → us'' ≡ us' → AreRollups rules after.columns us' → HaveRoom rules lows [] (cells_of us) (cells_of us')
-    → OfEachRule (GainsCells (line_facts p)) rules lows (cells_of us) (cells_of us') → GrowsForLine rules lows old (held_of after states' us'') p
-grown rules lows p key old before between after states states' us us' us'' named was gains same series made held is rollups rooms cells =
+    → OfEachRule (GainsCells (line_facts p)) rules lows (cells_of us) (cells_of us') → (cells_of us' ≡ cells_of us) ⊎ AllByRecursion (MayBeTaken least_time) (line_facts p) → GrowsForLine rules lows old (held_of after states' us'') p
+grown rules lows p key old before between after states states' us us' us'' named was gains same series made held is rollups rooms cells taken =
     subst (λ (h : Held). GrowsForLine rules lows h (held_of after states' us'') p) was
     (subst (λ (vs : List RollupState). GrowsForLine rules lows (held_of before states us) (held_of after states' vs) p) (sym is) (record {
       series = subst (λ (xs : List Series). MayGain before.series xs (series_of p)) (sym series) (subst (MayGain before.series between.series) named gains);
@@ -61,6 +63,7 @@ grown rules lows p key old before between after states states' us us' us'' named
       rollups = rollups_held rules after states' us' held.each rollups;
       rooms = rooms;
       cells = cells;
+      taken = taken;
     }))
 
 pub put_points-requires-clause-ready : goal.put_points-requires-clause-ready
@@ -203,7 +206,7 @@ returns-in-Err-clause-err g c =
     grown c.args.rules.now c.args.lows.now c.args.line.now c.args.key.now c.args.self.now before after after states states us us us c.requires.key c.self.view_is (inl c.in-Err.ensures.registered.kept) c.register.ensures.columns refl
     (none_made (columns_in after states) (line_facts c.args.line.now)) (still_held before after states c.register.ensures.sound c.register.ensures.columns c.self.invariant) refl
     (still_rollups c.args.rules.now c.args.self.now before after states us c.self.view_is c.register.ensures.columns c.self.invariant c.requires.rollups) (rooms_same c.args.rules.now c.args.lows.now (cells_of us))
-    (gain_nothing (line_facts c.args.line.now) c.args.rules.now c.args.lows.now (cells_of us))
+    (gain_nothing (line_facts c.args.line.now) c.args.rules.now c.args.lows.now (cells_of us)) (inl refl)
 
 pub returns-in_err-reserve-clause-err : goal.returns-in_err-reserve-clause-err
 returns-in_err-reserve-clause-err g c =
@@ -215,7 +218,7 @@ returns-in_err-reserve-clause-err g c =
     (grown c.args.rules.now c.args.lows.now c.args.line.now c.args.key.now c.args.self.now before after after states states us us us c.requires.key c.self.view_is (inr c.in-Ok.ensures.registered.gains) c.register.ensures.columns refl
     (none_made (columns_in after states) (line_facts c.args.line.now)) (still_held before after states c.register.ensures.sound c.register.ensures.columns c.self.invariant) refl
     (still_rollups c.args.rules.now c.args.self.now before after states us c.self.view_is c.register.ensures.columns c.self.invariant c.requires.rollups) (rooms_same c.args.rules.now c.args.lows.now (cells_of us))
-    (gain_nothing (line_facts c.args.line.now) c.args.rules.now c.args.lows.now (cells_of us)))
+    (gain_nothing (line_facts c.args.line.now) c.args.rules.now c.args.lows.now (cells_of us)) (inl refl))
 
 pub returns-in_err-prepare_line-clause-err : goal.returns-in_err-prepare_line-clause-err
 returns-in_err-prepare_line-clause-err g c =
@@ -227,7 +230,7 @@ returns-in_err-prepare_line-clause-err g c =
     c.prepare_line.ensures.line.held (with_items_is c.self.inside.rollups us long) c.prepare_line.ensures.rollups
     (subst (λ (ms : List CellMap). HaveRoom c.args.rules.now c.args.lows.now [] ms (cells_of us)) (c.prepare_line.ensures.cells ∙ ap cells_of c.as_mut_slice.ensures.value) (rooms_same c.args.rules.now c.args.lows.now (cells_of us)))
     (subst (λ (ms : List CellMap). OfEachRule (GainsCells (line_facts c.args.line.now)) c.args.rules.now c.args.lows.now ms (cells_of us)) (c.prepare_line.ensures.cells ∙ ap cells_of c.as_mut_slice.ensures.value)
-    (gain_nothing (line_facts c.args.line.now) c.args.rules.now c.args.lows.now (cells_of us))))
+    (gain_nothing (line_facts c.args.line.now) c.args.rules.now c.args.lows.now (cells_of us))) (inl (c.prepare_line.ensures.cells ∙ ap cells_of c.as_mut_slice.ensures.value)))
 
 pub returns-in_err-make_rooms-clause-err : goal.returns-in_err-make_rooms-clause-err
 returns-in_err-make_rooms-clause-err g c =
@@ -247,4 +250,4 @@ returns-in_err-make_rooms-clause-err g c =
     (rollups_stay c.args.rules.now c.prepare_line.new.index.columns c.prepare_line.new.rollups us c.prepare_line.ensures.rollups (subst (λ (xs : List RollupState). KeepLanes xs us) lent c.make_rooms.ensures.lanes))
     (subst (λ (ms : List CellMap). HaveRoom c.args.rules.now c.args.lows.now [] ms (cells_of us)) before (part_rooms c.args.rules.now c.args.lows.now c.time.result ns c.prepare_line.new.rollups us part))
     (line_gains c.args.rules.now c.args.lows.now c.prepare_line.new.index.columns c.prepare_line.new.columns.items c.args.line.now c.time.result ns (cells_of c.self.inside.rollups.items) c.prepare_line.new.rollups us c.prepare_line.ensures.rollups
-    c.in_ok-prepare_line.ensures.line.aside c.time.ensures before part))
+    c.in_ok-prepare_line.ensures.line.aside c.time.ensures before part) (inr c.in_ok-prepare_line.ensures.line.taken))
