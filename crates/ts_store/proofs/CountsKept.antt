@@ -1,28 +1,20 @@
--- No cell comes to hold more facts than were accepted, and no more facts are kept than that.
-use Rattle.std.proofs.Common.{◌≡◌, ℕ, ℤ, ◌+◌, ◌≤◌, ◌^◌, Bool, true, false, cond, sym, ◌∙◌, List, [], ◌∷◌, ◌++◌, length, filter, map, refl, ap, subst, inl, inr, ⊎_elim, arith}
+-- No cell holds more facts than were accepted, and a line adds at most its own facts.
+use Rattle.std.proofs.Common.{◌≡◌, ℕ, ℤ, ◌+◌, ◌≤◌, Bool, true, false, cond, sym, List, [], ◌∷◌, ◌++◌, length, filter, map, refl, ap, subst, inl, inr, ⊎_elim, arith}
 use Rattle.std.specs.FinMap as finmap
 use Rattle.std.specs.FinMap.{get-empty}
-use Rattle.std.proofs.lemmas.List.{length-append, length-map}
+use Rattle.std.proofs.lemmas.List.{length-append}
 use Rattle.ts_core.specs.Members.{Among, AllDistinct}
 use Rattle.ts_core.specs.Facts.{Fact}
-use Rattle.ts_core.specs.Settings.{Rule, Settings}
-use Rattle.ts_core.specs.History.{History, accepted}
-use Rattle.ts_core.specs.Latest.{latest_of}
+use Rattle.ts_core.specs.Settings.{Rule}
 use Rattle.ts_core.specs.Aggregates.{Aggregate}
 use Rattle.ts_core.specs.Cells.{Cell, cell_cmp, cell_of, is_rolled, is_in_cell, total_of}
 use Rattle.ts_core.specs.Changes.{or_else}
-use Rattle.ts_core.specs.MergeLaws.{aggregate_laws}
-use Rattle.ts_core.specs.StoreStates.{ColumnPoints, CellParts, StandsFor, facts_of, rule_of, lowest_of}
+use Rattle.ts_core.specs.StoreStates.{ColumnPoints, CellParts, facts_of}
 use Rattle.ts_core.specs.TwoParts.{with_live}
-use Rattle.ts_core.specs.StoreData.{CellMap, StoreData, no_parts, rules_of, state_of}
+use Rattle.ts_core.specs.StoreData.{CellMap, no_parts}
 use Rattle.ts_core.specs.StoreMoves.{Puts, refolded, put_cell, put_cells, PutsFacts, HaveRoom}
 use Rattle.ts_core.proofs.MembersLemmas.{Split, split_at, out_of_middle, Among-filter_was, Among-filter_passes, Among-filter_stays, AllDistinct-filter}
-use Rattle.ts_core.proofs.Cuts.{one_fact}
 use Rattle.ts_core.proofs.Freezing.{frozen_in, changed_as}
-use Rattle.ts_core.proofs.Folds.{fold-count}
-use Rattle.ts_core.proofs.Latests.{latest-was}
-use Rattle.ts_core.proofs.StateLemmas.{StandsFor-Holds}
-use Rattle.ts_core.proofs.StepStands.{few_accepted, count_few}
 use Rattle.ts_store.specs.CellCounts.{frozen_count, live_count, HoldFew}
 
 -- ---- how many more by one more fact
@@ -101,33 +93,15 @@ counts-new (r ∷ rs) = (
   counts-new rs,
 )
 
--- ---- how many rules and low indices there are
-
-pub rules-length : (opening : Settings) (h : History) (k : StoreData) → StandsFor opening h (state_of k) → length (rules_of k.settings.rules k.marks.lows k.cells) ≡ length k.settings.rules
-rules-length opening h k st = sym (length-map (rules_of k.settings.rules k.marks.lows k.cells) rule_of) ∙ ap length st.rules
-
-pub lows-length : (opening : Settings) (h : History) (k : StoreData) → StandsFor opening h (state_of k) → length k.marks.lows ≡ length k.settings.rules
-lows-length opening h k st = sym (ap (λ (xs : List ℤ). length xs) st.lows) ∙ length-map (rules_of k.settings.rules k.marks.lows k.cells) lowest_of ∙ rules-length opening h k st
-
--- ---- what a store keeps
-
-pub accepted-few : (opening : Settings) (h : History) (k : StoreData) → StandsFor opening h (state_of k) → k.accepted ≤ 2 ^ 62
-accepted-few opening h k st = let few = few_accepted opening h st.lawful in omega (arith, st.accepted, few)
+-- ---- all facts
 
 all_pass : (fs : List Fact) → filter (λ (f : Fact). true) fs ≡ fs
 all_pass [] = refl
 all_pass (f ∷ fs) = ap (λ gs. f ∷ gs) (all_pass fs)
 
-pub facts-few : (opening : Settings) (h : History) (k : StoreData) → StandsFor opening h (state_of k) → length (facts_of k.columns) ≤ 2 ^ 62
-facts-few opening h k st =
-    let held = StandsFor-Holds opening h (state_of k) st in
-    let some = length-within (facts_of k.columns) (latest_of h) st.once (λ f a. (held.only f a).0) in
-    let few = count_few opening h st.lawful (λ f. true) in
-    let count = fold-count aggregate_laws one_fact (λ f. refl) (filter (λ (f : Fact). true) (latest_of h)) in
-    omega (arith, some, few, count, ap length (all_pass (latest_of h)))
-
-pub facts-within : (opening : Settings) (h : History) (k : StoreData) → StandsFor opening h (state_of k) → length (facts_of k.columns) ≤ k.accepted
-facts-within opening h k st =
-    let held = StandsFor-Holds opening h (state_of k) st in
-    let some = length-within (facts_of k.columns) (accepted h) st.once (λ f a. latest-was (accepted h) f (held.only f a).0) in
-    omega (arith, some, st.accepted)
+pub facts-put : (rs : List Rule) (before : List ColumnPoints) (ms : List CellMap) (after : List ColumnPoints) (ns : List CellMap) (fs : List Fact) → PutsFacts rs before ms after ns fs → length (facts_of after) ≤ length (facts_of before) + length fs
+facts-put rs before ms after ns fs put =
+    let most = puts_all (λ (f : Fact). true) rs before ms after ns fs put in
+    let new = ap (λ (gs : List Fact). length gs) (all_pass (facts_of after)) in
+    let old = ap (λ (gs : List Fact). length gs) (all_pass (facts_of before)) in
+    omega (arith, most, new, old)

@@ -1,6 +1,14 @@
 -- StandsFor of ts_core, LinesPut, Refusals: a store goes on standing for its history
 pub mod Stands
 pub mod RunsGoOn
+pub mod RawReads
+pub mod RunsStay
+-- SizedStores
+pub mod SizesKept
+-- CellIndices
+pub mod IndicesKept
+pub mod SeriesLimit
+pub mod LivesGrown
 -- ColumnsKept, Registered, PointsRead: columns and their points
 pub mod ColumnsReads
 pub mod ColumnsAside
@@ -9,6 +17,7 @@ pub mod ColumnsLemmas
 pub mod RollupsPut
 pub mod RollupsGrow
 pub mod RoomLemmas
+pub mod CellsMade
 pub mod RollupLemmas
 -- RollupSteps: the steps of a run
 pub mod RollupMoves

@@ -3,8 +3,8 @@ use Rattle.std.proofs.Common.{◌≡◌, ℕ, ℤ, ◌<◌, List, [], ◌∷◌,
 use Rattle.ts_core.specs.StoreData.{CellMap}
 use Rattle.ts_cells.specs.Expiry.{Removes, IsAbove, LosesBelow}
 use Rattle.ts_store.specs.Rollups.{RollupState, with_frozen, cells_of}
-use Rattle.ts_store.specs.RollupSteps.{with_frozen_all, FirstLoses}
-use Rattle.ts_store.specs.WholeRuns.{AreAbove}
+use Rattle.ts_store.specs.RollupSteps.{with_frozen_all}
+use Rattle.ts_store.specs.WholeRuns.{AreAbove, FirstLoses}
 
 pub same_lanes : (ss : List RollupState) → ss ≡ with_frozen_all (cells_of ss) ss
 same_lanes [] = refl

@@ -13,9 +13,11 @@ use Rattle.ts_raw.specs.Columns.{ColumnState}
 use Rattle.ts_raw.specs.Indexed.{Indexed}
 use Rattle.ts_store.specs.ColumnsKept.{columns_in, AreAside}
 use Rattle.ts_store.specs.Rollups.{RollupState, AreRollups, cells_of}
-use Rattle.ts_store.specs.Rooms.{roomed_under}
+use Rattle.ts_store.specs.Rooms.{roomed_under, AreRoomedInPart}
+use Rattle.ts_store.specs.LinesPut.{OfEachRule, GainsCells}
 use Rattle.ts_store.proofs.ColumnsLemmas.{names_held}
-use Rattle.ts_store.proofs.RoomLemmas.{AreAt, rooms_made}
+use Rattle.ts_store.proofs.RoomLemmas.{AreAt, rooms_made, all_now}
+use Rattle.ts_store.proofs.CellsMade.{parts_gain}
 
 -- the names of an index's columns are those of its columns with their points
 pub rollups_held : (rs : List Rule) (index : Indexed) (ss : List ColumnState) (us : List RollupState) → length ss ≡ length index.columns → AreRollups rs index.columns us → AreRollups rs (map column_of (columns_in index ss)) us
@@ -47,3 +49,15 @@ line_rooms rs lows cs ss p time ns old us ts h a at same made =
     let rooms : HaveRoom rs lows fs (cells_of us) (cells_of (roomed_under rs lows p.time ns us)) = rooms_made rs lows cs p.time ns fs us h (aside_at cs ss p.time ns fs (line_time p p.fields) a) in
     subst (λ (ms : List CellMap). HaveRoom rs lows fs ms (cells_of ts)) same
     (subst (λ (xs : List RollupState). HaveRoom rs lows fs (cells_of us) (cells_of xs)) (sym (made ∙ ap (λ (t : ℤ). roomed_under rs lows t ns us) at)) rooms)
+
+-- and no other cell is created, even if room is made for some of them only
+pub line_gains : (rs : List Rule) (lows : List ℤ) (cs : List Column) (ss : List ColumnState) (p : Parts) (time : ℤ) (ns : List ℕ) (old : List CellMap) (us ts : List RollupState) → AreRollups rs cs us → AreAside cs ss ns (line_facts p) → time ≡ p.time
+    → cells_of us ≡ old → AreRoomedInPart rs lows time ns us ts → OfEachRule (GainsCells (line_facts p)) rs lows old (cells_of ts)
+line_gains rs lows cs ss p time ns old us ts h a at same part =
+    let fs : List Fact = line_facts p in
+    subst (λ (ms : List CellMap). OfEachRule (GainsCells fs) rs lows ms (cells_of ts)) same
+    (parts_gain rs lows cs p.time ns fs us ts h (aside_at cs ss p.time ns fs (line_time p p.fields) a) (subst (λ (t : ℤ). AreRoomedInPart rs lows t ns us ts) at part))
+
+-- for all of them
+pub all_gained : (rs : List Rule) (lows : List ℤ) (time : ℤ) (ns : List ℕ) (us ts : List RollupState) → ts ≡ roomed_under rs lows time ns us → AreRoomedInPart rs lows time ns us ts
+all_gained rs lows time ns us ts made = subst (AreRoomedInPart rs lows time ns us) (sym made) (all_now rs lows time ns us)

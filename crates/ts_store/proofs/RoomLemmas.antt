@@ -1,7 +1,8 @@
 -- Room for the cells of facts, made column after column.
-use Rattle.std.proofs.Common.{◌≡◌, ◌≤ℤ◌, ◌<ℤ◌, int_lt, Result, Ok, Err, OnErr, ℕ, zero, suc, ℤ, true, false, cond, List, [], ◌∷◌, length, get_or, Option, Some, None, refl, sym, ◌∙◌, ap, subst, inl, ⊎_elim, true≢false, arith}
+use Rattle.std.proofs.Common.{◌≡◌, ◌≤ℤ◌, ◌<ℤ◌, int_lt, Result, Ok, Err, OnErr, ℕ, zero, suc, ℤ, true, false, cond, List, [], ◌∷◌, ◌++◌, ◌+◌, ◌<◌, length, take, get_or, Option, Some, None, refl, sym, ◌∙◌, ap, subst, inl, ⊎_elim, true≢false, arith}
 use Rattle.std.specs.FinMap as finmap
 use Rattle.std.specs.List.{slice_get}
+use Rattle.std.proofs.lemmas.List.{take_more, take_all}
 use Rattle.std.proofs.lemmas.Option.{get_or_from_slice_get, none-some, same_Some}
 use Rattle.ts_core.specs.Facts.{Column, Fact}
 use Rattle.ts_core.specs.Members.{Among}
@@ -18,7 +19,7 @@ use Rattle.ts_cells.specs.CellChanges.{roomy}
 use Rattle.ts_cells.specs.Grids.{Lane, no_lane, cell_at, cell_in}
 use Rattle.ts_cells.proofs.GridMoves.{get-roomy}
 use Rattle.ts_store.specs.Rollups.{RollupState, cells_of, lane_under, IsLaneOf, HaveLanes, AreRollups, with_frozen, roomed_in, lane_at}
-use Rattle.ts_store.specs.Rooms.{roomed_for, roomed_from, roomed_under, KeepLanes}
+use Rattle.ts_store.specs.Rooms.{roomed_for, roomed_from, roomed_under, IsRoomedInPart, AreRoomedInPart, KeepLanes}
 
 -- the facts are of the columns of these numbers, and of one time
 abbrev pub AreAt : List Column → ℤ → List ℕ → List Fact → Type 0
@@ -188,44 +189,20 @@ rollups_stay (r ∷ rs) cs (s ∷ ss) (t ∷ ts) h k = (
 
 -- ---- step by step
 
+-- first some columns, then others
+roomed_more : (index : ℤ) (ns ms : List ℕ) (s : RollupState) → roomed_for index (ns ++ ms) s ≡ roomed_for index ms (roomed_for index ns s)
+roomed_more index [] ms s = refl
+roomed_more index (n ∷ ns) ms s = roomed_more index ns ms (with_frozen (roomed_in s (lane_at s n) index) s)
+
 -- room for one column more
-pub next_roomed : (r : Rule) (low : ℤ) (s t u : RollupState) (index : ℤ) (n : ℕ) → low ≤ℤ index → u ≡ with_frozen (roomed_in t (lane_at t n) index) t → t ≡ with_frozen t.grid.cells s → HasRoom r low [] s.grid.cells t.grid.cells
-    → (u ≡ with_frozen u.grid.cells s) × HasRoom r low [] s.grid.cells u.grid.cells
-next_roomed r low s t u index n above made kept room =
+pub next_roomed : (s t u : RollupState) (index : ℤ) (ns : List ℕ) (i n : ℕ) → i < length ns → n ≡ get_or ns i 0 → u ≡ with_frozen (roomed_in t (lane_at t n) index) t → t ≡ with_frozen t.grid.cells s → t ≡ roomed_for index (take i ns) s
+    → (u ≡ with_frozen u.grid.cells s) × (u ≡ roomed_for index (take (i + 1) ns) s)
+next_roomed s t u index ns i n within at made kept before =
     let cells : u.grid.cells ≡ roomed_in t (lane_at t n) index = ap (λ (x : RollupState). x.grid.cells) made in (
       made ∙ ap (with_frozen (roomed_in t (lane_at t n) index)) kept ∙ ap (λ m. with_frozen m s) (sym cells),
-      subst (HasRoom r low [] s.grid.cells) (sym cells) (room_then r low [] s.grid.cells t.grid.cells (roomed_in t (lane_at t n) index) room (roomed_room r low t (lane_at t n) index above)),
+      made ∙ ap (roomed_for index (n ∷ [])) before ∙ sym (roomed_more index (take i ns) (n ∷ []) s)
+          ∙ ap (λ ms. roomed_for index ms s) (ap (λ m. take i ns ++ m ∷ []) at ∙ sym (take_more ns i 0 within)),
     )
-
--- without memory for the first rule
-pub room_begins : (r : Rule) (low : ℤ) (rs rs' : List Rule) (lows lows' : List ℤ) (s t : RollupState) (ss ss' : List RollupState) → rs' ≡ r ∷ rs → lows' ≡ low ∷ lows → ss' ≡ s ∷ ss → HasRoom r low [] s.grid.cells t.grid.cells
-    → HaveRoom rs' lows' [] (cells_of ss') (cells_of (t ∷ ss))
-room_begins r low rs rs' lows lows' s t ss ss' e d f room =
-    subst (λ (qs : List Rule). HaveRoom qs lows' [] (cells_of ss') (cells_of (t ∷ ss))) (sym e)
-    (subst (λ (ls : List ℤ). HaveRoom (r ∷ rs) ls [] (cells_of ss') (cells_of (t ∷ ss))) (sym d)
-    (subst (λ (us : List RollupState). HaveRoom (r ∷ rs) (low ∷ lows) [] (cells_of us) (cells_of (t ∷ ss))) (sym f) (room, rooms_same rs lows (cells_of ss))))
-
-pub kept_rooms : (r : Rule) (low index : ℤ) (ns : List ℕ) (s : RollupState) → low ≤ℤ index → HasRoom r low [] s.grid.cells (roomed_for index ns s).grid.cells
-kept_rooms r low index [] s above = room_same r low s.grid.cells
-kept_rooms r low index (n ∷ ns) s above =
-    room_then r low [] s.grid.cells (roomed_in s (lane_at s n) index) (roomed_for index (n ∷ ns) s).grid.cells (roomed_room r low s (lane_at s n) index above) (kept_rooms r low index ns (with_frozen (roomed_in s (lane_at s n) index) s) above)
-
-kept_from : (r : Rule) (low index : ℤ) (ns : List ℕ) (s : RollupState) → HasRoom r low [] s.grid.cells (roomed_from low index ns s).grid.cells
-kept_from r low index ns s =
-    elim (int_lt index low) as (λ b. int_lt index low ≡ b → HasRoom r low [] s.grid.cells (cond b s (roomed_for index ns s)).grid.cells) [
-      | true ↦ λ e. room_same r low s.grid.cells
-      | false ↦ λ e. kept_rooms r low index ns s (lt_not index low e)
-    ] refl
-
--- without memory for a rule behind the first
-pub room_stays : {T E : Type 0} (result : Result T E) (r : Rule) (low : ℤ) (rs rs' : List Rule) (lows lows' : List ℤ) (time : ℤ) (ns : List ℕ) (s t : RollupState) (ss ss' ts : List RollupState) → rs' ≡ r ∷ rs → lows' ≡ low ∷ lows → ss' ≡ s ∷ ss
-    → t ≡ roomed_from low (index_of r time) ns s → OnErr result (HaveRoom rs lows [] (cells_of ss) (cells_of ts)) → OnErr result (HaveRoom rs' lows' [] (cells_of ss') (cells_of (t ∷ ts)))
-room_stays (Ok x) r low rs rs' lows lows' time ns s t ss ss' ts e d f made rooms = tt
-room_stays (Err x) r low rs rs' lows lows' time ns s t ss ss' ts e d f made rooms =
-    subst (λ (qs : List Rule). HaveRoom qs lows' [] (cells_of ss') (cells_of (t ∷ ts))) (sym e)
-    (subst (λ (ls : List ℤ). HaveRoom (r ∷ rs) ls [] (cells_of ss') (cells_of (t ∷ ts))) (sym d)
-    (subst (λ (us : List RollupState). HaveRoom (r ∷ rs) (low ∷ lows) [] (cells_of us) (cells_of (t ∷ ts))) (sym f)
-    (subst (λ (u : RollupState). HasRoom r low [] s.grid.cells u.grid.cells) (sym made) (kept_from r low (index_of r time) ns s), rooms)))
 
 -- by the low index
 pub roomed_above : (low index : ℤ) (ns : List ℕ) (s : RollupState) → low ≤ℤ index → roomed_from low index ns s ≡ roomed_for index ns s
@@ -237,3 +214,69 @@ roomed_above low index ns s above =
 
 pub roomed_below : (low index : ℤ) (ns : List ℕ) (s : RollupState) → index <ℤ low → roomed_from low index ns s ≡ s
 roomed_below low index ns s below = ap (λ b. cond b s (roomed_for index ns s)) (lt_true index low below)
+
+-- ---- room for some of the columns
+
+pub some_roomed : (r : Rule) (low time : ℤ) (ns : List ℕ) (i : ℕ) (s t : RollupState) → low ≤ℤ index_of r time → t ≡ roomed_for (index_of r time) (take i ns) s → IsRoomedInPart r low time ns s t
+some_roomed r low time ns i s t above made = (i, made ∙ sym (roomed_above low (index_of r time) (take i ns) s above))
+
+none_roomed_yet : (r : Rule) (low time : ℤ) (ns : List ℕ) (s : RollupState) → IsRoomedInPart r low time ns s s
+none_roomed_yet r low time ns s = (0, elim (int_lt (index_of r time) low) as (λ b. s ≡ cond b s s) [ true ↦ refl | false ↦ refl ])
+
+none_yet : (rs : List Rule) (lows : List ℤ) (time : ℤ) (ns : List ℕ) (ss : List RollupState) → AreRoomedInPart rs lows time ns ss ss
+none_yet [] lows time ns ss = refl
+none_yet (r ∷ rs) [] time ns ss = refl
+none_yet (r ∷ rs) (low ∷ lows) time ns [] = refl
+none_yet (r ∷ rs) (low ∷ lows) time ns (s ∷ ss) = (none_roomed_yet r low time ns s, none_yet rs lows time ns ss)
+
+all_roomed_now : (r : Rule) (low time : ℤ) (ns : List ℕ) (s : RollupState) → IsRoomedInPart r low time ns s (roomed_from low (index_of r time) ns s)
+all_roomed_now r low time ns s = (length ns, ap (λ ms. roomed_from low (index_of r time) ms s) (sym (take_all (length ns) ns (omega arith))))
+
+-- for all of them
+pub all_now : (rs : List Rule) (lows : List ℤ) (time : ℤ) (ns : List ℕ) (ss : List RollupState) → AreRoomedInPart rs lows time ns ss (roomed_under rs lows time ns ss)
+all_now [] lows time ns ss = refl
+all_now (r ∷ rs) [] time ns ss = refl
+all_now (r ∷ rs) (low ∷ lows) time ns [] = refl
+all_now (r ∷ rs) (low ∷ lows) time ns (s ∷ ss) = (all_roomed_now r low time ns s, all_now rs lows time ns ss)
+
+-- out of memory under the first rule
+pub room_begins : (r : Rule) (low : ℤ) (rs rs' : List Rule) (lows lows' : List ℤ) (time : ℤ) (ns : List ℕ) (s t : RollupState) (ss ss' : List RollupState) → rs' ≡ r ∷ rs → lows' ≡ low ∷ lows → ss' ≡ s ∷ ss → IsRoomedInPart r low time ns s t
+    → AreRoomedInPart rs' lows' time ns ss' (t ∷ ss)
+room_begins r low rs rs' lows lows' time ns s t ss ss' e d f room =
+    subst (λ (qs : List Rule). AreRoomedInPart qs lows' time ns ss' (t ∷ ss)) (sym e)
+    (subst (λ (ls : List ℤ). AreRoomedInPart (r ∷ rs) ls time ns ss' (t ∷ ss)) (sym d)
+    (subst (λ (us : List RollupState). AreRoomedInPart (r ∷ rs) (low ∷ lows) time ns us (t ∷ ss)) (sym f) (room, none_yet rs lows time ns ss)))
+
+-- out of memory under a later rule
+pub room_stays : {T E : Type 0} (result : Result T E) (r : Rule) (low : ℤ) (rs rs' : List Rule) (lows lows' : List ℤ) (time : ℤ) (ns : List ℕ) (s t : RollupState) (ss ss' ts : List RollupState) → rs' ≡ r ∷ rs → lows' ≡ low ∷ lows → ss' ≡ s ∷ ss
+    → t ≡ roomed_from low (index_of r time) ns s → OnErr result (AreRoomedInPart rs lows time ns ss ts) → OnErr result (AreRoomedInPart rs' lows' time ns ss' (t ∷ ts))
+room_stays (Ok x) r low rs rs' lows lows' time ns s t ss ss' ts e d f made rooms = tt
+room_stays (Err x) r low rs rs' lows lows' time ns s t ss ss' ts e d f made rooms =
+    subst (λ (qs : List Rule). AreRoomedInPart qs lows' time ns ss' (t ∷ ts)) (sym e)
+    (subst (λ (ls : List ℤ). AreRoomedInPart (r ∷ rs) ls time ns ss' (t ∷ ts)) (sym d)
+    (subst (λ (us : List RollupState). AreRoomedInPart (r ∷ rs) (low ∷ lows) time ns us (t ∷ ts)) (sym f)
+    (subst (IsRoomedInPart r low time ns s) (sym made) (all_roomed_now r low time ns s), rooms)))
+
+-- ---- each has room for no facts
+
+kept_rooms : (r : Rule) (low index : ℤ) (ns : List ℕ) (s : RollupState) → low ≤ℤ index → HasRoom r low [] s.grid.cells (roomed_for index ns s).grid.cells
+kept_rooms r low index [] s above = room_same r low s.grid.cells
+kept_rooms r low index (n ∷ ns) s above =
+    room_then r low [] s.grid.cells (roomed_in s (lane_at s n) index) (roomed_for index (n ∷ ns) s).grid.cells (roomed_room r low s (lane_at s n) index above) (kept_rooms r low index ns (with_frozen (roomed_in s (lane_at s n) index) s) above)
+
+kept_from : (r : Rule) (low index : ℤ) (ns : List ℕ) (s : RollupState) → HasRoom r low [] s.grid.cells (roomed_from low index ns s).grid.cells
+kept_from r low index ns s =
+    elim (int_lt index low) as (λ b. int_lt index low ≡ b → HasRoom r low [] s.grid.cells (cond b s (roomed_for index ns s)).grid.cells) [
+      | true ↦ λ e. room_same r low s.grid.cells
+      | false ↦ λ e. kept_rooms r low index ns s (lt_not index low e)
+    ] refl
+
+pub part_rooms : (rs : List Rule) (lows : List ℤ) (time : ℤ) (ns : List ℕ) (ss ts : List RollupState) → AreRoomedInPart rs lows time ns ss ts → HaveRoom rs lows [] (cells_of ss) (cells_of ts)
+part_rooms [] lows time ns ss ts a = subst (λ (us : List RollupState). HaveRoom [] lows [] (cells_of ss) (cells_of us)) (sym a) (rooms_same [] lows (cells_of ss))
+part_rooms (r ∷ rs) [] time ns ss ts a = subst (λ (us : List RollupState). HaveRoom (r ∷ rs) [] [] (cells_of ss) (cells_of us)) (sym a) (rooms_same (r ∷ rs) [] (cells_of ss))
+part_rooms (r ∷ rs) (low ∷ lows) time ns [] ts a = subst (λ (us : List RollupState). HaveRoom (r ∷ rs) (low ∷ lows) [] [] (cells_of us)) (sym a) tt
+part_rooms (r ∷ rs) (low ∷ lows) time ns (s ∷ ss) [] a = absurd a
+part_rooms (r ∷ rs) (low ∷ lows) time ns (s ∷ ss) (t ∷ ts) a = (
+  subst (λ (u : RollupState). HasRoom r low [] s.grid.cells u.grid.cells) (sym a.0.1) (kept_from r low (index_of r time) (take a.0.0 ns) s),
+  part_rooms rs lows time ns ss ts a.1,
+)

@@ -15,7 +15,7 @@ use Rattle.ts_core.specs.Cells.{Cell, is_in_cell}
 use Rattle.ts_core.specs.Changes.{or_else}
 use Rattle.ts_core.specs.StoreStates.{ColumnPoints, CellParts, column_of, facts_of}
 use Rattle.ts_core.specs.StoreData.{CellMap, StoreData, no_parts, rule_cells, rules_of, state_of, IsLive, AreLive}
-use Rattle.ts_core.specs.Views.{RuleTotals, totals_in, seen_of}
+use Rattle.ts_core.specs.Views.{RuleTotals, totals_in, seen_of, seen_rule}
 use Rattle.ts_core.proofs.Cuts.{one_fact}
 use Rattle.ts_core.proofs.Folds.{fold-count}
 use Rattle.ts_core.proofs.MembersLemmas.{Among-filter_was}
@@ -29,7 +29,6 @@ use Rattle.ts_store.specs.OpenRuns.{Run, IsKept, kept_data}
 use Rattle.ts_store.specs.LiveCells.{walked_cell, walked_cells, rollup_at, cells_of_rule, IsWhole, AreWhole, IsRuled}
 use Rattle.ts_store.specs.Rollups.{RollupState, new_rollup, cells_of}
 use Rattle.ts_store.specs.Seats.{CellTotal, with_total, cells_within, cells_at, no_rule}
-use Rattle.ts_store.proofs.CountsKept.{accepted-few, lows-length}
 use Rattle.ts_store.proofs.RollupsGrow.{rollups-length}
 
 -- ---- cells of a map
@@ -116,6 +115,19 @@ shown_at (x ∷ rs) (low ∷ lows) (y ∷ ss) (suc n) r s at here l = shown_at r
 
 -- ---- of a whole store
 
+-- each rule is shown
+pub rules-length : (rs : List Rule) (lows : List ℤ) (ms : List CellMap) → length lows ≡ length rs → length ms ≡ length rs → length (rules_of rs lows ms) ≡ length rs
+rules-length [] lows ms e f = refl
+rules-length (r ∷ rs) [] ms e f = absurd (omega (arith, e))
+rules-length (r ∷ rs) (low ∷ lows) [] e f = absurd (omega (arith, f))
+rules-length (r ∷ rs) (low ∷ lows) (m ∷ ms) e f = ap suc (rules-length rs lows ms (omega (arith, e)) (omega (arith, f)))
+
+pub rules-shown : (rs : List Rule) (lows : List ℤ) (ms : List CellMap) → length lows ≡ length rs → length ms ≡ length rs → map seen_rule (map totals_in (rules_of rs lows ms)) ≡ rs
+rules-shown [] lows ms e f = refl
+rules-shown (r ∷ rs) [] ms e f = absurd (omega (arith, e))
+rules-shown (r ∷ rs) (low ∷ lows) [] e f = absurd (omega (arith, f))
+rules-shown (r ∷ rs) (low ∷ lows) (m ∷ ms) e f = ap (λ (xs : List Rule). r ∷ xs) (rules-shown rs lows ms (omega (arith, e)) (omega (arith, f)))
+
 rule_few : (n m : ℕ) (columns : List ColumnPoints) (r : Rule) (cells : CellMap) → n ≤ m → HoldsFew n columns r cells → HoldsFew m columns r cells
 rule_few n m columns r cells more few = λ k. let f = few k in omega (arith, f, more)
 
@@ -126,13 +138,12 @@ store_ruled k held run n r kept columns cells there read =
     let below : n < length held.rollups = let l = rollups-length rs (map column_of held.columns) held.rollups kept.rollups in omega (arith, l, there) in
     let at : IsAt rs n r = slice_get-get_or rs n r there ∙ ap Some (sym read) in
     let here : IsAt held.rollups n (rollup_at held.rollups n) = slice_get-get_or held.rollups n new_rollup below in
-    let reached = kept.reached in
     let counts : HoldFew k.accepted held.columns rs (cells_of held.rollups) = subst (λ ms. HoldFew k.accepted held.columns rs ms) cells (subst (λ cs. HoldFew k.accepted cs rs k.cells) columns kept.counts) in
     let live : AreLive held.columns rs (cells_of held.rollups) = subst (λ ms. AreLive held.columns rs ms) cells (subst (λ cs. AreLive cs rs k.cells) columns kept.live) in
     record {
       there = below;
       live = live_at held.columns rs held.rollups n r (rollup_at held.rollups n) live at here;
-      few = rule_few k.accepted (2 ^ 62) held.columns r (rollup_at held.rollups n).grid.cells (accepted-few reached.opening reached.history k reached.stands)
+      few = rule_few k.accepted (2 ^ 62) held.columns r (rollup_at held.rollups n).grid.cells kept.sized.accepted
           (few_at k.accepted held.columns rs held.rollups n r (rollup_at held.rollups n) counts at here);
     }
 
@@ -144,8 +155,7 @@ store_shows settings marks accepted held run n r a b kept there read =
     let below : n < length held.rollups = let l = rollups-length rs (map column_of held.columns) held.rollups kept.rollups in omega (arith, l, there) in
     let at : IsAt rs n r = slice_get-get_or rs n r there ∙ ap Some (sym read) in
     let here : IsAt held.rollups n (rollup_at held.rollups n) = slice_get-get_or held.rollups n new_rollup below in
-    let reached = kept.reached in
-    let shown = shown_at rs marks.lows held.rollups n r (rollup_at held.rollups n) at here (lows-length reached.opening reached.history (kept_data settings marks accepted held run) reached.stands) in
+    let shown = shown_at rs marks.lows held.rollups n r (rollup_at held.rollups n) at here kept.sized.lows in
     sym (ap (λ (t : RuleTotals). cells_within t a b) shown.1)
 
 -- ---- a walk over the cells of the rule of a number

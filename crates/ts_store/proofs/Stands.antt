@@ -1,16 +1,14 @@
 -- A store goes on standing for its history, and what it tells is of that history.
-use Rattle.std.proofs.Common.{◌≡◌, ℕ, ℤ, ◌+◌, ◌<◌, ◌≤◌, ◌≤ℤ◌, ◌^◌, Bool, int_le, int_lt, Less, Equal, Greater, true, false, cond, not, ◌&&◌, ◌||◌, nat_le, List, [], ◌∷◌, ◌++◌, length, map, take, drop, replicate, refl, sym, ◌∙◌, ap, subst, inl, inr, ⊎_elim, arith, true≢false, Option, Some, None, IfSome, IfNone, is_eq}
+use Rattle.std.proofs.Common.{◌≡◌, ℕ, ℤ, ◌+◌, ◌<◌, ◌≤◌, ◌≤ℤ◌, ◌^◌, Bool, int_le, int_lt, Less, Equal, Greater, true, false, cond, not, ◌&&◌, ◌||◌, nat_le, List, [], ◌∷◌, ◌++◌, length, map, take, drop, replicate, refl, sym, ◌∙◌, ap, subst, inl, inr, ⊎_elim, arith, true≢false, Option, Some, None, IfSome, IfNone}
 use Rattle.std.specs.Option.{is_some}
 use Rattle.std.specs.FinMap as finmap
 use Rattle.std.specs.List.{slice_get, AllByRecursion}
-use Rattle.std.specs.Ordering.{eq_by_cmp, int_cmp, is_lt}
+use Rattle.std.specs.Ordering.{int_cmp, is_lt}
 use Rattle.std.proofs.lemmas.Int.{ints}
-use Rattle.std.proofs.lemmas.Cmp.{tied_itself}
-use Rattle.std.proofs.lemmas.Bool.{or_right}
 use Rattle.std.proofs.lemmas.Option.{none-some}
 use Rattle.std.proofs.lemmas.List.{append-nil, length-append, length-map, take-map, drop-map, take-append-le}
 use Rattle.ts_core.specs.Members.{Among, AllDistinct}
-use Rattle.ts_core.specs.Facts.{Text, Series, Column, Fact, series_cmp, is_within}
+use Rattle.ts_core.specs.Facts.{Text, Series, Column, Fact, is_within}
 use Rattle.ts_core.specs.Settings.{Rule, Settings}
 use Rattle.ts_core.specs.Times.{least_time}
 use Rattle.ts_core.specs.History.{History, Line, MayBeTaken, accepted, raw_mark}
@@ -19,10 +17,8 @@ use Rattle.ts_core.specs.Marks.{Marks, marks_of}
 use Rattle.ts_core.specs.RawFacts.{same_column, raw_facts, is_waiting, kept_from}
 use Rattle.ts_core.specs.StoreStates.{ColumnPoints, StandsFor, column_of, fact_at, facts_at, facts_of}
 use Rattle.ts_core.specs.StoreData.{CellMap, StoreData, state_of, new_data, AreLive}
-use Rattle.ts_core.proofs.StoreNew.{new_stands_for}
-use Rattle.ts_core.specs.StoreMoves.{put_cells, PutsFacts, HaveRoom}
-use Rattle.ts_core.proofs.LivesKept.{no_live, lives_line, lives_grow}
-use Rattle.ts_core.proofs.Ids.{series_total, exact_series, equal_of}
+use Rattle.ts_core.specs.StoreMoves.{PutsFacts, HaveRoom, grown, put_facts}
+use Rattle.ts_core.proofs.LivesKept.{no_live, lives_line}
 use Rattle.ts_core.proofs.MembersLemmas.{Among-left, Among-right, Among-map, Among-filter_passes, Among-filter_was, Among-filter_stays, AllDistinct-filter}
 use Rattle.ts_core.proofs.Folds.{length-same}
 use Rattle.ts_core.proofs.Comparisons.{le_from, le_true, lt_not}
@@ -33,6 +29,8 @@ use Rattle.ts_core.proofs.Shown.{stands_shows}
 use Rattle.ts_core.proofs.ColumnFacts.{facts_of-there, facts_of-here}
 use Rattle.ts_core.proofs.MovesStand.{grows}
 use Rattle.ts_core.proofs.LineStands.{length_before, line_put}
+use Rattle.ts_core.proofs.LeftOnData.{left-grows, left-puts}
+use Rattle.ts_core.specs.Runs.{steps_left}
 use Rattle.ts_core.specs.SettingsFaults.{unless, settings_fault}
 use Rattle.ts_line.specs.Parts.{LinePart, Parts, series_of, fact_of, line_facts as line_facts}
 use Rattle.ts_core.specs.Numbered.{IsAt}
@@ -45,13 +43,19 @@ use Rattle.ts_store.specs.declared.fault.WriteFault.TheVariants.{BelowRawMark, T
 use Rattle.ts_store.specs.Refusals.{is_registered, is_too_many, write_fault}
 use Rattle.ts_store.specs.OpenRuns.{Run, waiting_in, kept_data, IsKept}
 use Rattle.ts_store.specs.CellCounts.{HoldFew}
+use Rattle.ts_store.specs.SizedStores.{IsSized}
+use Rattle.ts_store.specs.CellIndices.{HaveIndices}
 use Rattle.ts_store.specs.Rollups.{new_rollup, AreRollups, cells_of}
 use Rattle.ts_store.specs.LinesInColumns.{PutsLine, GrowsForLine}
 use Rattle.ts_store.specs.LivePuts.{StayLive}
 use Rattle.ts_store.specs.LinesPut.{Accepts, Leaves}
 use Rattle.ts_store.proofs.ColumnsAside.{names_with, same_facts}
 use Rattle.ts_store.proofs.ColumnsLemmas.{in_column}
-use Rattle.ts_store.proofs.CountsKept.{counts-put, counts-grown, counts-new, lows-length}
+use Rattle.ts_store.proofs.CountsKept.{counts-put, counts-grown, counts-new}
+use Rattle.ts_store.proofs.SizesKept.{puts_names, sized_new, sized_grown, sized_put}
+use Rattle.ts_store.proofs.LivesGrown.{lives_grown}
+use Rattle.ts_store.proofs.IndicesKept.{indices_new, taken_valid, indices_gained, indices_put}
+use Rattle.ts_store.proofs.SeriesLimit.{registered-there, registered-not, gains_few, may_gain_few}
 
 -- ---- columns that wait
 
@@ -119,14 +123,14 @@ data_new settings marks held m h =
 
 pub kept_new : (settings : Settings) (marks : Marks) (held : Held) → settings_fault settings ≡ None → marks ≡ marks_of settings [] → held ≡ held_new settings → IsKept (kept_data settings marks 0 held None) held None
 kept_new settings marks held well m h =
-    let stands : StandsFor settings [] (state_of (kept_data settings marks 0 held None)) = subst (λ (k : StoreData). StandsFor settings [] (state_of k)) (sym (data_new settings marks held m h)) (new_stands_for settings well) in
     let rs : List Rule = settings.rules in
     record {
       rollups = subst (λ (x : Held). AreRollups rs (map column_of x.columns) x.rollups) (sym h) (new_rollups rs);
       few = tt;
       counts = subst (λ (x : Held). HoldFew 0 x.columns rs (cells_of x.rollups)) (sym h) (subst (λ ms. HoldFew 0 [] rs ms) (sym (new_cells rs)) (counts-new rs));
       live = subst (λ (x : Held). AreLive x.columns rs (cells_of x.rollups)) (sym h) (subst (λ ms. AreLive [] rs ms) (sym (new_cells rs)) (no_live [] rs));
-      reached = record { opening = settings; history = []; stands = stands };
+      indices = subst (λ (x : Held). HaveIndices rs (cells_of x.rollups)) (sym h) (subst (HaveIndices rs) (sym (new_cells rs)) (indices_new rs));
+      sized = subst IsSized (sym (data_new settings marks held m h)) (sized_new settings well);
     }
 
 -- a store of these parts
@@ -155,6 +159,21 @@ waits settings marks n run waiting series columns ms = record {
   cells = ms;
 }
 
+-- the plain facts don't depend on which columns wait
+sized_waits : (settings : Settings) (marks : Marks) (n : ℕ) (run : Option Run) (before after : List Column) (series : List Series) (columns : List ColumnPoints) (ms : List CellMap) → IsSized (waits settings marks n run before series columns ms) → IsSized (waits settings marks n run after series columns ms)
+sized_waits settings marks n run before after series columns ms s = record {
+  settings = s.settings;
+  accepted = s.accepted;
+  facts = s.facts;
+  series = s.series;
+  columns = s.columns;
+  registered = s.registered;
+  once = s.once;
+  lows = s.lows;
+  cells = s.cells;
+  rules = s.rules;
+}
+
 -- a store that has only grown
 grown_stands : (opening : Settings) (h : History) (settings : Settings) (marks : Marks) (n : ℕ) (before : Held) (run : Option Run) (made : List Column) (facts : List Fact) (series : List Series) (columns : List ColumnPoints) (ms : List CellMap)
     → columns ≡ with_columns before.columns made → AllDistinct (map column_of columns) → ((c : Column) → Among c (map column_of columns) → Among c.series series) → HaveRoom settings.rules marks.lows facts (cells_of before.rollups) ms → IsWithin run before.columns
@@ -168,31 +187,39 @@ grown_stands opening h settings marks n before run made facts series columns ms 
 -- after out of memory
 pub left_by : (settings : Settings) (marks : Marks) (n : ℕ) (before after : Held) (run : Option Run) (p : Parts) → IsKept (kept_data settings marks n before run) before run → GrowsForLine settings.rules marks.lows before after p
     → Leaves (kept_data settings marks n before run) (kept_data settings marks n after run) p
-left_by settings marks n before after run p kept g = record {
-  history = λ opening h st. grown_stands opening h settings marks n before run g.columns.made [] after.series after.columns (cells_of after.rollups) g.columns.columns g.known.once g.known.registered g.rooms kept.few st;
-  series = g.series;
-  columns = g.columns;
-}
+left_by settings marks n before after run p kept g =
+    let old : StoreData = kept_data settings marks n before run in
+    let more : NamesMore before.columns after.columns g.columns.made = ap (map column_of) g.columns.columns ∙ names_with before.columns g.columns.made in
+    let others : kept_data settings marks n after run ≡ grown after.series after.columns (cells_of after.rollups) old =
+    ap (λ ws. waits settings marks n run ws after.series after.columns (cells_of after.rollups)) (waiting_more run before.columns after.columns g.columns.made more kept.few) in
+    record {
+      history = λ opening h st. grown_stands opening h settings marks n before run g.columns.made [] after.series after.columns (cells_of after.rollups) g.columns.columns g.known.once g.known.registered g.rooms kept.few st;
+      series = g.series;
+      columns = g.columns;
+      cells = g.cells;
+      others = others;
+      left = ap (λ (k : StoreData). steps_left (state_of k)) others ∙ left-grows old after.series after.columns (cells_of after.rollups) [] g.rooms;
+    }
 
 -- the store is as it was between two calls
-pub kept_left : (settings : Settings) (marks : Marks) (n : ℕ) (before after : Held) (run : Option Run) (p : Parts) → IsKept (kept_data settings marks n before run) before run → GrowsForLine settings.rules marks.lows before after p
+pub kept_left : (settings : Settings) (marks : Marks) (n : ℕ) (before after : Held) (run : Option Run) (p : Parts) → IsKept (kept_data settings marks n before run) before run → is_too_many before.series (series_of p) ≡ false → GrowsForLine settings.rules marks.lows before after p
     → IsKept (kept_data settings marks n after run) after run
-kept_left settings marks n before after run p kept g =
+kept_left settings marks n before after run p kept registers g =
     let made : List Column = g.columns.made in
-    let reached = kept.reached in
+    let k : StoreData = kept_data settings marks n before run in
+    let same : facts_of after.columns ≡ facts_of before.columns = ap facts_of g.columns.columns ∙ same_facts before.columns made in
     record {
       rollups = g.rollups;
       few = within_more run before.columns after.columns made (ap (map column_of) g.columns.columns ∙ names_with before.columns made) kept.few;
-      counts = counts-grown n before.columns after.columns (ap facts_of g.columns.columns ∙ same_facts before.columns made) [] settings.rules marks.lows (cells_of before.rollups) (cells_of after.rollups) (lows-length reached.opening reached.history (kept_data settings marks n before run) reached.stands) g.rooms kept.counts;
-      live = lives_grow reached.opening reached.history (kept_data settings marks n before run) after.columns (cells_of after.rollups) [] reached.stands (ap facts_of g.columns.columns ∙ same_facts before.columns made) g.rooms kept.live;
-      reached = record { opening = reached.opening; history = reached.history; stands = (left_by settings marks n before after run p kept g).history reached.opening reached.history reached.stands };
+      counts = counts-grown n before.columns after.columns same [] settings.rules marks.lows (cells_of before.rollups) (cells_of after.rollups) kept.sized.lows g.rooms kept.counts;
+      live = lives_grown marks.raw before.columns after.columns same settings.rules marks.lows [] (cells_of before.rollups) (cells_of after.rollups) kept.sized.lows g.rooms kept.sized.rules kept.live;
+      indices = ⊎_elim {C = HaveIndices settings.rules (cells_of after.rollups)} (λ e. subst (HaveIndices settings.rules) (sym e) kept.indices)
+          (λ taken. indices_gained (line_facts p) (taken_valid least_time (line_facts p) taken) settings.rules marks.lows (cells_of before.rollups) (cells_of after.rollups) kept.sized.lows g.cells kept.indices) g.taken;
+      sized = sized_waits settings marks n run (waiting_in run before.columns) (waiting_in run after.columns) after.series after.columns (cells_of after.rollups)
+          (sized_grown k after.series after.columns (cells_of after.rollups) [] (may_gain_few before.series after.series (series_of p) kept.sized.series registers g.series) g.known.once g.known.registered same g.rooms kept.sized);
     }
 
 -- ---- a line
-
-puts_names : (rs : List Rule) (before : List ColumnPoints) (ms : List CellMap) (after : List ColumnPoints) (ns : List CellMap) (fs : List Fact) → PutsFacts rs before ms after ns fs → map column_of after ≡ map column_of before
-puts_names rs before ms after ns [] p = ap (map column_of) p.0
-puts_names rs before ms after ns (f ∷ fs) p = puts_names rs p.0 (put_cells rs f (facts_of p.0) ms) after ns fs p.2 ∙ p.1.0
 
 waiting_among : (c : Column) (ds : List Column) → is_waiting ds c ≡ true → Among c ds
 waiting_among c [] e = absurd (true≢false (sym e))
@@ -214,15 +241,6 @@ column_new before facts f a =
       | false ↦ λ e. Among-right f.column names (new_columns names facts) (Among-filter_stays q f.column (map (λ (g : Fact). g.column) facts) there (ap not e))
     ] refl)
 
--- where room was made for facts, it is there
-room_there : (rs : List Rule) (lows : List ℤ) (facts : List Fact) (ms ns : List CellMap) → HaveRoom rs lows facts ms ns → HaveRoom rs lows facts ns ns
-room_there rs lows facts [] [] room = tt
-room_there rs lows facts [] (n ∷ ns) room = absurd room
-room_there rs lows facts (m ∷ ms) [] room = absurd room
-room_there [] lows facts (m ∷ ms) (n ∷ ns) room = tt
-room_there (r ∷ rs) [] facts (m ∷ ms) (n ∷ ns) room = tt
-room_there (r ∷ rs) (low ∷ lows) facts (m ∷ ms) (n ∷ ns) room = (record { there = room.0.there; stays = λ k e. e; parts = λ k. refl; above = λ k l. refl }, room_there rs lows facts ms ns room.1)
-
 -- the columns of a line are made, and its facts put
 line_names : (rs : List Rule) (before : List ColumnPoints) (ms : List CellMap) (after : List ColumnPoints) (ns : List CellMap) (fs : List Fact) → PutsFacts rs (with_columns before (new_columns (map column_of before) fs)) ms after ns fs → NamesMore before after (new_columns (map column_of before) fs)
 line_names rs before ms after ns fs puts =
@@ -237,49 +255,62 @@ write_stands opening h settings marks n before after run p put taken few within 
     let made : List Column = new_columns (map column_of before.columns) fs in
     let columns : List ColumnPoints = with_columns before.columns made in
     let names : map column_of after.columns ≡ map column_of columns = puts_names settings.rules columns put.roomy after.columns (cells_of after.rollups) fs put.facts in
-    let grown : StandsFor opening h (state_of (data_of settings marks n run after.series columns put.roomy)) =
+    let room : StandsFor opening h (state_of (data_of settings marks n run after.series columns put.roomy)) =
     grown_stands opening h settings marks n before run made fs after.series columns put.roomy refl (subst AllDistinct names put.known.once) (λ c a. put.known.registered c (subst (Among c) (sym names) a)) put.rooms within st in
     let mark : marks.raw ≡ raw_mark opening h = ap (λ (m : Marks). m.raw) st.marks in
     let more = length_before fs (accepted h) in
     let none : NamesMore columns after.columns [] = names ∙ sym (append-nil (map column_of columns)) in
     subst (λ ws. StandsFor opening (Line fs ∷ h) (state_of (waits settings marks (n + length fs) run ws after.series after.columns (cells_of after.rollups))))
     (sym (waiting_more run columns after.columns [] none (within_more run before.columns columns made (names_with before.columns made) within)))
-    (line_put opening h (data_of settings marks n run after.series columns put.roomy) after.columns fs (cells_of before.rollups) (cells_of after.rollups) grown put.rooms
+    (line_put opening h (data_of settings marks n run after.series columns put.roomy) after.columns fs (cells_of before.rollups) (cells_of after.rollups) room put.rooms
     (λ f a. column_new before.columns fs f a) put.facts (st.lawful, subst (λ (m : ℤ). AllByRecursion (MayBeTaken m) fs) mark taken, omega (arith, st.accepted, more, few)))
 
 pub accepted_by : (settings : Settings) (marks : Marks) (n : ℕ) (before after : Held) (run : Option Run) (p : Parts) → IsKept (kept_data settings marks n before run) before run → PutsLine settings.rules marks.lows before after p
     → AllByRecursion (MayBeTaken marks.raw) (line_facts p) → n + length (line_facts p) ≤ 2 ^ 62 → Accepts (kept_data settings marks n before run) (kept_data settings marks (n + length (line_facts p)) after run) p
 accepted_by settings marks n before after run p kept put taken few =
     let fs : List Fact = line_facts p in
+    let made : List Column = new_columns (map column_of before.columns) fs in
+    let old : StoreData = kept_data settings marks n before run in
+    let others : kept_data settings marks (n + length fs) after run ≡ put_facts after.columns (cells_of after.rollups) (length fs) (grown after.series after.columns (cells_of after.rollups) old) =
+    ap (λ ws. waits settings marks (n + length fs) run ws after.series after.columns (cells_of after.rollups))
+    (waiting_more run before.columns after.columns made (line_names settings.rules before.columns put.roomy after.columns (cells_of after.rollups) fs put.facts) kept.few) in
+    let roomy : StoreData = grown after.series (with_columns before.columns made) put.roomy old in
     record {
       history = λ opening h st. write_stands opening h settings marks n before after run p put taken few kept.few st;
       series = put.series;
-      columns = puts_names settings.rules (with_columns before.columns (new_columns (map column_of before.columns) fs)) put.roomy after.columns (cells_of after.rollups) fs put.facts;
+      columns = puts_names settings.rules (with_columns before.columns made) put.roomy after.columns (cells_of after.rollups) fs put.facts;
+      cells = put.cells;
+      others = others;
+      left = ap (λ (k : StoreData). steps_left (state_of k)) others ∙ left-puts roomy after.columns fs (cells_of after.rollups) (length fs) put.facts ∙ left-grows old after.series (with_columns before.columns made) put.roomy fs put.rooms;
     }
 
 -- live parts stay those of the raw facts, when room is made
 pub stay_live : (settings : Settings) (marks : Marks) (n : ℕ) (before : Held) (run : Option Run) → IsKept (kept_data settings marks n before run) before run → StayLive settings.rules marks.lows before.columns (cells_of before.rollups)
-stay_live settings marks n before run kept = λ facts ms room.
-    let reached = kept.reached in
-    lives_grow reached.opening reached.history (kept_data settings marks n before run) before.columns ms facts reached.stands refl room kept.live
+stay_live settings marks n before run kept = λ facts ms room. lives_grown marks.raw before.columns before.columns refl settings.rules marks.lows facts (cells_of before.rollups) ms kept.sized.lows room kept.sized.rules kept.live
 
 -- the store is again what it is between two calls
-pub kept_accepted : (settings : Settings) (marks : Marks) (n : ℕ) (before after : Held) (run : Option Run) (p : Parts) → IsKept (kept_data settings marks n before run) before run → PutsLine settings.rules marks.lows before after p
-    → AllByRecursion (MayBeTaken marks.raw) (line_facts p) → n + length (line_facts p) ≤ 2 ^ 62 → IsKept (kept_data settings marks (n + length (line_facts p)) after run) after run
-kept_accepted settings marks n before after run p kept put taken few =
+pub kept_accepted : (settings : Settings) (marks : Marks) (n : ℕ) (before after : Held) (run : Option Run) (p : Parts) → IsKept (kept_data settings marks n before run) before run → is_too_many before.series (series_of p) ≡ false → PutsLine settings.rules marks.lows before after p
+    → n + length (line_facts p) ≤ 2 ^ 62 → IsKept (kept_data settings marks (n + length (line_facts p)) after run) after run
+kept_accepted settings marks n before after run p kept registers put few =
     let fs : List Fact = line_facts p in
     let made : List Column = new_columns (map column_of before.columns) fs in
     let columns : List ColumnPoints = with_columns before.columns made in
-    let reached = kept.reached in
+    let ms : List CellMap = cells_of before.rollups in
+    let ns : List CellMap = cells_of after.rollups in
+    let k : StoreData = kept_data settings marks n before run in
     let same : facts_of columns ≡ facts_of before.columns = same_facts before.columns made in
-    let roomy : AreLive columns settings.rules put.roomy = lives_grow reached.opening reached.history (kept_data settings marks n before run) columns put.roomy fs reached.stands same put.rooms kept.live in
+    let names : map column_of after.columns ≡ map column_of columns = puts_names settings.rules columns put.roomy after.columns ns fs put.facts in
+    let roomy : AreLive columns settings.rules put.roomy = lives_grown marks.raw before.columns columns same settings.rules marks.lows fs ms put.roomy kept.sized.lows put.rooms kept.sized.rules kept.live in
+    let sized : IsSized (grown after.series columns put.roomy k) =
+    sized_grown k after.series columns put.roomy fs (gains_few before.series after.series (series_of p) kept.sized.series registers put.series) (subst AllDistinct names put.known.once) (λ c a. put.known.registered c (subst (Among c) (sym names) a)) same put.rooms kept.sized in
     record {
       rollups = put.rollups;
-      few = within_more run before.columns after.columns made (line_names settings.rules before.columns put.roomy after.columns (cells_of after.rollups) fs put.facts) kept.few;
-      counts = counts-put n settings.rules columns put.roomy after.columns (cells_of after.rollups) fs put.facts
-          (counts-grown n before.columns columns same fs settings.rules marks.lows (cells_of before.rollups) put.roomy (lows-length reached.opening reached.history (kept_data settings marks n before run) reached.stands) put.rooms kept.counts);
-      live = lives_line settings.rules fs columns after.columns put.roomy (cells_of after.rollups) (subst AllDistinct (sym same) reached.stands.once) put.facts roomy;
-      reached = record { opening = reached.opening; history = Line fs ∷ reached.history; stands = (accepted_by settings marks n before after run p kept put taken few).history reached.opening reached.history reached.stands };
+      few = within_more run before.columns after.columns made (line_names settings.rules before.columns put.roomy after.columns ns fs put.facts) kept.few;
+      counts = counts-put n settings.rules columns put.roomy after.columns ns fs put.facts (counts-grown n before.columns columns same fs settings.rules marks.lows ms put.roomy kept.sized.lows put.rooms kept.counts);
+      live = lives_line settings.rules fs columns after.columns put.roomy ns sized.once put.facts roomy;
+      indices = indices_put fs (taken_valid least_time fs put.taken) settings.rules marks.lows ms ns kept.sized.lows put.cells kept.indices;
+      sized = sized_waits settings marks (n + length fs) run (waiting_in run before.columns) (waiting_in run after.columns) after.series after.columns ns
+          (sized_put (grown after.series columns put.roomy k) after.columns fs ms ns put.rooms put.facts few sized);
     }
 
 -- ---- what is told
@@ -323,23 +354,6 @@ taken_more mark [] f all one = (one, tt)
 taken_more mark (g ∷ facts) f all one = (all.0, taken_more mark facts f all.1 one)
 
 -- ---- refusals
-
-same_series : (a b : Series) → eq_by_cmp series_cmp a b ≡ true → a ≡ b
-same_series a b e = exact_series a b (equal_of (series_cmp a b) e)
-
-registered-there : (s : Series) (xs : List Series) → Among s xs → is_registered xs s ≡ true
-registered-there s [] a = absurd a
-registered-there s (x ∷ xs) a =
-    ⊎_elim {C = eq_by_cmp series_cmp s x || is_registered xs s ≡ true} (λ e. ap (λ b. b || is_registered xs s) (ap (eq_by_cmp series_cmp s) (sym e) ∙ ap is_eq (tied_itself series_total s)))
-    (λ k. ap (λ b. eq_by_cmp series_cmp s x || b) (registered-there s xs k) ∙ or_right (eq_by_cmp series_cmp s x) true refl) a
-
-registered-not : (s : Series) (xs : List Series) → (Among s xs → ⊥) → is_registered xs s ≡ false
-registered-not s [] n = refl
-registered-not s (x ∷ xs) n =
-    elim (eq_by_cmp series_cmp s x) as (λ b. eq_by_cmp series_cmp s x ≡ b → b || is_registered xs s ≡ false) [
-      | true ↦ λ e. absurd (n (inl (same_series s x e)))
-      | false ↦ λ e. registered-not s xs (λ a. n (inr a))
-    ] refl
 
 -- what is looked for in an index is registered, or not
 is_refused : (series : List Series) (s : Series) (r : Option ℕ) → IfSome r (λ id. slice_get series id ≡ Some s) → IfNone r (Among s series → ⊥) → not (is_registered series s) ≡ not (is_some r)

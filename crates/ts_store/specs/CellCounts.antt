@@ -1,5 +1,5 @@
--- How many facts a cell holds, in both parts. `StandsFor` says nothing of cells below a low index, which are there until a step
--- removes them: so that their counts fit too is kept beside it. (Own rule.)
+-- The number of facts of a cell, in both parts. `StandsFor` doesn't restrict cells below a low index, which exist until
+-- a step removes them. So the limit of their counts is an invariant of its own. (Own rule.)
 use Rattle.std.specs.Prelude.{ℕ, ◌+◌, ◌≤◌, List, [], ◌∷◌, length, filter}
 use Rattle.std.specs.FinMap as finmap
 use Rattle.ts_core.specs.Settings.{Rule}
@@ -8,19 +8,19 @@ use Rattle.ts_core.specs.Changes.{or_else}
 use Rattle.ts_core.specs.StoreStates.{ColumnPoints, facts_of}
 use Rattle.ts_core.specs.StoreData.{CellMap, no_parts}
 
--- in its frozen part
+-- the number in its frozen part
 abbrev pub frozen_count : CellMap → Cell → ℕ
 frozen_count m k = (or_else no_parts (finmap.get m k)).frozen.count
 
--- of the raw facts of columns
+-- the number of the columns' raw facts
 abbrev pub live_count : Rule → Cell → List ColumnPoints → ℕ
 live_count r k columns = length (filter (is_in_cell r k) (facts_of columns))
 
--- each cell of a rule holds at most n facts
+-- each cell of a rule has at most n facts
 abbrev pub HoldsFew : ℕ → List ColumnPoints → Rule → CellMap → Type 0
 HoldsFew n columns r m = (k : Cell) → frozen_count m k + live_count r k columns ≤ n
 
--- so for each rule
+-- the same for each rule
 abbrev pub HoldFew : ℕ → List ColumnPoints → List Rule → List CellMap → Type 0
 HoldFew n columns [] ms = Unit {0}
 HoldFew n columns (r ∷ rs) [] = Unit {0}

@@ -15,6 +15,8 @@ pub mod RollupSteps
 pub mod Rooms
 pub mod CellCounts
 pub mod OpenRuns
+pub mod SizedStores
+pub mod CellIndices
 pub mod LivePoints
 pub mod LivePuts
 pub mod LiveCells

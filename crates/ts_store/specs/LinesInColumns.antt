@@ -1,5 +1,5 @@
 -- What a line leaves in columns and in what is kept for rules: its facts are put, or there was no memory. (Own rules.)
-use Rattle.std.specs.Prelude.{◌≡◌, ℕ, ℤ, List, [], map, Result, OnOk}
+use Rattle.std.specs.Prelude.{◌≡◌, ◌⊎◌, ℕ, ℤ, List, [], map, Result, OnOk}
 use Rattle.std.specs.List.{AllByRecursion}
 use Rattle.ts_core.specs.Settings.{Rule}
 use Rattle.ts_core.specs.Times.{least_time}
@@ -13,6 +13,7 @@ use Rattle.ts_raw.specs.Columns.{ColumnState}
 use Rattle.ts_raw.specs.Indexed.{Indexed}
 use Rattle.ts_store.specs.ColumnsKept.{Held, IsHeld, AreAside, AreKnown, columns_in}
 use Rattle.ts_store.specs.Rollups.{AreRollups, cells_of}
+use Rattle.ts_store.specs.LinesPut.{OfEachRule, PutsCells, GainsCells}
 use Rattle.ts_store.specs.Registered.{MayGain, MakesAll, MakesFirst, new_columns, with_columns}
 
 -- what is left by a call that sets a line's points aside, each in its column, and answers the numbers of these: columns that weren't
@@ -36,6 +37,7 @@ pub record PutsLine (rules : List Rule) (lows : List ℤ) (old new : Held) (p : 
   pub known : AreKnown new
   pub rollups : AreRollups rules (map column_of new.columns) new.rollups
   pub rooms : HaveRoom rules lows (line_facts p) (cells_of old.rollups) roomy
+  pub cells : OfEachRule (PutsCells (line_facts p)) rules lows (cells_of old.rollups) (cells_of new.rollups)
 
 -- without memory the series may be registered, and the first of the new columns and cells made
 pub record GrowsForLine (rules : List Rule) (lows : List ℤ) (old new : Held) (p : Parts) : Type 0 where
@@ -44,3 +46,6 @@ pub record GrowsForLine (rules : List Rule) (lows : List ℤ) (old new : Held) (
   pub known : AreKnown new
   pub rollups : AreRollups rules (map column_of new.columns) new.rollups
   pub rooms : HaveRoom rules lows [] (cells_of old.rollups) (cells_of new.rollups)
+  pub cells : OfEachRule (GainsCells (line_facts p)) rules lows (cells_of old.rollups) (cells_of new.rollups)
+  -- cells are created only for facts that may be taken
+  pub taken : (cells_of new.rollups ≡ cells_of old.rollups) ⊎ AllByRecursion (MayBeTaken least_time) (line_facts p)

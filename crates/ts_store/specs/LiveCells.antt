@@ -1,4 +1,4 @@
--- Cells that a walk gives, each with its total: that of both its parts. (Own rules.)
+-- Cells of an iterator, each with its total: that of both its parts. (Own rules.)
 use Rattle.std.specs.Prelude.{ℕ, ℤ, pos, ◌+◌, ◌^◌, ◌≤◌, ◌<◌, List, length, map, get_or}
 use Rattle.std.specs.List.{AllByRecursion}
 use Rattle.ts_core.specs.Settings.{Rule}
@@ -19,23 +19,24 @@ walked_cell k = record { cell = k.cell; total = merged k.part.frozen k.part.live
 abbrev pub walked_cells : List (KeptCell CellParts) → List CellTotal
 walked_cells ks = map walked_cell ks
 
--- the cell's facts are few enough to be counted
+-- the cell's facts are few enough to count
 abbrev pub IsWhole : KeptCell CellParts → Type 0
 IsWhole k = k.part.frozen.count + k.part.live.count ≤ 2 ^ 62
 
 abbrev pub AreWhole : List (KeptCell CellParts) → Type 0
 AreWhole ks = AllByRecursion IsWhole ks
 
--- ---- the cells that are kept for the rule of a number
+-- ---- the cells of the rule with this index
 
 abbrev pub rollup_at : List RollupState → ℕ → RollupState
 rollup_at ss n = get_or ss n new_rollup
 
--- its cells from an index on and before another, with their totals, whatever its low index
+-- its cells from index a, inclusive, to index b, exclusive, with their totals, regardless of its low index
 abbrev pub cells_of_rule : Held → Rule → ℕ → ℤ → ℤ → List CellTotal
 cells_of_rule held r n a b = cells_within (totals_in (rule_cells r (pos 0) (rollup_at held.rollups n).grid.cells)) a b
 
--- the live part of each cell of the rule of a number is that of its raw facts, and no cell has more facts than can be counted
+-- the live part of each cell of the rule with this index is that of its raw facts, and no cell has more facts than can
+-- be counted
 pub record IsRuled (held : Held) (r : Rule) (n : ℕ) : Type 0 where
   pub there : n < length held.rollups
   pub live : IsLive held.columns r (rollup_at held.rollups n).grid.cells

@@ -3,10 +3,11 @@ use Rattle.std.specs.Prelude.{◌≡◌, ◌↔◌, ◌≤ℤ◌, ℕ, ℤ, true
 use Rattle.std.specs.List.{sum_by}
 use Rattle.std.specs.FinMap as finmap
 use Rattle.ts_core.specs.Members.{Among}
-use Rattle.ts_core.specs.Facts.{Column, is_within}
+use Rattle.ts_core.specs.Facts.{Column, Fact, is_within}
 use Rattle.ts_core.specs.Settings.{Settings}
 use Rattle.ts_core.specs.History.{History, raw_mark}
 use Rattle.ts_core.specs.Latest.{latest_of}
+use Rattle.ts_core.specs.RawFacts.{is_kept, kept_from, raw_of}
 use Rattle.ts_core.specs.StoreStates.{fact_at}
 use Rattle.ts_raw.specs.Columns.{ColumnState}
 
@@ -23,3 +24,11 @@ points_between a b ps = filter (λ (p : ℤ × ℤ). is_within a b p.0) ps
 abbrev pub AreLatestOf : Column → ℤ → ℤ → List (ℤ × ℤ) → Settings → History → Type 0
 AreLatestOf c a b ps opening h =
     (p : ℤ × ℤ) → raw_mark opening h ≤ℤ p.0 → Among p ps ↔ (Among (fact_at c p) (latest_of h) × (is_within a b p.0 ≡ true))
+
+-- the points of a column from a, inclusive, to b, exclusive, are exactly those of its raw facts, if these columns wait
+abbrev pub AreRawOf : List Column → Column → ℤ → ℤ → List (ℤ × ℤ) → Settings → History → Type 0
+AreRawOf waiting c a b ps opening h = (p : ℤ × ℤ) → Among p ps ↔ (Among (fact_at c p) (raw_of opening h waiting c) × (is_within a b p.0 ≡ true))
+
+-- the raw facts of all columns, if these columns wait
+abbrev pub all_raw : List Column → Settings → History → List Fact
+all_raw waiting opening h = filter (is_kept (kept_from opening h waiting)) (latest_of h)

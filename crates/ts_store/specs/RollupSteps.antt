@@ -1,12 +1,11 @@
--- What a step of a run does to the cells of rules: points of a column are frozen, or cells below low indices are removed. (Own rules.)
-use Rattle.std.specs.Prelude.{◌≡◌, ◌⊎◌, ℕ, ℤ, ◌+◌, ◌^◌, ◌<◌, ◌≤◌, List, [], ◌∷◌, filter, length, map}
+-- What a step of a run does to the cells of rules: points of a column are frozen. (Own rules.)
+use Rattle.std.specs.Prelude.{ℕ, ℤ, ◌+◌, ◌^◌, ◌≤◌, List, [], ◌∷◌, filter, length, map}
 use Rattle.ts_core.specs.Facts.{Column, Fact}
 use Rattle.ts_core.specs.Settings.{Rule}
 use Rattle.ts_core.specs.Cells.{Cell, is_in_cell}
 use Rattle.ts_core.specs.StoreStates.{ColumnPoints, fact_at, facts_of}
 use Rattle.ts_core.specs.StoreData.{CellMap}
 use Rattle.ts_core.specs.StoreMoves.{all_moved, points_below, kept_points}
-use Rattle.ts_cells.specs.Expiry.{IsAbove, LosesBelow}
 use Rattle.ts_store.specs.CellCounts.{frozen_count}
 use Rattle.ts_raw.specs.Columns.{ColumnState}
 use Rattle.ts_store.specs.ColumnsKept.{Held, with_points, point_maps}
@@ -48,18 +47,3 @@ held_moved rs s mark held = record {
   columns = map (kept_points s.column mark) held.columns;
   rollups = with_frozen_all (all_moved rs s.column (points_below mark s.points) (facts_of (map (kept_points s.column mark) held.columns)) (cells_of held.rollups)) held.rollups;
 }
-
--- ---- cells are removed
-
--- some cells below an index are removed
-pub record LosesCells (low : ℤ) (before after : CellMap) : Type 0 where
-  pub count : ℕ
-  pub some : 0 < count
-  pub below : LosesBelow low count before after
-
--- the first rule that has cells below its low index loses some
-abbrev pub FirstLoses : List ℤ → List CellMap → List CellMap → Type 0
-FirstLoses [] ms ns = ⊥
-FirstLoses (low ∷ lows) [] ns = ⊥
-FirstLoses (low ∷ lows) (m ∷ ms) [] = ⊥
-FirstLoses (low ∷ lows) (m ∷ ms) (n ∷ ns) = (LosesCells low m n × (ns ≡ ms)) ⊎ (IsAbove low m × (n ≡ m) × FirstLoses lows ms ns)

@@ -1,5 +1,5 @@
 -- Room that is made for the cells of points of columns at one time. (Own rules.)
-use Rattle.std.specs.Prelude.{◌≡◌, ℕ, ℤ, int_lt, List, [], ◌∷◌, if◌then◌else◌}
+use Rattle.std.specs.Prelude.{◌≡◌, ℕ, ℤ, int_lt, List, [], ◌∷◌, take, if◌then◌else◌}
 use Rattle.ts_core.specs.Settings.{Rule}
 use Rattle.ts_core.specs.Marks.{index_of}
 use Rattle.ts_store.specs.Rollups.{RollupState, with_frozen, roomed_in, lane_at}
@@ -19,6 +19,18 @@ roomed_under [] lows time ns ss = ss
 roomed_under (r ∷ rs) [] time ns ss = ss
 roomed_under (r ∷ rs) (low ∷ lows) time ns [] = []
 roomed_under (r ∷ rs) (low ∷ lows) time ns (s ∷ ss) = roomed_from low (index_of r time) ns s ∷ roomed_under rs lows time ns ss
+
+-- with room in its bucket of a time for the first of the columns
+abbrev pub IsRoomedInPart : Rule → ℤ → ℤ → List ℕ → RollupState → RollupState → Type 0
+IsRoomedInPart r low time ns s t = (n : ℕ) × (t ≡ roomed_from low (index_of r time) (take n ns) s)
+
+-- so under each rule
+abbrev pub AreRoomedInPart : List Rule → List ℤ → ℤ → List ℕ → List RollupState → List RollupState → Type 0
+AreRoomedInPart [] lows time ns ss ts = ts ≡ ss
+AreRoomedInPart (r ∷ rs) [] time ns ss ts = ts ≡ ss
+AreRoomedInPart (r ∷ rs) (low ∷ lows) time ns [] ts = ts ≡ []
+AreRoomedInPart (r ∷ rs) (low ∷ lows) time ns (s ∷ ss) [] = ⊥
+AreRoomedInPart (r ∷ rs) (low ∷ lows) time ns (s ∷ ss) (t ∷ ts) = IsRoomedInPart r low time ns s t × AreRoomedInPart rs lows time ns ss ts
 
 -- of each rule nothing but its cells may have changed
 abbrev pub KeepLanes : List RollupState → List RollupState → Type 0

@@ -1,4 +1,4 @@
-//! Cells as a view shows them.
+//! Iterators over the cells that a view shows.
 ghost use Rattle.std.specs.Prelude.{◌≡◌, map};
 ghost use Rattle.std.specs.Iterator.{YieldsFirst, item_count};
 ghost use Rattle.ts_store.specs.LiveCells.{walked_cells, cells_of_rule, AreWhole, IsRuled};
@@ -9,16 +9,16 @@ use std::marker::Model;
 use ts_cells::{Parts, Walk};
 use ts_core::{Agg, Partial, Rule};
 
-/// A cell with the total of its facts. The group is the values of the rule's kept tags.
+/// A cell with the total of its facts.
 #[derive(Drop)]
 pub struct CellSeen<'a, A: Allocator> {
-    /// The index of its bucket.
+    /// Index of its bucket.
     pub index: i128,
-    /// The field.
+    /// Field.
     pub field: &'a str,
-    /// The values of the kept tags.
+    /// Values of the rule's kept tags.
     pub group: &'a [String<A>],
-    /// What its facts add up to.
+    /// Aggregate of its facts.
     pub total: Agg,
 }
 
@@ -44,7 +44,8 @@ impl<'a, A: Allocator> CellSeen<'a, A> {
     }
 }
 
-/// Cells of a rollup that are left to give, seen as the list of them, each with the total of both its parts.
+/// Iterator over the cells of a rollup, each with the total of both its parts. Its model is the list of those that
+/// remain.
 #[derive(Drop)]
 struct RollupCells<'a, A: Allocator> {
     left: Walk<'a, Parts<Agg>, A>,
@@ -62,7 +63,7 @@ impl<'a, A: Allocator> Model for RollupCells<'a, A> {
     ghost invariant = { λ w. AreWhole w.left };
 }
 
-/// Cells of a slice that are left to give, seen as the list of them.
+/// Iterator over the cells of a slice. Its model is the list of those that remain.
 #[derive(Drop)]
 struct LentCells<'a, A: Allocator> {
     cells: &'a [CellSeen<'a, A>],
@@ -84,7 +85,7 @@ enum Left<'a, A: Allocator> {
     Lent(LentCells<'a, A>),
 }
 
-/// Cells of a rule that are left to give, seen as the list of them.
+/// Iterator over the cells of a rule. Its model is the list of those that remain.
 #[derive(Drop)]
 pub struct CellWalk<'a, A: Allocator> {
     left: Left<'a, A>,
@@ -101,7 +102,7 @@ impl<'a, A: Allocator> Model for CellWalk<'a, A> {
 }
 
 impl<'a, A: Allocator> CellWalk<'a, A> {
-    /// These cells, for a view of another kind than a store.
+    /// Creates an iterator over these cells, for views that aren't stores.
     pub fn lent(cells: &'a [CellSeen<'a, A>]) -> CellWalk<'a, A>
         ensures { result ≡ cells.now }
     {
@@ -110,7 +111,7 @@ impl<'a, A: Allocator> CellWalk<'a, A> {
         }
     }
 
-    /// The cells of a walk over a rollup.
+    /// Creates an iterator over the cells of a rollup.
     fn of(left: Walk<'a, Parts<Agg>, A>) -> CellWalk<'a, A>
         requires { AreWhole left }
         ensures { result ≡ walked_cells left.entry }
@@ -122,8 +123,9 @@ impl<'a, A: Allocator> CellWalk<'a, A> {
 }
 
 impl<A: Allocator + Copy> ColumnFacts<A> {
-    /// The cells of a rule with their totals, by its number, from a bucket's index on and before another: in order of
-    /// index, field and group.
+    /// Returns an iterator over the cells of a rule with their totals, ordered by index, field and group. They are
+    /// those from bucket `from`, inclusive, to bucket `to`, exclusive. `number` is the index of the rule in the
+    /// settings.
     pub(crate) fn cell_walk<'a>(
         &'a self,
         rule: &Rule<A>,

@@ -1,4 +1,4 @@
-//! Facts in columns that are found through an index.
+//! Facts in columns, which an index finds.
 ghost use Rattle.std.specs.Prelude.{◌≡◌, ◌≤◌, ◌<◌, ◌+◌, ◌*◌, ◌^◌, [], false, length, map, pos, ◌≤ℤ◌, replicate, IfOk, OnOk, OnErr};
 ghost use Rattle.std.specs.List.{AllByRecursion};
 ghost use Rattle.ts_core.specs.Facts.{is_of};
@@ -25,8 +25,8 @@ use ts_core::{KeyRef, Rule};
 use ts_line::Line;
 use ts_raw::{ColumnId, Index, PlainColumn, Points, SERIES_LIMIT};
 
-/// Facts in columns, one for each series and field, with what is kept of them for each rule, and the numbers of the columns
-/// that a line touches.
+/// Index, one column per series and field, one rollup per rule, and a scratch list of the columns that the current line
+/// touches.
 #[derive(Drop)]
 pub(crate) struct ColumnFacts<A: Allocator> {
     pub(crate) index: Index<A>,
@@ -48,7 +48,7 @@ impl<A: Allocator> Model for ColumnFacts<A> {
 }
 
 impl<A: Allocator + Copy> ColumnFacts<A> {
-    /// No facts, under so many rules.
+    /// Creates an empty index without columns, and this number of empty rollups.
     pub(crate) fn new(alloc: A, rules: usize) -> Result<ColumnFacts<A>, AllocError>
         ensures { IfOk result (λ f. f ≡ record { series = []; columns = []; rollups = replicate rules new_rollup }) }
     {
@@ -61,15 +61,16 @@ impl<A: Allocator + Copy> ColumnFacts<A> {
         })
     }
 
-    /// Whether so many series are registered that this one is refused.
+    /// Returns true if the series is new and 1,000,000 series are registered.
     pub(crate) fn refuses(&self, key: &KeyRef<'_>) -> bool
         ensures { result ≡ is_too_many self.now.series key.now }
     {
         self.index.series_count() >= SERIES_LIMIT && self.index.lookup(key).is_none()
     }
 
-    /// Puts the facts of a line in, each in place of the one of its id, and into the cells of the rules that roll it up. All room is
-    /// taken before the first: after a refusal there is at most the series more, columns without points, and cells without facts.
+    /// Inserts the facts of a line, replacing those with their ids, and adds them to the cells of the rules that roll
+    /// them up. Allocates everything before it inserts the first. On allocation failure, no fact is inserted, but the
+    /// series, some columns without points and some cells without facts may exist.
     pub(crate) fn put_line<L: Allocator>(
         &mut self,
         rules: &[Rule<A>],
@@ -119,7 +120,7 @@ impl<A: Allocator + Copy> ColumnFacts<A> {
         Ok(())
     }
 
-    /// How many facts there are.
+    /// Returns the number of facts.
     pub(crate) fn raw_points(&self) -> u64
         requires { length (facts_in self.now.columns) ≤ 2 ^ 62 }
         ensures { result ≡ length (facts_in self.now.columns) }
@@ -127,7 +128,7 @@ impl<A: Allocator + Copy> ColumnFacts<A> {
         raw_points(self.columns.as_slice())
     }
 
-    /// How many points are stored.
+    /// Returns the number of points in memory, which may include up to 256 removed ones per column.
     pub(crate) fn held_points(&self) -> u64
         requires { length (facts_in self.now.columns) ≤ 2 ^ 62 }
         ensures all { length (facts_in self.now.columns) ≤ result }
@@ -136,14 +137,14 @@ impl<A: Allocator + Copy> ColumnFacts<A> {
         held_points(self.columns.as_slice())
     }
 
-    /// The columns of a measurement and a field, in the order of making.
+    /// Returns the columns of a measurement and a field, in creation order.
     pub(crate) fn columns_of(&self, measurement: &str, field: &str) -> Columns<'_, A>
         ensures { result ≡ seats_where (is_of measurement.now field.now) self.now.columns }
     {
         Columns::of(self.index.columns_of(measurement, field), &self.index)
     }
 
-    /// The points of a column, from a time on and before another (nanoseconds).
+    /// Returns the points of a column from `from`, inclusive, to `to`, exclusive (nanoseconds).
     pub(crate) fn raw_range(&self, column: ColumnId, from: i64, to: i64) -> Points<'_>
         requires { column < length self.now.columns }
         ensures points { result ≡ points_at self.now.columns column from to }

@@ -6,8 +6,8 @@ ghost use Rattle.ts_core.specs.StoreStates.{ColumnPoints, column_of, facts_of};
 ghost use Rattle.ts_core.specs.StoreMoves.{points_below};
 ghost use Rattle.ts_core.specs.Numbered.{IsAt};
 ghost use Rattle.ts_store.specs.Rollups.{AreRollups, cells_of};
-ghost use Rattle.ts_store.specs.RollupSteps.{with_frozen_all, held_with, FreezeFit, held_moved, FirstLoses};
-ghost use Rattle.ts_store.specs.WholeRuns.{AreAbove};
+ghost use Rattle.ts_store.specs.RollupSteps.{with_frozen_all, held_with, FreezeFit, held_moved};
+ghost use Rattle.ts_store.specs.WholeRuns.{AreAbove, FirstLoses};
 
 use crate::column_facts::ColumnFacts;
 use crate::freezing::move_all;

@@ -1,4 +1,4 @@
-//! What a line writes to columns that are found through an index: each of its columns is looked up once.
+//! Writes a line to columns: finds or creates each of its columns once, and stages its points.
 ghost use Rattle.std.specs.Prelude.{◌≡◌, ◌<◌, ◌++◌, ◌∷◌, [], length, map, IsSome, OnOk, set, get_or};
 ghost use Rattle.std.specs.List.{AllByRecursion};
 ghost use Rattle.ts_line.specs.Parts.{series_of};
@@ -16,7 +16,7 @@ use ts_core::{Key, Rule, Time, reserve_eighth};
 use ts_line::Line;
 use ts_raw::{Column, ColumnId, Index, PlainColumn, SeriesId};
 
-/// Takes all room that a column to be made needs under each rule, and finds its lanes.
+/// Finds the lane of a new column under each rule, and allocates everything that the column needs there.
 fn prepare_rollups<A: Allocator + Copy>(
     rules: &[Rule<A>],
     rollups: &mut [Rollup<A>],
@@ -39,7 +39,7 @@ fn prepare_rollups<A: Allocator + Copy>(
     }
 }
 
-/// The column is made: under each rule it gets the lane that was found for it. It takes no memory.
+/// Assigns the new column, under each rule, the lane that `prepare_rollups` found. Does not allocate.
 fn commit_rollups<A: Allocator + Copy>(rollups: &mut [Rollup<A>], column: ColumnId)
     requires { AllByRecursion (λ s. IsSome s.next × (column ≡ length s.lanes)) rollups.old }
     ensures { rollups.new ≡ map with_next rollups.old }
@@ -50,7 +50,7 @@ fn commit_rollups<A: Allocator + Copy>(rollups: &mut [Rollup<A>], column: Column
     }
 }
 
-/// Makes the column of a series and a field, without points, and with its lane under each rule.
+/// Creates the column of a series and a field, without points, with its lane under each rule.
 #[cold]
 fn make_column<A: Allocator + Copy>(
     index: &mut Index<A>,
@@ -78,7 +78,7 @@ fn make_column<A: Allocator + Copy>(
     Ok(column)
 }
 
-/// The column of a series and a field, made without points where there is none yet.
+/// Returns the column of a series and a field, creating it if needed.
 fn column_for<A: Allocator + Copy>(
     index: &mut Index<A>,
     columns: &mut Vec<PlainColumn<A>, A>,
@@ -100,7 +100,7 @@ fn column_for<A: Allocator + Copy>(
     }
 }
 
-/// Sets a point aside in one of the columns, and puts the column's number behind those touched. No column's points change.
+/// Stages a point in a column, and appends the column to `touched`. Changes no points.
 fn prepare_at<A: Allocator + Copy>(
     columns: &mut Vec<PlainColumn<A>, A>,
     touched: &mut Vec<ColumnId, A>,
@@ -119,7 +119,7 @@ fn prepare_at<A: Allocator + Copy>(
     Ok(())
 }
 
-/// Sets the points of a line aside, each in its column, and answers the columns.
+/// Stages the points of a line, each in its column, and appends the columns to `touched`.
 pub(crate) fn prepare_line<A: Allocator + Copy, L: Allocator>(
     index: &mut Index<A>,
     columns: &mut Vec<PlainColumn<A>, A>,

@@ -1,4 +1,4 @@
-//! Points of a column, moved from the live to the frozen parts of cells.
+//! Moves points of a column from the live to the frozen parts of cells.
 ghost use Rattle.std.specs.Prelude.{◌≡◌, ◌<◌, ◌≤◌, ◌^◌, pos, ◌≤ℤ◌, ℕ, List, Some, true, length, get_or};
 ghost use Rattle.std.specs.FinMap as finmap;
 ghost use Rattle.std.specs.List.{AllByRecursion};
@@ -18,7 +18,8 @@ use std::alloc::Allocator;
 use ts_core::{Agg, Partial, Rule, Time, index_of};
 use ts_raw::{Column as _, PlainColumn, Points};
 
-/// Freezes points of a column under a rule. Those of a bucket, which mostly come in runs, are folded first and frozen at once.
+/// Freezes points of a column under a rule. Points of one bucket mostly follow one another, so it folds them first and
+/// merges them into the cell at once.
 fn freeze_points<A: Allocator + Copy>(
     rule: &Rule<A>,
     rollup: &mut Rollup<A>,
@@ -45,7 +46,7 @@ fn freeze_points<A: Allocator + Copy>(
     rollup.freeze(column, &bucket, folded);
 }
 
-/// Whether an index is that of the last bucket.
+/// Returns true if this is the index of the last bucket.
 fn is_last(last: &Option<i128>, index: &i128) -> bool
     ensures { (result ≡ true) → last.now ≡ Some index.now }
 {
@@ -55,7 +56,7 @@ fn is_last(last: &Option<i128>, index: &i128) -> bool
     }
 }
 
-/// Folds the live parts of the cells of a column's points below a mark anew, without these points.
+/// Folds again, without a column's points below a mark, the live parts of the cells of these points.
 fn refold_points<A: Allocator + Copy>(
     rule: &Rule<A>,
     rollup: &mut Rollup<A>,
@@ -84,8 +85,8 @@ fn refold_points<A: Allocator + Copy>(
     }
 }
 
-/// Moves the points of a column below a mark under a rule, where that rolls the column up: they are frozen, and the live parts
-/// of their cells are what is left.
+/// Freezes a column's points below a mark under a rule, if the column is of the rule's measurement, and folds the live
+/// parts of their cells again without them.
 fn move_points<A: Allocator + Copy>(
     rule: &Rule<A>,
     rollup: &mut Rollup<A>,
@@ -105,7 +106,8 @@ fn move_points<A: Allocator + Copy>(
     }
 }
 
-/// Moves the points of a column below a mark under each rule. It takes no memory.
+/// Freezes a column's points below a mark under each rule, and folds the live parts of their cells again. Does not
+/// allocate.
 pub(crate) fn move_all<A: Allocator + Copy>(
     rules: &[Rule<A>],
     rollups: &mut [Rollup<A>],

@@ -1,4 +1,5 @@
-//! What is kept for a rollup rule: its cells, the lane of each column, and the columns of each lane.
+//! The rollup of a rule: its cells, the lane of each column, and the columns of each lane. A lane is a field with the
+//! values of the kept tags.
 ghost use Rattle.std.specs.Prelude.{◌≡◌, ◌<◌, length, replicate, map, IsSome, is_some, IfSome, option_map, IfOk, OnOk, OnErr};
 ghost use Rattle.std.specs.FinMap as finmap;
 ghost use Rattle.std.specs.List.{AllByRecursion};
@@ -18,15 +19,15 @@ use ts_cells::{Cells, LaneId, Parts, Walk};
 use ts_core::{Agg, Key, Rule, reserve_eighth};
 use ts_raw::ColumnId;
 
-/// The cells of a rule, with the lane of each column and the columns of each lane.
+/// Cells of a rule, with the lane of each column and the columns of each lane.
 #[derive(Drop)]
 pub(crate) struct Rollup<A: Allocator> {
     cells: Cells<Agg, A>,
-    /// Of each column its lane; none where the column is of another measurement.
+    /// Lane of each column; `None` if the column is of another measurement.
     lanes: Vec<Option<LaneId>, A>,
-    /// Of each lane its columns.
+    /// Columns of each lane.
     columns: Vec<LaneColumns<A>, A>,
-    /// The lane of a column that may be made next, for which there is room.
+    /// Lane of the column to be created next, once `prepare` has found it and allocated the column's capacity.
     next: Option<Option<LaneId>>,
 }
 
@@ -44,7 +45,7 @@ impl<A: Allocator> Model for Rollup<A> {
     ghost invariant = { λ r. IsRollup r.cells.lanes r.lanes.items (lists_in r.columns.items) r.next (has_spare r.lanes) (places_in r.columns.items) };
 }
 
-/// What is kept for so many rules: nothing yet.
+/// Creates empty rollups for this number of rules.
 pub(crate) fn new_rollups<A: Allocator + Copy>(
     alloc: A,
     rules: usize,
@@ -58,7 +59,7 @@ pub(crate) fn new_rollups<A: Allocator + Copy>(
     Ok(rollups)
 }
 
-/// The values of a rule's kept tags in a series.
+/// Returns a series' values of a rule's kept tags.
 fn group_of<'a, A: Allocator + Copy>(
     alloc: A,
     rule: &Rule<A>,
@@ -74,7 +75,7 @@ fn group_of<'a, A: Allocator + Copy>(
     Ok(group)
 }
 
-/// The lane of a field and a group, with its list of columns. Both are made where there are none.
+/// Returns the lane of a field and a group, creating it and its list of columns if needed.
 fn listed_lane<A: Allocator + Copy>(
     cells: &mut Cells<Agg, A>,
     columns: &mut Vec<LaneColumns<A>, A>,
@@ -93,7 +94,7 @@ fn listed_lane<A: Allocator + Copy>(
     Ok(lane)
 }
 
-/// The same, where the list has room for one column more.
+/// Does the same, and reserves capacity for one more column in the list.
 fn lane_for<A: Allocator + Copy>(
     cells: &mut Cells<Agg, A>,
     columns: &mut Vec<LaneColumns<A>, A>,
@@ -112,7 +113,7 @@ fn lane_for<A: Allocator + Copy>(
 }
 
 impl<A: Allocator + Copy> Rollup<A> {
-    /// Nothing is kept yet. It takes no memory.
+    /// Creates an empty rollup. Does not allocate.
     pub(crate) fn new(alloc: A) -> Rollup<A>
         ensures { result ≡ new_rollup }
     {
@@ -124,7 +125,7 @@ impl<A: Allocator + Copy> Rollup<A> {
         }
     }
 
-    /// Finds the lane of a column that may be made next, and takes all room that the column needs here.
+    /// Finds the lane of a new column, and allocates everything that the column needs here.
     pub(crate) fn prepare(
         &mut self,
         rule: &Rule<A>,
@@ -146,7 +147,7 @@ impl<A: Allocator + Copy> Rollup<A> {
         Ok(())
     }
 
-    /// The column is made: it gets the lane that was found for it. It takes no memory.
+    /// Assigns the new column the lane that `prepare` found. Does not allocate.
     pub(crate) fn commit(&mut self, column: ColumnId)
         requires next { IsSome self.old.next }
         requires number { column ≡ length self.old.lanes }
@@ -159,7 +160,7 @@ impl<A: Allocator + Copy> Rollup<A> {
         }
     }
 
-    /// Makes room for the cell of a column in a bucket, where the rule rolls the column up.
+    /// Creates the cell of a column in a bucket unless it exists. Does nothing if the column is of another measurement.
     pub(crate) fn make_room(&mut self, column: ColumnId, index: &i128) -> Result<(), AllocError>
         requires { column < length self.old.lanes }
         ensures ok { OnOk result (self.new ≡ with_frozen (roomed_in self.old (lane_at self.old column) index.now) self.old) }
@@ -171,8 +172,8 @@ impl<A: Allocator + Copy> Rollup<A> {
         }
     }
 
-    /// Merges a part into the frozen part of the cell of a column in a bucket, where that is there and the counts fit
-    /// together. It takes no memory.
+    /// Merges a part into the frozen part of the cell of a column in a bucket, if the cell exists and the counts add up
+    /// to at most 2^62. Does not allocate.
     pub(crate) fn freeze(&mut self, column: usize, index: &i128, part: Agg)
         requires { column < length self.old.lanes }
         ensures { self.new ≡ with_frozen (frozen_in self.old (lane_at self.old column) index.now part) self.old }
@@ -182,8 +183,8 @@ impl<A: Allocator + Copy> Rollup<A> {
         }
     }
 
-    /// Merges a part into the live part of the cell of a bucket in a lane, where that is there and the counts fit
-    /// together. It takes no memory.
+    /// Merges a part into the live part of the cell of a bucket in a lane, if the cell exists and the counts add up to
+    /// at most 2^62. Does not allocate.
     pub(crate) fn add(&mut self, index: &i128, lane: LaneId, part: Agg)
         requires { lane < length self.old.grid.lanes }
         ensures { self.new ≡ with_frozen (added_in self.old lane index.now part) self.old }
@@ -191,7 +192,7 @@ impl<A: Allocator + Copy> Rollup<A> {
         self.cells.add(index, lane, part);
     }
 
-    /// Puts another live part in place of that of the cell of a bucket in a lane, where that is there. It takes no memory.
+    /// Replaces the live part of the cell of a bucket in a lane, if the cell exists. Does not allocate.
     pub(crate) fn correct(&mut self, index: &i128, lane: LaneId, live: Agg)
         requires { lane < length self.old.grid.lanes }
         ensures { self.new ≡ with_frozen (corrected_in self.old lane index.now live) self.old }
@@ -199,7 +200,7 @@ impl<A: Allocator + Copy> Rollup<A> {
         self.cells.correct(index, lane, live);
     }
 
-    /// The live part of the cell of a bucket in a lane, where that is there.
+    /// Returns the live part of the cell of a bucket in a lane, if the cell exists.
     pub(crate) fn live(&self, index: &i128, lane: LaneId) -> Option<Agg>
         requires { lane < length self.now.grid.lanes }
         ensures { result ≡ option_map live_part (finmap.get self.now.grid.cells (cell_in self.now.grid.lanes index.now lane)) }
@@ -208,7 +209,7 @@ impl<A: Allocator + Copy> Rollup<A> {
         Some(parts.live)
     }
 
-    /// Whether the rule rolls a column up.
+    /// Returns true if the column is of the rule's measurement.
     pub(crate) fn rolls(&self, column: usize) -> bool
         requires { column < length self.now.lanes }
         ensures { result ≡ is_some (lane_at self.now column) }
@@ -216,7 +217,7 @@ impl<A: Allocator + Copy> Rollup<A> {
         self.lanes[column].is_some()
     }
 
-    /// The lane of a column, none where the rule doesn't roll it up.
+    /// Returns the lane of a column, or `None` if the column is of another measurement.
     pub(crate) fn lane_of(&self, column: usize) -> Option<LaneId>
         requires { column < length self.now.lanes }
         ensures lane { result ≡ lane_at self.now column }
@@ -225,7 +226,7 @@ impl<A: Allocator + Copy> Rollup<A> {
         self.lanes[column]
     }
 
-    /// Removes cells below an index: 256, or all where there are fewer. It answers how many.
+    /// Removes up to 256 cells below an index, and returns the number of removed cells.
     pub(crate) fn expire(&mut self, low: &i128) -> usize
         ensures cells { self.new ≡ with_frozen self.new.grid.cells self.old }
         ensures below { LosesBelow low.now result self.old.grid.cells self.new.grid.cells }
@@ -233,7 +234,7 @@ impl<A: Allocator + Copy> Rollup<A> {
         self.cells.expire(low)
     }
 
-    /// The columns of a lane, in the order of making.
+    /// Returns the columns of a lane, in creation order.
     pub(crate) fn columns_of(&self, lane: LaneId) -> &[ColumnId]
         requires { lane < length self.now.grid.lanes }
         ensures columns { result.now ≡ columns_of_lane lane self.now }
@@ -242,7 +243,8 @@ impl<A: Allocator + Copy> Rollup<A> {
         self.columns[lane.number() as usize].as_slice()
     }
 
-    /// The cells from an index on, before another, in order of index, field and group. It takes no memory.
+    /// Returns an iterator over the cells from bucket `from`, inclusive, to bucket `to`, exclusive, ordered by index,
+    /// field and group. Does not allocate.
     pub(crate) fn walk(&self, from: &i128, to: &i128) -> Walk<'_, Parts<Agg>, A>
         ensures entries { map entry_of result ≡ entries_within from.now to.now self.now.grid.cells }
         ensures lanes { AllByRecursion (λ k. IsAt self.now.grid.lanes k.lane (lane_of k.cell)) result }

@@ -32,8 +32,8 @@ returns-in_err-make_rooms_of-clause-lanes g t c =
 
 pub returns-in_err-make_rooms_of-clause-err : goal.returns-in_err-make_rooms_of-clause-err
 returns-in_err-make_rooms_of-clause-err g t c =
-    on_any_err c.from_residual.result (room_begins c.in-Some.rule.now c.in-Some-split_first.low.now c.in-Some.rules.now c.args.rules.now c.in-Some-split_first.lows.now c.args.lows.now c.in-Some-split_first_mut.rollup.now c.make_rooms_of.new.rollup c.in-Some-split_first_mut.rollups.now c.args.rollups.now
-    c.in-Some.ensures.cases.0 c.in-Some-split_first.ensures.cases.0 c.in-Some-split_first_mut.ensures.cases.0 c.in_err-make_rooms_of.ensures.err)
+    on_any_err c.from_residual.result (room_begins c.in-Some.rule.now c.in-Some-split_first.low.now c.in-Some.rules.now c.args.rules.now c.in-Some-split_first.lows.now c.args.lows.now c.args.time c.args.touched.now c.in-Some-split_first_mut.rollup.now c.make_rooms_of.new.rollup c.in-Some-split_first_mut.rollups.now
+    c.args.rollups.now c.in-Some.ensures.cases.0 c.in-Some-split_first.ensures.cases.0 c.in-Some-split_first_mut.ensures.cases.0 c.in_err-make_rooms_of.ensures.err)
 
 pub returns-clause-err : goal.returns-clause-err
 returns-clause-err g t c =

@@ -4,8 +4,8 @@ use Rattle.std.proofs.lemmas.List.{with_items_is}
 use Rattle.ts_cells.proofs.ExpiryLemmas.{on_true, on_false}
 use Rattle.ts_store.specs.ColumnsKept.{Held, columns_in}
 use Rattle.ts_store.specs.Rollups.{RollupState, cells_of}
-use Rattle.ts_store.specs.RollupSteps.{with_frozen_all, held_with, FirstLoses}
-use Rattle.ts_store.specs.WholeRuns.{AreAbove}
+use Rattle.ts_store.specs.RollupSteps.{with_frozen_all, held_with}
+use Rattle.ts_store.specs.WholeRuns.{AreAbove, FirstLoses}
 use Rattle.ts_store.proofs.column_facts.ColumnFacts.expire.Given.{Over}
 use Rattle.ts_store.proofs.column_facts.ColumnFacts.expire.Goals as goal
 

@@ -1,9 +1,11 @@
-use Rattle.std.proofs.Common.{◌≡◌, ◌∙◌, List, [], ℕ, ℤ, length, map, ap, sym, subst, inl, inr, refl, ◌<◌, arith}
+use Rattle.std.proofs.Common.{◌≡◌, ◌⊎◌, ◌∙◌, List, [], ℕ, ℤ, length, map, ap, sym, subst, inl, inr, refl, ◌<◌, arith}
 use Rattle.std.specs.Vec.{with_items}
 use Rattle.std.proofs.lemmas.List.{append-nil, with_items_is, length-map}
 use Rattle.ts_core.specs.Members.{AllDistinct}
 use Rattle.ts_core.specs.Facts.{Series, Column, Fact}
 use Rattle.ts_core.specs.Settings.{Rule}
+use Rattle.ts_core.specs.Times.{least_time}
+use Rattle.ts_core.specs.History.{MayBeTaken}
 use Rattle.ts_core.specs.StoreStates.{ColumnPoints, column_of, facts_of}
 use Rattle.ts_core.specs.StoreMoves.{PutsFacts, HaveRoom}
 use Rattle.ts_line.specs.Parts.{LinePart, Parts, series_of, fact_of, line_facts}
@@ -20,13 +22,15 @@ use Rattle.ts_core.specs.StoreData.{CellMap, AreLive}
 use Rattle.ts_store.specs.Rollups.{RollupState, AreRollups, cells_of}
 use Rattle.ts_store.specs.LivePuts.{AreOfFields}
 use Rattle.ts_store.specs.RollupSteps.{with_frozen_all}
-use Rattle.ts_store.specs.Rooms.{roomed_under, KeepLanes}
+use Rattle.ts_store.specs.Rooms.{roomed_under, AreRoomedInPart, KeepLanes}
+use Rattle.ts_store.specs.LinesPut.{OfEachRule, GainsCells}
+use Rattle.ts_store.proofs.CellsMade.{gain_nothing, line_cells}
 use Rattle.ts_store.proofs.ColumnsReads.{facts-length}
 use Rattle.ts_store.proofs.PointsPut.{of_fields, aside_length, wide_of, live_same}
 use Rattle.ts_store.proofs.RollupMoves.{rollups_with}
 use Rattle.ts_store.proofs.RollupsGrow.{numbers_inside}
-use Rattle.ts_store.proofs.RoomLemmas.{rooms_same, rollups_stay}
-use Rattle.ts_store.proofs.RollupsPut.{rollups_held, aside_inside, line_rooms}
+use Rattle.ts_store.proofs.RoomLemmas.{rooms_same, rollups_stay, part_rooms}
+use Rattle.ts_store.proofs.RollupsPut.{rollups_held, aside_inside, line_rooms, line_gains, all_gained}
 use Rattle.ts_store.proofs.ColumnsLemmas.{known_of, names_held}
 use Rattle.ts_store.proofs.column_facts.ColumnFacts.put_line.Goals as goal
 
@@ -48,8 +52,9 @@ still_rollups rules old before after states us was same held have =
 -- what is left without memory
 grown : (rules : List Rule) (lows : List ℤ) (p : Parts) (key : Series) (old : Held) (before between after : Indexed) (states states' : List ColumnState) (us us' us'' : List RollupState) → key ≡ series_of p → held_of before states us ≡ old
     → MayGain before.series between.series key → between.columns ≡ before.columns → after.series ≡ between.series → MakesFirst (columns_in between states) (columns_in after states') (line_facts p)
-    → IsHeld after states' → us'' ≡ us' → AreRollups rules after.columns us' → HaveRoom rules lows [] (cells_of us) (cells_of us') → GrowsForLine rules lows old (held_of after states' us'') p
-grown rules lows p key old before between after states states' us us' us'' named was gains same series made held is rollups rooms =
+    → IsHeld after states' → us'' ≡ us' → AreRollups rules after.columns us' → HaveRoom rules lows [] (cells_of us) (cells_of us')
+    → OfEachRule (GainsCells (line_facts p)) rules lows (cells_of us) (cells_of us') → (cells_of us' ≡ cells_of us) ⊎ AllByRecursion (MayBeTaken least_time) (line_facts p) → GrowsForLine rules lows old (held_of after states' us'') p
+grown rules lows p key old before between after states states' us us' us'' named was gains same series made held is rollups rooms cells taken =
     subst (λ (h : Held). GrowsForLine rules lows h (held_of after states' us'') p) was
     (subst (λ (vs : List RollupState). GrowsForLine rules lows (held_of before states us) (held_of after states' vs) p) (sym is) (record {
       series = subst (λ (xs : List Series). MayGain before.series xs (series_of p)) (sym series) (subst (MayGain before.series between.series) named gains);
@@ -57,6 +62,8 @@ grown rules lows p key old before between after states states' us us' us'' named
       known = known_of after states' us' held;
       rollups = rollups_held rules after states' us' held.each rollups;
       rooms = rooms;
+      cells = cells;
+      taken = taken;
     }))
 
 pub put_points-requires-clause-ready : goal.put_points-requires-clause-ready
@@ -140,6 +147,9 @@ returns-clause-ok g c =
     let rooms : HaveRoom rs lows (line_facts p) (cells_of c.args.self.now.rollups) (cells_of vs) = line_rooms rs lows cs ss p c.time.result ns (cells_of c.args.self.now.rollups) us vs c.prepare_line.ensures.rollups aside c.time.ensures
     (c.prepare_line.ensures.cells ∙ ap cells_of (c.as_mut_slice.ensures.value ∙ ap (λ (h : Held). h.rollups) c.self.view_is))
     (c.in_ok-make_rooms.ensures.ok ∙ (λ i. roomed_under rs lows c.time.result (c.as_slice.ensures.value i) (lent i))) in
+    let gains' : OfEachRule (GainsCells (line_facts p)) rs lows (cells_of c.args.self.now.rollups) (cells_of vs) = line_gains rs lows cs ss p c.time.result ns (cells_of c.args.self.now.rollups) us vs c.prepare_line.ensures.rollups aside c.time.ensures
+    (c.prepare_line.ensures.cells ∙ ap cells_of (c.as_mut_slice.ensures.value ∙ ap (λ (h : Held). h.rollups) c.self.view_is))
+    (all_gained rs lows c.time.result ns us vs (c.in_ok-make_rooms.ensures.ok ∙ (λ i. roomed_under rs lows c.time.result (c.as_slice.ensures.value i) (lent i)))) in
     let have : AreRollups rs cs vs = rollups_stay rs cs us vs c.prepare_line.ensures.rollups (subst (λ (xs : List RollupState). KeepLanes xs vs) lent c.make_rooms.ensures.lanes) in
     let live : AreLive (with_points cs (point_maps ss)) rs (cells_of vs) =
     live_same old (with_points cs (point_maps ss)) (sym (ap facts_of made ∙ same_facts old (new_columns (map column_of old) (line_facts p)))) rs (cells_of vs) (c.requires.live (line_facts p) (cells_of vs) rooms) in
@@ -149,18 +159,22 @@ returns-clause-ok g c =
     (subst (λ (ms : List ℕ). AreAside cs ss ms (line_facts p)) (sym c.as_slice-2.ensures.value) aside) (subst (λ (xs : List RollupState). AreLive (with_points cs (point_maps ss)) rs (cells_of xs)) (sym lent') live) in
     let lanes : ws ≡ with_frozen_all (cells_of ws) vs = c.put_points.ensures.lanes ∙ ap (with_frozen_all (cells_of ws)) lent' in
     let each : length c.put_points.new.columns.items ≡ length cs = ap length c.put_points.ensures.columns ∙ all_committed-length ss c.as_slice-2.result.now ∙ c.prepare_line.ensures.line.held.each in
+    let facts : PutsFacts rs (with_columns old (new_columns (map column_of old) (line_facts p))) (cells_of vs) (with_points cs (point_maps c.put_points.new.columns.items)) (cells_of (with_items (with_items (with_items c.self.inside.rollups us) vs) ws).items) (line_facts p) =
+    subst (λ (xs : List RollupState). PutsFacts rs (with_columns old (new_columns (map column_of old) (line_facts p))) (cells_of vs) (with_points cs (point_maps c.put_points.new.columns.items)) (cells_of xs) (line_facts p)) (sym written)
+    (subst (λ (b : List ColumnPoints). PutsFacts rs b (cells_of vs) (with_points cs (point_maps c.put_points.new.columns.items)) (cells_of ws) (line_facts p)) made
+    (subst (λ (xs : List RollupState). PutsFacts rs (with_points cs (point_maps ss)) (cells_of xs) (with_points cs (point_maps c.put_points.new.columns.items)) (cells_of ws) (line_facts p)) lent' puts)) in
     record {
       series = subst (λ (xs : List Series). Gains c.args.self.now.series xs (series_of p)) (sym c.prepare_line.ensures.line.series)
           (subst (λ (xs : List Series). Gains xs c.register.new.self.series (series_of p)) (ap (λ (h : Held). h.series) c.self.view_is) gains);
       roomy = cells_of vs;
-      facts = subst (λ (xs : List RollupState). PutsFacts rs (with_columns old (new_columns (map column_of old) (line_facts p))) (cells_of vs) (with_points cs (point_maps c.put_points.new.columns.items)) (cells_of xs) (line_facts p)) (sym written)
-          (subst (λ (b : List ColumnPoints). PutsFacts rs b (cells_of vs) (with_points cs (point_maps c.put_points.new.columns.items)) (cells_of ws) (line_facts p)) made
-          (subst (λ (xs : List RollupState). PutsFacts rs (with_points cs (point_maps ss)) (cells_of xs) (with_points cs (point_maps c.put_points.new.columns.items)) (cells_of ws) (line_facts p)) lent' puts));
+      facts = facts;
       taken = c.in_ok-prepare_line.ensures.line.taken;
       known = known_of c.prepare_line.new.index c.put_points.new.columns.items _ (record { sound = c.prepare_line.ensures.line.held.sound; each = each });
       rollups = subst (λ (xs : List RollupState). AreRollups rs (map column_of (columns_in c.prepare_line.new.index c.put_points.new.columns.items)) xs) (sym written)
           (rollups_held rs c.prepare_line.new.index c.put_points.new.columns.items ws each (subst (AreRollups rs cs) (sym lanes) (rollups_with rs cs (cells_of ws) vs have)));
       rooms = rooms;
+      cells = line_cells rs lows (line_facts p) (with_columns old (new_columns (map column_of old) (line_facts p))) (columns_in c.prepare_line.new.index c.put_points.new.columns.items) (cells_of c.args.self.now.rollups) (cells_of vs)
+          _ gains' rooms facts;
     }
 
 pub make_rooms-requires-clause-inside : goal.make_rooms-requires-clause-inside
@@ -192,6 +206,7 @@ returns-in-Err-clause-err g c =
     grown c.args.rules.now c.args.lows.now c.args.line.now c.args.key.now c.args.self.now before after after states states us us us c.requires.key c.self.view_is (inl c.in-Err.ensures.registered.kept) c.register.ensures.columns refl
     (none_made (columns_in after states) (line_facts c.args.line.now)) (still_held before after states c.register.ensures.sound c.register.ensures.columns c.self.invariant) refl
     (still_rollups c.args.rules.now c.args.self.now before after states us c.self.view_is c.register.ensures.columns c.self.invariant c.requires.rollups) (rooms_same c.args.rules.now c.args.lows.now (cells_of us))
+    (gain_nothing (line_facts c.args.line.now) c.args.rules.now c.args.lows.now (cells_of us)) (inl refl)
 
 pub returns-in_err-reserve-clause-err : goal.returns-in_err-reserve-clause-err
 returns-in_err-reserve-clause-err g c =
@@ -202,7 +217,8 @@ returns-in_err-reserve-clause-err g c =
     on_any_err c.from_residual.result
     (grown c.args.rules.now c.args.lows.now c.args.line.now c.args.key.now c.args.self.now before after after states states us us us c.requires.key c.self.view_is (inr c.in-Ok.ensures.registered.gains) c.register.ensures.columns refl
     (none_made (columns_in after states) (line_facts c.args.line.now)) (still_held before after states c.register.ensures.sound c.register.ensures.columns c.self.invariant) refl
-    (still_rollups c.args.rules.now c.args.self.now before after states us c.self.view_is c.register.ensures.columns c.self.invariant c.requires.rollups) (rooms_same c.args.rules.now c.args.lows.now (cells_of us)))
+    (still_rollups c.args.rules.now c.args.self.now before after states us c.self.view_is c.register.ensures.columns c.self.invariant c.requires.rollups) (rooms_same c.args.rules.now c.args.lows.now (cells_of us))
+    (gain_nothing (line_facts c.args.line.now) c.args.rules.now c.args.lows.now (cells_of us)) (inl refl))
 
 pub returns-in_err-prepare_line-clause-err : goal.returns-in_err-prepare_line-clause-err
 returns-in_err-prepare_line-clause-err g c =
@@ -212,7 +228,9 @@ returns-in_err-prepare_line-clause-err g c =
     (grown c.args.rules.now c.args.lows.now c.args.line.now c.args.key.now c.args.self.now c.self.inside.index c.register.new.self c.prepare_line.new.index c.self.inside.columns.items c.prepare_line.new.columns.items c.self.inside.rollups.items us
     (with_items c.self.inside.rollups us).items c.requires.key c.self.view_is (inr c.in-Ok.ensures.registered.gains) c.register.ensures.columns c.prepare_line.ensures.line.series c.prepare_line.ensures.line.made
     c.prepare_line.ensures.line.held (with_items_is c.self.inside.rollups us long) c.prepare_line.ensures.rollups
-    (subst (λ (ms : List CellMap). HaveRoom c.args.rules.now c.args.lows.now [] ms (cells_of us)) (c.prepare_line.ensures.cells ∙ ap cells_of c.as_mut_slice.ensures.value) (rooms_same c.args.rules.now c.args.lows.now (cells_of us))))
+    (subst (λ (ms : List CellMap). HaveRoom c.args.rules.now c.args.lows.now [] ms (cells_of us)) (c.prepare_line.ensures.cells ∙ ap cells_of c.as_mut_slice.ensures.value) (rooms_same c.args.rules.now c.args.lows.now (cells_of us)))
+    (subst (λ (ms : List CellMap). OfEachRule (GainsCells (line_facts c.args.line.now)) c.args.rules.now c.args.lows.now ms (cells_of us)) (c.prepare_line.ensures.cells ∙ ap cells_of c.as_mut_slice.ensures.value)
+    (gain_nothing (line_facts c.args.line.now) c.args.rules.now c.args.lows.now (cells_of us))) (inl (c.prepare_line.ensures.cells ∙ ap cells_of c.as_mut_slice.ensures.value)))
 
 pub returns-in_err-make_rooms-clause-err : goal.returns-in_err-make_rooms-clause-err
 returns-in_err-make_rooms-clause-err g c =
@@ -220,9 +238,16 @@ returns-in_err-make_rooms-clause-err g c =
     let long : length c.prepare_line.new.rollups ≡ c.self.inside.rollups.len = omega (arith, c.prepare_line.auto.rollups, ap length c.as_mut_slice.ensures.value, c.self.inside.rollups.ok.0) in
     let lent : c.as_mut_slice-2.result.now ≡ c.prepare_line.new.rollups = c.as_mut_slice-2.ensures.value ∙ with_items_is c.self.inside.rollups c.prepare_line.new.rollups long in
     let still : length us ≡ c.self.inside.rollups.len = omega (arith, c.make_rooms.auto.rollups, ap length lent, long) in
+    let ns : List ℕ = c.prepare_line.new.touched.items in
+    let part : AreRoomedInPart c.args.rules.now c.args.lows.now c.time.result ns c.prepare_line.new.rollups us =
+    subst (λ (vs : List RollupState). AreRoomedInPart c.args.rules.now c.args.lows.now c.time.result ns vs us) lent
+    (subst (λ (ks : List ℕ). AreRoomedInPart c.args.rules.now c.args.lows.now c.time.result ks c.as_mut_slice-2.result.now us) c.as_slice.ensures.value c.in_err-make_rooms.ensures.err) in
+    let before : cells_of c.prepare_line.new.rollups ≡ cells_of c.self.inside.rollups.items = c.prepare_line.ensures.cells ∙ ap cells_of c.as_mut_slice.ensures.value in
     on_any_err c.from_residual-in_err-make_rooms.result
     (grown c.args.rules.now c.args.lows.now c.args.line.now c.args.key.now c.args.self.now c.self.inside.index c.register.new.self c.prepare_line.new.index c.self.inside.columns.items c.prepare_line.new.columns.items c.self.inside.rollups.items us
     (with_items (with_items c.self.inside.rollups c.prepare_line.new.rollups) us).items c.requires.key c.self.view_is (inr c.in-Ok.ensures.registered.gains) c.register.ensures.columns c.prepare_line.ensures.line.series c.prepare_line.ensures.line.made
     c.prepare_line.ensures.line.held (with_items_is (with_items c.self.inside.rollups c.prepare_line.new.rollups) us still)
     (rollups_stay c.args.rules.now c.prepare_line.new.index.columns c.prepare_line.new.rollups us c.prepare_line.ensures.rollups (subst (λ (xs : List RollupState). KeepLanes xs us) lent c.make_rooms.ensures.lanes))
-    (subst (λ (ms : List CellMap). HaveRoom c.args.rules.now c.args.lows.now [] ms (cells_of us)) (ap cells_of lent ∙ c.prepare_line.ensures.cells ∙ ap cells_of c.as_mut_slice.ensures.value) c.in_err-make_rooms.ensures.err))
+    (subst (λ (ms : List CellMap). HaveRoom c.args.rules.now c.args.lows.now [] ms (cells_of us)) before (part_rooms c.args.rules.now c.args.lows.now c.time.result ns c.prepare_line.new.rollups us part))
+    (line_gains c.args.rules.now c.args.lows.now c.prepare_line.new.index.columns c.prepare_line.new.columns.items c.args.line.now c.time.result ns (cells_of c.self.inside.rollups.items) c.prepare_line.new.rollups us c.prepare_line.ensures.rollups
+    c.in_ok-prepare_line.ensures.line.aside c.time.ensures before part) (inr c.in_ok-prepare_line.ensures.line.taken))

@@ -1,9 +1,8 @@
-use Rattle.ts_store.specs.OpenRuns.{kept_data}
-use Rattle.ts_store.proofs.CountsKept.{facts-few}
+use Rattle.std.proofs.Common.{arith}
 use Rattle.ts_store.proofs.store.Store.held_points.Goals as goal
 
 pub held_points-requires : goal.held_points-requires
 held_points-requires g c =
-    let inside = c.self.inside in
-    let reached = c.self.invariant.reached in
-    facts-few reached.opening reached.history (kept_data inside.settings inside.marks inside.accepted inside.facts inside.run) reached.stands
+    let facts = c.self.invariant.sized.facts in
+    let few = c.self.invariant.sized.accepted in
+    omega (arith, facts, few)

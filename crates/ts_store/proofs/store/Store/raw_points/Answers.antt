@@ -1,18 +1,17 @@
-use Rattle.std.proofs.Common.{◌≡◌, ◌∙◌, ap, length, true, false, refl}
+use Rattle.std.proofs.Common.{◌≡◌, ◌∙◌, ap, length, true, false, refl, arith}
 use Rattle.std.specs.Bool.{OnFalse}
 use Rattle.ts_core.specs.RawFacts.{raw_facts}
 use Rattle.ts_core.specs.StoreStates.{facts_of}
 use Rattle.ts_core.specs.StoreData.{StoreData, OfEachHistory}
+use Rattle.ts_store.proofs.RawReads.{raw_count}
 use Rattle.ts_store.proofs.Stands.{idle_stands}
-use Rattle.ts_store.specs.OpenRuns.{kept_data}
-use Rattle.ts_store.proofs.CountsKept.{facts-few}
 use Rattle.ts_store.proofs.store.Store.raw_points.Goals as goal
 
 pub raw_points-requires : goal.raw_points-requires
 raw_points-requires g c =
-    let inside = c.self.inside in
-    let reached = c.self.invariant.reached in
-    facts-few reached.opening reached.history (kept_data inside.settings inside.marks inside.accepted inside.facts inside.run) reached.stands
+    let facts = c.self.invariant.sized.facts in
+    let few = c.self.invariant.sized.accepted in
+    omega (arith, facts, few)
 
 pub returns-clause-facts : goal.returns-clause-facts
 returns-clause-facts g c =
@@ -21,3 +20,6 @@ returns-clause-facts g c =
       | true ↦ λ runs. tt
       | false ↦ λ idle opening h st. c.raw_points.ensures ∙ ap (λ (k : StoreData). length (facts_of k.columns)) c.self.view_is ∙ idle_stands opening h now idle st
     ] refl
+
+pub returns-clause-raw : goal.returns-clause-raw
+returns-clause-raw g c = λ opening h st. c.raw_points.ensures ∙ ap (λ (k : StoreData). length (facts_of k.columns)) c.self.view_is ∙ raw_count opening h c.args.self.now st

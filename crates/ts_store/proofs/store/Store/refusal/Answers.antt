@@ -2,17 +2,12 @@ use Rattle.std.proofs.Common.{◌≡◌, ◌<◌, ◌≤◌, ◌+◌, ◌^◌, �
 use Rattle.std.proofs.lemmas.List.{length-map}
 use Rattle.ts_core.specs.StoreData.{StoreData}
 use Rattle.ts_line.specs.Parts.{series_of, fact_of, line_facts}
-use Rattle.ts_store.specs.OpenRuns.{kept_data}
 use Rattle.ts_store.specs.Refusals.{write_fault, is_too_many}
-use Rattle.ts_store.proofs.CountsKept.{accepted-few}
 use Rattle.ts_store.proofs.Stands.{not_before, facts_refused, welcome}
 use Rattle.ts_store.proofs.store.Store.refusal.Goals as goal
 
 pub overflow_sub-self-inside : goal.overflow_sub-self-inside
-overflow_sub-self-inside g c =
-    let inside = c.self.inside in
-    let reached = c.self.invariant.reached in
-    accepted-few reached.opening reached.history (kept_data inside.settings inside.marks inside.accepted inside.facts inside.run) reached.stands
+overflow_sub-self-inside g c = c.self.invariant.sized.accepted
 
 pub returns-then-fields-self : goal.returns-then-fields-self
 returns-then-fields-self g c =
@@ -29,13 +24,12 @@ returns-then-fields-self g c =
 pub returns : goal.returns
 returns g c =
     let inside = c.self.inside in
-    let reached = c.self.invariant.reached in
     let line = c.args.line.now in
     let late : inside.marks.raw ≤ℤ line.time = not_before line.time inside.marks.raw c.time.result c.raw.result c.time.ensures c.raw.ensures (sym c.lt.ensures ∙ c.if-lt.false) in
     let registers : is_too_many inside.facts.series (series_of line) ≡ false =
     sym (ap (is_too_many inside.facts.series) c.requires) ∙ sym c.refuses.ensures ∙ c.if-refuses.false in
     let fields = ap length c.fields.ensures.value in
     let facts = length-map line.fields (fact_of line) in
-    let all = accepted-few reached.opening reached.history (kept_data inside.settings inside.marks inside.accepted inside.facts inside.run) reached.stands in
+    let all = c.self.invariant.sized.accepted in
     let few : inside.accepted + length (line_facts line) ≤ 2 ^ 62 = let more = c.if-fields-self.false in omega (arith, fields, facts, more, all) in
     sym (welcome inside.marks.raw inside.facts.series inside.accepted line late registers few) ∙ ap (λ (k : StoreData). write_fault k.marks.raw k.series k.accepted line) c.self.view_is

@@ -12,7 +12,6 @@ use Rattle.ts_store.specs.OpenRuns.{IsKept, kept_data}
 use Rattle.ts_store.specs.Refusals.{write_fault}
 use Rattle.ts_store.specs.LivePuts.{StayLive}
 use Rattle.ts_store.specs.Rollups.{AreRollups, cells_of}
-use Rattle.ts_store.proofs.CountsKept.{facts-within}
 use Rattle.ts_store.proofs.Stands.{series_from, accepted_by, left_by, kept_left, kept_accepted, not_refused, taken_from, stay_live}
 use Rattle.ts_store.proofs.store.Store.write_tagged.Goals as goal
 
@@ -51,8 +50,7 @@ put_line-requires-clause-fit g c =
     let line : Parts = c.args.line.now in
     let none : write_fault before.marks.raw before.facts.series before.accepted line ≡ None = ap (λ (k : StoreData). write_fault k.marks.raw k.series k.accepted line) c.self.view_is ∙ sym c.refusal.ensures ∙ c.in_default.is in
     let welcome = not_refused before.marks.raw before.facts.series before.accepted line none in
-    let reached = c.self.invariant.reached in
-    let held = facts-within reached.opening reached.history (kept_data before.settings before.marks before.accepted before.facts before.run) reached.stands in
+    let held = c.self.invariant.sized.facts in
     let few = welcome.few in
     omega (arith, held, few)
 
@@ -61,7 +59,9 @@ invariant_of-self g c =
     let before = c.self.inside in
     let line : Parts = c.args.line.now in
     let grows : GrowsForLine before.settings.rules before.marks.lows before.facts c.put_line.new.self line = subst (λ (ls : List ℤ). GrowsForLine before.settings.rules ls before.facts c.put_line.new.self line) c.lows.ensures (subst (λ (rs : List Rule). GrowsForLine rs c.lows.result.now before.facts c.put_line.new.self line) c.rules.ensures.value c.in_err-put_line.ensures.err) in
-    kept_left before.settings before.marks before.accepted before.facts c.put_line.new.self before.run line c.self.invariant grows
+    let none : write_fault before.marks.raw before.facts.series before.accepted line ≡ None = ap (λ (k : StoreData). write_fault k.marks.raw k.series k.accepted line) c.self.view_is ∙ sym c.refusal.ensures ∙ c.in_default.is in
+    let welcome = not_refused before.marks.raw before.facts.series before.accepted line none in
+    kept_left before.settings before.marks before.accepted before.facts c.put_line.new.self before.run line c.self.invariant welcome.registers grows
 
 pub returns-in_err-put_line : goal.returns-in_err-put_line
 returns-in_err-put_line g c =
@@ -99,9 +99,8 @@ invariant_of-self-2 g c =
     let welcome = not_refused before.marks.raw before.facts.series before.accepted line none in
     let many : length c.fields.result.now ≡ length (line_facts line) = ap (λ (l : List (LinePart × ℤ)). length l) c.fields.ensures.value ∙ sym (length-map line.fields (fact_of line)) in
     let put : PutsLine before.settings.rules before.marks.lows before.facts c.put_line.new.self line = subst (λ (ls : List ℤ). PutsLine before.settings.rules ls before.facts c.put_line.new.self line) c.lows.ensures (subst (λ (rs : List Rule). PutsLine rs c.lows.result.now before.facts c.put_line.new.self line) c.rules.ensures.value c.in_ok-put_line.ensures.ok) in
-    let taken = taken_from before.marks.raw line welcome.late put.taken in
     subst (λ (n : ℕ). IsKept (kept_data before.settings before.marks (before.accepted + n) c.put_line.new.self before.run) c.put_line.new.self before.run) (sym many)
-    (kept_accepted before.settings before.marks before.accepted before.facts c.put_line.new.self before.run line c.self.invariant put taken welcome.few)
+    (kept_accepted before.settings before.marks before.accepted before.facts c.put_line.new.self before.run line c.self.invariant welcome.registers put welcome.few)
 
 pub returns : goal.returns
 returns g c =

@@ -1,35 +1,42 @@
-use Rattle.std.proofs.Common.{◌<◌, ◌∙◌, List, ap, subst, length, get_or, refl, arith}
+use Rattle.std.proofs.Common.{◌≡◌, ◌<◌, ◌∙◌, ℕ, List, ap, subst, length, map, get_or, refl, arith}
 use Rattle.std.proofs.lemmas.List.{length-map}
 use Rattle.ts_core.specs.Settings.{Rule}
 use Rattle.ts_core.specs.StoreData.{StoreData, rules_of, state_of}
 use Rattle.ts_core.specs.Views.{totals_in, seen_of}
-use Rattle.ts_store.specs.OpenRuns.{IsReached, kept_data}
+use Rattle.ts_store.specs.OpenRuns.{kept_data}
+use Rattle.ts_store.specs.SizedStores.{IsSized}
 use Rattle.ts_store.specs.Seats.{cells_at}
-use Rattle.ts_store.proofs.ShownCells.{store_ruled, store_shows}
-use Rattle.ts_store.proofs.CountsKept.{rules-length}
+use Rattle.ts_store.proofs.ShownCells.{rules-length, store_ruled, store_shows}
 use Rattle.ts_store.proofs.store.StoreView.cell_walk.Goals as goal
+
+-- the rule is one of the settings
+inside_settings : (k : StoreData) (n m : ℕ) → IsSized k → n < length (map totals_in (rules_of k.settings.rules k.marks.lows k.cells)) → m ≡ length k.settings.rules → n < m
+inside_settings k n m sized there same =
+    let each = rules-length k.settings.rules k.marks.lows k.cells sized.lows sized.cells in
+    let all = length-map (rules_of k.settings.rules k.marks.lows k.cells) totals_in in
+    omega (arith, each, all, same, there)
+
+pub bounds-rules-rule : goal.bounds-rules-rule
+bounds-rules-rule g c =
+    inside_settings c.args.self.now c.args.rule (length c.rules.result.now) (subst IsSized c.self.view_is c.self.invariant.sized) c.requires
+    (ap length c.rules.ensures.value ∙ ap (λ (k : StoreData). length k.settings.rules) c.self.view_is)
+
+pub offset_bounds-rules-rule : goal.offset_bounds-rules-rule
+offset_bounds-rules-rule g c = let inside = bounds-rules-rule g c in omega (arith, inside)
 
 pub cell_walk-requires : goal.cell_walk-requires
 cell_walk-requires g c =
     let inside = c.self.inside in
-    let now = c.args.self.now in
-    let reached = subst IsReached c.self.view_is c.self.invariant.reached in
-    let each = rules-length reached.opening reached.history now reached.stands in
-    let all = length-map (rules_of now.settings.rules now.marks.lows now.cells) totals_in in
-    let same = ap (λ (k : StoreData). length k.settings.rules) c.self.view_is in
-    let there : c.args.rule < length inside.settings.rules = omega (arith, each, all, same, c.requires) in
+    let there : c.args.rule < length inside.settings.rules =
+    inside_settings c.args.self.now c.args.rule (length inside.settings.rules) (subst IsSized c.self.view_is c.self.invariant.sized) c.requires (ap (λ (k : StoreData). length k.settings.rules) c.self.view_is) in
     store_ruled (kept_data inside.settings inside.marks inside.accepted inside.facts inside.run) inside.facts inside.run c.args.rule c.index-rules-rule.result c.self.invariant refl refl there
     (c.index-rules-rule.is ∙ ap (λ (rs : List Rule). get_or rs c.args.rule c.index-rules-rule.result) c.rules.ensures.value)
 
 pub returns : goal.returns
 returns g c =
     let inside = c.self.inside in
-    let now = c.args.self.now in
-    let reached = subst IsReached c.self.view_is c.self.invariant.reached in
-    let each = rules-length reached.opening reached.history now reached.stands in
-    let all = length-map (rules_of now.settings.rules now.marks.lows now.cells) totals_in in
-    let same = ap (λ (k : StoreData). length k.settings.rules) c.self.view_is in
-    let there : c.args.rule < length inside.settings.rules = omega (arith, each, all, same, c.requires) in
+    let there : c.args.rule < length inside.settings.rules =
+    inside_settings c.args.self.now c.args.rule (length inside.settings.rules) (subst IsSized c.self.view_is c.self.invariant.sized) c.requires (ap (λ (k : StoreData). length k.settings.rules) c.self.view_is) in
     c.cell_walk.ensures
     ∙ store_shows inside.settings inside.marks inside.accepted inside.facts inside.run c.args.rule c.index-rules-rule.result c.args.from.now c.args.to.now c.self.invariant there
     (c.index-rules-rule.is ∙ ap (λ (rs : List Rule). get_or rs c.args.rule c.index-rules-rule.result) c.rules.ensures.value)

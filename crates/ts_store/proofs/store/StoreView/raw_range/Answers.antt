@@ -2,8 +2,9 @@ use Rattle.std.proofs.Common.{◌<◌, ◌∙◌, ap, sym, subst, rules, List, �
 use Rattle.std.proofs.lemmas.Option.{get_or_from_slice_get}
 use Rattle.ts_core.specs.StoreStates.{ColumnPoints}
 use Rattle.ts_core.specs.StoreData.{StoreData}
-use Rattle.ts_store.specs.PointsRead.{points_between, AreLatestOf}
+use Rattle.ts_store.specs.PointsRead.{points_between, AreLatestOf, AreRawOf}
 use Rattle.ts_store.specs.Seats.{no_points, points_at}
+use Rattle.ts_store.proofs.RawReads.{raw_between}
 use Rattle.ts_store.proofs.Stands.{range_stands}
 use Rattle.ts_store.proofs.store.StoreView.raw_range.Goals as goal
 
@@ -26,3 +27,13 @@ returns-clause-facts g c = λ s at opening h st.
     let points = given ∙ ap (λ (x : ColumnPoints). points_between c.args.from c.args.to x.points) here in
     subst (λ (ps : List (ℤ × ℤ)). AreLatestOf s.column c.args.from c.args.to ps opening h) (sym points)
     (range_stands opening h c.args.self.now c.args.column s c.args.from c.args.to at st)
+
+pub returns-clause-raw : goal.returns-clause-raw
+returns-clause-raw g c = λ s at opening h st.
+    let from : SFits w64 c.args.from = search rules in
+    let to : SFits w64 c.args.to = search rules in
+    let given = c.raw_range.ensures.points ∙ (λ i. points_at (c.self.view_is i).columns c.args.column (to_z-of_z from i) (to_z-of_z to i)) in
+    let here = get_or_from_slice_get c.args.self.now.columns c.args.column s no_points at in
+    let points = given ∙ ap (λ (x : ColumnPoints). points_between c.args.from c.args.to x.points) here in
+    subst (λ (ps : List (ℤ × ℤ)). AreRawOf c.args.self.now.waiting s.column c.args.from c.args.to ps opening h) (sym points)
+    (raw_between opening h c.args.self.now c.args.column s c.args.from c.args.to at st)
