@@ -8,7 +8,7 @@ use Rattle.std.specs.Option.{ok_or}
 use Rattle.std.proofs.lemmas.List.{take_all}
 use Rattle.ts_line.specs.declared.fault.LineFaultKind.TheVariants.{TimestampRange}
 use Rattle.ts_line.specs.FaultText.{fault_at}
-use Rattle.std.proofs.Common.{◌≡◌, true, slice_range, drop, Option, None, length-drop, ℕ, ℤ, zero, suc, ◌+◌, ◌-◌, ◌<◌, ◌≤◌, false, eqb, ltb, cond, List, [], length, slice_index, Ok, Err, Some, refl, arith}
+use Rattle.std.proofs.Common.{◌≡◌, true, slice_range, drop, Option, None, length-drop, ℕ, ℤ, zero, suc, ◌+◌, ◌-◌, ◌<◌, ◌≤◌, false, eqb, ltb, cond, List, [], length, slice_index, Result, Ok, Err, Some, refl, arith}
 use Rattle.std.proofs.lemmas.Bool.{le-ltb}
 use Rattle.ts_core.specs.Facts.{Text}
 use Rattle.ts_line.specs.declared.fault.LineFault.{LineFault}
@@ -19,6 +19,10 @@ use Rattle.ts_line.specs.TagParts.{tags_at}
 use Rattle.ts_line.specs.Fields.{fields_at}
 use Rattle.ts_line.specs.Lines.{is_bare_space, trimmed, content, measurement_at, time_at, time_by, time_of, parts_at, line_of}
 use Rattle.ts_line.specs.Numbers.{is_number}
+use Rattle.ts_line.specs.ReadSteps.{◌>>=◌}
+use Rattle.ts_line.specs.Readings.{NeedsMemory, IfOutOfMemory}
+use Rattle.ts_line.specs.declared.fault.ReadLineError.{ReadLineError}
+use Rattle.ts_line.specs.declared.fault.ReadLineError.TheVariants as errors
 use Rattle.std.proofs.lemmas.Bool.Decides.{nat_tests}
 use Rattle.ts_line.proofs.PartsTold.{end_within}
 
@@ -53,6 +57,25 @@ pub line_read : (unit now : ℤ) (source : Text) (p : Parts) → ltb 65536 (leng
     → line_of unit now source ≡ Ok (Some p)
 unfolding line_of
 line_read unit now source p a b c d = rw (a, b, c, d) refl
+
+some_line : (r : Result Parts LineFault) → (r >>= λ p. Ok (Some p)) ≡ Ok None → ⊥
+some_line (Ok p) e = absurd cc
+some_line (Err f) e = absurd cc
+
+-- a line that isn't blank or a comment needs memory
+pub needs_memory : (unit now : ℤ) (source : Text) → length source ≤ 65536 → ltb 65536 (length source) ≡ false → eqb (spaces_end (content source) 0) (length (content source)) ≡ false
+    → eqb (slice_index (content source) (spaces_end (content source) 0)) 35 ≡ false → NeedsMemory unit now source
+unfolding line_of
+needs_memory unit now source le a b c = record {
+  short = le;
+  some = λ e. (let read : (parts_at unit now (content source) (spaces_end (content source) 0) >>= λ p. Ok (Some p)) ≡ Ok None = rw (a, b, c) at e in
+      some_line (parts_at unit now (content source) (spaces_end (content source) 0)) read);
+}
+
+pub memory_by : {X : Type 0} (r : Result X ReadLineError) (Fact : Type 0) → Fact → IfOutOfMemory r Fact
+memory_by (Ok x) Fact h = tt
+memory_by (Err (errors.Fault f)) Fact h = tt
+memory_by (Err errors.OutOfMemory) Fact h = h
 
 -- a number behind the fields is told as a time
 pub timed : (unit now : ℤ) (line : Text) (at start : ℕ) → spaces_end line at ≡ start → (start ≡ length line → ⊥) → is_number (slice_range line start (length line)) ≡ true

@@ -1,7 +1,9 @@
--- Reading a line against spelling it. (Own rule.)
-use Rattle.std.specs.Prelude.{ℤ, Option, Some, IfSome, Result, Ok, IfOk}
+-- Reading a line against spelling it, and when it needs memory. (Own rules.)
+use Rattle.std.specs.Prelude.{◌≡◌, ◌≤◌, ℤ, length, Option, Some, None, IfSome, Result, Ok, Err, IfOk}
 use Rattle.ts_core.specs.Facts.{Text}
 use Rattle.ts_line.specs.declared.fault.ReadLineError.{ReadLineError}
+use Rattle.ts_line.specs.declared.fault.ReadLineError.TheVariants as errors
+use Rattle.ts_line.specs.Lines.{line_of}
 use Rattle.ts_line.specs.Parts.{Parts}
 use Rattle.ts_line.specs.ReadSteps.{GivesIfRoom}
 use Rattle.ts_line.specs.Spelling.{IsSpelling}
@@ -10,3 +12,14 @@ use Rattle.ts_line.specs.Spelling.{IsSpelling}
 pub record IsReadAsSpelled (unit now : ℤ) (source : Text) (result : Result (Option Parts) ReadLineError) : Type 0 where
   pub told : IfOk result (λ o. IfSome o (IsSpelling unit now source))
   pub only : (parts : Parts) → IsSpelling unit now source parts → GivesIfRoom (λ o. o) result (Ok (Some parts))
+
+-- the text needs memory: it isn't too long, blank or a comment
+pub record NeedsMemory (unit now : ℤ) (source : Text) : Type 0 where
+  pub short : length source ≤ 65536
+  pub some : line_of unit now source ≡ Ok None → ⊥
+
+-- the fact holds if the call ran out of memory
+abbrev pub IfOutOfMemory : {X : Type 0} → Result X ReadLineError → Type 0 → Type 0
+IfOutOfMemory (Ok x) Fact = Unit {0}
+IfOutOfMemory (Err (errors.Fault f)) Fact = Unit {0}
+IfOutOfMemory (Err errors.OutOfMemory) Fact = Fact

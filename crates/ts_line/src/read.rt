@@ -3,7 +3,7 @@ ghost use Rattle.std.specs.Prelude.{◌≡◌, ◌<◌, ◌≤◌, true, length,
 ghost use Rattle.std.specs.Str.{IsCharBoundary};
 ghost use Rattle.ts_line.specs.EscapeLaws.{ReadsPairs};
 ghost use Rattle.ts_line.specs.Spans.{ArePlaced, pieces_of};
-ghost use Rattle.ts_line.specs.Readings.{IsReadAsSpelled};
+ghost use Rattle.ts_line.specs.Readings.{IsReadAsSpelled, NeedsMemory, IfOutOfMemory};
 ghost use Rattle.ts_line.specs.ReadSteps.{GivesIfRoom};
 ghost use Rattle.ts_core.specs.TimeUnits.{nanoseconds_of};
 ghost use Rattle.ts_line.specs.Lines.{is_bare_space, trimmed, without_return, content, measurement_at, time_at, parts_at, line_of};
@@ -27,7 +27,8 @@ const KEY_LIMIT: usize = 4_096;
 
 /// Parses a line given without its line feed. Returns its parts, or `None` for a comment or a blank line.
 /// A timestamp counts units of `precision`; without one, the time is `now`.
-/// On an error in the text, returns the first one with its byte offset; on allocation failure, `OutOfMemory`.
+/// On an error in the text, returns the first one with its byte offset; on allocation failure, `OutOfMemory`. A text that
+/// is too long, blank or a comment needs no memory.
 pub fn read_line<A: Allocator + Copy>(
     alloc: A,
     text: &str,
@@ -36,6 +37,9 @@ pub fn read_line<A: Allocator + Copy>(
 ) -> Result<Option<Line<'_, A>>, ReadLineError>
     // exactly no line, its parts or its first error
     ensures value { GivesIfRoom (λ o. o) result (line_of (nanoseconds_of precision) now text.now) }
+
+    // out of memory comes after what needs none: a text that is too long, blank or a comment has its own answer
+    ensures memory { IfOutOfMemory result (NeedsMemory (nanoseconds_of precision) now text.now) }
 
     // round trip: a line that is read is a spelling of its parts, and each spelling of parts is read as these parts
     ensures spelled { IsReadAsSpelled (nanoseconds_of precision) now text.now result }
@@ -56,7 +60,8 @@ fn whole_line<A: Allocator + Copy>(
     precision: TimeUnit,
     now: Time,
 ) -> Result<Option<Line<'_, A>>, ReadLineError>
-    ensures { GivesIfRoom (λ o. o) result (line_of (nanoseconds_of precision) now text.now) }
+    ensures value { GivesIfRoom (λ o. o) result (line_of (nanoseconds_of precision) now text.now) }
+    ensures memory { IfOutOfMemory result (NeedsMemory (nanoseconds_of precision) now text.now) }
 {
     if text.len() > LINE_LIMIT {
         return Err(ReadLineError::Fault(LineFaultKind::OverLimit.at(LINE_LIMIT)));

@@ -6,12 +6,12 @@ use Rattle.ts_line.proofs.read.read_line.Goals as goal
 
 pub returns-clause-spelled : goal.returns-clause-spelled
 returns-clause-spelled g c = record {
-  told = told_of (nanoseconds_of c.args.precision) c.args.now c.args.text.now c.whole_line.result c.whole_line.ensures;
-  only = read_of (nanoseconds_of c.args.precision) c.args.now c.args.text.now c.whole_line.result c.whole_line.ensures;
+  told = told_of (nanoseconds_of c.args.precision) c.args.now c.args.text.now c.whole_line.result c.whole_line.ensures.value;
+  only = read_of (nanoseconds_of c.args.precision) c.args.now c.args.text.now c.whole_line.result c.whole_line.ensures.value;
 }
 
 pub returns-clause-pairs : goal.returns-clause-pairs
 returns-clause-pairs g c = reads_pairs
 
 pub returns-clause-spans : goal.returns-clause-spans
-returns-clause-spans g c = placed_by (nanoseconds_of c.args.precision) c.args.now c.args.text.now c.whole_line.result (told_of (nanoseconds_of c.args.precision) c.args.now c.args.text.now c.whole_line.result c.whole_line.ensures)
+returns-clause-spans g c = placed_by (nanoseconds_of c.args.precision) c.args.now c.args.text.now c.whole_line.result (told_of (nanoseconds_of c.args.precision) c.args.now c.args.text.now c.whole_line.result c.whole_line.ensures.value)
