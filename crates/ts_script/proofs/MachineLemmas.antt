@@ -3,7 +3,7 @@ use Rattle.std.proofs.Common.{◌≡◌, ◌⊎◌, ⊎_elim, List, ℕ, ℤ, �
 use Rattle.std.specs.Bool.{OnFalse}
 use Rattle.std.specs.Fmt.{decimal}
 use Rattle.std.specs.Str.{IsUtf8}
-use Rattle.ts_core.specs.Facts.{Text, Series}
+use Rattle.ts_core.specs.Facts.{Text}
 use Rattle.ts_core.specs.RawFacts.{raw_facts}
 use Rattle.ts_core.specs.Settings.{Settings}
 use Rattle.ts_core.specs.SettingsFaults.{settings_fault_text}
@@ -11,16 +11,10 @@ use Rattle.ts_core.specs.SettingsTexts.{settings_read}
 use Rattle.ts_core.specs.declared.settings_fault.SettingsFault.{SettingsFault}
 use Rattle.ts_core.specs.StoreData.{StoreData, OfEachHistory, state_of}
 use Rattle.ts_core.specs.StoreStates.{StandsFor}
-use Rattle.ts_line.specs.Parts.{Parts, series_of}
-use Rattle.ts_core.specs.Numbered.{Gains}
-use Rattle.ts_store.specs.Registered.{MayGain}
-use Rattle.ts_store.specs.Refusals.{write_fault}
-use Rattle.ts_store.specs.LinesPut.{Accepts, Leaves}
+use Rattle.ts_core.specs.History.{IsRunOpen}
+use Rattle.ts_store.specs.LineTexts.{State as StoreState, IsIn as IsStoreIn, opened as opened_store, WritesText, RunsOutOfMemory, WritesFrom}
 use Rattle.ts_store.specs.WholeRuns.{whole_run, Retains}
-use Rattle.ts_core.specs.TimeUnits.{nanoseconds_of}
-use Rattle.ts_line.specs.Lines.{line_of}
-use Rattle.ts_line.specs.FaultText.{line_fault_text}
-use Rattle.ts_line.specs.declared.fault.LineFault.{LineFault}
+use Rattle.ts_store.specs.declared.write_text.LineOutcome.{LineOutcome}
 use Rattle.ts_core.specs.declared.time_unit.TimeUnit.{TimeUnit}
 use Rattle.ts_core.specs.FaultTexts.{memory_text}
 use Rattle.ts_reply.specs.Answering.{IsReply}
@@ -30,89 +24,51 @@ use Rattle.ts_script.specs.ScriptLines.{script_line_limit}
 use Rattle.ts_script.specs.ScriptCertificates.{with_line_feeds}
 use Rattle.ts_script.specs.Commands.{OpenWith, At, SetPrecision, SetEpoch, Write, Live, Retain, SetCertificate, Query, Explain, Count, CountFault, Unknown, is_skipped, command_of}
 use Rattle.ts_script.specs.MarksTexts.{marks_text}
-use Rattle.ts_script.specs.Opening.{IsEmptyWith}
-use Rattle.ts_store.specs.declared.fault.WriteFault.{WriteFault}
-use Rattle.ts_store.specs.declared.fault.WriteFault.TheVariants as write
-use Rattle.ts_store.specs.StoreFaultTexts.{write_fault_text}
 use Rattle.ts_script.specs.ScriptReplies.{line, text_of, unknown_text, bad_range_text}
 use Rattle.ts_script.specs.declared.reply.Reply.{Reply}
 use Rattle.ts_script.specs.declared.reply.Reply.TheVariants as reply
-use Rattle.ts_script.specs.declared.reply.Reply.TheVariants.{Done, OutOfMemory}
-use Rattle.ts_script.specs.Machine.{State, no_longer_fresh, with_certificate, opened_with, with_run, marks_told, with_line, with_series, at_moment, in_precision, line_in, refusal_in, in_epoch, refused, accepted_whole, found_no_memory, Counts, Does, Step, opens, refuses_settings, opens_no_memory, opens_late, moves, sets, shows, writes, passes_over, refuses, reads_no_memory, retains, retains_no_memory, hands_in, hands_in_no_memory, replies, replies_no_memory, explains, explains_no_memory, tells_live, counts, counts_nothing, refuses_count, refuses_unknown, too_long, no_text, skips, does}
-use Rattle.ts_script.specs.Serving.{Serving, keeping, IsIn, Replied, HasExplanation, Took, Did, Refused, Stepped, IsAnswered}
+use Rattle.ts_script.specs.declared.reply.Reply.TheVariants.{OutOfMemory}
+use Rattle.ts_script.specs.Machine.{State, no_longer_fresh, with_certificate, with_store, opened_with, with_run, marks_told, at_moment, in_precision, in_epoch, Counts, Does, Step, opens, refuses_settings, opens_no_memory, opens_late, moves, sets, shows, writes, writes_no_memory, retains, retains_no_memory, hands_in, hands_in_no_memory, replies, replies_no_memory, explains, explains_no_memory, tells_live, counts, counts_nothing, refuses_count, refuses_unknown, too_long, no_text, skips, does}
+use Rattle.ts_script.specs.Serving.{Serving, keeping, IsIn, Replied, HasExplanation, Did, Refused, Stepped, IsAnswered}
 use Rattle.ts_script.specs.LineReading.{NextOf}
 use Rattle.ts_script.specs.declared.line_reader.Next.TheVariants as next
 
 -- ---- writing
 
-read_then : (s : State) (m : Serving) (text : Text) (r : Result (Option Parts) LineFault) → IsIn s m → line_of (nanoseconds_of m.precision) m.moment text ≡ r → line_in s text ≡ r
-read_then s m text r i e = ap (λ (t : ℤ). line_of (nanoseconds_of s.precision) t text) (sym i.moment) ∙ ap (λ (p : TimeUnit). line_of (nanoseconds_of p) m.moment text) (sym i.precision) ∙ e
-
 -- a machine of these parts
 abbrev pub serving : ℤ → TimeUnit → Epoch → Bool → Option Text → StoreData → Serving
 serving t p e f c k = record { moment = t; precision = p; epoch = e; fresh = f; certificate = c; kept = k }
 
--- what a write answers, and how that is told
-abbrev pub Written : Type 0
-Written = Result (Unit {0}) WriteFault
+-- the effect of a text is one in the state's precision, at its moment
+written_by : {E : Type 0} (s : State) (m : Serving) (text : Text) (r : Result LineOutcome E) (k : StoreData) → IsIn s m → WritesFrom m.precision m.moment s.store text r k → WritesFrom s.precision s.moment s.store text r k
+written_by s m text r k i w = subst (λ (t : ℤ). WritesFrom s.precision t s.store text r k) i.moment (subst (λ (p : TimeUnit). WritesFrom p m.moment s.store text r k) i.precision w)
 
-abbrev pub reply_to : Written → Reply
-reply_to (Ok done) = Done
-reply_to (Err fault) = reply.Refused fault
+-- a line leaves no run open
+still_idle : (s : State) (outcome : LineOutcome) (new : StoreState) (text : Text) → (IsRunOpen s.store.history → ⊥) → WritesText s.precision s.moment s.store text outcome new → IsRunOpen new.history → ⊥
+still_idle s outcome new text idle (WritesText.accepts parts series e none gains) = idle
+still_idle s outcome new text idle (WritesText.passes_over e) = idle
+still_idle s outcome new text idle (WritesText.misreads fault e) = idle
+still_idle s outcome new text idle (WritesText.refuses parts fault e refused) = idle
 
--- what the store says of a line, is so in the state
-same_refusal : (parts : Parts) (s : State) (m : Serving) → IsIn s m → write_fault m.kept.marks.raw m.kept.series m.kept.accepted parts ≡ refusal_in s parts
-same_refusal parts s m i = λ j. write_fault (i.stands.marks j).raw (i.series j) (i.stands.accepted j) parts
+idle_without_memory : (s : State) (new : StoreState) (text : Text) → (IsRunOpen s.store.history → ⊥) → RunsOutOfMemory s.precision s.moment s.store text new → IsRunOpen new.history → ⊥
+idle_without_memory s new text idle (RunsOutOfMemory.in_parsing needs) = idle
+idle_without_memory s new text idle (RunsOutOfMemory.in_writing parts series e none gains) = idle
 
-took_refused : (parts : Parts) (s : State) (m : Serving) (k : StoreData) (fault : WriteFault) → IsIn s m → refusal_in s parts ≡ Some fault → k ≡ m.kept → Took parts s (text_of (reply.Refused fault)) (keeping k m)
-took_refused parts s m k fault i is same =
-    (s, refused fault is, subst (λ (l : StoreData). IsIn s (keeping l m)) (sym same) i)
+-- a machine whose store is in this state
+storing : (s : State) (m : Serving) (new : StoreState) (k : StoreData) → IsIn s m → (IsRunOpen new.history → ⊥) → IsStoreIn new k → IsIn (with_store new s) (keeping k m)
+storing s m new k i idle is = record { moment = i.moment; precision = i.precision; epoch = i.epoch; fresh = i.fresh; certificate = i.certificate; store = is; idle = idle }
 
-took_whole : (parts : Parts) (s : State) (m : Serving) (k : StoreData) → IsIn s m → refusal_in s parts ≡ None → Accepts m.kept k parts → Took parts s (line (codes "ok")) (keeping k m)
-took_whole parts s m k i none a = (
-  with_line parts k.series s,
-  accepted_whole k.series none (subst (λ (xs : List Series). Gains xs k.series (series_of parts)) i.series a.series),
-  record { moment = i.moment; precision = i.precision; epoch = i.epoch; fresh = i.fresh; certificate = i.certificate; stands = a.history s.opening s.history i.stands; series = refl; idle = i.idle },
-)
+abbrev pub reply_to : {E : Type 0} → Result LineOutcome E → Reply
+reply_to (Ok outcome) = reply.Written outcome
+reply_to (Err e) = OutOfMemory
 
-took_nothing : (parts : Parts) (s : State) (m : Serving) (k : StoreData) → IsIn s m → refusal_in s parts ≡ None → Leaves m.kept k parts → Took parts s (line (write_fault_text write.OutOfMemory)) (keeping k m)
-unfolding write_fault_text
-took_nothing parts s m k i none l = (
-  with_series k.series s,
-  found_no_memory k.series none (subst (λ (xs : List Series). MayGain xs k.series (series_of parts)) i.series l.series),
-  record { moment = i.moment; precision = i.precision; epoch = i.epoch; fresh = i.fresh; certificate = i.certificate; stands = l.history s.opening s.history i.stands; series = refl; idle = i.idle },
-)
-
--- the reply is the one of the store's answer
-pub took : (parts : Parts) (s : State) (m : Serving) (k : StoreData) (r : Written) → IsIn s m → OnOk r (Accepts m.kept k parts) → IfSome (write_fault m.kept.marks.raw m.kept.series m.kept.accepted parts) (λ fault. (r ≡ Err fault) × (k ≡ m.kept))
-    → (IsNone (write_fault m.kept.marks.raw m.kept.series m.kept.accepted parts) → (r ≡ Ok tt) ⊎ ((r ≡ Err write.OutOfMemory) × Leaves m.kept k parts)) → Took parts s (text_of (reply_to r)) (keeping k m)
-took parts s m k r i ok faults goes =
-    let w : Option WriteFault = write_fault m.kept.marks.raw m.kept.series m.kept.accepted parts in
-    let here : w ≡ refusal_in s parts = same_refusal parts s m i in
-    elim w as (λ o. w ≡ o → IfSome o (λ fault. (r ≡ Err fault) × (k ≡ m.kept)) → (IsNone o → (r ≡ Ok tt) ⊎ ((r ≡ Err write.OutOfMemory) × Leaves m.kept k parts)) → Took parts s (text_of (reply_to r)) (keeping k m)) [
-      | Some fault ↦ λ e h n. subst (λ (q : Written). Took parts s (text_of (reply_to q)) (keeping k m)) (sym h.0) (took_refused parts s m k fault i (sym here ∙ e) h.1)
-      | None ↦ λ e h n. ⊎_elim {C = Took parts s (text_of (reply_to r)) (keeping k m)}
-          (λ done. subst (λ (q : Written). Took parts s (text_of (reply_to q)) (keeping k m)) (sym done) (took_whole parts s m k i (sym here ∙ e) (subst (λ (q : Written). OnOk q (Accepts m.kept k parts)) done ok)))
-          (λ want. subst (λ (q : Written). Took parts s (text_of (reply_to q)) (keeping k m)) (sym want.0) (took_nothing parts s m k i (sym here ∙ e) want.1))
-          (n refl)
-    ] refl faults goes
-
-pub wrote : (text answer : Text) (parts : Parts) (s : State) (m : Serving) → line_in s text ≡ Ok (Some parts) → Took parts s answer m → Did (Write text) s answer m
-wrote text answer parts s m said t = (t.0, writes text answer parts t.0 said t.1, t.2)
-
-pub read_no_memory : (text : Text) (s : State) (m : Serving) → IsIn s m → Did (Write text) s (line memory_text) m
-read_no_memory text s m i = (s, reads_no_memory text, i)
-
--- ---- what was read, by the moment and the precision of the machine
-
-pub was_said : (text : Text) (parts : Parts) (s : State) (m : Serving) → IsIn s m → line_of (nanoseconds_of m.precision) m.moment text ≡ Ok (Some parts) → line_in s text ≡ Ok (Some parts)
-was_said text parts s m i e = read_then s m text (Ok (Some parts)) i e
-
-pub was_no_line : (text : Text) (s : State) (m : Serving) → IsIn s m → line_of (nanoseconds_of m.precision) m.moment text ≡ Ok None → Did (Write text) s (line (codes "none")) m
-was_no_line text s m i e = (s, passes_over text (read_then s m text (Ok None) i e), i)
-
-pub was_refused : (text : Text) (fault : LineFault) (s : State) (m : Serving) → IsIn s m → line_of (nanoseconds_of m.precision) m.moment text ≡ Err fault → Did (Write text) s (line (line_fault_text fault)) m
-was_refused text fault s m i e = (s, refuses text fault (read_then s m text (Err fault) i e), i)
+pub wrote : {E : Type 0} (text : Text) (r : Result LineOutcome E) (s : State) (m : Serving) (k : StoreData) → IsIn s m → ((t : StoreState) → IsStoreIn t m.kept → WritesFrom m.precision m.moment t text r k) → Did (Write text) s (text_of (reply_to r)) (keeping k m)
+wrote text (Ok outcome) s m k i each =
+    let w = written_by s m text (Ok outcome) k i (each s.store i.store) in
+    (with_store w.0 s, writes text outcome w.0 w.1, storing s m w.0 k i (still_idle s outcome w.0 text i.idle w.1) w.2)
+wrote text (Err e) s m k i each =
+    let w = written_by s m text (Err e) k i (each s.store i.store) in
+    (with_store w.0 s, writes_no_memory text w.0 w.1, storing s m w.0 k i (idle_without_memory s w.0 text i.idle w.1) w.2)
 
 -- ---- the other commands
 
@@ -120,36 +76,36 @@ pub moved : (t : ℤ) (s : State) (m : Serving) → IsIn s m → Did (At t) s []
 moved t s m i = (
   at_moment t s,
   moves t,
-  record { moment = refl; precision = i.precision; epoch = i.epoch; fresh = i.fresh; certificate = i.certificate; stands = i.stands; series = i.series; idle = i.idle },
+  record { moment = refl; precision = i.precision; epoch = i.epoch; fresh = i.fresh; certificate = i.certificate; store = i.store; idle = i.idle },
 )
 
 pub was_set : (p : TimeUnit) (s : State) (m : Serving) → IsIn s m → Did (SetPrecision p) s [] (record m { precision = p })
 was_set p s m i = (
   in_precision p s,
   sets p,
-  record { moment = i.moment; precision = refl; epoch = i.epoch; fresh = i.fresh; certificate = i.certificate; stands = i.stands; series = i.series; idle = i.idle },
+  record { moment = i.moment; precision = refl; epoch = i.epoch; fresh = i.fresh; certificate = i.certificate; store = i.store; idle = i.idle },
 )
 
 pub was_shown : (e : Epoch) (s : State) (m : Serving) → IsIn s m → Did (SetEpoch e) s [] (record m { epoch = e })
 was_shown e s m i = (
   in_epoch e s,
   shows e,
-  record { moment = i.moment; precision = i.precision; epoch = refl; fresh = i.fresh; certificate = i.certificate; stands = i.stands; series = i.series; idle = i.idle },
+  record { moment = i.moment; precision = i.precision; epoch = refl; fresh = i.fresh; certificate = i.certificate; store = i.store; idle = i.idle },
 )
 
 pub was_counted : (measurement field answer : Text) (a b : ℤ) (s : State) (m : Serving) → IsIn s m → a <ℤ b → OfEachHistory m.kept (λ opening h. Counts opening h measurement field a b answer) → Did (Count measurement field a b) s answer m
-was_counted measurement field answer a b s m i some each = (s, counts measurement field answer a b some (each s.opening s.history i.stands), i)
+was_counted measurement field answer a b s m i some each = (s, counts measurement field answer a b some (each s.store.opening s.store.history i.store.stands), i)
 
 pub none_counted : (measurement field : Text) (a b : ℤ) (s : State) (m : Serving) → IsIn s m → b ≤ℤ a → Did (Count measurement field a b) s (line (codes "0")) m
 none_counted measurement field a b s m i none = (s, counts_nothing measurement field a b none, i)
 
 -- ---- settings
 
-pub was_opened : (text : Text) (settings : Settings) (s : State) (m : Serving) (k : StoreData) → IsIn s m → m.fresh ≡ true → settings_read text ≡ Ok settings → IsEmptyWith settings k → Did (OpenWith text) s [] (keeping k m)
+pub was_opened : (text : Text) (settings : Settings) (s : State) (m : Serving) (k : StoreData) → IsIn s m → m.fresh ≡ true → settings_read text ≡ Ok settings → IsStoreIn (opened_store settings) k → Did (OpenWith text) s [] (keeping k m)
 was_opened text settings s m k i fresh read empty = (
   opened_with settings s,
   opens text settings (sym i.fresh ∙ fresh) read,
-  record { moment = i.moment; precision = i.precision; epoch = i.epoch; fresh = i.fresh; certificate = i.certificate; stands = empty.stands; series = empty.series; idle = λ running. running },
+  record { moment = i.moment; precision = i.precision; epoch = i.epoch; fresh = i.fresh; certificate = i.certificate; store = empty; idle = λ running. running },
 )
 
 pub opened_no_memory : (text : Text) (s : State) (m : Serving) → IsIn s m → m.fresh ≡ true → Did (OpenWith text) s (line memory_text) m
@@ -170,11 +126,11 @@ opened_late text s m i late = (s, opens_late text (sym i.fresh ∙ late), i)
 
 pub retained : (answer : Text) (s : State) (m : Serving) (k : StoreData) → IsIn s m → Retains m.moment m.kept k → answer ≡ line (marks_text k.settings k.marks) → Did Retain s answer (keeping k m)
 retained answer s m k i r told =
-    let stands : StandsFor s.opening (whole_run s.moment r.steps s.history) (state_of k) = subst (λ (t : ℤ). StandsFor s.opening (whole_run t r.steps s.history) (state_of k)) i.moment (r.history s.opening s.history i.stands) in
+    let stands : StandsFor s.store.opening (whole_run s.moment r.steps s.store.history) (state_of k) = subst (λ (t : ℤ). StandsFor s.store.opening (whole_run t r.steps s.store.history) (state_of k)) i.moment (r.history s.store.opening s.store.history i.store.stands) in
     let marks : answer ≡ line (marks_told (with_run r.steps s)) = told ∙ (λ j. line (marks_text (stands.settings j) (stands.marks j))) in (
       with_run r.steps s,
       subst (λ (a : Text). Does s Retain a (with_run r.steps s)) (sym marks) (retains r.steps),
-      record { moment = i.moment; precision = i.precision; epoch = i.epoch; fresh = i.fresh; certificate = i.certificate; stands = stands; series = r.series ∙ i.series; idle = λ running. running },
+      record { moment = i.moment; precision = i.precision; epoch = i.epoch; fresh = i.fresh; certificate = i.certificate; store = record { stands = stands; series = r.series ∙ i.store.series }; idle = λ running. running },
     )
 
 pub retained_no_memory : (s : State) (m : Serving) → IsIn s m → Did Retain s (line memory_text) m
@@ -186,7 +142,7 @@ when_ok {T} {E} (Err x) P ok none = absurd (true≢false none)
 
 -- no run is open when a command comes
 pub never_open : (s : State) (m : Serving) → IsIn s m → IsTrue m.kept.running → ⊥
-never_open s m i running = i.idle (i.stands.running.0 running)
+never_open s m i running = i.idle (i.store.stands.running.0 running)
 
 -- ---- certificates and queries
 
@@ -195,7 +151,7 @@ abbrev pub holding : Option Text → Serving → Serving
 holding certificate m = record m { certificate = certificate }
 
 pub held : (certificate : Option Text) (s : State) (m : Serving) → IsIn s m → IsIn (with_certificate certificate s) (holding certificate m)
-held certificate s m i = record { moment = i.moment; precision = i.precision; epoch = i.epoch; fresh = i.fresh; certificate = refl; stands = i.stands; series = i.series; idle = i.idle }
+held certificate s m i = record { moment = i.moment; precision = i.precision; epoch = i.epoch; fresh = i.fresh; certificate = refl; store = i.store; idle = i.idle }
 
 pub was_handed_in : (text certificate : Text) (s : State) (m : Serving) → IsIn s m → certificate ≡ with_line_feeds text → Did (SetCertificate text) s [] (holding (Some certificate) m)
 was_handed_in text certificate s m i e = (
@@ -212,15 +168,15 @@ pub reply_ended : {X E : Type 0} (r : Result X E) (bytes : X → Text) (text bod
     → OfEachHistory m.kept (λ opening h. IsReply opening h m.moment text certificate m.epoch good body) → IfOk r (λ x. (s : State) → IsIn s m → Replied s text certificate (bytes x))
 reply_ended {X} {E} (Err x) bytes text body certificate good m e each = tt
 reply_ended {X} {E} (Ok x) bytes text body certificate good m e each = λ s i.
-    let reply : IsReply s.opening s.history s.moment text certificate s.epoch good body = subst (λ (t : ℤ). IsReply s.opening s.history t text certificate s.epoch good body) i.moment
-    (subst (λ (u : Epoch). IsReply s.opening s.history m.moment text certificate u good body) i.epoch (each s.opening s.history i.stands)) in
+    let reply : IsReply s.store.opening s.store.history s.moment text certificate s.epoch good body = subst (λ (t : ℤ). IsReply s.store.opening s.store.history t text certificate s.epoch good body) i.moment
+    (subst (λ (u : Epoch). IsReply s.store.opening s.store.history m.moment text certificate u good body) i.epoch (each s.store.opening s.store.history i.store.stands)) in
     (body, (good, reply), e)
 
 pub explanation_ended : {X E : Type 0} (r : Result X E) (bytes : X → Text) (text body : Text) (good : Bool) (m : Serving) → IfOk r (λ x. bytes x ≡ line body)
     → OfEachHistory m.kept (λ opening h. IsExplanation opening h m.moment text good body) → IfOk r (λ x. (s : State) → IsIn s m → HasExplanation s text (bytes x))
 explanation_ended {X} {E} (Err x) bytes text body good m e each = tt
 explanation_ended {X} {E} (Ok x) bytes text body good m e each = λ s i.
-    (body, (good, subst (λ (t : ℤ). IsExplanation s.opening s.history t text good body) i.moment (each s.opening s.history i.stands)), e)
+    (body, (good, subst (λ (t : ℤ). IsExplanation s.store.opening s.store.history t text good body) i.moment (each s.store.opening s.store.history i.store.stands)), e)
 
 -- the certificate is forgotten
 forgotten : (after : Option Text) (s : State) (m : Serving) → IsIn s m → after ≡ None → IsIn (with_certificate None s) (holding after m)
@@ -231,7 +187,7 @@ pub was_replied : (text answer : Text) (certificate after : Option Text) (s : St
 was_replied text answer certificate after s m i own none each =
     let here : IsIn (with_certificate None s) (holding after m) = forgotten after s m i none in
     let r = each (with_certificate None s) here in
-    let reply : IsReply s.opening s.history s.moment text s.certificate s.epoch r.1.0 r.0 = subst (λ (c : Option Text). IsReply s.opening s.history s.moment text c s.epoch r.1.0 r.0) (own ∙ i.certificate) r.1.1 in
+    let reply : IsReply s.store.opening s.store.history s.moment text s.certificate s.epoch r.1.0 r.0 = subst (λ (c : Option Text). IsReply s.store.opening s.store.history s.moment text c s.epoch r.1.0 r.0) (own ∙ i.certificate) r.1.1 in
     (with_certificate None s, subst (λ (a : Text). Does s (Query text) a (with_certificate None s)) (sym r.2) (replies text r.0 r.1.0 reply), here)
 
 pub replied_no_memory : (text : Text) (after : Option Text) (s : State) (m : Serving) → IsIn s m → after ≡ None → Did (Query text) s (line memory_text) (holding after m)
@@ -247,7 +203,7 @@ pub told_live : (n : ℕ) (s : State) (m : Serving) → IsIn s m → OnFalse m.k
 told_live n s m i facts =
     elim m.kept.running as (λ b. (IsTrue b → ⊥) → OnFalse b (OfEachHistory m.kept (λ opening h. n ≡ length (raw_facts opening h))) → Did Live s (line (decimal n)) m) [
       | true ↦ λ idle none. absurd (idle refl)
-      | false ↦ λ idle each. (s, subst (λ (k : ℕ). Does s Live (line (decimal k)) s) (sym (each s.opening s.history i.stands)) tells_live, i)
+      | false ↦ λ idle each. (s, subst (λ (k : ℕ). Does s Live (line (decimal k)) s) (sym (each s.store.opening s.store.history i.store.stands)) tells_live, i)
     ] (never_open s m i) facts
 
 pub count_refused : (s : State) (m : Serving) → IsIn s m → Did CountFault s (line bad_range_text) m
@@ -260,7 +216,7 @@ not_known s m i = (s, refuses_unknown, i)
 
 -- settings may no longer come
 begun_in : (s : State) (m : Serving) → IsIn s m → IsIn (no_longer_fresh s) (record m { fresh = false })
-begun_in s m i = record { moment = i.moment; precision = i.precision; epoch = i.epoch; fresh = refl; certificate = i.certificate; stands = i.stands; series = i.series; idle = i.idle }
+begun_in s m i = record { moment = i.moment; precision = i.precision; epoch = i.epoch; fresh = refl; certificate = i.certificate; store = i.store; idle = i.idle }
 
 pub did_it : (bytes answer : Text) (s : State) (m : Serving) → length bytes ≤ script_line_limit → IsUtf8 bytes → is_skipped bytes ≡ false → Did (command_of bytes) s answer m → Stepped bytes s answer (record m { fresh = false })
 did_it bytes answer s m short text some d = (no_longer_fresh d.0, does bytes answer d.0 short text some d.1, begun_in d.0 m d.2)

@@ -2,21 +2,16 @@
 use Rattle.std.specs.Prelude.{◌≡◌, ℕ, ℤ, pos, ◌-ℤ◌, ◌≤ℤ◌, ◌<ℤ◌, ◌<◌, ◌≤◌, Bool, true, false, List, [], ◌∷◌, length, codes, Option, Some, None, Result, Ok, Err}
 use Rattle.std.specs.Fmt.{decimal}
 use Rattle.std.specs.Str.{IsUtf8}
-use Rattle.ts_core.specs.Facts.{Text, Series}
+use Rattle.ts_core.specs.Facts.{Text}
 use Rattle.ts_core.specs.Settings.{Settings, open_settings}
 use Rattle.ts_core.specs.SettingsFaults.{settings_fault_text}
 use Rattle.ts_core.specs.SettingsTexts.{settings_read}
 use Rattle.ts_core.specs.declared.settings_fault.SettingsFault.{SettingsFault}
-use Rattle.ts_core.specs.History.{Line, History, accepted, settings_of}
+use Rattle.ts_core.specs.History.{History, settings_of}
 use Rattle.ts_core.specs.Latest.{count_of}
 use Rattle.ts_core.specs.Marks.{marks_of}
 use Rattle.ts_core.specs.Pieces.{Piece}
 use Rattle.ts_core.specs.RawFacts.{raw_facts}
-use Rattle.ts_line.specs.Parts.{Parts, series_of, line_facts}
-use Rattle.ts_core.specs.TimeUnits.{nanoseconds_of}
-use Rattle.ts_line.specs.Lines.{line_of}
-use Rattle.ts_line.specs.FaultText.{line_fault_text}
-use Rattle.ts_line.specs.declared.fault.LineFault.{LineFault}
 use Rattle.ts_core.specs.declared.time_unit.TimeUnit.{TimeUnit}
 use Rattle.ts_core.specs.declared.time_unit.TimeUnit.TheVariants.{Nanoseconds}
 use Rattle.ts_core.specs.FaultTexts.{memory_text}
@@ -26,21 +21,18 @@ use Rattle.ts_plan.specs.declared.fault.PlanError.{PlanError}
 use Rattle.ts_plan.specs.declared.fault.PlanError.TheVariants as errors
 use Rattle.ts_plan.specs.declared.fault.PlanFault.{PlanFault}
 use Rattle.ts_ql.specs.Counting.{count_select, IsInterval}
-use Rattle.ts_core.specs.Numbered.{Gains}
 use Rattle.ts_reply.specs.Answering.{IsReply}
 use Rattle.ts_reply.specs.Explaining.{IsExplanation}
 use Rattle.ts_reply.specs.declared.epoch.Epoch.{Epoch}
 use Rattle.ts_reply.specs.declared.epoch.Epoch.TheVariants as epochs
-use Rattle.ts_store.specs.declared.fault.WriteFault.{WriteFault}
-use Rattle.ts_store.specs.Registered.{MayGain}
-use Rattle.ts_store.specs.Refusals.{write_fault}
+use Rattle.ts_store.specs.LineTexts.{State as StoreState, opened as opened_store, WritesText, RunsOutOfMemory}
 use Rattle.ts_store.specs.WholeRuns.{whole_run}
+use Rattle.ts_store.specs.declared.write_text.LineOutcome.{LineOutcome}
 use Rattle.ts_script.specs.ScriptLines.{script_line_limit}
 use Rattle.ts_script.specs.ScriptCertificates.{with_line_feeds}
 use Rattle.ts_script.specs.Commands.{Command, OpenWith, At, SetPrecision, SetEpoch, Write, Live, Retain, SetCertificate, Query, Explain, Count, CountFault, Unknown, is_skipped, command_of}
 use Rattle.ts_script.specs.MarksTexts.{marks_text}
-use Rattle.ts_store.specs.StoreFaultTexts.{write_fault_text}
-use Rattle.ts_script.specs.ScriptReplies.{line, unknown_text, bad_range_text}
+use Rattle.ts_script.specs.ScriptReplies.{line, outcome_text, unknown_text, bad_range_text}
 
 pub record State : Type 0 where
   -- the script's time, in nanoseconds, the precision of its timestamps, and the format of times in replies
@@ -52,9 +44,7 @@ pub record State : Type 0 where
   -- the certificate of the next query
   pub certificate : Option Text
   -- the settings that the script opened with, the events since, and the registered series
-  pub opening : Settings
-  pub history : History
-  pub series : List Series
+  pub store : StoreState
 
 abbrev pub start : State
 start = record {
@@ -63,9 +53,7 @@ start = record {
   epoch = epochs.Text;
   fresh = true;
   certificate = None;
-  opening = open_settings;
-  history = [];
-  series = [];
+  store = opened_store open_settings;
 }
 
 abbrev pub at_moment : ℤ → State → State
@@ -84,42 +72,21 @@ no_longer_fresh s = record s { fresh = false }
 abbrev pub with_certificate : Option Text → State → State
 with_certificate certificate s = record s { certificate = certificate }
 
+-- a store in this state instead of the script's own
+abbrev pub with_store : StoreState → State → State
+with_store k s = record s { store = k }
+
 -- an empty store with these settings
 abbrev pub opened_with : Settings → State → State
-opened_with settings s = record s { opening = settings; history = []; series = [] }
+opened_with settings = with_store (opened_store settings)
 
 -- a whole retention run, of `steps` steps and a last one
 abbrev pub with_run : ℕ → State → State
-with_run steps s = record s { history = whole_run s.moment steps s.history }
+with_run steps s = with_store (record s.store { history = whole_run s.moment steps s.store.history }) s
 
 -- the marks of the state, as text
 abbrev pub marks_told : State → Text
-marks_told s = marks_text (settings_of s.opening s.history) (marks_of s.opening s.history)
-
--- registers these series
-abbrev pub with_series : List Series → State → State
-with_series series s = record s { series = series }
-
--- accepts the line's facts, and registers these series
-abbrev pub with_line : Parts → List Series → State → State
-with_line parts series s = record s { history = Line (line_facts parts) ∷ s.history; series = series }
-
--- the result of parsing a line in this state: its parts, nothing, or an error. Without a timestamp, a line has the
--- script's time.
-abbrev pub line_in : State → Text → Result (Option Parts) LineFault
-line_in s text = line_of (nanoseconds_of s.precision) s.moment text
-
--- the error that a line is refused with
-abbrev pub refusal_in : State → Parts → Option WriteFault
-refusal_in s parts = write_fault (marks_of s.opening s.history).raw s.series (length (accepted s.history)) parts
-
--- From `old`, a line with these parts may print this text and lead to that state.
-pub data Takes (old : State) (parts : Parts) : Text → State → Type 0 where
-  refused : (fault : WriteFault) → refusal_in old parts ≡ Some fault → Takes old parts (line (write_fault_text fault)) old
-  -- its series is registered if needed, and its facts are accepted
-  accepted_whole : (series : List Series) → refusal_in old parts ≡ None → Gains old.series series (series_of parts) → Takes old parts (line (codes "ok")) (with_line parts series old)
-  -- out of memory; its series may be registered
-  found_no_memory : (series : List Series) → refusal_in old parts ≡ None → MayGain old.series series (series_of parts) → Takes old parts (line memory_text) (with_series series old)
+marks_told s = marks_text (settings_of s.store.opening s.store.history) (marks_of s.store.opening s.store.history)
 
 -- a planner's result for the counting query
 abbrev pub CountIsPlanned : Settings → History → Text → Text → ℤ → ℤ → Result (List Piece) PlanError → Type 0
@@ -144,12 +111,9 @@ pub data Does (old : State) : Command → Text → State → Type 0 where
   opens_late : (text : Text) → old.fresh ≡ false → Does old (OpenWith text) (line unknown_text) old
   moves : (t : ℤ) → Does old (At t) [] (at_moment t old)
   sets : (p : TimeUnit) → Does old (SetPrecision p) [] (in_precision p old)
-  writes : (text answer : Text) (parts : Parts) (new : State) → line_in old text ≡ Ok (Some parts) → Takes old parts answer new → Does old (Write text) answer new
-  -- a comment or a blank line
-  passes_over : (text : Text) → line_in old text ≡ Ok None → Does old (Write text) (line (codes "none")) old
-  refuses : (text : Text) (fault : LineFault) → line_in old text ≡ Err fault → Does old (Write text) (line (line_fault_text fault)) old
-  -- parsing a line may run out of memory
-  reads_no_memory : (text : Text) → Does old (Write text) (line memory_text) old
+  -- a line is written with the script's precision; without a timestamp, it has the script's time
+  writes : (text : Text) (outcome : LineOutcome) (new : StoreState) → WritesText old.precision old.moment old.store text outcome new → Does old (Write text) (outcome_text outcome) (with_store new old)
+  writes_no_memory : (text : Text) (new : StoreState) → RunsOutOfMemory old.precision old.moment old.store text new → Does old (Write text) (line memory_text) (with_store new old)
   shows : (e : Epoch) → Does old (SetEpoch e) [] (in_epoch e old)
   -- retention runs at the script's time, and the new marks are printed
   retains : (steps : ℕ) → Does old Retain (line (marks_told (with_run steps old))) (with_run steps old)
@@ -158,13 +122,13 @@ pub data Does (old : State) : Command → Text → State → Type 0 where
   hands_in : (text : Text) → Does old (SetCertificate text) [] (with_certificate (Some (with_line_feeds text)) old)
   hands_in_no_memory : (text : Text) → Does old (SetCertificate text) (line memory_text) old
   -- the body of the reply, good or not; the certificate is consumed
-  replies : (text body : Text) (good : Bool) → IsReply old.opening old.history old.moment text old.certificate old.epoch good body → Does old (Query text) (line body) (with_certificate None old)
+  replies : (text body : Text) (good : Bool) → IsReply old.store.opening old.store.history old.moment text old.certificate old.epoch good body → Does old (Query text) (line body) (with_certificate None old)
   replies_no_memory : (text : Text) → Does old (Query text) (line memory_text) (with_certificate None old)
-  explains : (text body : Text) (good : Bool) → IsExplanation old.opening old.history old.moment text good body → Does old (Explain text) (line body) old
+  explains : (text body : Text) (good : Bool) → IsExplanation old.store.opening old.store.history old.moment text good body → Does old (Explain text) (line body) old
   explains_no_memory : (text : Text) → Does old (Explain text) (line memory_text) old
   -- the number of latest facts with raw points
-  tells_live : Does old Live (line (decimal (length (raw_facts old.opening old.history)))) old
-  counts : (measurement field answer : Text) (a b : ℤ) → a <ℤ b → Counts old.opening old.history measurement field a b answer → Does old (Count measurement field a b) answer old
+  tells_live : Does old Live (line (decimal (length (raw_facts old.store.opening old.store.history)))) old
+  counts : (measurement field answer : Text) (a b : ℤ) → a <ℤ b → Counts old.store.opening old.store.history measurement field a b answer → Does old (Count measurement field a b) answer old
   counts_nothing : (measurement field : Text) (a b : ℤ) → b ≤ℤ a → Does old (Count measurement field a b) (line (codes "0")) old
   refuses_count : Does old CountFault (line bad_range_text) old
   refuses_unknown : Does old Unknown (line unknown_text) old

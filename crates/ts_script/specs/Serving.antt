@@ -3,19 +3,18 @@ use Rattle.std.specs.Prelude.{◌≡◌, ℕ, zero, suc, ℤ, Bool, ◌∷◌, O
 use Rattle.std.specs.Coded.{Coded, code_by, coded×, coded_ℕ, coded_ℤ, coded_bool, coded_option}
 use Rattle.ts_core.specs.Facts.{Text}
 use Rattle.ts_core.specs.History.{IsRunOpen}
-use Rattle.ts_core.specs.StoreStates.{StandsFor}
-use Rattle.ts_core.specs.StoreData.{StoreData, state_of}
+use Rattle.ts_core.specs.StoreData.{StoreData}
 use Rattle.ts_core.specs.StoreCodes.{coded_text, coded_store_data}
-use Rattle.ts_line.specs.Parts.{Parts}
 use Rattle.ts_core.specs.declared.time_unit.TimeUnit.{TimeUnit}
 use Rattle.ts_core.specs.declared.time_unit.TimeUnit.TheVariants.{Nanoseconds, Microseconds, Milliseconds, Seconds, Minutes, Hours, Days, Weeks}
+use Rattle.ts_store.specs.LineTexts.{IsIn as IsStoreIn}
 use Rattle.ts_reply.specs.Answering.{IsReply}
 use Rattle.ts_reply.specs.Explaining.{IsExplanation}
 use Rattle.ts_reply.specs.declared.epoch.Epoch.{Epoch}
 use Rattle.ts_reply.specs.declared.epoch.Epoch.TheVariants as epochs
 use Rattle.ts_script.specs.ScriptLines.{lines_of}
 use Rattle.ts_script.specs.Commands.{Command}
-use Rattle.ts_script.specs.Machine.{State, no_longer_fresh, Takes, Does, Step}
+use Rattle.ts_script.specs.Machine.{State, no_longer_fresh, Does, Step}
 use Rattle.ts_script.specs.ScriptReplies.{line, unknown_text}
 
 pub record Serving : Type 0 where
@@ -36,22 +35,17 @@ pub record IsIn (s : State) (m : Serving) : Type 0 where
   pub epoch : m.epoch ≡ s.epoch
   pub fresh : m.fresh ≡ s.fresh
   pub certificate : m.certificate ≡ s.certificate
-  pub stands : StandsFor s.opening s.history (state_of m.kept)
-  pub series : m.kept.series ≡ s.series
+  pub store : IsStoreIn s.store m.kept
   -- a retention run ends before the next line comes
-  pub idle : IsRunOpen s.history → ⊥
+  pub idle : IsRunOpen s.store.history → ⊥
 
 -- in this state, queries have a reply with this body, here with an LF
 abbrev pub Replied : State → Text → Option Text → Text → Type 0
-Replied s text certificate answer = (body : Text) × ((good : Bool) × IsReply s.opening s.history s.moment text certificate s.epoch good body) × (answer ≡ line body)
+Replied s text certificate answer = (body : Text) × ((good : Bool) × IsReply s.store.opening s.store.history s.moment text certificate s.epoch good body) × (answer ≡ line body)
 
 -- in this state, queries have an explanation with this body, here with an LF
 abbrev pub HasExplanation : State → Text → Text → Type 0
-HasExplanation s text answer = (body : Text) × ((good : Bool) × IsExplanation s.opening s.history s.moment text good body) × (answer ≡ line body)
-
--- from this state, the machine represents a state that a line with these parts may lead to
-abbrev pub Took : Parts → State → Text → Serving → Type 0
-Took parts s answer m = (s' : State) × Takes s parts answer s' × IsIn s' m
+HasExplanation s text answer = (body : Text) × ((good : Bool) × IsExplanation s.store.opening s.store.history s.moment text good body) × (answer ≡ line body)
 
 -- from this state, the machine represents a state that the command may lead to
 abbrev pub Did : Command → State → Text → Serving → Type 0

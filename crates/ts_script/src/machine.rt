@@ -7,7 +7,7 @@ ghost use Rattle.ts_script.specs.Machine.{State, start};
 ghost use Rattle.ts_script.specs.MarksTexts.{marks_text};
 ghost use Rattle.ts_script.specs.Commands.{OpenWith as OpenWithCommand, Write as WriteCommand, Retain as RetainCommand, SetCertificate as CertificateCommand, Query as QueryCommand, Explain as ExplainCommand, Count as CountCommand};
 ghost use Rattle.ts_script.specs.ScriptReplies.{line, text_of};
-ghost use Rattle.ts_script.specs.Serving.{Serving, keeping, IsIn, Replied, HasExplanation, Took, Did, Refused, Stepped};
+ghost use Rattle.ts_script.specs.Serving.{IsIn, Replied, HasExplanation, Did, Refused, Stepped};
 
 use crate::certificate_text::with_line_feeds;
 use crate::command::{Command, is_skipped};
@@ -16,11 +16,10 @@ use crate::marks_text::{MARKS_ROOM, marks_line};
 use crate::opening::{bad_settings, store_with};
 use crate::reply::Reply;
 use bumpalo::Bump;
-use std::alloc::{AllocError, Allocator, Global};
+use std::alloc::{AllocError, Global};
 use std::marker::Model;
 use std::str;
 use ts_core::{Settings, SettingsError, Time, TimeUnit};
-use ts_line::{Line, ReadLineError, read_line};
 use ts_reply::{Epoch, answer, explain};
 use ts_store::{Store, View};
 
@@ -246,36 +245,19 @@ impl Machine {
         }
     }
 
-    /// Parses a line and writes it to the store. Resets the arena for the next line.
+    /// Writes a line, whose parts are in the arena; resets the arena for the next line.
     fn write(&mut self, text: &str) -> Reply
         ensures { (s : State) → IsIn s self.old → Did (WriteCommand text.now) s (text_of result) self.new }
     {
-        let reply = self.write_in_room(text);
+        let written = self
+            .store
+            .write_text(&self.line_room, text, self.precision, self.moment);
         // nothing borrows from the arena any more
         let _ = self.line_room.reset();
-        reply
-    }
-
-    /// Parses a line in the arena, and writes it to the store.
-    fn write_in_room(&mut self, text: &str) -> Reply
-        ensures { (s : State) → IsIn s self.old → Did (WriteCommand text.now) s (text_of result) self.new }
-    {
-        match read_line(&self.line_room, text, self.precision, self.moment) {
-            Ok(Some(line)) => accept(&mut self.store, &line),
-            Ok(None) => Reply::NoLine,
-            Err(ReadLineError::Fault(fault)) => Reply::BadLine(fault),
-            Err(ReadLineError::OutOfMemory) => Reply::OutOfMemory,
+        match written {
+            Ok(outcome) => Reply::Written(outcome),
+            Err(_) => Reply::OutOfMemory,
         }
-    }
-}
-
-/// Writes a line to a store.
-fn accept<L: Allocator>(store: &mut Store<Global>, line: &Line<'_, L>) -> Reply
-    ensures { (s : State) (m : Serving) → IsIn s (keeping store.old m) → Took line.now s (text_of result) (keeping store.new m) }
-{
-    match store.write(line) {
-        Ok(()) => Reply::Done,
-        Err(fault) => Reply::Refused(fault),
     }
 }
 

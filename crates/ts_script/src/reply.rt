@@ -3,27 +3,22 @@ ghost use Rattle.std.specs.Prelude.{◌≡◌, ◌≤◌, ◌+◌, IsOk, string_
 ghost use Rattle.std.specs.Fmt.{decimal};
 ghost use Rattle.ts_core.specs.OutputBuffering.{IsBuffered};
 ghost use Rattle.ts_plan.specs.PlanTexts.{plan_fault_text};
-ghost use Rattle.ts_script.specs.ScriptReplies.{line, text_of};
+ghost use Rattle.ts_script.specs.ScriptReplies.{line, outcome_text, text_of};
 
 use itoa::write_digits;
 use std::alloc::{AllocError, Global};
 use std::io::Write;
 use ts_core::{OutputBuffer, Refused, Sink};
-use ts_line::LineFault;
 use ts_plan::PlanFault;
-use ts_store::WriteFault;
+use ts_store::LineOutcome;
 
 /// Reply to a line.
 #[derive(Drop)]
 pub enum Reply {
     /// Prints nothing.
     Nothing,
-    /// A line was accepted.
-    Done,
-    /// Comment or blank line instead of a line to write.
-    NoLine,
-    /// Line that couldn't be parsed.
-    BadLine(LineFault),
+    /// Outcome of a line that was written.
+    Written(LineOutcome),
     /// A number of values.
     Count(u64),
     /// Any other text, with its LF: the reply to queries, marks, or an error of settings.
@@ -34,8 +29,6 @@ pub enum Reply {
     Unknown,
     /// Invalid time, or a range that is too long.
     BadRange,
-    /// Line that was parsed but not written. Its series may have been registered.
-    Refused(WriteFault),
     /// Retention run in progress.
     RunInProgress,
     /// Out of memory. No fact was accepted, but a line's series may have been registered.
@@ -61,18 +54,35 @@ impl Reply {
         text.clear();
         match self {
             Reply::Nothing => answers.put(b"", sink),
-            Reply::Done => answers.put(b"ok\n", sink),
-            Reply::NoLine => answers.put(b"none\n", sink),
-            Reply::BadLine(fault) => send_made(fault.text_to(text), text, answers, sink),
+            Reply::Written(outcome) => send_outcome(outcome, text, answers, sink),
             Reply::Count(count) => send_count(answers, sink, count),
             Reply::Body(body) => answers.put(body.as_bytes(), sink),
             Reply::NoPlan(fault) => answers.put(plan_fault_line(fault), sink),
             Reply::Unknown => answers.put(b"fault 95\n", sink),
             Reply::BadRange => answers.put(b"fault 74 at 0\n", sink),
-            Reply::Refused(fault) => send_made(fault.text_to(text), text, answers, sink),
             Reply::RunInProgress => answers.put(b"fault 53\n", sink),
             Reply::OutOfMemory => answers.put(b"fault memory\n", sink),
         }
+    }
+}
+
+/// Appends the outcome of a line with its LF to the buffered answers. The message of a refusal is built in `text`, which
+/// is empty and has the capacity.
+fn send_outcome<W: Write>(
+    outcome: LineOutcome,
+    text: &mut String,
+    answers: &mut OutputBuffer<Global>,
+    sink: &mut Sink<W>,
+) -> Result<(), Refused>
+    requires empty { string_len text.old ≡ 0 }
+    requires room { TEXT_ROOM ≤ string_capacity text.old }
+    ensures room { TEXT_ROOM ≤ string_capacity text.new }
+    ensures sent { IsBuffered sink.old answers.old result (outcome_text outcome) sink.new answers.new }
+{
+    match outcome {
+        LineOutcome::Accepted => answers.put(b"ok\n", sink),
+        LineOutcome::NoLine => answers.put(b"none\n", sink),
+        LineOutcome::Refused(refusal) => send_made(refusal.text_to(text), text, answers, sink),
     }
 }
 

@@ -14,6 +14,7 @@ use Rattle.ts_core.specs.declared.time_unit.TimeUnit.{TimeUnit}
 use Rattle.ts_line.specs.FaultText.{line_fault_text}
 use Rattle.ts_line.specs.Lines.{line_of}
 use Rattle.ts_line.specs.Parts.{Parts, series_of, line_facts}
+use Rattle.ts_line.specs.Readings.{NeedsMemory}
 use Rattle.ts_line.specs.declared.fault.LineFault.{LineFault}
 use Rattle.ts_store.specs.Refusals.{write_fault}
 use Rattle.ts_store.specs.Registered.{MayGain}
@@ -84,9 +85,10 @@ module _ (precision : TimeUnit) (now : ℤ) where
     misreads : (fault : LineFault) → parts_in text ≡ Err fault → WritesText old text (Refused (Parse fault)) old
     refuses : (parts : Parts) (fault : WriteFault) → parts_in text ≡ Ok (Some parts) → refusal_in old parts ≡ Some fault → WritesText old text (Refused (Write fault)) old
 
-  -- From `old`, a text that runs out of memory may lead to that state: its series may be registered.
+  -- From `old`, a text that runs out of memory may lead to that state: its series may be registered. A comment, a blank
+  -- line or a text that is too long needs no memory.
   pub data RunsOutOfMemory (old : State) (text : Text) : State → Type 0 where
-    in_parsing : RunsOutOfMemory old text old
+    in_parsing : NeedsMemory (nanoseconds_of precision) now text → RunsOutOfMemory old text old
     in_writing : (parts : Parts) (series : List Series) → parts_in text ≡ Ok (Some parts) → refusal_in old parts ≡ None → MayGain old.series series (series_of parts) → RunsOutOfMemory old text (with_series series old)
 
   -- the effect of a call on a store that was in this state

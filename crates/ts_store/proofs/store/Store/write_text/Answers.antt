@@ -10,7 +10,7 @@ pub returns-in-Err-Fault-clause-written : goal.returns-in-Err-Fault-clause-writt
 returns-in-Err-Fault-clause-written g c = λ s i. (s, WritesText.misreads c.in-Err-Fault.fault (rw c.in-Err-Fault.field-0-is at c.in-Err-Fault.ensures.value), i)
 
 pub returns-in-Err-OutOfMemory-clause-written : goal.returns-in-Err-OutOfMemory-clause-written
-returns-in-Err-OutOfMemory-clause-written g c = λ s i. (s, RunsOutOfMemory.in_parsing, i)
+returns-in-Err-OutOfMemory-clause-written g c = λ s i. (s, RunsOutOfMemory.in_parsing (rw c.in-Err-OutOfMemory.field-0-is at c.in-Err-OutOfMemory.ensures.memory), i)
 
 pub returns-in-Ok-Some-clause-written : goal.returns-in-Ok-Some-clause-written
 returns-in-Ok-Some-clause-written g c = λ s i.
