@@ -1,5 +1,5 @@
 -- What requests do, as the code comes to it.
-use Rattle.std.proofs.Common.{◌≡◌, ◌⊎◌, ⊎_elim, ℤ, List, [], ◌∷◌, ◌++◌, Bool, true, false, cond, Option, Some, None, Result, Ok, Err, IfOk, refl, sym, ap, ◌∙◌, subst, arith, append_assoc, codes, string_bytes}
+use Rattle.std.proofs.Common.{◌≡◌, ◌⊎◌, ⊎_elim, ℤ, List, [], ◌∷◌, ◌++◌, map, Bool, true, false, cond, Option, Some, None, Result, Ok, Err, IfOk, refl, sym, ap, ◌∙◌, subst, arith, append_assoc, codes, string_bytes}
 use Rattle.std.specs.Str.{IsUtf8}
 use Rattle.std.specs.Io.KnownBytes.{Appends}
 use Rattle.std.proofs.KnownBytes.{Appends-trans}
@@ -12,7 +12,9 @@ use Rattle.ts_reply.specs.Explaining.{IsExplanation}
 use Rattle.ts_reply.specs.declared.answering.Reply.{Reply}
 use Rattle.ts_reply.specs.declared.epoch.Epoch.{Epoch}
 use Rattle.ts_http.specs.Acts.{Replied, refusing, batch_reply, precision_in, epoch_asked, explain_asked, value_in, Writes, Queries}
-use Rattle.ts_http.specs.Batches.{State, IsIn, refusals_of}
+use Rattle.ts_store.specs.LineTexts.{State, IsIn, refusal_text}
+use Rattle.ts_store.specs.declared.write_text.LineOutcome.{LineOutcome}
+use Rattle.ts_http.specs.Batches.{refusals_of}
 use Rattle.ts_http.specs.Outcomes.{reply_of, WritesAs, QueriesAs, answered_reply}
 use Rattle.ts_http.specs.Parameters.{Parameters, first_named}
 use Rattle.ts_http.specs.Tallies.{TallyIs, DidLines}
@@ -67,7 +69,7 @@ module _ (now : ℤ) (query body : Text) (k : StoreData) where
   write_no_text none = λ s i. (s, Writes.not_text none, i)
 
   pub lines_written : (E : Type 0) (precision : TimeUnit) (new : StoreData) (tally : Tally) (o : Outcome) → IsUtf8 body → precision_in query ≡ Some precision → ((s : State) → IsIn s k → DidLines precision now s body {E = E} (Ok tally) new)
-      → ((os : List (Option Text)) → TallyIs os tally → reply_of false o ≡ batch_reply (refusals_of os)) → WritesAs now query body k o new
+      → ((os : List LineOutcome) → TallyIs (map refusal_text os) tally → reply_of false o ≡ batch_reply (refusals_of os)) → WritesAs now query body k o new
   lines_written E precision new tally o utf8 p did told = λ s i.
       let d = did s i in
       (d.1, subst (λ (r : Replied). Writes now s query body r d.1) (sym (told d.0 d.3)) (Writes.writes precision d.0 d.1 utf8 p d.2), d.4)

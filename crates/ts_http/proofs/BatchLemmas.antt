@@ -1,28 +1,16 @@
 -- The lines of a batch, as they are taken one by one.
-use Rattle.std.proofs.Common.{◌≡◌, ◌≢◌, ℕ, ℤ, suc, ◌+◌, ◌<◌, ◌==◌, cond, List, [], ◌∷◌, ◌++◌, length, get_or, Option, Some, None, option_map, Result, Ok, Err, refl, sym, ap, ◌∙◌, subst, arith, append_assoc, append-nil, length-append}
+use Rattle.std.proofs.Common.{◌≡◌, ◌≢◌, ℕ, ℤ, suc, ◌+◌, ◌<◌, ◌==◌, cond, List, [], ◌∷◌, ◌++◌, length, map, get_or, Option, Some, None, option_map, Result, Ok, Err, refl, sym, ap, ◌∙◌, subst, arith, append_assoc, append-nil, length-append}
 use Rattle.std.proofs.lemmas.Bool.Decides.{nat_tests}
+use Rattle.std.proofs.lemmas.List.{map-append}
 use Rattle.ts_core.specs.Facts.{Text}
 use Rattle.ts_core.specs.StoreData.{StoreData}
 use Rattle.ts_core.specs.declared.time_unit.TimeUnit.{TimeUnit}
-use Rattle.ts_line.specs.Parts.{Parts}
-use Rattle.std.proofs.Common.{◌⊎◌, ⊎_elim, IfSome, IsNone}
-use Rattle.ts_store.specs.LinesPut.{Leaves}
-use Rattle.ts_store.specs.Refusals.{write_fault}
-use Rattle.ts_store.specs.declared.fault.WriteFault.{WriteFault}
-use Rattle.ts_store.specs.declared.fault.WriteFault.TheVariants as write
-use Rattle.ts_http.specs.Batches.{State, IsIn, refusal_in, said, TakesLine, TakesLines, WantsMemory, with_line, with_series, body_lines, onto_first, refusals_from, refusals_of}
-use Rattle.ts_http.specs.Tallies.{TallyIs, DidLine, DidLines, WroteLine, line_refusal_text, numbered_text, first_of}
-use Rattle.ts_http.specs.declared.batch.LineRefusal.{LineRefusal}
-use Rattle.ts_http.specs.declared.batch.LineRefusal.TheVariants.{Misread, Refused}
+use Rattle.ts_store.specs.LineTexts.{State, IsIn, WritesText, WritesFrom, refusal_of, refusal_text, line_refusal_text}
+use Rattle.ts_store.specs.declared.write_text.LineOutcome.{LineOutcome}
+use Rattle.ts_store.specs.declared.write_text.LineRefusal.{LineRefusal}
+use Rattle.ts_http.specs.Batches.{TakesLines, body_lines, onto_first, refusals_from}
+use Rattle.ts_http.specs.Tallies.{TallyIs, DidLines, numbered_text, first_of}
 use Rattle.ts_http.specs.declared.batch.Tally.{Tally}
-
--- ---- one line
-
-pub did_line : {E : Type 0} (precision : TimeUnit) (now : ℤ) (s : State) (text : Text) (parts : Parts) (r : Result (Option LineRefusal) E) (new : StoreData) → said precision now text ≡ Ok (Some parts) → WroteLine s parts r new → DidLine precision now s text r new
-did_line precision now s text parts (Ok None) new e w = (with_line parts w.1.0 s, TakesLine.accepts parts w.1.0 e w.0 w.1.1, w.1.2)
-did_line precision now s text parts (Ok (Some (Refused fault))) new e w = (s, TakesLine.refuses parts fault e w.0, w.1)
-did_line precision now s text parts (Ok (Some (Misread fault))) new e w = absurd w
-did_line precision now s text parts (Err x) new e w = (with_series w.1.0 s, WantsMemory.in_writing parts w.1.0 e w.0 w.1.1, w.1.2)
 
 -- ---- tallies
 
@@ -51,20 +39,20 @@ first_comes : (xs : List (ℕ × Text)) (y : ℕ × Text) → None ≡ first_of 
 first_comes [] y e = refl
 first_comes (z ∷ xs) y e = absurd cc
 
-counted_first : (os : List (Option Text)) (lines : ℕ) (r : LineRefusal) (first : Option (ℕ × LineRefusal)) → first ≡ None → lines ≡ length os → option_map numbered_text first ≡ first_of (refusals_of os)
-    → Some (numbered_text (lines + 1, r)) ≡ first_of (refusals_of (os ++ Some (line_refusal_text r) ∷ []))
+counted_first : (os : List (Option Text)) (lines : ℕ) (r : LineRefusal) (first : Option (ℕ × LineRefusal)) → first ≡ None → lines ≡ length os → option_map numbered_text first ≡ first_of (refusals_from 1 os)
+    → Some (numbered_text (lines + 1, r)) ≡ first_of (refusals_from 1 (os ++ Some (line_refusal_text r) ∷ []))
 counted_first os lines r first none e is =
-    first_comes (refusals_of os) (lines + 1, line_refusal_text r) (sym (ap (option_map numbered_text) none) ∙ is) ∙ sym (ap first_of (more_some 1 (lines + 1) (line_refusal_text r) os (omega (arith, e))))
+    first_comes (refusals_from 1 os) (lines + 1, line_refusal_text r) (sym (ap (option_map numbered_text) none) ∙ is) ∙ sym (ap first_of (more_some 1 (lines + 1) (line_refusal_text r) os (omega (arith, e))))
 
-counted_again : (os : List (Option Text)) (lines : ℕ) (text : Text) (first : Option (ℕ × LineRefusal)) → first ≢ None → lines ≡ length os → option_map numbered_text first ≡ first_of (refusals_of os)
-    → option_map numbered_text first ≡ first_of (refusals_of (os ++ Some text ∷ []))
+counted_again : (os : List (Option Text)) (lines : ℕ) (text : Text) (first : Option (ℕ × LineRefusal)) → first ≢ None → lines ≡ length os → option_map numbered_text first ≡ first_of (refusals_from 1 os)
+    → option_map numbered_text first ≡ first_of (refusals_from 1 (os ++ Some text ∷ []))
 counted_again os lines text None some e is = absurd (some refl)
 counted_again os lines text (Some x) some e is =
-    first_stays (refusals_of os) (numbered_text x) (lines + 1, text) is ∙ sym (ap first_of (more_some 1 (lines + 1) text os (omega (arith, e))))
+    first_stays (refusals_from 1 os) (numbered_text x) (lines + 1, text) is ∙ sym (ap first_of (more_some 1 (lines + 1) text os (omega (arith, e))))
 
-one_dropped : (os : List (Option Text)) (text : Text) (dropped lines : ℕ) → lines ≡ length os → dropped ≡ length (refusals_of os) → dropped + 1 ≡ length (refusals_of (os ++ Some text ∷ []))
+one_dropped : (os : List (Option Text)) (text : Text) (dropped lines : ℕ) → lines ≡ length os → dropped ≡ length (refusals_from 1 os) → dropped + 1 ≡ length (refusals_from 1 (os ++ Some text ∷ []))
 one_dropped os text dropped lines l d =
-    omega (arith, d, ap length (more_some 1 (lines + 1) text os (omega (arith, l))), length-append (refusals_of os) ((lines + 1, text) ∷ []))
+    omega (arith, d, ap length (more_some 1 (lines + 1) text os (omega (arith, l))), length-append (refusals_from 1 os) ((lines + 1, text) ∷ []))
 
 pub counted_some_first : (os : List (Option Text)) (t : Tally) (r : LineRefusal) → t.first ≡ None → TallyIs os t → TallyIs (os ++ Some (line_refusal_text r) ∷ []) (record { lines = t.lines + 1; dropped = t.dropped + 1; first = Some (t.lines + 1, r) })
 counted_some_first os t r none is = record {
@@ -82,12 +70,16 @@ counted_some_more os t text some is = record {
 
 -- ---- lines one after another
 
-took_more : (precision : TimeUnit) (now : ℤ) (old mid new : State) (texts : List Text) (os : List (Option Text)) (text : Text) (o : Option Text)
-    → TakesLines precision now old texts os mid → TakesLine precision now mid text o new → TakesLines precision now old (texts ++ text ∷ []) (os ++ o ∷ []) new
-took_more precision now old mid new [] [] text o t l = (new, subst (λ (s : State). TakesLine precision now s text o new) t l, refl)
+took_more : (precision : TimeUnit) (now : ℤ) (old mid new : State) (texts : List Text) (os : List LineOutcome) (text : Text) (o : LineOutcome)
+    → TakesLines precision now old texts os mid → WritesText precision now mid text o new → TakesLines precision now old (texts ++ text ∷ []) (os ++ o ∷ []) new
+took_more precision now old mid new [] [] text o t l = (new, subst (λ (s : State). WritesText precision now s text o new) t l, refl)
 took_more precision now old mid new (u ∷ us) (p ∷ ps) text o t l = (t.0, t.1, took_more precision now t.0 mid new us ps text o t.2 l)
 took_more precision now old mid new [] (p ∷ ps) text o t l = absurd t
 took_more precision now old mid new (u ∷ us) [] text o t l = absurd t
+
+-- one more outcome, as the tally sees it
+tallied : (os : List LineOutcome) (o : LineOutcome) (refusal : Option LineRefusal) (t : Tally) → refusal ≡ refusal_of o → TallyIs (map refusal_text os ++ option_map line_refusal_text refusal ∷ []) t → TallyIs (map refusal_text (os ++ o ∷ [])) t
+tallied os o refusal t is tally = subst (λ (l : List (Option Text)). TallyIs l t) (ap (λ (r : Option LineRefusal). map refusal_text os ++ option_map line_refusal_text r ∷ []) is ∙ sym (map-append refusal_text os (o ∷ []))) tally
 
 -- ---- lines of a body
 
@@ -113,29 +105,29 @@ next_line text first others e none = ap body_lines e ∙ first_line first others
 -- how far a batch has come: these lines of a body were taken, and these stand before the rest of it
 pub record SoFar (precision : TimeUnit) (now : ℤ) (s : State) (lines : List Text) (t : Tally) (left : List Text) (new : StoreData) : Type 0 where
   pub done : List Text
-  pub outcomes : List (Option Text)
+  pub outcomes : List LineOutcome
   pub mid : State
   pub lines_are : lines ≡ done ++ left
   pub took : TakesLines precision now s done outcomes mid
-  pub tally : TallyIs outcomes t
+  pub tally : TallyIs (map refusal_text outcomes) t
   pub here : IsIn mid new
 
 pub begins : (precision : TimeUnit) (now : ℤ) (s : State) (lines : List Text) (t : Tally) (k : StoreData) → TallyIs [] t → IsIn s k → SoFar precision now s lines t lines k
 begins precision now s lines t k tally i = record { done = []; outcomes = []; mid = s; lines_are = refl; took = refl; tally = tally; here = i }
 
-module _ (E : Type 0) (precision : TimeUnit) (now : ℤ) (s : State) (lines : List Text) (t t' : Tally) (text : Text) (left rest : List Text) (k k' : StoreData) (o : Option LineRefusal)
-    (so : SoFar precision now s lines t left k) (is : left ≡ text ∷ rest) (did : (m : State) → IsIn m k → DidLine precision now m text {E = E} (Ok o) k')
-    (counts : (os : List (Option Text)) → TallyIs os t → TallyIs (os ++ option_map line_refusal_text o ∷ []) t') where
+module _ (E : Type 0) (precision : TimeUnit) (now : ℤ) (s : State) (lines : List Text) (t t' : Tally) (text : Text) (left rest : List Text) (k k' : StoreData) (o : LineOutcome) (refusal : Option LineRefusal)
+    (so : SoFar precision now s lines t left k) (is : left ≡ text ∷ rest) (did : (m : State) → IsIn m k → WritesFrom precision now m text {E = E} (Ok o) k') (of : refusal ≡ refusal_of o)
+    (counts : (os : List (Option Text)) → TallyIs os t → TallyIs (os ++ option_map line_refusal_text refusal ∷ []) t') where
   pub goes_on : SoFar precision now s lines t' rest k'
   goes_on =
       let d = did so.mid so.here in
       record {
         done = so.done ++ text ∷ [];
-        outcomes = so.outcomes ++ option_map line_refusal_text o ∷ [];
+        outcomes = so.outcomes ++ o ∷ [];
         mid = d.0;
         lines_are = so.lines_are ∙ ap (λ (l : List Text). so.done ++ l) is ∙ sym (append_assoc so.done (text ∷ []) rest);
-        took = took_more precision now s so.mid d.0 so.done so.outcomes text (option_map line_refusal_text o) so.took d.1;
-        tally = counts so.outcomes so.tally;
+        took = took_more precision now s so.mid d.0 so.done so.outcomes text o so.took d.1;
+        tally = tallied so.outcomes o refusal t' of (counts (map refusal_text so.outcomes) so.tally);
         here = d.2;
       }
 
@@ -144,30 +136,7 @@ all_done E precision now s body t k so =
     (so.outcomes, so.mid, subst (λ (l : List Text). TakesLines precision now s l so.outcomes so.mid) (sym (so.lines_are ∙ append-nil so.done)) so.took, so.tally, so.here)
 
 pub stopped : (E : Type 0) (precision : TimeUnit) (now : ℤ) (s : State) (body : Text) (t : Tally) (text : Text) (left rest : List Text) (k k' : StoreData) (e : E) → SoFar precision now s (body_lines body) t left k → left ≡ text ∷ rest
-    → ((m : State) → IsIn m k → DidLine precision now m text {E = E} (Err e) k') → DidLines precision now s body {E = E} (Err e) k'
+    → ((m : State) → IsIn m k → WritesFrom precision now m text {E = E} (Err e) k') → DidLines precision now s body {E = E} (Err e) k'
 stopped E precision now s body t text left rest k k' e so is did =
     let d = did so.mid so.here in
     (d.0, record { done = so.done; line = text; others = rest; lines_are = so.lines_are ∙ ap (λ (l : List Text). so.done ++ l) is; outcomes = so.outcomes; mid = so.mid; took = so.took; wanted = d.1 }, d.2)
-
--- ---- what the store says of a line
-
-abbrev pub Written : Type 0
-Written = Result (Unit {0}) WriteFault
-
-abbrev pub refused_by : WriteFault → Written
-refused_by f = Err f
-
-err_same : (f g : WriteFault) → refused_by f ≡ refused_by g → f ≡ g
-err_same f g e = cc
-
-pub wrote_refused : (s : State) (parts : Parts) (old new : StoreData) (fault : WriteFault) → IsIn s old
-    → IfSome (write_fault old.marks.raw old.series old.accepted parts) (λ f. (refused_by fault ≡ Err f) × (new ≡ old))
-    → (IsNone (write_fault old.marks.raw old.series old.accepted parts) → (refused_by fault ≡ Ok tt) ⊎ ((refused_by fault ≡ Err write.OutOfMemory) × Leaves old new parts))
-    → (fault ≡ write.OutOfMemory → ⊥) → (refusal_in s parts ≡ Some fault) × IsIn s new
-wrote_refused s parts old new fault i faults goes other =
-    let w : Option WriteFault = write_fault old.marks.raw old.series old.accepted parts in
-    let here : w ≡ refusal_in s parts = λ j. write_fault (i.stands.marks j).raw (i.series j) (i.stands.accepted j) parts in
-    elim w as (λ o. w ≡ o → IfSome o (λ f. (refused_by fault ≡ Err f) × (new ≡ old)) → (IsNone o → (refused_by fault ≡ Ok tt) ⊎ ((refused_by fault ≡ Err write.OutOfMemory) × Leaves old new parts)) → (refusal_in s parts ≡ Some fault) × IsIn s new) [
-      | Some f ↦ λ e h n. (sym here ∙ e ∙ ap Some (sym (err_same fault f h.0)), subst (IsIn s) (sym h.1) i)
-      | None ↦ λ e h n. ⊎_elim {C = (refusal_in s parts ≡ Some fault) × IsIn s new} (λ done. absurd cc) (λ want. absurd (other (err_same fault write.OutOfMemory want.0))) (n refl)
-    ] refl faults goes

@@ -11,7 +11,7 @@ use Rattle.ts_core.specs.StoreData.{StoreData, state_of, OfEachHistory, GoesOn}
 use Rattle.ts_core.specs.StoreMoves.{run_begun}
 use Rattle.ts_store.specs.WholeRuns.{steps_taken}
 use Rattle.ts_http.specs.Acts.{Replied, refusing, answer_reply, Maintains}
-use Rattle.ts_http.specs.Batches.{State, IsIn}
+use Rattle.ts_store.specs.LineTexts.{State, IsIn}
 use Rattle.ts_http.specs.Maintaining.{steps_in, OpensRun, run_opened, left_in, stepped, with_steps, progress_text, run_text}
 use Rattle.ts_http.specs.MaintainSteps.{HasStepped}
 use Rattle.ts_http.specs.Outcomes.{reply_of, MaintainsAs}

@@ -26,7 +26,7 @@ use Rattle.ts_http.specs.declared.serve.IoFault.{IoFault}
 use Rattle.ts_http.specs.declared.serve.IoFault.TheVariants.{Reader, Writer}
 use Rattle.ts_http.specs.declared.serve.Served.{Served}
 use Rattle.ts_http.specs.declared.serve.Served.TheVariants as served
-use Rattle.ts_http.specs.Batches.{State, IsIn}
+use Rattle.ts_store.specs.LineTexts.{State, IsIn}
 use Rattle.ts_http.specs.Maintaining.{left_in}
 use Rattle.ts_http.specs.Outcomes.{WritesAs, QueriesAs, MaintainsAs, ActsAs, reply_of}
 use Rattle.ts_http.specs.declared.outcome.Outcome.{Outcome}

@@ -12,7 +12,9 @@ use Rattle.ts_reply.specs.Explaining.{IsExplanation}
 use Rattle.ts_reply.specs.Epochs.{epoch_of}
 use Rattle.ts_reply.specs.declared.epoch.Epoch.{Epoch}
 use Rattle.ts_reply.specs.declared.epoch.Epoch.TheVariants as epochs
-use Rattle.ts_http.specs.Batches.{State, TakesLines, StopsAtLine, body_lines, refusals_of, partial_text}
+use Rattle.ts_store.specs.LineTexts.{State}
+use Rattle.ts_store.specs.declared.write_text.LineOutcome.{LineOutcome}
+use Rattle.ts_http.specs.Batches.{TakesLines, StopsAtLine, body_lines, refusals_of, partial_text}
 use Rattle.ts_http.specs.Maintaining.{steps_in, OpensRun, with_steps, run_text}
 use Rattle.ts_http.specs.HttpReplies.{reply_text, error_text, refusal_status, refusal_reply}
 use Rattle.ts_http.specs.Parameters.{parameters, first_named}
@@ -84,7 +86,7 @@ module _ (now : ℤ) (old : State) (query body : Text) where
     not_text : (IsUtf8 body → ⊥) → Writes (refusing BodyNotText) old
     bad_precision : IsUtf8 body → precision_in query ≡ None → Writes (refusing BadPrecision) old
     wants_memory : IsUtf8 body → Writes (refusing OutOfMemory) old
-    writes : (precision : TimeUnit) (outcomes : List (Option Text)) (new : State) → IsUtf8 body → precision_in query ≡ Some precision → TakesLines precision now old (body_lines body) outcomes new → Writes (batch_reply (refusals_of outcomes)) new
+    writes : (precision : TimeUnit) (outcomes : List LineOutcome) (new : State) → IsUtf8 body → precision_in query ≡ Some precision → TakesLines precision now old (body_lines body) outcomes new → Writes (batch_reply (refusals_of outcomes)) new
     -- out of memory at a line; the lines before it are written
     stops : (precision : TimeUnit) (new : State) → IsUtf8 body → precision_in query ≡ Some precision → StopsAtLine precision now old (body_lines body) new → Writes (refusing OutOfMemory) new
 

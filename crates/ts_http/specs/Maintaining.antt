@@ -8,7 +8,7 @@ use Rattle.ts_core.specs.Runs.{steps_left}
 use Rattle.ts_core.specs.StoreData.{StoreData, state_of}
 use Rattle.ts_core.specs.StoreMoves.{run_begun}
 use Rattle.ts_store.specs.WholeRuns.{steps_taken}
-use Rattle.ts_http.specs.Batches.{State}
+use Rattle.ts_store.specs.LineTexts.{State}
 use Rattle.ts_http.specs.Parameters.{parameters, first_named}
 use Rattle.ts_http.specs.Requests.{is_number}
 

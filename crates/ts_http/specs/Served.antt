@@ -5,7 +5,7 @@ use Rattle.ts_core.specs.Facts.{Text}
 use Rattle.ts_core.specs.Devices.{Input, Output, AppendsFront}
 use Rattle.ts_core.specs.StoreData.{StoreData}
 use Rattle.ts_http.specs.Acts.{Replied, Acts}
-use Rattle.ts_http.specs.Batches.{State, IsIn}
+use Rattle.ts_store.specs.LineTexts.{State, IsIn}
 use Rattle.ts_http.specs.HttpReplies.{refusal_status, refusal_reply}
 use Rattle.ts_http.specs.Maintaining.{left_in}
 use Rattle.ts_http.specs.Reading.{request_of}

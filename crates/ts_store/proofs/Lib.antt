@@ -35,5 +35,7 @@ pub mod CellsPut
 pub mod LanePoints
 pub mod LiveParts
 pub mod SeatLemmas
+-- LineTexts: the outcome of a line's text
+pub mod LineTextLemmas
 -- StoreFaultTexts
 pub mod StoreFaultLemmas

@@ -5,6 +5,7 @@ pub mod Registered
 pub mod Refusals
 pub mod StoreFaultTexts
 pub mod LinesPut
+pub mod LineTexts
 pub mod WholeRuns
 -- used only by models and proofs of the code
 pub mod ColumnLists

@@ -3,7 +3,7 @@ use Rattle.std.proofs.Common.{◌≡◌, ℤ, List, [], ◌∷◌, ◌++◌, ref
 use Rattle.ts_core.specs.Facts.{Text}
 use Rattle.ts_core.specs.Devices.{Input, Output}
 use Rattle.ts_core.specs.StoreData.{StoreData}
-use Rattle.ts_http.specs.Batches.{State, IsIn}
+use Rattle.ts_store.specs.LineTexts.{State, IsIn}
 use Rattle.ts_http.specs.Reading.{request_of}
 use Rattle.ts_http.specs.Served.{ServedAs, IsServed}
 use Rattle.ts_http.specs.declared.serve.IoFault.{IoFault}

@@ -8,12 +8,12 @@ use Rattle.ts_core.specs.Facts.{Text}
 use Rattle.ts_core.specs.Devices.{Input, Output, AppendsFront}
 use Rattle.tsdb.specs.CommandLines.{told, told_of_kind, IsToldAs}
 use Rattle.tsdb.specs.FaultTables.{faults_asked, fault_table}
-use Rattle.tsdb.specs.Script.{IsReplay}
+use Rattle.ts_script.specs.Script.{IsReplay}
 use Rattle.tsdb.specs.declared.command_line.Told.{Told}
 use Rattle.tsdb.specs.declared.command_line.Told.TheVariants as said
 use Rattle.tsdb.specs.declared.outcome.Outcome.{Outcome}
 use Rattle.tsdb.specs.declared.outcome.Outcome.TheVariants.{Answered, Stopped, NoScript, NoFault}
-use Rattle.tsdb.specs.declared.run_fault.RunFault.{RunFault}
+use Rattle.ts_script.specs.declared.run_fault.RunFault.{RunFault}
 
 -- how a run of a script came out
 abbrev pub outcome_of : {T : Type 0} → Result T RunFault → Outcome

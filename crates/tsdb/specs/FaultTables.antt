@@ -5,7 +5,7 @@ use Rattle.std.specs.List.{concat}
 use Rattle.ts_core.specs.Facts.{Text, same_text}
 use Rattle.ts_core.specs.FaultCodes.{code_number, code_words, all_codes}
 use Rattle.ts_core.specs.declared.fault_code.FaultCode.{FaultCode}
-use Rattle.tsdb.specs.ScriptReplies.{line}
+use Rattle.ts_script.specs.ScriptReplies.{line}
 
 -- the words after the program's name: `faults` requests all, `faults N` the one with this number, and others request
 -- none

@@ -2,7 +2,7 @@
 use Rattle.std.specs.Prelude.{◌≡◌, ℤ, List, [], ◌∷◌}
 use Rattle.ts_core.specs.Facts.{Text}
 use Rattle.ts_core.specs.StoreData.{StoreData}
-use Rattle.ts_http.specs.Batches.{State, IsIn}
+use Rattle.ts_store.specs.LineTexts.{State, IsIn}
 use Rattle.ts_http.specs.Served.{Serves}
 use Rattle.ts_http.specs.declared.serve.Served.{Served}
 

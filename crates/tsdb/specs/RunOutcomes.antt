@@ -1,10 +1,10 @@
 -- The exit status of the program, and its line on standard error. (Own rule.)
 use Rattle.std.specs.Prelude.{ℕ, ◌++◌, codes, Option, Some, None}
 use Rattle.ts_core.specs.Facts.{Text}
-use Rattle.tsdb.specs.RunFaults.{run_fault_text}
+use Rattle.ts_script.specs.RunFaults.{run_fault_text}
 use Rattle.tsdb.specs.declared.command_line.Told.TheVariants as told
-use Rattle.tsdb.specs.declared.run_fault.RunFault.{RunFault}
-use Rattle.tsdb.specs.declared.run_fault.RunFault.TheVariants.{OutOfMemory, Reader, Writer, Turns}
+use Rattle.ts_script.specs.declared.run_fault.RunFault.{RunFault}
+use Rattle.ts_script.specs.declared.run_fault.RunFault.TheVariants.{OutOfMemory, Reader, Writer, Turns}
 use Rattle.tsdb.specs.declared.outcome.Outcome.{Outcome}
 use Rattle.tsdb.specs.declared.outcome.Outcome.TheVariants.{Answered, Stopped, NoScript, NoFault, NoText}
 

@@ -9,7 +9,6 @@ ghost use Rattle.tsdb.specs.declared.command_line.Told.TheVariants.{OutOfMemory}
 ghost use Rattle.tsdb.specs.declared.outcome.Outcome.TheVariants.{NoScript, NoText};
 
 use crate::command_line::{Told, parse, told_by};
-use crate::engine::run;
 use crate::fault_table::{fault_table, faults_asked};
 use crate::outcome::Outcome;
 use clap::Error;
@@ -19,6 +18,7 @@ use std::io::{Read, Write};
 use std::rt::Env;
 use std::{env, io};
 use ts_core::{Sink, Source};
+use ts_script::run;
 
 /// The words of the command line, the first of which is the program's name.
 pub fn read_words(rt: &(impl Env + AllocGlobal)) -> Result<Vec<String>, Outcome>

@@ -4,8 +4,8 @@ ghost use Rattle.std.specs.Process.{exit_status};
 ghost use Rattle.tsdb.specs.RunOutcomes.{status_of, stopped_line, error_line};
 
 use crate::command_line::Told;
-use crate::run_fault::RunFault;
 use std::process::ExitCode;
+use ts_script::RunFault;
 
 /// Outcome of a call of the program.
 #[derive(Clone, Copy, Drop)]

@@ -1,7 +1,6 @@
 //! `tsdb serve`: a store with the settings of a file, and the requests of a port.
 use crate::call::tell_error;
 use crate::command_line::Told;
-use crate::opening::store_with;
 use crate::outcome::Outcome;
 use crate::requests::serve_on;
 use crate::serve_line::{Service, parse_serve};
@@ -11,7 +10,8 @@ use std::net::{Net, TcpListener, TcpStream};
 use std::process::ExitCode;
 use std::rt::{Clock, Files};
 use std::{fs, io};
-use ts_core::{SettingsError, SettingsFault};
+use ts_core::{Settings, SettingsError, SettingsFault};
+use ts_store::Store;
 
 /// Why no request was served.
 #[derive(Clone, Copy, Drop)]
@@ -60,6 +60,15 @@ impl ServiceFault {
             ServiceFault::OutOfMemory => text.push_str("tsdb: there is no memory")?,
         }
         Ok(text)
+    }
+}
+
+/// Creates an empty store with the settings of a text, or returns their first error.
+fn store_with(alloc: Global, text: &str) -> Result<Store<Global>, SettingsError> {
+    let settings = Settings::read(alloc, alloc, text)?;
+    match Store::new(alloc, settings) {
+        Ok(store) => Ok(store),
+        Err(_) => Err(SettingsError::OutOfMemory),
     }
 }
 

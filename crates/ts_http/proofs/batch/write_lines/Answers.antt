@@ -18,8 +18,8 @@ loop-line-preserved c =
       search rules,
       omega (arith, i.1, c.count.ensures.lines, ap length parts.0, length-append c.in-Some.line.now (10 ∷ c.in-Some.others.now)),
       c.count.ensures.fewer,
-      λ s h. goes_on AllocError c.args.precision c.args.now s (body_lines c.args.body.now) c.loop-line.tally c.count.new.self c.in-Some.line.now (body_lines c.loop-line.rest.now) (body_lines c.in-Some.others.now) c.loop-line.store c.write_in.new.store c.in_ok-write_in.field-0
-          (i.3 s h) next c.in_ok-write_in.ensures c.count.ensures.tally,
+      λ s h. goes_on AllocError c.args.precision c.args.now s (body_lines c.args.body.now) c.loop-line.tally c.count.new.self c.in-Some.line.now (body_lines c.loop-line.rest.now) (body_lines c.in-Some.others.now) c.loop-line.store c.write_in.new.store c.in_ok-write_in.field-0 c.refusal.result
+          (i.3 s h) next c.in_ok-write_in.ensures c.refusal.ensures c.count.ensures.tally,
     )
 
 pub returns-in_err-write_in : goal.returns-in_err-write_in
@@ -44,5 +44,5 @@ returns c = λ s h.
     let p = split_parts 10 c.loop-line.rest.now c.split_once.result c.split_once.ensures.cases (lit< tt) in
     let none = rw c.in_default.is at p in
     all_done AllocError c.args.precision c.args.now s c.args.body.now c.count-2.new.self c.write_in-2.new.store
-    (goes_on AllocError c.args.precision c.args.now s (body_lines c.args.body.now) c.loop-line.tally c.count-2.new.self c.loop-line.rest.now (body_lines c.loop-line.rest.now) [] c.loop-line.store c.write_in-2.new.store c.in_ok-write_in-2.field-0
-    (c.loop-line.invariant.3 s h) (last_line c.loop-line.rest.now none) c.in_ok-write_in-2.ensures c.count-2.ensures.tally)
+    (goes_on AllocError c.args.precision c.args.now s (body_lines c.args.body.now) c.loop-line.tally c.count-2.new.self c.loop-line.rest.now (body_lines c.loop-line.rest.now) [] c.loop-line.store c.write_in-2.new.store c.in_ok-write_in-2.field-0 c.refusal-2.result
+    (c.loop-line.invariant.3 s h) (last_line c.loop-line.rest.now none) c.in_ok-write_in-2.ensures c.refusal-2.ensures c.count-2.ensures.tally)

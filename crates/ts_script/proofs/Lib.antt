@@ -1,0 +1,14 @@
+-- Script, Serving: how far a run has come
+pub mod Progress
+-- Machine: one step
+pub mod MachineLemmas
+pub mod CommandLemmas
+pub mod NumberLemmas
+-- Counted: what a count prints
+pub mod CountLemmas
+pub mod CountAnswers
+-- ScriptLines, HeldLine, LineReading: how lines are cut
+pub mod LineScan
+-- ScriptCertificates, MarksTexts: texts
+pub mod CertificateTextLemmas
+pub mod MarksTextLemmas

@@ -1,0 +1,146 @@
+use Rattle.std.proofs.Common.{◌≡◌, false, refl, ap, ◌∙◌, Err, arith}
+use Rattle.std.proofs.lemmas.Result.{err_from_is_err_and}
+use Rattle.ts_core.specs.ReadingAhead.{Ahead, bit}
+use Rattle.ts_core.proofs.Results.{on_any_err}
+use Rattle.ts_script.specs.LineReading.{to_come}
+use Rattle.ts_script.specs.ScriptReplies.{text_of}
+use Rattle.ts_script.specs.RunFaults.{fault_of_read}
+use Rattle.ts_script.proofs.Progress.{begins, goes_on, sends, some_answered, cut_off, cut_short, answers_next, all_answered, nothing_left, reader_told, turns_told, writer_silent, memory_silent, writer_is_not_memory, writer_is_not_turns, done_has_no_fault}
+use Rattle.ts_script.proofs.engine.answer_all.Goals as goal
+
+pub loop-lines-init : goal.loop-lines-init
+loop-lines-init g c =
+    let e = c.requires.lines in
+    let turns : c.args.lines.now.ahead.turns ≡ 0 = ap (λ (a : Ahead). a.turns) e in
+    record {
+      progress = begins c.args.source.now.remaining c.args.sink.now.contents c.args.lines.now.ahead.buffered c.args.machine.now (ap (λ (a : Ahead). a.buffered) e) c.requires.machine c.args.answers.now c.requires.answers;
+      end = λ h. let x : c.args.lines.now.ahead.ended ≡ false = ap (λ (a : Ahead). a.ended) e in cc;
+      turns = omega (arith, turns);
+      within = omega (arith, turns);
+      ends = omega (arith, ap (λ (a : Ahead). bit a.ended) e);
+      reader = refl;
+      writer = refl;
+      room = c.requires.text;
+    }
+
+pub returns-in_err-send_before_wait : goal.returns-in_err-send_before_wait
+returns-in_err-send_before_wait g c =
+    let p = err_from_is_err_and c.from_residual.result c.from_residual.ensures.1 in
+    let i = c.loop-lines.invariant in
+    let s = c.in_err-send_before_wait.ensures.sent in
+    rw (p.1, p.2) record {
+      answered = tt;
+      begun = cut_off c.args.source.now.remaining (to_come c.loop-lines.lines c.loop-lines.source) c.args.sink.now.contents c.loop-lines.sink.contents c.send_before_wait.new.sink.contents c.loop-lines.answers c.loop-lines.machine i.progress s.err;
+      memory = λ e. absurd (writer_is_not_memory _ refl e);
+      reader = omega (arith, i.reader);
+      writer = omega (arith, i.writer, s.failures);
+      end = tt;
+      within = omega (arith, i.turns, i.within);
+      limit = λ e. absurd (writer_is_not_turns _ refl e);
+    }
+
+pub loop-lines-preserved : goal.loop-lines-preserved
+loop-lines-preserved g c =
+    let i = c.loop-lines.invariant in
+    let b = c.in_ok-send_before_wait.ensures.sent in
+    let n = c.in_ok-next.ensures in
+    let a = c.answer-reply.ensures in
+    let s = c.in_ok-send.ensures in
+    record {
+      progress = goes_on c.args.source.now.remaining (to_come c.loop-lines.lines c.loop-lines.source) (to_come c.next.new.self c.next.new.source) c.args.sink.now.contents c.send_before_wait.new.sink.contents c.send.new.sink.contents c.send_before_wait.new.answers c.send.new.answers c.loop-lines.machine c.answer-reply.new.machine (text_of c.answer-reply.result)
+          (sends c.args.source.now.remaining (to_come c.loop-lines.lines c.loop-lines.source) c.args.sink.now.contents c.loop-lines.sink.contents c.send_before_wait.new.sink.contents c.loop-lines.answers c.send_before_wait.new.answers c.loop-lines.machine i.progress c.in_ok-send_before_wait.ensures.sent.ok)
+          (answers_next (to_come c.loop-lines.lines c.loop-lines.source) (to_come c.next.new.self c.next.new.source) c.in_ok-next.next c.next.new.self.line c.line.result.now c.loop-lines.machine c.answer-reply.new.machine (text_of c.answer-reply.result) c.line.ensures.line c.in_default.not-End n.next a)
+          s.sent.ok;
+      end = n.asked.end;
+      turns = omega (arith, i.turns, n.asked.turns);
+      within = n.asked.within;
+      ends = omega (arith, i.ends, n.asked.ends);
+      reader = omega (arith, i.reader, n.asked.failures);
+      writer = omega (arith, i.writer, b.failures, s.sent.failures);
+      room = s.room;
+    }
+
+pub returns-in_err-send : goal.returns-in_err-send
+returns-in_err-send g c =
+    let p = err_from_is_err_and c.from_residual-in_err-send.result c.from_residual-in_err-send.ensures.1 in
+    let i = c.loop-lines.invariant in
+    let b = c.in_ok-send_before_wait.ensures.sent in
+    let n = c.in_ok-next.ensures in
+    let a = c.answer-reply.ensures in
+    let s = c.in_err-send.ensures.sent in
+    rw (p.1, p.2) record {
+      answered = tt;
+      begun = cut_short c.args.source.now.remaining (to_come c.loop-lines.lines c.loop-lines.source) (to_come c.next.new.self c.next.new.source) c.args.sink.now.contents c.send_before_wait.new.sink.contents c.send.new.sink.contents c.send_before_wait.new.answers c.loop-lines.machine c.answer-reply.new.machine (text_of c.answer-reply.result)
+          (sends c.args.source.now.remaining (to_come c.loop-lines.lines c.loop-lines.source) c.args.sink.now.contents c.loop-lines.sink.contents c.send_before_wait.new.sink.contents c.loop-lines.answers c.send_before_wait.new.answers c.loop-lines.machine i.progress c.in_ok-send_before_wait.ensures.sent.ok)
+          (answers_next (to_come c.loop-lines.lines c.loop-lines.source) (to_come c.next.new.self c.next.new.source) c.in_ok-next.next c.next.new.self.line c.line.result.now c.loop-lines.machine c.answer-reply.new.machine (text_of c.answer-reply.result) c.line.ensures.line c.in_default.not-End n.next a)
+          s.err;
+      memory = λ e. absurd (writer_is_not_memory _ refl e);
+      reader = omega (arith, i.reader, n.asked.failures);
+      writer = omega (arith, i.writer, b.failures, s.failures);
+      end = tt;
+      within = omega (arith, i.turns, n.asked.turns, n.asked.within);
+      limit = λ e. absurd (writer_is_not_turns _ refl e);
+    }
+
+pub returns-in_err-next : goal.returns-in_err-next
+returns-in_err-next g c =
+    let result = c.from_residual-in_err-next.result in
+    let p = err_from_is_err_and result c.from_residual-in_err-next.ensures.1 in
+    let i = c.loop-lines.invariant in
+    let b = c.in_ok-send_before_wait.ensures.sent in
+    let n = c.next.ensures.asked in
+    let fault = c.in_err-next.field-0.0 in
+    let told : result ≡ Err (fault_of_read fault) = p.1 ∙ ap Err p.2 in
+    record {
+      answered = rw told tt;
+      begun = on_any_err result (some_answered c.args.source.now.remaining (to_come c.loop-lines.lines c.loop-lines.source) c.args.sink.now.contents c.send_before_wait.new.sink.contents c.send_before_wait.new.answers c.loop-lines.machine (sends c.args.source.now.remaining (to_come c.loop-lines.lines c.loop-lines.source) c.args.sink.now.contents c.loop-lines.sink.contents c.send_before_wait.new.sink.contents c.loop-lines.answers c.send_before_wait.new.answers c.loop-lines.machine i.progress c.in_ok-send_before_wait.ensures.sent.ok));
+      memory = λ e. absurd (memory_silent result fault told e);
+      reader = omega (arith, i.reader, n.failures, reader_told fault result c.next.result told c.in_err-next.was);
+      writer = omega (arith, i.writer, b.failures, writer_silent result fault told);
+      end = rw told tt;
+      within = omega (arith, i.turns, n.turns, n.within);
+      limit = λ t.
+          let at = n.limit (turns_told fault result c.next.result told c.in_err-next.was t) in
+          (omega (arith, i.turns, n.turns, at), omega (arith, i.ends, n.ends, ap bit c.in_err-next.ensures.asked.stays));
+    }
+
+pub returns-in_err-flush : goal.returns-in_err-flush
+returns-in_err-flush g c =
+    let p = err_from_is_err_and c.from_residual-in_err-flush.result c.from_residual-in_err-flush.ensures.1 in
+    let i = c.loop-lines.invariant in
+    let b = c.in_ok-send_before_wait.ensures.sent in
+    let n = c.in_ok-next.ensures in
+    let s = c.in_err-flush.ensures.buffered in
+    rw (p.1, p.2) record {
+      answered = tt;
+      begun = cut_off c.args.source.now.remaining (to_come c.loop-lines.lines c.loop-lines.source) c.args.sink.now.contents c.send_before_wait.new.sink.contents c.flush.new.sink.contents c.send_before_wait.new.answers c.loop-lines.machine (sends c.args.source.now.remaining (to_come c.loop-lines.lines c.loop-lines.source) c.args.sink.now.contents c.loop-lines.sink.contents c.send_before_wait.new.sink.contents c.loop-lines.answers c.send_before_wait.new.answers c.loop-lines.machine i.progress c.in_ok-send_before_wait.ensures.sent.ok) s.err;
+      memory = λ e. absurd (writer_is_not_memory _ refl e);
+      reader = omega (arith, i.reader, n.asked.failures);
+      writer = omega (arith, i.writer, b.failures, s.failures);
+      end = tt;
+      within = omega (arith, i.turns, n.asked.turns, n.asked.within);
+      limit = λ e. absurd (writer_is_not_turns _ refl e);
+    }
+
+pub returns-in-End : goal.returns-in-End
+returns-in-End g c =
+    let i = c.loop-lines.invariant in
+    let b = c.in_ok-send_before_wait.ensures.sent in
+    let n = c.in_ok-next.ensures in
+    let s = c.in_ok-flush.ensures in
+    record {
+      answered = all_answered c.args.source.now.remaining (to_come c.loop-lines.lines c.loop-lines.source) c.args.sink.now.contents c.flush.new.sink.contents c.flush.new.self c.loop-lines.machine
+          (sends c.args.source.now.remaining (to_come c.loop-lines.lines c.loop-lines.source) c.args.sink.now.contents c.send_before_wait.new.sink.contents c.flush.new.sink.contents c.send_before_wait.new.answers c.flush.new.self c.loop-lines.machine (sends c.args.source.now.remaining (to_come c.loop-lines.lines c.loop-lines.source) c.args.sink.now.contents c.loop-lines.sink.contents c.send_before_wait.new.sink.contents c.loop-lines.answers c.send_before_wait.new.answers c.loop-lines.machine i.progress c.in_ok-send_before_wait.ensures.sent.ok) s.buffered.ok)
+          s.empty
+          (nothing_left (to_come c.loop-lines.lines c.loop-lines.source) (to_come c.next.new.self c.next.new.source) c.in_ok-next.next c.next.new.self.line c.in-End.is n.next);
+      begun = tt;
+      memory = λ e. absurd (done_has_no_fault _ _ _ refl e);
+      reader = omega (arith, i.reader, n.asked.failures);
+      writer = omega (arith, i.writer, b.failures, s.buffered.failures);
+      end = omega (arith, i.ends, n.asked.ends, ap bit (n.goes_on.over c.in-End.is));
+      within = omega (arith, i.turns, n.asked.turns, n.asked.within);
+      limit = λ e. absurd (done_has_no_fault _ _ _ refl e);
+    }
+
+pub loop-lines-smaller : goal.loop-lines-smaller
+loop-lines-smaller g c = c.in_ok-next.ensures.goes_on.less c.in_default.not-End

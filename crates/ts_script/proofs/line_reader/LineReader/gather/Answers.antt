@@ -1,0 +1,111 @@
+use Rattle.std.proofs.Common.{◌≡◌, false, refl, sym, ap, ◌∙◌, arith}
+use Rattle.std.proofs.lemmas.Result.{err_from_is_err_and}
+use Rattle.ts_core.specs.ReadingAhead.{bit}
+use Rattle.ts_script.specs.LineReading.{to_come}
+use Rattle.ts_script.proofs.LineScan.{next_is_some, found_told, last_told, more_told, after-whole, flipped, flipped_back}
+use Rattle.ts_script.proofs.line_reader.LineReader.gather.Goals as goal
+
+pub returns-then-take_chunk-clause-next : goal.returns-then-take_chunk-clause-next
+returns-then-take_chunk-clause-next g c =
+    let t = c.take_chunk.ensures.taken in
+    let so = c.loop-self.invariant.so_far in
+    found_told c.args.self.now c.args.self.now c.loop-self.self c.take_chunk.new.self c.args.source.now c.loop-self.source c.found.result so.0 refl so.1
+    (sym t.found ∙ c.if-take_chunk.true) c.take_chunk.ensures.line t.buffered c.found.ensures
+
+pub returns-then-take_chunk-clause-goes_on : goal.returns-then-take_chunk-clause-goes_on
+returns-then-take_chunk-clause-goes_on g c =
+    let t = c.take_chunk.ensures.taken in
+    let i = c.loop-self.invariant in
+    record {
+      over = λ e. absurd (next_is_some _ (sym c.found.ensures ∙ e));
+      less = λ some. omega (arith, t.less, i.less, ap bit c.if-take_chunk.true);
+    }
+
+pub returns-then-take_chunk-clause-asked : goal.returns-then-take_chunk-clause-asked
+returns-then-take_chunk-clause-asked g c =
+    let t = c.take_chunk.ensures.taken in
+    let i = c.loop-self.invariant in
+    let going : c.take_chunk.new.self.ahead.ended ≡ false = t.ended ∙ i.going in
+    record {
+      end = λ e. cc;
+      stays = tt;
+      within = t.within;
+      limit = λ e. cc;
+      failures = omega (arith, i.failures);
+      turns = omega (arith, i.turns, t.turns);
+      ends = omega (arith, i.ends, ap bit going, ap bit c.requires.going);
+    }
+
+pub read_on-requires-clause-empty : goal.read_on-requires-clause-empty
+read_on-requires-clause-empty g c = c.take_chunk.ensures.taken.buffered ∙ after-whole c.loop-self.self.ahead.buffered (sym c.take_chunk.ensures.taken.found ∙ c.if-take_chunk.false)
+
+pub returns-in_err-read_on-clause-asked : goal.returns-in_err-read_on-clause-asked
+returns-in_err-read_on-clause-asked g c =
+    let p = err_from_is_err_and c.from_residual.result c.from_residual.ensures.1 in
+    let t = c.take_chunk.ensures.taken in
+    let s = c.in_err-read_on.ensures.asked in
+    let i = c.loop-self.invariant in
+    rw (p.1, p.2) record {
+      end = s.end;
+      stays = s.stays;
+      within = s.within;
+      limit = λ e. s.limit cc;
+      failures = omega (arith, s.failures, i.failures);
+      turns = omega (arith, s.turns, i.turns, t.turns);
+      ends = omega (arith, s.ends, i.ends, ap bit c.requires.going, ap bit s.stays, ap bit t.ended, ap bit i.going);
+    }
+
+pub returns-then-not-branch-clause-next : goal.returns-then-not-branch-clause-next
+returns-then-not-branch-clause-next g c =
+    let t = c.take_chunk.ensures.taken in
+    let f = c.in_ok-read_on.ensures.read in
+    let s = c.in_ok-read_on.ensures.asked in
+    let so = c.loop-self.invariant.so_far in
+    let m = more_told (to_come c.args.self.now c.args.source.now) c.loop-self.self c.take_chunk.new.self c.read_on.new.self c.loop-self.source c.read_on.new.source so.0 so.1 (sym t.found ∙ c.if-take_chunk.false) c.take_chunk.ensures.line t.buffered f.bytes f.line f.long in
+    last_told c.args.self.now c.args.self.now c.read_on.new.self c.args.source.now c.read_on.new.source c.last.result m.0 refl m.1 (s.end (flipped _ _ f.more c.if-not-branch.true)) c.last.ensures
+
+pub returns-then-not-branch-clause-goes_on : goal.returns-then-not-branch-clause-goes_on
+returns-then-not-branch-clause-goes_on g c =
+    let t = c.take_chunk.ensures.taken in
+    let f = c.in_ok-read_on.ensures.read in
+    let i = c.loop-self.invariant in
+    record {
+      over = λ e. flipped _ _ f.more c.if-not-branch.true;
+      less = λ some. omega (arith, t.less, f.less, i.less);
+    }
+
+pub returns-then-not-branch-clause-asked : goal.returns-then-not-branch-clause-asked
+returns-then-not-branch-clause-asked g c =
+    let t = c.take_chunk.ensures.taken in
+    let s = c.in_ok-read_on.ensures.asked in
+    let i = c.loop-self.invariant in
+    let going : c.take_chunk.new.self.ahead.ended ≡ false = t.ended ∙ i.going in
+    record {
+      end = s.end;
+      stays = tt;
+      within = s.within;
+      limit = λ e. cc;
+      failures = omega (arith, s.failures, i.failures);
+      turns = omega (arith, s.turns, i.turns, t.turns);
+      ends = omega (arith, s.ends, i.ends, ap bit going, ap bit c.requires.going);
+    }
+
+pub loop-self-smaller : goal.loop-self-smaller
+loop-self-smaller g c =
+    omega (arith, c.in_ok-read_on.ensures.read.turn, c.take_chunk.ensures.taken.turns, c.in_ok-read_on.ensures.asked.within)
+
+pub loop-self-preserved : goal.loop-self-preserved
+loop-self-preserved g c =
+    let t = c.take_chunk.ensures.taken in
+    let f = c.in_ok-read_on.ensures.read in
+    let s = c.in_ok-read_on.ensures.asked in
+    let i = c.loop-self.invariant in
+    let going : c.read_on.new.self.ahead.ended ≡ false = flipped_back _ _ f.more c.if-not-branch.false in
+    record {
+      so_far = more_told (to_come c.args.self.now c.args.source.now) c.loop-self.self c.take_chunk.new.self c.read_on.new.self c.loop-self.source c.read_on.new.source i.so_far.0 i.so_far.1 (sym t.found ∙ c.if-take_chunk.false) c.take_chunk.ensures.line t.buffered f.bytes f.line f.long;
+      going = going;
+      less = omega (arith, t.less, f.less, i.less);
+      failures = omega (arith, s.failures, i.failures);
+      turns = omega (arith, s.turns, i.turns, t.turns);
+      ends = omega (arith, s.ends, i.ends, ap bit going, ap bit t.ended, ap bit i.going);
+    }

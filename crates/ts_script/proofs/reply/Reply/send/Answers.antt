@@ -1,0 +1,18 @@
+use Rattle.std.specs.Fmt.{digits}
+use Rattle.ts_script.proofs.reply.Reply.send.Goals as goal
+
+pub returns-in-Unknown-clause-sent : goal.returns-in-Unknown-clause-sent
+unfolding digits
+returns-in-Unknown-clause-sent g c = rw c.in-Unknown.is c.put-in-Unknown.ensures
+
+pub returns-in-BadRange-clause-sent : goal.returns-in-BadRange-clause-sent
+unfolding digits
+returns-in-BadRange-clause-sent g c = rw c.in-BadRange.is c.put-in-BadRange.ensures
+
+pub returns-in-RunInProgress-clause-sent : goal.returns-in-RunInProgress-clause-sent
+unfolding digits
+returns-in-RunInProgress-clause-sent g c = rw c.in-RunInProgress.is c.put-in-RunInProgress.ensures
+
+pub returns-in-OutOfMemory-clause-sent : goal.returns-in-OutOfMemory-clause-sent
+unfolding digits
+returns-in-OutOfMemory-clause-sent g c = rw c.in-OutOfMemory.is c.put-in-OutOfMemory.ensures

@@ -1,0 +1,19 @@
+-- Parsed commands, by the values of their texts. (Own rule.)
+use Rattle.ts_script.specs.Commands.{Command, OpenWith, At, SetPrecision, SetEpoch, Write, Live, Retain, SetCertificate, Query, Explain, Count, CountFault, Unknown}
+use Rattle.ts_script.specs.declared.command.Command.{Command as ReadCommand}
+use Rattle.ts_script.specs.declared.command.Command.TheVariants as read
+
+abbrev pub command_view : ReadCommand → Command
+command_view (read.OpenWith text) = OpenWith text.now
+command_view (read.At t) = At t
+command_view (read.SetPrecision p) = SetPrecision p
+command_view (read.SetEpoch e) = SetEpoch e
+command_view (read.Write text) = Write text.now
+command_view read.Live = Live
+command_view read.Retain = Retain
+command_view (read.SetCertificate text) = SetCertificate text.now
+command_view (read.Query text) = Query text.now
+command_view (read.Explain text) = Explain text.now
+command_view (read.Count m f a b) = Count m.now f.now a b
+command_view read.CountFault = CountFault
+command_view read.Unknown = Unknown

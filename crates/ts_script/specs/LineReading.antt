@@ -1,0 +1,98 @@
+-- A line reader, by its read buffer and the line so far. (Own rule.)
+use Rattle.std.specs.Prelude.{◌≡◌, ◌≢◌, ◌↔◌, ℕ, ◌+◌, ◌≤◌, ◌<◌, List, [], ◌∷◌, ◌++◌, length, take, drop, Bool, true, false, not, IsTrue, Option, Some, IfSome, Result, Err, IfOk, OnOk, OnErr, ◌==◌, if◌then◌else◌}
+use Rattle.std.specs.Io.KnownBytes.{Keeps}
+use Rattle.ts_core.specs.Devices.{Input}
+use Rattle.ts_core.specs.ReadingAhead.{Ahead, pending, EndIsEnd, bit, one_if_device, weight}
+use Rattle.ts_core.specs.declared.read_ahead.ReadFault.{ReadFault}
+use Rattle.ts_core.specs.declared.read_ahead.ReadFault.TheVariants.{Turns}
+use Rattle.ts_script.specs.ScriptLines.{lines_of, script_line_limit, turn_limit}
+use Rattle.ts_script.specs.declared.line_reader.Next.{Next}
+use Rattle.ts_script.specs.declared.line_reader.Next.TheVariants.{Line, TooLong, End}
+use Rattle.ts_script.specs.HeldLine.{HeldLine}
+
+-- the first line, without its LF
+abbrev pub first_line : List ℕ → List ℕ
+first_line [] = []
+first_line (b ∷ bs) = if b == 10 then [] else b ∷ first_line bs
+
+-- the bytes after the first line and its LF
+abbrev pub after_line : List ℕ → List ℕ
+after_line [] = []
+after_line (b ∷ bs) = if b == 10 then bs else after_line bs
+
+abbrev pub has_lf : List ℕ → Bool
+has_lf [] = false
+has_lf (b ∷ bs) = if b == 10 then true else has_lf bs
+
+-- the line so far represents these bytes: all of them, or none if they are over the limit
+abbrev pub LineIs : List ℕ → List ℕ → Bool → Type 0
+LineIs bytes line false = (line ≡ bytes) × (length bytes ≤ script_line_limit)
+LineIs bytes line true = script_line_limit < length bytes
+
+-- the bytes still to come, if known
+abbrev pub to_come : HeldLine → Input → Option (List ℕ)
+to_come reading input = pending reading.ahead input
+
+-- the next line of these bytes, and the bytes that remain
+abbrev pub NextOf : List ℕ → Next → List ℕ → Option (List ℕ) → Type 0
+NextOf bytes Line line left = (rest : List ℕ) × (left ≡ Some rest) × (lines_of bytes ≡ line ∷ lines_of rest) × (length line ≤ script_line_limit)
+NextOf bytes TooLong line left = (rest : List ℕ) × (left ≡ Some rest) × (long : List ℕ) × (lines_of bytes ≡ long ∷ lines_of rest) × (script_line_limit < length long)
+NextOf bytes End line left = (bytes ≡ []) × (left ≡ Some [])
+
+-- the result at an LF
+abbrev pub next_of : Bool → Next
+next_of long = if long then TooLong else Line
+
+-- the result at the end of input
+abbrev pub last_of : List ℕ → Bool → Next
+last_of line long = if long then TooLong else if length line == 0 then End else Line
+
+-- ---- the effect of a call
+
+-- the offset of the first LF, or the length if there is none
+pub record IsLineEnd (bytes : List ℕ) (end : ℕ) : Type 0 where
+  pub within : end ≤ length bytes
+  pub line : take end bytes ≡ first_line bytes
+  pub rest : drop (end + 1) bytes ≡ after_line bytes
+  pub found : IsTrue (has_lf bytes) ↔ (end < length bytes)
+
+-- the buffered bytes go to the line, up to an LF; `lf` is true if there was one
+pub record IsTaken (old : HeldLine) (lf : Bool) (new : HeldLine) : Type 0 where
+  pub found : lf ≡ has_lf old.ahead.buffered
+  pub buffered : new.ahead.buffered ≡ after_line old.ahead.buffered
+  pub turns : new.ahead.turns ≡ old.ahead.turns
+  pub ended : new.ahead.ended ≡ old.ahead.ended
+  pub within : new.ahead.turns ≤ turn_limit
+  pub less : weight new.ahead + bit lf ≤ weight old.ahead
+
+-- and these are the next bytes of the line
+abbrev pub IsLonger : HeldLine → HeldLine → Type 0
+IsLonger old new = (before : List ℕ) → LineIs before old.line old.long → LineIs (before ++ first_line old.ahead.buffered) new.line new.long
+
+-- the calls of the source between two states of the read buffer
+pub record IsAsked {T : Type 0} (old : Ahead) (source : Input) (result : Result T ReadFault) (new : Ahead) (source' : Input) : Type 0 where
+  pub end : EndIsEnd new source'
+  pub stays : OnErr result (new.ended ≡ false)
+  pub within : new.turns ≤ turn_limit
+  pub limit : result ≡ Err Turns → new.turns ≡ turn_limit
+  pub failures : source'.failures ≡ source.failures + one_if_device result
+  pub turns : source'.turns + old.turns ≡ source.turns + new.turns
+  pub ends : source'.ends + bit old.ended ≡ source.ends + bit new.ended
+
+-- one read; it returns false at the end of input
+pub record IsReadOn (old : HeldLine) (source : Input) (result : Result Bool ReadFault) (new : HeldLine) (source' : Input) : Type 0 where
+  pub bytes : Keeps (to_come old source) (to_come new source')
+  pub more : IfOk result (λ more. more ≡ not new.ahead.ended)
+  pub line : new.line ≡ old.line
+  pub long : new.long ≡ old.long
+  pub turn : OnOk result (new.ahead.turns ≡ old.ahead.turns + 1)
+  pub less : OnOk result (weight new.ahead < weight old.ahead)
+
+-- if the bytes to come are known, the next line is the first of these bytes
+abbrev pub IsNext : HeldLine → Input → Next → HeldLine → Input → Type 0
+IsNext old source next new source' = IfSome (to_come old source) (λ bytes. NextOf bytes next new.line (to_come new source'))
+
+-- the end is reported only after it was read, and each line consumes something
+pub record UsesUp (old : Ahead) (next : Next) (new : Ahead) : Type 0 where
+  pub over : next ≡ End → new.ended ≡ true
+  pub less : next ≢ End → weight new < weight old

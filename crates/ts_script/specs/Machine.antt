@@ -1,0 +1,149 @@
+-- The state machine of a script: the output of each line, and the new state. (Own rule.)
+use Rattle.std.specs.Prelude.{◌≡◌, ℕ, ℤ, pos, ◌-ℤ◌, ◌≤ℤ◌, ◌<ℤ◌, ◌<◌, ◌≤◌, Bool, true, false, List, [], ◌∷◌, length, codes, Option, Some, None, Result, Ok, Err}
+use Rattle.std.specs.Fmt.{decimal}
+use Rattle.std.specs.Str.{IsUtf8}
+use Rattle.ts_core.specs.Facts.{Text}
+use Rattle.ts_core.specs.Settings.{Settings, open_settings}
+use Rattle.ts_core.specs.SettingsFaults.{settings_fault_text}
+use Rattle.ts_core.specs.SettingsTexts.{settings_read}
+use Rattle.ts_core.specs.declared.settings_fault.SettingsFault.{SettingsFault}
+use Rattle.ts_core.specs.History.{History, settings_of}
+use Rattle.ts_core.specs.Latest.{count_of}
+use Rattle.ts_core.specs.Marks.{marks_of}
+use Rattle.ts_core.specs.Pieces.{Piece}
+use Rattle.ts_core.specs.RawFacts.{raw_facts}
+use Rattle.ts_core.specs.declared.time_unit.TimeUnit.{TimeUnit}
+use Rattle.ts_core.specs.declared.time_unit.TimeUnit.TheVariants.{Nanoseconds}
+use Rattle.ts_core.specs.FaultTexts.{memory_text}
+use Rattle.ts_plan.specs.Planning.{IsPlanFor}
+use Rattle.ts_plan.specs.PlanTexts.{plan_fault_text}
+use Rattle.ts_plan.specs.declared.fault.PlanError.{PlanError}
+use Rattle.ts_plan.specs.declared.fault.PlanError.TheVariants as errors
+use Rattle.ts_plan.specs.declared.fault.PlanFault.{PlanFault}
+use Rattle.ts_ql.specs.Counting.{count_select, IsInterval}
+use Rattle.ts_reply.specs.Answering.{IsReply}
+use Rattle.ts_reply.specs.Explaining.{IsExplanation}
+use Rattle.ts_reply.specs.declared.epoch.Epoch.{Epoch}
+use Rattle.ts_reply.specs.declared.epoch.Epoch.TheVariants as epochs
+use Rattle.ts_store.specs.LineTexts.{State as StoreState, opened as opened_store, WritesText, RunsOutOfMemory}
+use Rattle.ts_store.specs.WholeRuns.{whole_run}
+use Rattle.ts_store.specs.declared.write_text.LineOutcome.{LineOutcome}
+use Rattle.ts_script.specs.ScriptLines.{script_line_limit}
+use Rattle.ts_script.specs.ScriptCertificates.{with_line_feeds}
+use Rattle.ts_script.specs.Commands.{Command, OpenWith, At, SetPrecision, SetEpoch, Write, Live, Retain, SetCertificate, Query, Explain, Count, CountFault, Unknown, is_skipped, command_of}
+use Rattle.ts_script.specs.MarksTexts.{marks_text}
+use Rattle.ts_script.specs.ScriptReplies.{line, outcome_text, unknown_text, bad_range_text}
+
+pub record State : Type 0 where
+  -- the script's time, in nanoseconds, the precision of its timestamps, and the format of times in replies
+  pub moment : ℤ
+  pub precision : TimeUnit
+  pub epoch : Epoch
+  -- only skipped lines have come, so settings may follow
+  pub fresh : Bool
+  -- the certificate of the next query
+  pub certificate : Option Text
+  -- the settings that the script opened with, the events since, and the registered series
+  pub store : StoreState
+
+abbrev pub start : State
+start = record {
+  moment = pos 0;
+  precision = Nanoseconds;
+  epoch = epochs.Text;
+  fresh = true;
+  certificate = None;
+  store = opened_store open_settings;
+}
+
+abbrev pub at_moment : ℤ → State → State
+at_moment t s = record s { moment = t }
+
+abbrev pub in_precision : TimeUnit → State → State
+in_precision p s = record s { precision = p }
+
+abbrev pub in_epoch : Epoch → State → State
+in_epoch e s = record s { epoch = e }
+
+-- a line that isn't skipped has come
+abbrev pub no_longer_fresh : State → State
+no_longer_fresh s = record s { fresh = false }
+
+abbrev pub with_certificate : Option Text → State → State
+with_certificate certificate s = record s { certificate = certificate }
+
+-- a store in this state instead of the script's own
+abbrev pub with_store : StoreState → State → State
+with_store k s = record s { store = k }
+
+-- an empty store with these settings
+abbrev pub opened_with : Settings → State → State
+opened_with settings = with_store (opened_store settings)
+
+-- a whole retention run, of `steps` steps and a last one
+abbrev pub with_run : ℕ → State → State
+with_run steps s = with_store (record s.store { history = whole_run s.moment steps s.store.history }) s
+
+-- the marks of the state, as text
+abbrev pub marks_told : State → Text
+marks_told s = marks_text (settings_of s.store.opening s.store.history) (marks_of s.store.opening s.store.history)
+
+-- a planner's result for the counting query
+abbrev pub CountIsPlanned : Settings → History → Text → Text → ℤ → ℤ → Result (List Piece) PlanError → Type 0
+CountIsPlanned opening h measurement field a b answer =
+    IsInterval (b -ℤ a) × IsPlanFor (settings_of opening h) (marks_of opening h) (count_select measurement field a b).query answer
+
+-- After a history, a count over a non-empty range may print this text.
+pub data Counts (opening : Settings) (h : History) (measurement field : Text) (a b : ℤ) : Text → Type 0 where
+  -- the number of matching facts ever accepted, of each id the latest
+  counted : (plan : List Piece) → CountIsPlanned opening h measurement field a b (Ok plan) → Counts opening h measurement field a b (line (decimal (count_of h measurement field a b)))
+  has_no_plan : (fault : PlanFault) → CountIsPlanned opening h measurement field a b (Err (errors.Fault fault)) → Counts opening h measurement field a b (line (plan_fault_text fault))
+  is_too_long : (IsInterval (b -ℤ a) → ⊥) → Counts opening h measurement field a b (line bad_range_text)
+  -- planning and execution may run out of memory
+  counts_no_memory : IsInterval (b -ℤ a) → Counts opening h measurement field a b (line memory_text)
+
+-- From `old`, a command may print this text and lead to that state.
+pub data Does (old : State) : Command → Text → State → Type 0 where
+  -- settings come before everything else; with an error, the opening ones stay
+  opens : (text : Text) (settings : Settings) → old.fresh ≡ true → settings_read text ≡ Ok settings → Does old (OpenWith text) [] (opened_with settings old)
+  refuses_settings : (text : Text) (fault : SettingsFault) → old.fresh ≡ true → settings_read text ≡ Err fault → Does old (OpenWith text) (line (settings_fault_text fault)) old
+  opens_no_memory : (text : Text) → old.fresh ≡ true → Does old (OpenWith text) (line memory_text) old
+  opens_late : (text : Text) → old.fresh ≡ false → Does old (OpenWith text) (line unknown_text) old
+  moves : (t : ℤ) → Does old (At t) [] (at_moment t old)
+  sets : (p : TimeUnit) → Does old (SetPrecision p) [] (in_precision p old)
+  -- a line is written with the script's precision; without a timestamp, it has the script's time
+  writes : (text : Text) (outcome : LineOutcome) (new : StoreState) → WritesText old.precision old.moment old.store text outcome new → Does old (Write text) (outcome_text outcome) (with_store new old)
+  writes_no_memory : (text : Text) (new : StoreState) → RunsOutOfMemory old.precision old.moment old.store text new → Does old (Write text) (line memory_text) (with_store new old)
+  shows : (e : Epoch) → Does old (SetEpoch e) [] (in_epoch e old)
+  -- retention runs at the script's time, and the new marks are printed
+  retains : (steps : ℕ) → Does old Retain (line (marks_told (with_run steps old))) (with_run steps old)
+  retains_no_memory : Does old Retain (line memory_text) old
+  -- the certificate is set for the next query, replacing an earlier one
+  hands_in : (text : Text) → Does old (SetCertificate text) [] (with_certificate (Some (with_line_feeds text)) old)
+  hands_in_no_memory : (text : Text) → Does old (SetCertificate text) (line memory_text) old
+  -- the body of the reply, good or not; the certificate is consumed
+  replies : (text body : Text) (good : Bool) → IsReply old.store.opening old.store.history old.moment text old.certificate old.epoch good body → Does old (Query text) (line body) (with_certificate None old)
+  replies_no_memory : (text : Text) → Does old (Query text) (line memory_text) (with_certificate None old)
+  explains : (text body : Text) (good : Bool) → IsExplanation old.store.opening old.store.history old.moment text good body → Does old (Explain text) (line body) old
+  explains_no_memory : (text : Text) → Does old (Explain text) (line memory_text) old
+  -- the number of latest facts with raw points
+  tells_live : Does old Live (line (decimal (length (raw_facts old.store.opening old.store.history)))) old
+  counts : (measurement field answer : Text) (a b : ℤ) → a <ℤ b → Counts old.store.opening old.store.history measurement field a b answer → Does old (Count measurement field a b) answer old
+  counts_nothing : (measurement field : Text) (a b : ℤ) → b ≤ℤ a → Does old (Count measurement field a b) (line (codes "0")) old
+  refuses_count : Does old CountFault (line bad_range_text) old
+  refuses_unknown : Does old Unknown (line unknown_text) old
+
+-- From `old`, a line of a script may print this text and lead to that state.
+pub data Step (old : State) : Text → Text → State → Type 0 where
+  too_long : (bytes : Text) → script_line_limit < length bytes → Step old bytes (line unknown_text) (no_longer_fresh old)
+  no_text : (bytes : Text) → (IsUtf8 bytes → ⊥) → Step old bytes (line unknown_text) (no_longer_fresh old)
+  -- a blank line or a comment
+  skips : (bytes : Text) → length bytes ≤ script_line_limit → IsUtf8 bytes → is_skipped bytes ≡ true → Step old bytes [] old
+  does : (bytes answer : Text) (new : State) → length bytes ≤ script_line_limit → IsUtf8 bytes → is_skipped bytes ≡ false → Does old (command_of bytes) answer new → Step old bytes answer (no_longer_fresh new)
+
+-- Lines may print these answers, one after another.
+abbrev pub Prints : State → List Text → List Text → State → Type 0
+Prints old [] [] new = new ≡ old
+Prints old (text ∷ texts) (answer ∷ answers) new = (mid : State) × Step old text answer mid × Prints mid texts answers new
+Prints old [] (answer ∷ answers) new = ⊥
+Prints old (text ∷ texts) [] new = ⊥

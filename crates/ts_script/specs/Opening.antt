@@ -1,0 +1,15 @@
+-- The store of a script that begins with settings. (Own rule.)
+use Rattle.std.specs.Prelude.{◌≡◌, ⊤, Result, Ok, Err}
+use Rattle.ts_core.specs.Facts.{Text}
+use Rattle.ts_core.specs.Settings.{Settings}
+use Rattle.ts_core.specs.SettingsTexts.{settings_read}
+use Rattle.ts_core.specs.StoreData.{StoreData}
+use Rattle.ts_core.specs.declared.settings_fault.SettingsError.{SettingsError}
+use Rattle.ts_core.specs.declared.settings_fault.SettingsError.TheVariants.{Fault, OutOfMemory}
+use Rattle.ts_store.specs.LineTexts.{IsIn, opened}
+
+-- an empty store with the settings of the text, or their first error, or out of memory
+abbrev pub IsOpening : Text → Result StoreData SettingsError → Type 0
+IsOpening text (Ok k) = (settings : Settings) × (settings_read text ≡ Ok settings) × IsIn (opened settings) k
+IsOpening text (Err (Fault fault)) = settings_read text ≡ Err fault
+IsOpening text (Err OutOfMemory) = ⊤

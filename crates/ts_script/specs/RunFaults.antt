@@ -1,0 +1,36 @@
+-- The errors of a run: their messages, and the device that each belongs to. (Own rule.)
+use Rattle.std.specs.Prelude.{ℕ, Result, Ok, Err}
+use Rattle.ts_core.specs.Facts.{Text}
+use Rattle.ts_core.specs.FaultTexts.{fault_text, memory_text}
+use Rattle.ts_core.specs.declared.fault_code.FaultCode.TheVariants as code
+use Rattle.ts_core.specs.declared.fault_text.FaultDetail.TheVariants.{Alone}
+use Rattle.ts_core.specs.declared.read_ahead.ReadFault.{ReadFault}
+use Rattle.ts_core.specs.declared.read_ahead.ReadFault.TheVariants as read
+use Rattle.ts_script.specs.declared.run_fault.RunFault.{RunFault}
+use Rattle.ts_script.specs.declared.run_fault.RunFault.TheVariants.{OutOfMemory, Reader, Writer, Turns}
+
+abbrev pub run_fault_text : RunFault → Text
+run_fault_text Reader = fault_text code.ReaderFailed Alone
+run_fault_text Writer = fault_text code.WriterFailed Alone
+run_fault_text Turns = fault_text code.EndlessScript Alone
+run_fault_text OutOfMemory = memory_text
+
+abbrev pub fault_of_read : ReadFault → RunFault
+fault_of_read read.Device = Reader
+fault_of_read read.Turns = Turns
+
+-- 1 for a failure of the reader, else 0
+abbrev pub one_if_reader : {T : Type 0} → Result T RunFault → ℕ
+one_if_reader (Ok x) = 0
+one_if_reader (Err OutOfMemory) = 0
+one_if_reader (Err Reader) = 1
+one_if_reader (Err Writer) = 0
+one_if_reader (Err Turns) = 0
+
+-- 1 for a failure of the writer, else 0
+abbrev pub one_if_writer : {T : Type 0} → Result T RunFault → ℕ
+one_if_writer (Ok x) = 0
+one_if_writer (Err OutOfMemory) = 0
+one_if_writer (Err Reader) = 0
+one_if_writer (Err Writer) = 1
+one_if_writer (Err Turns) = 0

@@ -1,0 +1,43 @@
+-- The replies to commands, by their texts. (Own rule: a fault is reported by its number.)
+use Rattle.std.specs.Prelude.{[], ◌∷◌, ◌++◌, codes, string_bytes}
+use Rattle.std.specs.Fmt.{decimal}
+use Rattle.ts_core.specs.Facts.{Text}
+use Rattle.ts_core.specs.FaultTexts.{fault_text, memory_text}
+use Rattle.ts_core.specs.declared.fault_code.FaultCode.TheVariants as code
+use Rattle.ts_core.specs.declared.fault_text.FaultDetail.TheVariants as detail
+use Rattle.ts_plan.specs.PlanTexts.{plan_fault_text}
+use Rattle.ts_store.specs.LineTexts.{line_refusal_text}
+use Rattle.ts_store.specs.StoreFaultTexts.{run_in_progress_text}
+use Rattle.ts_store.specs.declared.write_text.LineOutcome.{LineOutcome}
+use Rattle.ts_store.specs.declared.write_text.LineOutcome.TheVariants as outcome
+use Rattle.ts_script.specs.declared.reply.Reply.{Reply}
+use Rattle.ts_script.specs.declared.reply.Reply.TheVariants.{Nothing, Written, Count, Body, NoPlan, Unknown, BadRange, RunInProgress, OutOfMemory}
+
+-- a text with the LF that ends its line
+abbrev pub line : Text → Text
+line text = text ++ 10 ∷ []
+
+-- not a command
+abbrev pub unknown_text : Text
+unknown_text = fault_text code.UnknownCommand detail.Alone
+
+-- a range that no query can have
+abbrev pub bad_range_text : Text
+bad_range_text = fault_text code.OutOfRange (detail.At 0)
+
+-- the outcome of a line that was written: a comment or a blank line is none, and a refusal has a message
+abbrev pub outcome_text : LineOutcome → Text
+outcome_text outcome.Accepted = line (codes "ok")
+outcome_text outcome.NoLine = line (codes "none")
+outcome_text (outcome.Refused refusal) = line (line_refusal_text refusal)
+
+abbrev pub text_of : Reply → Text
+text_of Nothing = []
+text_of (Written o) = outcome_text o
+text_of (Count n) = line (decimal n)
+text_of (Body body) = string_bytes body
+text_of (NoPlan fault) = line (plan_fault_text fault)
+text_of Unknown = line unknown_text
+text_of BadRange = line bad_range_text
+text_of RunInProgress = line run_in_progress_text
+text_of OutOfMemory = line memory_text

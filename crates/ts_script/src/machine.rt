@@ -1,0 +1,280 @@
+//! The state machine of a script: each command takes one step and has one reply.
+ghost use Rattle.std.specs.Prelude.{◌≡◌, ◌≤◌, length, IfOk, option_map, string_bytes, string_len, string_capacity};
+ghost use Rattle.ts_reply.specs.Told.{handed_in};
+ghost use Rattle.ts_script.specs.CommandParts.{command_view};
+ghost use Rattle.ts_script.specs.ScriptLines.{script_line_limit};
+ghost use Rattle.ts_script.specs.Machine.{State, start};
+ghost use Rattle.ts_script.specs.MarksTexts.{marks_text};
+ghost use Rattle.ts_script.specs.Commands.{OpenWith as OpenWithCommand, Write as WriteCommand, Retain as RetainCommand, SetCertificate as CertificateCommand, Query as QueryCommand, Explain as ExplainCommand, Count as CountCommand};
+ghost use Rattle.ts_script.specs.ScriptReplies.{line, text_of};
+ghost use Rattle.ts_script.specs.Serving.{IsIn, Replied, HasExplanation, Did, Refused, Stepped};
+
+use crate::certificate_text::with_line_feeds;
+use crate::command::{Command, is_skipped};
+use crate::count::count;
+use crate::marks_text::{MARKS_ROOM, marks_line};
+use crate::opening::{bad_settings, store_with};
+use crate::reply::Reply;
+use bumpalo::Bump;
+use std::alloc::{AllocError, Global};
+use std::marker::Model;
+use std::str;
+use ts_core::{Settings, SettingsError, Time, TimeUnit};
+use ts_reply::{Epoch, answer, explain};
+use ts_store::{Store, View};
+
+/// State of a script: what its commands have set, whether settings may still come, and its store. `line_room` is an
+/// arena for the tags and fields of a line.
+#[derive(Drop)]
+pub struct Machine {
+    alloc: Global,
+    moment: Time,
+    precision: TimeUnit,
+    epoch: Epoch,
+    fresh: bool,
+    certificate: Option<String>,
+    store: Store<Global>,
+    line_room: Bump<Global>,
+}
+
+impl Model for Machine {
+    ghost use Rattle.std.specs.Prelude.{option_map, string_bytes};
+    ghost use Rattle.ts_script.specs.Serving.{Serving, coded_serving};
+
+    ghost Value = { Serving };
+
+    ghost coded = { coded_serving };
+
+    ghost view = { λ m. record { moment = m.moment; precision = m.precision; epoch = m.epoch; fresh = m.fresh; certificate = option_map string_bytes m.certificate; kept = m.store } };
+}
+
+impl Machine {
+    /// Creates a machine with an empty store, at time 0, with timestamps in nanoseconds, and times of replies as text.
+    pub fn new(alloc: Global) -> Result<Machine, AllocError>
+        ensures { IfOk result (λ m. IsIn start m) }
+    {
+        Ok(Machine {
+            alloc,
+            moment: Time::new(0).unwrap(),
+            precision: TimeUnit::Nanoseconds,
+            epoch: Epoch::Text,
+            fresh: true,
+            certificate: None,
+            store: Store::new(alloc, Settings::open(alloc))?,
+            line_room: Bump::new(alloc),
+        })
+    }
+
+    /// Answers a line of a script. When out of memory, no fact is accepted, but the line's series may be registered.
+    pub fn serve(&mut self, line: &[u8]) -> Reply
+        requires { length line.now ≤ script_line_limit }
+        ensures { (s : State) → IsIn s self.old → Stepped line.now s (text_of result) self.new }
+    {
+        match str::from_utf8(line) {
+            Ok(text) => {
+                if is_skipped(line) {
+                    return Reply::Nothing;
+                }
+                let reply = self.apply(Command::of(text));
+                self.fresh = false;
+                reply
+            }
+            Err(_) => self.refuse(),
+        }
+    }
+
+    /// Answers a line that isn't text or is too long: it isn't a command, and settings may no longer follow.
+    pub fn refuse(&mut self) -> Reply
+        ensures { (s : State) → IsIn s self.old → Refused s (text_of result) self.new }
+    {
+        self.fresh = false;
+        Reply::Unknown
+    }
+
+    /// Executes a command.
+    fn apply(&mut self, command: Command<'_>) -> Reply
+        ensures { (s : State) → IsIn s self.old → Did (command_view command.entry) s (text_of result) self.new }
+    {
+        match command {
+            Command::OpenWith(text) => self.open_with(text),
+            Command::At(moment) => {
+                self.moment = moment;
+                Reply::Nothing
+            }
+            Command::SetPrecision(precision) => {
+                self.precision = precision;
+                Reply::Nothing
+            }
+            Command::SetEpoch(epoch) => {
+                self.epoch = epoch;
+                Reply::Nothing
+            }
+            Command::Write(line) => self.write(line),
+            Command::Retain => self.retain(),
+            Command::SetCertificate(text) => self.hand_in(text),
+            Command::Query(text) => self.query(text),
+            Command::Explain(text) => self.explain(text),
+            Command::Live => Reply::Count(self.store.raw_points()),
+            Command::Count {
+                measurement,
+                field,
+                from,
+                to,
+            } => self.count(measurement, field, from, to),
+            Command::CountFault => Reply::BadRange,
+            Command::Unknown => Reply::Unknown,
+        }
+    }
+
+    /// Replaces the store by an empty one with the settings of a text, or replies with their first error. Not a command
+    /// once a line that isn't skipped has come.
+    fn open_with(&mut self, text: &str) -> Reply
+        ensures { (s : State) → IsIn s self.old → Did (OpenWithCommand text.now) s (text_of result) self.new }
+    {
+        if !self.fresh {
+            return Reply::Unknown;
+        }
+        match store_with(self.alloc, text) {
+            Ok(store) => {
+                self.store = store;
+                Reply::Nothing
+            }
+            Err(SettingsError::Fault(fault)) => bad_settings(self.alloc, fault),
+            Err(SettingsError::OutOfMemory) => Reply::OutOfMemory,
+        }
+    }
+
+    /// Runs retention at the script's time, and replies with the marks. Allocates the text of these before the run.
+    fn retain(&mut self) -> Reply
+        ensures { (s : State) → IsIn s self.old → Did RetainCommand s (text_of result) self.new }
+    {
+        match String::with_capacity(self.alloc, MARKS_ROOM) {
+            Ok(text) => self.retain_and_tell(text),
+            Err(_) => Reply::OutOfMemory,
+        }
+    }
+
+    /// Runs retention at the script's time, and replies with the marks in an empty text that has the capacity.
+    fn retain_and_tell(&mut self, text: String) -> Reply
+        requires empty { string_len text ≡ 0 }
+        requires room { MARKS_ROOM ≤ string_capacity text }
+        ensures { (s : State) → IsIn s self.old → Did RetainCommand s (text_of result) self.new }
+    {
+        if self.store.retain(self.moment).is_err() {
+            return Reply::RunInProgress;
+        }
+        self.marks(text)
+    }
+
+    /// Replies with the marks in an empty text that has the capacity.
+    fn marks(&self, text: String) -> Reply
+        requires empty { string_len text ≡ 0 }
+        requires room { MARKS_ROOM ≤ string_capacity text }
+        ensures { text_of result ≡ line (marks_text self.now.kept.settings self.now.kept.marks) }
+    {
+        Reply::Body(marks_line(text, self.store.settings(), self.store.marks()))
+    }
+
+    /// Sets the certificate of the next query.
+    fn hand_in(&mut self, text: &str) -> Reply
+        ensures { (s : State) → IsIn s self.old → Did (CertificateCommand text.now) s (text_of result) self.new }
+    {
+        match with_line_feeds(self.alloc, text) {
+            Ok(certificate) => {
+                self.certificate = Some(certificate);
+                Reply::Nothing
+            }
+            Err(_) => Reply::OutOfMemory,
+        }
+    }
+
+    /// Answers queries, by the certificate if one is set, which is consumed.
+    fn query(&mut self, text: &str) -> Reply
+        ensures { (s : State) → IsIn s self.old → Did (QueryCommand text.now) s (text_of result) self.new }
+    {
+        let certificate = self.certificate.take();
+        match self.reply(text, lent(&certificate)) {
+            Ok(body) => Reply::Body(body),
+            Err(_) => Reply::OutOfMemory,
+        }
+    }
+
+    /// Returns the body of the reply to queries, with an LF.
+    fn reply(&self, text: &str, certificate: Option<&str>) -> Result<String, AllocError>
+        ensures { IfOk result (λ body. (s : State) → IsIn s self.now → Replied s text.now (handed_in certificate.entry) (string_bytes body)) }
+    {
+        let reply = answer(
+            self.alloc,
+            self.alloc,
+            &self.store,
+            self.moment,
+            text,
+            certificate,
+            self.epoch,
+        )?;
+        ended(reply.body)
+    }
+
+    /// Answers with the plans of queries.
+    fn explain(&self, text: &str) -> Reply
+        ensures { (s : State) → IsIn s self.now → Did (ExplainCommand text.now) s (text_of result) self.now }
+    {
+        match self.explanation(text) {
+            Ok(body) => Reply::Body(body),
+            Err(_) => Reply::OutOfMemory,
+        }
+    }
+
+    /// Returns the body of the explanation of queries, with an LF.
+    fn explanation(&self, text: &str) -> Result<String, AllocError>
+        ensures { IfOk result (λ body. (s : State) → IsIn s self.now → HasExplanation s text.now (string_bytes body)) }
+    {
+        let now = self.moment;
+        let reply = explain(self.alloc, self.alloc, &self.store, now, text)?;
+        ended(reply.body)
+    }
+
+    /// Counts the values of a field from one time, inclusive, to another, exclusive.
+    fn count(&self, measurement: &str, field: &str, from: Time, to: Time) -> Reply
+        ensures { (s : State) → IsIn s self.now → Did (CountCommand measurement.now field.now from to) s (text_of result) self.now }
+    {
+        if from < to {
+            count(self.alloc, &self.store, measurement, field, from, to)
+        } else {
+            Reply::Count(0)
+        }
+    }
+
+    /// Writes a line, whose parts are in the arena; resets the arena for the next line.
+    fn write(&mut self, text: &str) -> Reply
+        ensures { (s : State) → IsIn s self.old → Did (WriteCommand text.now) s (text_of result) self.new }
+    {
+        let written = self
+            .store
+            .write_text(&self.line_room, text, self.precision, self.moment);
+        // nothing borrows from the arena any more
+        let _ = self.line_room.reset();
+        match written {
+            Ok(outcome) => Reply::Written(outcome),
+            Err(_) => Reply::OutOfMemory,
+        }
+    }
+}
+
+/// Returns the certificate's text, if there is one.
+fn lent(certificate: &Option<String>) -> Option<&str>
+    ensures { handed_in result ≡ option_map string_bytes certificate.now }
+{
+    match certificate {
+        Some(text) => Some(text.as_str()),
+        None => None,
+    }
+}
+
+/// Appends an LF to a text; returns it.
+fn ended(mut text: String) -> Result<String, AllocError>
+    ensures { IfOk result (λ ended. string_bytes ended ≡ line (string_bytes text)) }
+{
+    text.push_str("\n")?;
+    Ok(text)
+}

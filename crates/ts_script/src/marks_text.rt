@@ -1,0 +1,73 @@
+//! Marks as a script prints them.
+ghost use Rattle.std.specs.Prelude.{◌≡◌, ◌+◌, ◌*◌, ◌≤◌, length, string_bytes, string_len, string_capacity};
+ghost use Rattle.std.specs.List.{AllByRecursion};
+ghost use Rattle.ts_core.specs.Settings.{Rule as RuleValue};
+ghost use Rattle.ts_script.specs.MarksTexts.{low_text, lows_text, raw_text, marks_text, IsAppendedWithin};
+ghost use Rattle.ts_script.specs.ScriptReplies.{line};
+
+use itoa::Buffer;
+use std::alloc::{AllocError, Global};
+use ts_core::{Marks, Rule, Settings, append_words};
+
+/// Upper bound on the text of marks with its LF, in bytes: 32 rules with names of 32 bytes, and 40 bytes per number.
+pub(crate) const MARKS_ROOM: usize = 2_415;
+
+/// Appends a rule's name and its low index. Does not allocate if `text` has the capacity.
+fn low_to(text: &mut String, name: &str, low: i128) -> Result<(), AllocError>
+    ensures { IsAppendedWithin (length name.now + 42) (low_text name.now low) text.old text.new result }
+{
+    append_words(text, &[" ", name, "=", Buffer::new().format(low)])
+}
+
+/// Appends the name and the low index of each rule. Does not allocate if `text` has the capacity.
+fn lows_to(text: &mut String, rules: &[Rule<Global>], lows: &[i128]) -> Result<(), AllocError>
+    requires { AllByRecursion (λ (r : RuleValue). length r.name ≤ 32) rules.now }
+    ensures { IsAppendedWithin (74 * length rules.now) (lows_text rules.now lows.now) text.old text.new result }
+{
+    match (rules.split_first(), lows.split_first()) {
+        (Some((rule, rules)), Some((low, lows))) => {
+            low_to(text, rule.name(), *low)?;
+            lows_to(text, rules, lows)
+        }
+        _ => Ok(()),
+    }
+}
+
+/// Appends the raw mark. Does not allocate if `text` has the capacity.
+fn raw_to(text: &mut String, mark: i64) -> Result<(), AllocError>
+    ensures { IsAppendedWithin 46 (raw_text mark) text.old text.new result }
+{
+    append_words(text, &["marks ", Buffer::new().format(mark)])
+}
+
+/// Appends the raw mark and the low index of each rule. Does not allocate if `text` has the capacity.
+fn marks_to(
+    text: &mut String,
+    settings: &Settings<Global>,
+    marks: &Marks<Global>,
+) -> Result<(), AllocError>
+    ensures { IsAppendedWithin 2414 (marks_text settings.now marks.now) text.old text.new result }
+{
+    raw_to(text, marks.raw().nanos())?;
+    lows_to(text, settings.rules(), marks.lows())
+}
+
+/// Appends the marks and an LF to an empty text that has the capacity; returns it. Does not allocate.
+pub(crate) fn marks_line(
+    mut text: String,
+    settings: &Settings<Global>,
+    marks: &Marks<Global>,
+) -> String
+    requires empty { string_len text ≡ 0 }
+    requires room { MARKS_ROOM ≤ string_capacity text }
+    ensures { string_bytes result ≡ line (marks_text settings.now marks.now) }
+{
+    match marks_to(&mut text, settings, marks) {
+        Ok(()) => {}
+        Err(_) => unreachable!(),
+    }
+    match text.push_str("\n") {
+        Ok(()) => text,
+        Err(_) => unreachable!(),
+    }
+}

@@ -1,0 +1,129 @@
+//! Replies to the lines of a script.
+ghost use Rattle.std.specs.Prelude.{◌≡◌, ◌≤◌, ◌+◌, IsOk, string_bytes, string_len, string_capacity};
+ghost use Rattle.std.specs.Fmt.{decimal};
+ghost use Rattle.ts_core.specs.OutputBuffering.{IsBuffered};
+ghost use Rattle.ts_plan.specs.PlanTexts.{plan_fault_text};
+ghost use Rattle.ts_script.specs.ScriptReplies.{line, outcome_text, text_of};
+
+use itoa::write_digits;
+use std::alloc::{AllocError, Global};
+use std::io::Write;
+use ts_core::{OutputBuffer, Refused, Sink};
+use ts_plan::PlanFault;
+use ts_store::LineOutcome;
+
+/// Reply to a line.
+#[derive(Drop)]
+pub enum Reply {
+    /// Prints nothing.
+    Nothing,
+    /// Outcome of a line that was written.
+    Written(LineOutcome),
+    /// A number of values.
+    Count(u64),
+    /// Any other text, with its LF: the reply to queries, marks, or an error of settings.
+    Body(String),
+    /// Count without a plan.
+    NoPlan(PlanFault),
+    /// Not a command.
+    Unknown,
+    /// Invalid time, or a range that is too long.
+    BadRange,
+    /// Retention run in progress.
+    RunInProgress,
+    /// Out of memory. No fact was accepted, but a line's series may have been registered.
+    OutOfMemory,
+}
+
+/// Capacity that a reply needs for the message of a fault, in bytes.
+pub const TEXT_ROOM: usize = 35;
+
+impl Reply {
+    /// Appends the reply with its LF to the buffered answers. The message of a fault is built in `text`, which has the
+    /// capacity, so nothing is allocated.
+    pub fn send<W: Write>(
+        self,
+        text: &mut String,
+        answers: &mut OutputBuffer<Global>,
+        sink: &mut Sink<W>,
+    ) -> Result<(), Refused>
+        requires { TEXT_ROOM ≤ string_capacity text.old }
+        ensures room { TEXT_ROOM ≤ string_capacity text.new }
+        ensures sent { IsBuffered sink.old answers.old result (text_of self) sink.new answers.new }
+    {
+        text.clear();
+        match self {
+            Reply::Nothing => answers.put(b"", sink),
+            Reply::Written(outcome) => send_outcome(outcome, text, answers, sink),
+            Reply::Count(count) => send_count(answers, sink, count),
+            Reply::Body(body) => answers.put(body.as_bytes(), sink),
+            Reply::NoPlan(fault) => answers.put(plan_fault_line(fault), sink),
+            Reply::Unknown => answers.put(b"fault 95\n", sink),
+            Reply::BadRange => answers.put(b"fault 74 at 0\n", sink),
+            Reply::RunInProgress => answers.put(b"fault 53\n", sink),
+            Reply::OutOfMemory => answers.put(b"fault memory\n", sink),
+        }
+    }
+}
+
+/// Appends the outcome of a line with its LF to the buffered answers. The message of a refusal is built in `text`, which
+/// is empty and has the capacity.
+fn send_outcome<W: Write>(
+    outcome: LineOutcome,
+    text: &mut String,
+    answers: &mut OutputBuffer<Global>,
+    sink: &mut Sink<W>,
+) -> Result<(), Refused>
+    requires empty { string_len text.old ≡ 0 }
+    requires room { TEXT_ROOM ≤ string_capacity text.old }
+    ensures room { TEXT_ROOM ≤ string_capacity text.new }
+    ensures sent { IsBuffered sink.old answers.old result (outcome_text outcome) sink.new answers.new }
+{
+    match outcome {
+        LineOutcome::Accepted => answers.put(b"ok\n", sink),
+        LineOutcome::NoLine => answers.put(b"none\n", sink),
+        LineOutcome::Refused(refusal) => send_made(refusal.text_to(text), text, answers, sink),
+    }
+}
+
+/// Appends a message that was built in `text`, with an LF, to the buffered answers.
+fn send_made<W: Write>(
+    made: Result<(), AllocError>,
+    text: &mut String,
+    answers: &mut OutputBuffer<Global>,
+    sink: &mut Sink<W>,
+) -> Result<(), Refused>
+    requires made { IsOk made }
+    requires room { string_len text.old + 1 ≤ string_capacity text.old }
+    ensures room { string_capacity text.old ≤ string_capacity text.new }
+    ensures sent { IsBuffered sink.old answers.old result (line (string_bytes text.old)) sink.new answers.new }
+{
+    match (made, text.push_str("\n")) {
+        (Ok(()), Ok(())) => answers.put(text.as_bytes(), sink),
+        _ => unreachable!(),
+    }
+}
+
+/// Returns the message of a planning error, with an LF.
+#[tactic(auto, unfolding(ts_plan::specs::PlanTexts::plan_fault_text))]
+fn plan_fault_line(fault: PlanFault) -> &'static [u8]
+    ensures { result.now ≡ line (plan_fault_text fault) }
+{
+    match fault {
+        PlanFault::NoPlan => b"fault 91\n",
+        PlanFault::TooManyBuckets => b"fault 92\n",
+    }
+}
+
+/// Appends a number with an LF to the buffered answers.
+fn send_count<W: Write>(
+    answers: &mut OutputBuffer<Global>,
+    sink: &mut Sink<W>,
+    count: u64,
+) -> Result<(), Refused>
+    ensures sent { IsBuffered sink.old answers.old result (line (decimal count)) sink.new answers.new }
+{
+    let mut text = [b'\n'; 21];
+    let start = write_digits(count, &mut text, 20);
+    answers.put(&text[start..], sink)
+}

@@ -1,0 +1,54 @@
+-- LineTexts: the outcome of a text, by the result of parsing it and the store's answer.
+use Rattle.std.proofs.Common.{◌≡◌, ◌⊎◌, ⊎_elim, ℤ, Option, Some, None, Result, Ok, Err, IfSome, IsNone, refl, sym, ap, ◌∙◌, subst}
+use Rattle.ts_core.specs.Facts.{Text}
+use Rattle.ts_core.specs.StoreData.{StoreData}
+use Rattle.ts_core.specs.declared.time_unit.TimeUnit.{TimeUnit}
+use Rattle.ts_line.specs.Parts.{Parts}
+use Rattle.ts_store.specs.LinesPut.{Leaves}
+use Rattle.ts_store.specs.LineTexts.{State, IsIn, WritesParts, WritesText, RunsOutOfMemory, WritesFrom, refusal_in, parts_in, with_line, with_series}
+use Rattle.ts_store.specs.Refusals.{write_fault}
+use Rattle.ts_store.specs.declared.fault.WriteFault.{WriteFault}
+use Rattle.ts_store.specs.declared.fault.WriteFault.TheVariants as write
+use Rattle.ts_store.specs.declared.write_text.LineOutcome.{LineOutcome}
+use Rattle.ts_store.specs.declared.write_text.LineOutcome.TheVariants.{Accepted, NoLine, Refused}
+use Rattle.ts_store.specs.declared.write_text.LineRefusal.TheVariants.{Parse, Write}
+
+pub wrote_parts : {E : Type 0} (precision : TimeUnit) (now : ℤ) (s : State) (text : Text) (parts : Parts) (r : Result LineOutcome E) (k : StoreData) → parts_in precision now text ≡ Ok (Some parts) → WritesParts s parts r k → WritesFrom precision now s text r k
+wrote_parts precision now s text parts (Ok Accepted) k e w = (with_line parts w.1.0 s, WritesText.accepts parts w.1.0 e w.0 w.1.1, w.1.2)
+wrote_parts precision now s text parts (Ok NoLine) k e w = absurd w
+wrote_parts precision now s text parts (Ok (Refused (Parse fault))) k e w = absurd w
+wrote_parts precision now s text parts (Ok (Refused (Write fault))) k e w = (s, WritesText.refuses parts fault e w.0, w.1)
+wrote_parts precision now s text parts (Err x) k e w = (with_series w.1.0 s, RunsOutOfMemory.in_writing parts w.1.0 e w.0 w.1.1, w.1.2)
+
+-- ---- the store's answer
+
+abbrev pub Written : Type 0
+Written = Result (Unit {0}) WriteFault
+
+abbrev pub refused_by : WriteFault → Written
+refused_by f = Err f
+
+err_same : (f g : WriteFault) → refused_by f ≡ refused_by g → f ≡ g
+err_same f g e = cc
+
+-- an error other than out of memory is the line's refusal, and nothing has changed
+refused_now : (o : Option WriteFault) (old new : StoreData) (parts : Parts) (fault : WriteFault)
+    → IfSome o (λ f. (refused_by fault ≡ Err f) × (new ≡ old)) → (IsNone o → (refused_by fault ≡ Ok tt) ⊎ ((refused_by fault ≡ Err write.OutOfMemory) × Leaves old new parts))
+    → (fault ≡ write.OutOfMemory → ⊥) → (o ≡ Some fault) × (new ≡ old)
+refused_now (Some f) old new parts fault refused taken other = (ap Some (sym (err_same fault f refused.0)), refused.1)
+refused_now None old new parts fault refused taken other =
+    ⊎_elim {C = (None ≡ Some fault) × (new ≡ old)} (λ done. absurd cc) (λ want. absurd (other (err_same fault write.OutOfMemory want.0))) (taken refl)
+
+-- the fault that the store finds is the one of its state
+same_refusal : (s : State) (parts : Parts) (k : StoreData) → IsIn s k → write_fault k.marks.raw k.series k.accepted parts ≡ refusal_in s parts
+same_refusal s parts k i = λ j. write_fault (i.stands.marks j).raw (i.series j) (i.stands.accepted j) parts
+
+module _ (parts : Parts) (old new : StoreData) (fault : WriteFault) (refused : IfSome (write_fault old.marks.raw old.series old.accepted parts) (λ f. (refused_by fault ≡ Err f) × (new ≡ old)))
+    (taken : IsNone (write_fault old.marks.raw old.series old.accepted parts) → (refused_by fault ≡ Ok tt) ⊎ ((refused_by fault ≡ Err write.OutOfMemory) × Leaves old new parts)) (other : fault ≡ write.OutOfMemory → ⊥) where
+  pub refused_same : new ≡ old
+  refused_same = (refused_now (write_fault old.marks.raw old.series old.accepted parts) old new parts fault refused taken other).1
+
+  pub wrote_refused : (s : State) → IsIn s old → (refusal_in s parts ≡ Some fault) × IsIn s new
+  wrote_refused s i =
+      let now = refused_now (write_fault old.marks.raw old.series old.accepted parts) old new parts fault refused taken other in
+      (sym (same_refusal s parts old i) ∙ now.0, subst (IsIn s) (sym now.1) i)
