@@ -1,7 +1,8 @@
 -- What the machine reads of a text is what the text says by the grammar, or its first fault.
-use Rattle.std.proofs.Common.{◌≡◌, ◌⊎◌, inl, inr, ℕ, ℤ, ◌≤◌, List, length, nat_lt, Bool, true, false, Result, Ok, Err, refl, sym, ap, ◌∙◌, subst}
+use Rattle.std.proofs.Common.{◌≡◌, ◌⊎◌, inl, inr, ℕ, ℤ, ◌<◌, ◌≤◌, List, length, nat_lt, Bool, true, false, Result, Ok, Err, refl, sym, ap, ◌∙◌, subst}
 use Rattle.std.proofs.lemmas.Bool.{ltb-false}
 use Rattle.ts_core.specs.Facts.{Text}
+use Rattle.ts_ql.specs.declared.fault.QlFault.{QlFault}
 use Rattle.ts_ql.specs.declared.fault.ParseError.{ParseError}
 use Rattle.ts_ql.specs.declared.fault.ParseError.TheVariants as errors
 use Rattle.ts_ql.specs.QueryFaults.{Fault, Syntax, as_fault, Gives}
@@ -10,6 +11,7 @@ use Rattle.ts_ql.specs.Reading.{queries_of}
 use Rattle.ts_ql.specs.Selects.{Select}
 use Rattle.ts_ql.specs.Tokenizing.{tokens_of}
 use Rattle.ts_ql.proofs.GrammarLaws.{says, says_only, first_fault, fault_only}
+use Rattle.ts_ql.proofs.ReadingLemmas.{long_text}
 use Rattle.ts_ql.proofs.RunLemmas.{reads_ok, reads_err, runs_ok, runs_err}
 
 short : (n : ℕ) → nat_lt 65536 n ≡ false → n ≤ 65536
@@ -77,17 +79,26 @@ decided now text = record {
 
 -- ---- the same of what was returned
 
-tells : {X : Type 0} (view : X → List Select) (now : ℤ) (text : Text) (r : Result X ParseError) → Gives view r (queries_of now text) → Tells view now text r
-tells {X} view now text (Ok x) e = text_says now text (view x) e
-tells {X} view now text (Err errors.OutOfMemory) e = tt
-tells {X} view now text (Err (errors.Fault f)) e = text_fault now text (as_fault f) e
+tells : {X : Type 0} (view : X → List Select) (now : ℤ) (text : Text) (r : Result X ParseError) → (r ≡ Err errors.OutOfMemory → length text ≤ 65536) → Gives view r (queries_of now text) → Tells view now text r
+tells {X} view now text (Ok x) short e = text_says now text (view x) e
+tells {X} view now text (Err errors.OutOfMemory) short e = short refl
+tells {X} view now text (Err (errors.Fault f)) short e = text_fault now text (as_fault f) e
 
 gives_as : {X : Type 0} (view : X → List Select) (r : Result X ParseError) (a b : Result (List Select) Fault) → a ≡ b → Gives view r a → Gives view r b
 gives_as {X} view r a b e w = subst (λ (said : Result (List Select) Fault). Gives view r said) e w
 
-pub reads_text : {X : Type 0} (view : X → List Select) (now : ℤ) (text : Text) (r : Result X ParseError) → Gives view r (queries_of now text) → ReadsText view now text r
-reads_text {X} view now text r e = record {
-  tells = tells view now text r e;
+pub reads_text : {X : Type 0} (view : X → List Select) (now : ℤ) (text : Text) (r : Result X ParseError) → (r ≡ Err errors.OutOfMemory → length text ≤ 65536) → Gives view r (queries_of now text)
+    → ReadsText view now text r
+reads_text {X} view now text r short e = record {
+  tells = tells view now text r short e;
   queries = λ queries said. gives_as view r (queries_of now text) (Ok queries) (said_as now text queries said) e;
   fault = λ f faulty. gives_as view r (queries_of now text) (Err f) (faulty_as now text f faulty) e;
 }
+
+not_memory : {X : Type 0} (f : QlFault) (r : Result X ParseError) → r ≡ Err (errors.Fault f) → r ≡ Err errors.OutOfMemory → ⊥
+not_memory {X} f r fault memory = cc
+
+-- a text that is too long, refused at its first byte past the limit
+pub refuses_text : {X : Type 0} (view : X → List Select) (now : ℤ) (text : Text) (f : QlFault) → 65536 < length text → as_fault f ≡ Syntax 65536 → ReadsText view now text (Err (errors.Fault f))
+refuses_text {X} view now text f long is =
+    reads_text view now text (Err (errors.Fault f)) (λ e. absurd (not_memory f _ refl e)) (long_text now text long ∙ ap Err (sym is))

@@ -1,6 +1,6 @@
 -- The queries that the tokens of a text mean, or their first error.
 -- (InfluxData 1.8, InfluxQL reference: queries. Own rule: the tokens before the first error begin some valid text.)
-use Rattle.std.specs.Prelude.{◌≡◌, ◌⊎◌, ℤ, List, [], ◌∷◌, ◌++◌, length, map, nat_lt, Bool, true, false, Some, None, Result, Ok, Err, ⊤}
+use Rattle.std.specs.Prelude.{◌≡◌, ◌⊎◌, ◌≤◌, ℤ, List, [], ◌∷◌, ◌++◌, length, map, nat_lt, Bool, true, false, Some, None, Result, Ok, Err, ⊤}
 use Rattle.std.specs.Str.Parse.{AllDigits, digits_value}
 use Rattle.ts_core.specs.Facts.{Text}
 use Rattle.ts_core.specs.Durations.{Term, AreTerms, spelled, total}
@@ -86,11 +86,13 @@ TextSays now text queries = SaysUnless (nat_lt 65536 (length text)) now text que
 abbrev pub TextFault : ℤ → Text → Fault → Type 0
 TextFault now text fault = IsFaultIf (nat_lt 65536 (length text)) now text fault
 
+-- the first error of the text; or out of memory, but that only for a text that isn't too long
 abbrev pub Explained : ℤ → Text → ParseError → Type 0
-Explained now text errors.OutOfMemory = ⊤
+Explained now text errors.OutOfMemory = length text ≤ 65536
 Explained now text (errors.Fault fault) = TextFault now text (as_fault fault)
 
--- a call returned, seen through `view`, the queries of the text or its first error, unless it ran out of memory
+-- a call returned, seen through `view`, the queries of the text or its first error, unless it ran out of memory on a
+-- text that isn't too long
 abbrev pub Tells : {X : Type 0} → (X → List Select) → ℤ → Text → Result X ParseError → Type 0
 Tells view now text (Ok x) = TextSays now text (view x)
 Tells view now text (Err e) = Explained now text e

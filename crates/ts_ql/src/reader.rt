@@ -1,5 +1,5 @@
 //! `parse`: a state machine that parses a text token by token, statement by statement.
-ghost use Rattle.std.specs.Prelude.{◌≡◌, ◌&&◌};
+ghost use Rattle.std.specs.Prelude.{◌≡◌, ◌≤◌, ◌&&◌, length};
 ghost use Rattle.ts_ql.specs.QueryFaults.{Gives};
 ghost use Rattle.ts_ql.specs.Laws.{ReadsText, IsDecided, LiteralsCount};
 ghost use Rattle.ts_ql.specs.MomentSteps.{HasRoomForMore};
@@ -151,17 +151,15 @@ impl<A: Allocator + Copy> Reader<A> {
     }
 }
 
-/// Parses a text token by token.
+/// Parses a text of at most 65,536 bytes token by token.
 fn read<A: Allocator + Copy>(
     alloc: A,
     text: &str,
     now: Time,
 ) -> Result<Vec<Query<A>, A>, ParseError<'_>>
+    requires { length text.now ≤ 65536 }
     ensures { Gives (λ v. v.items) result (queries_of now text.now) }
 {
-    if text.len() > 65_536 {
-        return Err(ParseError::Fault(QlFaultKind::Syntax.at(65_536)));
-    }
     let mut reader = Reader::new(alloc);
     let mut at = 0;
     for _turn in 0..text.len() + 1 {
@@ -176,7 +174,8 @@ fn read<A: Allocator + Copy>(
 }
 
 /// Parses an InfluxQL text. Returns one query per statement, or the first error with its byte offset. Times are in
-/// nanoseconds of the Unix epoch; `now` is the value of `now()`.
+/// nanoseconds of the Unix epoch; `now` is the value of `now()`. A text that is too long is refused before anything is
+/// allocated.
 pub fn parse<A: Allocator + Copy>(
     alloc: A,
     text: &str,
@@ -186,5 +185,8 @@ pub fn parse<A: Allocator + Copy>(
     ensures decided { IsDecided now text.now }
     ensures literals { LiteralsCount }
 {
+    if text.len() > 65_536 {
+        return Err(ParseError::Fault(QlFaultKind::Syntax.at(65_536)));
+    }
     read(alloc, text, now)
 }

@@ -1,9 +1,21 @@
+use Rattle.std.proofs.Common.{◌≤◌, length, arith}
 use Rattle.ts_ql.proofs.MagnitudeLaws.{literals_count}
-use Rattle.ts_ql.proofs.TextLaws.{reads_text, decided}
+use Rattle.ts_ql.proofs.TextLaws.{reads_text, refuses_text, decided}
 use Rattle.ts_ql.proofs.reader.parse.Goals as goal
 
+pub returns-then-text-gt65536-clause-reading : goal.returns-then-text-gt65536-clause-reading
+returns-then-text-gt65536-clause-reading g c = refuses_text (λ v. v.items) c.args.now c.args.text.now _ c.if-text-gt65536.true c.at.ensures
+
+pub returns-then-text-gt65536-clause-decided : goal.returns-then-text-gt65536-clause-decided
+returns-then-text-gt65536-clause-decided g c = decided c.args.now c.args.text.now
+
+pub returns-then-text-gt65536-clause-literals : goal.returns-then-text-gt65536-clause-literals
+returns-then-text-gt65536-clause-literals g c = literals_count
+
 pub returns-clause-reading : goal.returns-clause-reading
-returns-clause-reading g c = reads_text (λ v. v.items) c.args.now c.args.text.now c.read.result c.read.ensures
+returns-clause-reading g c =
+    let short : length c.args.text.now ≤ 65536 = omega arith in
+    reads_text (λ v. v.items) c.args.now c.args.text.now c.read.result (λ e. short) c.read.ensures
 
 pub returns-clause-decided : goal.returns-clause-decided
 returns-clause-decided g c = decided c.args.now c.args.text.now

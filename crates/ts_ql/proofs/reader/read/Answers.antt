@@ -6,7 +6,7 @@ use Rattle.ts_ql.specs.Lexing.{token_at}
 use Rattle.ts_ql.specs.Reading.{Advance, step, progress}
 use Rattle.ts_ql.specs.Selects.{Select}
 use Rattle.ts_ql.specs.Tokens.{Lexeme}
-use Rattle.ts_ql.proofs.ReadingLemmas.{read_failed, read_done, read_more, read_out, read_start, short_text, long_text}
+use Rattle.ts_ql.proofs.ReadingLemmas.{read_failed, read_done, read_more, read_out, read_start, short_text}
 use Rattle.ts_ql.proofs.SumBounds.{starts, follows_on, has_room}
 use Rattle.ts_ql.proofs.reader.read.Goals as goal
 
@@ -24,7 +24,7 @@ pub returns-in_err-take : goal.returns-in_err-take
 returns-in_err-take g c =
     let p = err_from_is_err_and c.from_residual.result c.from_residual.ensures.1 in
     let lt : c.loop-turn._turn < length c.args.text.now + 1 = omega arith in
-    let short : length c.args.text.now ≤ 65536 = omega arith in
+    let short : length c.args.text.now ≤ 65536 = c.requires in
     let same = ap (λ (l : Lexeme). step c.args.now l (progress c.loop-turn.reader)) c.at-token.ensures.value in
     let Fails : Advance → Type 0 = λ after. IsFailure c.in_err-take.field-0.0 after in
     let fails = subst Fails same c.in_err-take.ensures in
@@ -34,7 +34,7 @@ returns-in_err-take g c =
 pub returns-in-Done : goal.returns-in-Done
 returns-in-Done g c =
     let lt : c.loop-turn._turn < length c.args.text.now + 1 = omega arith in
-    let short : length c.args.text.now ≤ 65536 = omega arith in
+    let short : length c.args.text.now ≤ 65536 = c.requires in
     let same = ap (λ (l : Lexeme). step c.args.now l (progress c.loop-turn.reader)) c.at-token.ensures.value in
     short_text c.args.now c.args.text.now short
     ∙ read_done (length c.args.text.now + 1) c.loop-turn._turn c.args.now c.args.text.now (progress c.loop-turn.reader) c.loop-turn.at (progress c.take.new.self) _ lt c.loop-turn.invariant.1 (sym same ∙ c.in_ok-take.ensures) c.in-Done.is
@@ -51,13 +51,8 @@ loop-turn-preserved g c =
 
 pub returns : goal.returns
 returns g c =
-    let short : length c.args.text.now ≤ 65536 = omega arith in
+    let short : length c.args.text.now ≤ 65536 = c.requires in
     let fails : Fault → Result (List Select) Fault = λ f. Err f in
     short_text c.args.now c.args.text.now short
     ∙ read_out (length c.args.text.now + 1) c.loop-turn._turn c.args.now c.args.text.now (progress c.loop-turn.reader) c.loop-turn.at _ c.loop-turn-test.false c.loop-turn.invariant.1
-    ∙ ap fails (sym c.at-2.ensures)
-
-pub returns-then-text-gt65536 : goal.returns-then-text-gt65536
-returns-then-text-gt65536 g c =
-    let fails : Fault → Result (List Select) Fault = λ f. Err f in
-    long_text c.args.now c.args.text.now c.if-text-gt65536.true ∙ ap fails (sym c.at.ensures)
+    ∙ ap fails (sym c.at.ensures)
