@@ -1,6 +1,8 @@
 -- A text among others in byte order.
-use Rattle.std.proofs.Common.{◌≡◌, List, [], ◌∷◌, ap, refl, String, string_bytes}
+use Rattle.std.proofs.Common.{◌≡◌, List, [], ◌∷◌, ap, sym, subst, refl, String, string_bytes}
 use Rattle.std.specs.BTreeSet.{insert_key}
+use Rattle.std.specs.List.{AllByRecursion}
+use Rattle.std.specs.List.Sorted.{IsStrictlySortedBy}
 use Rattle.std.specs.Ordering.{match_ordering}
 use Rattle.std.specs.declared.cmp.Ordering.{Ordering}
 use Rattle.std.specs.declared.cmp.Ordering.TheVariants.{Less, Equal, Greater}
@@ -20,3 +22,16 @@ pub texts_insert : {A : Type 0} (names : List (String A)) (name : String A) → 
 texts_insert [] name = refl
 texts_insert (first ∷ rest) name =
     placed_by (name_cmp name first) name first rest (insert_key name_cmp rest name) (with_text (string_bytes name) (texts rest)) (texts_insert rest name)
+
+names_after : {A : Type 0} (name : String A) (rest : List (String A)) → AllByRecursion (λ other. name_cmp name other ≡ Less) rest → AllByRecursion (λ (text : Text). text_cmp (string_bytes name) text ≡ Less) (texts rest)
+names_after name [] h = tt
+names_after name (next ∷ rest) h = (h.0, names_after name rest h.1)
+
+-- the texts of names in order are in order
+pub texts_sorted : {A : Type 0} (names : List (String A)) → IsStrictlySortedBy name_cmp names → IsStrictlySortedBy text_cmp (texts names)
+unfolding IsStrictlySortedBy
+texts_sorted [] h = tt
+texts_sorted (name ∷ rest) h = (names_after name rest h.0, texts_sorted rest h.1)
+
+pub sorted_as : {A : Type 0} (names others : List (String A)) → others ≡ names → IsStrictlySortedBy name_cmp names → IsStrictlySortedBy text_cmp (texts others)
+sorted_as {A} names others e h = subst (λ (ns : List (String A)). IsStrictlySortedBy text_cmp (texts ns)) (sym e) (texts_sorted names h)

@@ -33,4 +33,5 @@ pub mod LexingLemmas
 pub mod GroupLemmas
 pub mod StatementLemmas
 pub mod BucketLimitsLemmas
+pub mod QueryLemmas
 pub mod CountingLemmas

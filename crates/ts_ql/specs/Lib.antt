@@ -14,6 +14,7 @@ pub mod BucketLimits
 pub mod Ranges
 pub mod Grammar
 pub mod Statements
+pub mod QueryRules
 pub mod Meanings
 pub mod Productions
 pub mod Laws

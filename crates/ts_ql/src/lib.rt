@@ -35,5 +35,5 @@ mod unit;
 mod words;
 
 pub use fault::{ParseError, QlFault, QlFaultKind};
-pub use query::{Condition, Projection, Query, count_query};
+pub use query::{Condition, Projection, Query, QueryParts, count_query};
 pub use reader::parse;

@@ -1,9 +1,6 @@
 //! A parsed query: its columns, conditions, time range, buckets, tags and fill option.
 ghost use Rattle.std.specs.Prelude.{◌≡◌, string_bytes};
 
-use crate::filter::Filter;
-use crate::groups::Buckets;
-use crate::selection::Selection;
 use std::alloc::Allocator;
 use std::marker::Model;
 use ts_core::{Fill, Function};
@@ -30,7 +27,8 @@ impl<A: Allocator> Model for Projection<A> {
 }
 
 impl<A: Allocator> Projection<A> {
-    pub(crate) fn new(function: Function, name: String<A>) -> Projection<A>
+    /// Creates a column.
+    pub fn new(function: Function, name: String<A>) -> Projection<A>
         ensures { result ≡ record { function = function; name = string_bytes name } }
     {
         Projection { function, name }
@@ -69,7 +67,8 @@ impl<A: Allocator> Model for Condition<A> {
 }
 
 impl<A: Allocator> Condition<A> {
-    pub(crate) fn new(tag: String<A>, value: String<A>, differs: bool) -> Condition<A>
+    /// Creates a condition.
+    pub fn new(tag: String<A>, value: String<A>, differs: bool) -> Condition<A>
         ensures { result ≡ record { tag = string_bytes tag; value = string_bytes value; differs = differs } }
     {
         Condition {
@@ -101,24 +100,32 @@ impl<A: Allocator> Condition<A> {
     }
 }
 
-/// A parsed query. Times are in nanoseconds of the Unix epoch.
+/// Parts of a query, for `Query::new`. Times are in nanoseconds of the Unix epoch.
 #[derive(Drop)]
-pub struct Query<A: Allocator> {
-    columns: Vec<Projection<A>, A>,
-    fill: Fill,
-    measurement: String<A>,
-    field: String<A>,
-    conditions: Vec<Condition<A>, A>,
-    from: i64,
-    to: i64,
-    interval: i64,
-    offset: i64,
-    group_tags: Vec<String<A>, A>,
+pub struct QueryParts<A: Allocator> {
+    /// Columns of the result, in statement order.
+    pub columns: Vec<Projection<A>, A>,
+    /// Fill option, for buckets without data.
+    pub fill: Fill,
+    pub measurement: String<A>,
+    /// Field that all functions are applied to.
+    pub field: String<A>,
+    /// Tag conditions; all must hold.
+    pub conditions: Vec<Condition<A>, A>,
+    /// Start of the time range, inclusive.
+    pub from: i64,
+    /// End of the time range, exclusive.
+    pub to: i64,
+    /// Length of a bucket.
+    pub interval: i64,
+    /// Offset of the bucket grid from the Unix epoch.
+    pub offset: i64,
+    /// Tags to group by.
+    pub group_tags: Vec<String<A>, A>,
 }
 
-impl<A: Allocator> Model for Query<A> {
+impl<A: Allocator> Model for QueryParts<A> {
     ghost use Rattle.std.specs.Prelude.{string_bytes};
-    ghost use Rattle.ts_ql.specs.BucketLimits.{IsLimited};
     ghost use Rattle.ts_ql.specs.Selects.{Select, texts};
 
     ghost Value = { Select };
@@ -137,17 +144,23 @@ impl<A: Allocator> Model for Query<A> {
         group_tags = texts q.group_tags.items;
       };
     } };
+}
 
-    ghost invariant = { λ q. IsLimited (record {
-      measurement = string_bytes q.measurement;
-      field = string_bytes q.field;
-      conditions = q.conditions.items;
-      from = q.from;
-      to = q.to;
-      interval = q.interval;
-      offset = q.offset;
-      group_tags = texts q.group_tags.items;
-    }) };
+/// A parsed query. Times are in nanoseconds of the Unix epoch.
+#[derive(Drop)]
+pub struct Query<A: Allocator> {
+    parts: QueryParts<A>,
+}
+
+impl<A: Allocator> Model for Query<A> {
+    ghost use Rattle.ts_ql.specs.QueryRules.{IsSelect};
+    ghost use Rattle.ts_ql.specs.Selects.{Select};
+
+    ghost Value = { Select };
+
+    ghost view = { λ q. q.parts };
+
+    ghost invariant = { λ q. IsSelect q.parts };
 }
 
 /// Half-open time range, in nanoseconds: `from` is inclusive, `to` exclusive.
@@ -158,92 +171,54 @@ pub(crate) struct Span {
 }
 
 impl<A: Allocator> Query<A> {
-    ghost use Rattle.std.specs.Prelude.{◌≡◌, ◌≤ℤ◌, pos, string_bytes};
+    ghost use Rattle.std.specs.Prelude.{◌≡◌, ◌≤ℤ◌, pos};
     ghost use Rattle.ts_ql.specs.BucketLimits.{IsLimited};
+    ghost use Rattle.ts_ql.specs.QueryRules.{IsSelect};
     ghost use Rattle.ts_ql.specs.Selects.{texts};
 
-    /// Creates a query from the parts of a statement and its time range.
-    pub(crate) fn new(
-        selection: Selection<A>,
-        field: String<A>,
-        filter: Filter<A>,
-        group_tags: Vec<String<A>, A>,
-        buckets: Buckets,
-        fill: Fill,
-        span: Span,
-    ) -> Query<A>
-        requires { IsLimited (record {
-          measurement = string_bytes selection.measurement;
-          field = string_bytes field;
-          conditions = filter.conditions.items;
-          from = span.from;
-          to = span.to;
-          interval = buckets.interval;
-          offset = buckets.offset;
-          group_tags = texts group_tags.items;
-        }) }
-        ensures { result ≡ record {
-          columns = selection.columns.items;
-          fill = fill;
-          query = record {
-            measurement = string_bytes selection.measurement;
-            field = string_bytes field;
-            conditions = filter.conditions.items;
-            from = span.from;
-            to = span.to;
-            interval = buckets.interval;
-            offset = buckets.offset;
-            group_tags = texts group_tags.items;
-          };
-        } }
+    /// Creates a query from its parts, which must satisfy the rules of all queries: a bucket of at least 1 nanosecond,
+    /// a range that doesn't end before it starts, no first bucket before the least time, at most 10,000 buckets,
+    /// columns of distinct names other than `time`, and distinct group tags in byte order.
+    pub fn new(parts: QueryParts<A>) -> Query<A>
+        requires { IsSelect parts }
+        ensures { result ≡ parts }
     {
-        Query {
-            columns: selection.columns,
-            fill,
-            measurement: selection.measurement,
-            field,
-            conditions: filter.conditions,
-            from: span.from,
-            to: span.to,
-            interval: buckets.interval(),
-            offset: buckets.offset(),
-            group_tags,
-        }
+        Query { parts }
     }
 
     /// Returns the columns, in statement order.
     pub fn columns(&self) -> &[Projection<A>]
         ensures { result.now ≡ self.now.columns }
     {
-        self.columns.as_slice()
+        self.parts.columns.as_slice()
     }
 
     /// Returns the fill option, for buckets without data.
     pub fn fill(&self) -> Fill
         ensures { result ≡ self.now.fill }
     {
-        self.fill
+        self.parts.fill
     }
 
     /// Returns the measurement.
     pub fn measurement(&self) -> &str
         ensures { result.now ≡ self.now.query.measurement }
     {
-        self.measurement.as_str()
+        self.parts.measurement.as_str()
     }
 
     /// Returns the field that all functions are applied to.
     pub fn field(&self) -> &str
         ensures { result.now ≡ self.now.query.field }
     {
-        self.field.as_str()
+        self.parts.field.as_str()
     }
 
     /// Returns the tag conditions; all must hold.
     pub fn conditions(&self) -> &[Condition<A>]
         ensures { result.now ≡ self.now.query.conditions }
     {
-        self.conditions.as_slice()
+        self.parts.conditions.as_slice()
     }
 
     /// Returns the start of the time range, inclusive. It may be 1 nanosecond after the greatest time.
@@ -252,7 +227,7 @@ impl<A: Allocator> Query<A> {
         ensures range { self.now.query.from ≤ℤ self.now.query.to }
         ensures limits { IsLimited self.now.query }
     {
-        self.from
+        self.parts.from
     }
 
     /// Returns the end of the time range, exclusive. It may be 1 nanosecond after the greatest time.
@@ -260,7 +235,7 @@ impl<A: Allocator> Query<A> {
         ensures value { result ≡ self.now.query.to }
         ensures range { self.now.query.from ≤ℤ self.now.query.to }
     {
-        self.to
+        self.parts.to
     }
 
     /// Returns the length of a bucket, at least 1 nanosecond.
@@ -268,20 +243,20 @@ impl<A: Allocator> Query<A> {
         ensures value { result ≡ self.now.query.interval }
         ensures some { pos 1 ≤ℤ self.now.query.interval }
     {
-        self.interval
+        self.parts.interval
     }
 
     /// Returns the offset of the bucket grid from the Unix epoch.
     pub fn offset(&self) -> i64
         ensures { result ≡ self.now.query.offset }
     {
-        self.offset
+        self.parts.offset
     }
 
     /// Returns the tags to group by, in byte order and without duplicates.
     pub fn group_tags(&self) -> &[String<A>]
         ensures { texts result.now ≡ self.now.query.group_tags }
     {
-        self.group_tags.as_slice()
+        self.parts.group_tags.as_slice()
     }
 }

@@ -1,5 +1,6 @@
 //! Turns a complete statement into a query.
-ghost use Rattle.std.specs.Prelude.{◌≡◌, ◌≤ℤ◌, ◌≤◌, ◌^◌, IfOk, IfSome, int_le, int_lt, pos, unsigned_abs};
+ghost use Rattle.std.specs.Prelude.{◌≡◌, ◌≤ℤ◌, ◌≤◌, ◌^◌, IfOk, IfSome, false, int_le, int_lt, pos, unsigned_abs, [], option_map, string_bytes};
+ghost use Rattle.std.specs.Option.{unwrap_or};
 ghost use Rattle.ts_core.specs.Buckets.{bucket_of};
 ghost use Rattle.ts_core.specs.Times.{least_time};
 ghost use Rattle.ts_ql.specs.BucketLimits.{IsLimited};
@@ -16,7 +17,7 @@ use crate::filter::{Filter, after_term};
 use crate::groups::{Buckets, Groups};
 use crate::moment::{Moment, Range};
 use crate::place::{Clause, Place};
-use crate::query::{Projection, Query, Span};
+use crate::query::{Projection, Query, QueryParts, Span};
 use crate::selection::Selection;
 use crate::token::{Kind, Token};
 use std::alloc::{AllocError, Allocator};
@@ -118,6 +119,16 @@ fn span_fault<'a>(start: usize, buckets: Buckets, span: &Span) -> Option<QlFault
     }
 }
 
+/// Returns the text, or the empty one without any.
+fn or_empty<A: Allocator>(alloc: A, text: Option<String<A>>) -> String<A>
+    ensures { string_bytes result ≡ unwrap_or (option_map string_bytes text) [] }
+{
+    match text {
+        Some(text) => text,
+        None => String::new(alloc),
+    }
+}
+
 impl<A: Allocator + Copy> Draft<A> {
     /// Creates the builder in its initial state.
     pub(crate) fn new(alloc: A) -> Draft<A>
@@ -162,24 +173,28 @@ impl<A: Allocator + Copy> Draft<A> {
 
     /// Creates the query over a time range.
     fn over(self, alloc: A, buckets: Buckets, span: Span) -> Result<Query<A>, AllocError>
-        requires { IsLimited (query_of (meaning (drafted self)) buckets span).query }
+        requires columns { repeats self.selection.columns.items ≡ false }
+        requires limits { IsLimited (query_of (meaning (drafted self)) buckets span).query }
         ensures { IfOk result (λ query. query ≡ query_of (meaning (drafted self)) buckets span) }
     {
         let mut selection = self.selection;
-        let field = match selection.field.take() {
-            Some(field) => field,
-            None => String::new(alloc),
-        };
-        let tags = self.groups.into_tags(alloc)?;
-        Ok(Query::new(
-            selection,
+        let filter = self.filter;
+        let field = or_empty(alloc, selection.field.take());
+        let groups = self.groups;
+        let _order = groups.tags.iter();
+        let tags = groups.into_tags(alloc)?;
+        Ok(Query::new(QueryParts {
+            columns: selection.columns,
+            fill: self.filling.fill,
+            measurement: selection.measurement,
             field,
-            self.filter,
-            tags,
-            buckets,
-            self.filling.fill,
-            span,
-        ))
+            conditions: filter.conditions,
+            from: span.from,
+            to: span.to,
+            interval: buckets.interval(),
+            offset: buckets.offset(),
+            group_tags: tags,
+        }))
     }
 
     /// Finishes a time comparison if the token doesn't continue it; returns the next state. Fails with `OutOfRange` if

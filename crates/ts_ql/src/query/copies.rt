@@ -1,7 +1,7 @@
 //! Deep copies of queries.
 ghost use Rattle.std.specs.Prelude.{◌≡◌, IfOk};
 
-use super::{Condition, Projection, Query};
+use super::{Condition, Projection, Query, QueryParts};
 use std::alloc::{AllocError, Allocator};
 use ts_core::copied_texts;
 
@@ -55,12 +55,12 @@ fn copied_conditions<A: Allocator + Copy>(
     Ok(all)
 }
 
-impl<A: Allocator + Copy> Query<A> {
+impl<A: Allocator + Copy> QueryParts<A> {
     /// Returns a copy allocated in `alloc`.
-    pub fn copied(&self, alloc: A) -> Result<Query<A>, AllocError>
+    fn copied(&self, alloc: A) -> Result<QueryParts<A>, AllocError>
         ensures { IfOk result (λ q. q ≡ self.now) }
     {
-        Ok(Query {
+        Ok(QueryParts {
             columns: copied_projections(alloc, self.columns.as_slice())?,
             fill: self.fill,
             measurement: String::from_str(alloc, self.measurement.as_str())?,
@@ -72,5 +72,15 @@ impl<A: Allocator + Copy> Query<A> {
             offset: self.offset,
             group_tags: copied_texts(alloc, self.group_tags.as_slice())?,
         })
+    }
+}
+
+impl<A: Allocator + Copy> Query<A> {
+    /// Returns a copy allocated in `alloc`.
+    pub fn copied(&self, alloc: A) -> Result<Query<A>, AllocError>
+        ensures { IfOk result (λ q. q ≡ self.now) }
+    {
+        let parts = self.parts.copied(alloc)?;
+        Ok(Query { parts })
     }
 }

@@ -4,7 +4,7 @@ ghost use Rattle.ts_core.specs.declared.value.Function.TheVariants as functions;
 ghost use Rattle.ts_ql.specs.Counting.{IsCountQuery};
 ghost use Rattle.ts_ql.specs.Selects.{function_name};
 
-use super::{Projection, Query};
+use super::{Projection, Query, QueryParts};
 use crate::fault::{ParseError, QlFaultKind};
 use crate::words::function_name;
 use std::alloc::{AllocError, Allocator};
@@ -36,7 +36,7 @@ pub fn count_query<A: Allocator + Copy>(
     let Some(interval) = to.nanos().checked_sub(from.nanos()) else {
         return Err(ParseError::Fault(QlFaultKind::OutOfRange.at(0)));
     };
-    Ok(Query {
+    Ok(Query::new(QueryParts {
         columns: count_column(alloc)?,
         fill: Fill::Null,
         measurement: String::from_str(alloc, measurement)?,
@@ -47,5 +47,5 @@ pub fn count_query<A: Allocator + Copy>(
         interval,
         offset: from.nanos(),
         group_tags: Vec::new(alloc),
-    })
+    }))
 }

@@ -1,29 +1,18 @@
-use Rattle.std.proofs.Common.{◌≡◌, ◌∙◌, ap, sym, ℤ, pos, ◌-ℤ◌, ◌≤ℤ◌, List, [], to_z, of_z, w64, FitsSigned, arith, rules, subst}
-use Rattle.std.proofs.lemmas.Int.{ints, to_z-of_z}
-use Rattle.ts_core.specs.Facts.{Text}
-use Rattle.ts_core.specs.Queries.{Condition}
+use Rattle.std.proofs.Common.{◌≡◌, ◌∙◌, ap, sym, ℤ, pos, ◌-ℤ◌, ◌≤ℤ◌, [], to_z, of_z, w64, FitsSigned, arith, rules, subst}
+use Rattle.std.proofs.lemmas.Int.{ints}
 use Rattle.ts_core.specs.declared.fill.Fill.TheVariants as fills
-use Rattle.ts_ql.specs.Selects.{Projection, Select, texts}
+use Rattle.ts_ql.specs.Selects.{texts}
 use Rattle.ts_ql.proofs.CountingLemmas.{one_limited}
+use Rattle.ts_ql.proofs.QueryLemmas.{same, read, none_sorted, one_count}
 use Rattle.ts_ql.proofs.query.count.count_query.Given.{Over}
 use Rattle.ts_ql.proofs.query.count.count_query.Goals.{After-new-2}
 use Rattle.ts_ql.proofs.query.count.count_query.Goals as goal
-
-read : (z v : ℤ) → FitsSigned w64 z → z ≡ v → to_z w64 (of_z w64 z) ≡ v
-read z v f e = to_z-of_z w64 z f ∙ e
 
 apart : (i b a to from : ℤ) → FitsSigned w64 (b -ℤ a) → i ≡ b -ℤ a → b ≡ to → a ≡ from → to_z w64 (of_z w64 i) ≡ to -ℤ from
 apart i b a to from f e eb ea = read i (to -ℤ from) (subst (FitsSigned w64) (sym e) f) (e ∙ (λ k. eb k -ℤ ea k))
 
 no_longer : (i : ℤ) → FitsSigned w64 i → i ≤ℤ pos 9223372036854775807
 no_longer i f = omega (arith, ints)
-
-abbrev made : List Projection → Text → Text → List Condition → ℤ → ℤ → ℤ → ℤ → List Text → Select
-made cs m v ks a b i o gs = record { columns = cs; fill = fills.Null; query = record { measurement = m; field = v; conditions = ks; from = a; to = b; interval = i; offset = o; group_tags = gs } }
-
-same : (cs ds : List Projection) (m n v w : Text) (ks ls : List Condition) (a b c d i j o p : ℤ) (gs hs : List Text)
-    → cs ≡ ds → m ≡ n → v ≡ w → ks ≡ ls → a ≡ b → c ≡ d → i ≡ j → o ≡ p → gs ≡ hs → made cs m v ks a c i o gs ≡ made ds n w ls b d j p hs
-same cs ds m n v w ks ls a b c d i j o p gs hs e1 e2 e3 e4 e5 e6 e7 e8 e9 = λ k. made (e1 k) (e2 k) (e3 k) (e4 k) (e5 k) (e6 k) (e7 k) (e8 k) (e9 k)
 
 -- a range, as the numbers of a query tell it
 record IsRange (from to a b i o : ℤ) : Type 0 where
@@ -46,15 +35,21 @@ range g c =
       fits = rw (to, from) at c.in-Some.ensures.0;
     }
 
-pub invariant_of-result : goal.invariant_of-result
-invariant_of-result g c =
-    let r = range g (goal.at.invariant_of-result g c).After-new-2 in
-    one_limited _ (record { some = rw (r.start, r.end) c.requires; interval = r.interval ∙ sym (λ k. r.end k -ℤ r.start k); offset = r.offset ∙ sym r.start })
-    (rw (r.start, ← c.nanos-3.ensures.value) c.nanos-3.ensures.valid.not_before)
+pub new-requires-3 : goal.new-requires-3
+new-requires-3 g c =
+    let r = range g (goal.at.new-requires-3 g c).After-new-2 in
+    record {
+      columns = one_count _ c.in_ok-count_column.ensures;
+      tags = none_sorted _ (ap texts c.new-2.ensures.items);
+      limits = one_limited _ (record { some = rw (r.start, r.end) c.requires; interval = r.interval ∙ sym (λ k. r.end k -ℤ r.start k); offset = r.offset ∙ sym r.start })
+          (rw (r.start, ← c.nanos-3.ensures.value) c.nanos-3.ensures.valid.not_before);
+    }
 
 pub returns : goal.returns
 returns g c =
     let r = range g (goal.at.returns g c).After-new-2 in
     let conditions : c.new.result.items ≡ [] = c.new.ensures.items in
-    let tags : texts c.new-2.result.items ≡ [] = ap texts c.new-2.ensures.items in
-    (same _ _ _ _ _ _ _ _ _ _ _ _ _ _ _ _ _ _ c.in_ok-count_column.ensures c.in_ok-from_str.ensures.ok c.in_ok-from_str-2.ensures.ok conditions r.start r.end r.interval r.offset tags, no_longer _ r.fits)
+    let tags : texts c.new-2.result.items ≡ [] = ap texts c.new-2.ensures.items in (
+      c.new-3.ensures ∙ same fills.Null _ _ _ _ _ _ _ _ _ _ _ _ _ _ _ _ _ _ c.in_ok-count_column.ensures c.in_ok-from_str.ensures.ok c.in_ok-from_str-2.ensures.ok conditions r.start r.end r.interval r.offset tags,
+      no_longer _ r.fits,
+    )
