@@ -5,16 +5,16 @@ use Rattle.ts_check.proofs.checked.check.Goals as goal
 
 pub invariant_of-result : goal.invariant_of-result
 invariant_of-result g c =
-    copy_valid _ _ (same_plan _ _ _ _ _ _ _ _ c.in_ok-copied.ensures c.in_ok-copied-2.ensures c.in_ok-copied-3.ensures (c.in_ok-copied-4.ensures ∙ c.pieces-2.ensures))
-    (faultless_valid c.args.settings.now c.args.marks.now c.args.query.now c.args.certificate.now _ c.pieces.ensures c.in_default.ensures)
+    copy_valid _ _ (same_plan _ _ _ _ _ _ _ _ c.in_ok-copied.ensures c.in_ok-copied-2.ensures c.in_ok-copied-3.ensures (c.in_ok-copied-4.ensures ∙ c.pieces-2.ensures.value))
+    (faultless_valid c.args.settings.now c.args.marks.now c.args.query.now c.args.certificate.now _ c.pieces.ensures.value c.in_default.ensures)
 
 pub returns : goal.returns
 returns g c = (
-  same_plan _ _ _ _ _ _ _ _ c.in_ok-copied.ensures c.in_ok-copied-2.ensures c.in_ok-copied-3.ensures (c.in_ok-copied-4.ensures ∙ c.pieces-2.ensures),
-  faultless_valid c.args.settings.now c.args.marks.now c.args.query.now c.args.certificate.now _ c.pieces.ensures c.in_default.ensures,
+  same_plan _ _ _ _ _ _ _ _ c.in_ok-copied.ensures c.in_ok-copied-2.ensures c.in_ok-copied-3.ensures (c.in_ok-copied-4.ensures ∙ c.pieces-2.ensures.value),
+  faultless_valid c.args.settings.now c.args.marks.now c.args.query.now c.args.certificate.now _ c.pieces.ensures.value c.in_default.ensures,
 )
 
 pub returns-in_err-copied-4 : goal.returns-in_err-copied-4
 returns-in_err-copied-4 g c =
     let p = err_from_is_err_and c.from_residual-in_err-copied-4.result c.from_residual-in_err-copied-4.ensures.1 in
-    no_memory c.args.settings.now c.args.marks.now c.args.query.now c.args.certificate.now _ _ c.pieces.ensures c.in_default.ensures (p.1 ∙ ap (λ e. Err e) p.2)
+    no_memory c.args.settings.now c.args.marks.now c.args.query.now c.args.certificate.now _ _ c.pieces.ensures.value c.in_default.ensures (p.1 ∙ ap (λ e. Err e) p.2)
