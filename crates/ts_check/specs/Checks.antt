@@ -30,8 +30,8 @@ IsValidPlan p = IsValid p.settings p.marks p.select.query p.pieces
 abbrev pub fault_of : Plan → Option (Fault × ℕ)
 fault_of p = first_fault p.settings p.marks p.select.query p.pieces
 
--- the result of a check: this plan, if it is valid, or its first error; out of memory only if it has no error
+-- the result of a check: this plan, exactly if it is valid, or its first error; out of memory only if it is valid
 abbrev pub IsCheckOf : Plan → Result Plan CheckError → Type 0
 IsCheckOf p (Ok checked) = (checked ≡ p) × IsValidPlan p
-IsCheckOf p (Err (errors.Fault fault)) = fault_of p ≡ Some (fault.kind, fault.piece)
-IsCheckOf p (Err errors.OutOfMemory) = fault_of p ≡ None
+IsCheckOf p (Err (errors.Fault fault)) = (fault_of p ≡ Some (fault.kind, fault.piece)) × (IsValidPlan p → ⊥)
+IsCheckOf p (Err errors.OutOfMemory) = (fault_of p ≡ None) × IsValidPlan p

@@ -1,30 +1,44 @@
 //! Certificates: lists of pieces that may or may not be a valid plan.
 ghost use Rattle.std.specs.Prelude.{◌≡◌};
+ghost use Rattle.ts_check.specs.Certificates.{source_of};
 
+use crate::rule_name::RuleName;
 use std::alloc::Allocator;
 use std::marker::Model;
 
 /// Source of a piece: raw points, or the cells of a rule.
-#[derive(Clone, Copy)]
-pub enum PieceSource<'a> {
+#[derive(Drop)]
+pub enum PieceSource {
     /// Raw points.
     Raw,
     /// Cells of the first rule of this name.
-    Rollup(&'a str),
+    Rollup(RuleName),
+}
+
+impl PieceSource {
+    /// Returns a copy of the source.
+    fn copied(&self) -> PieceSource
+        ensures { source_of result ≡ source_of self.now }
+    {
+        match self {
+            PieceSource::Raw => PieceSource::Raw,
+            PieceSource::Rollup(name) => PieceSource::Rollup(name.copied()),
+        }
+    }
 }
 
 /// Piece of a plan: a part of the time range, and the source of its data.
 #[derive(Drop)]
-pub struct Piece<'a> {
+pub struct Piece {
     /// Source of the data.
-    pub source: PieceSource<'a>,
+    pub source: PieceSource,
     /// Start, inclusive, in nanoseconds of the Unix epoch.
     pub from: i64,
     /// End, exclusive, in nanoseconds of the Unix epoch.
     pub to: i64,
 }
 
-impl<'a> Model for Piece<'a> {
+impl Model for Piece {
     ghost use Rattle.ts_core.specs.Pieces.{Piece as PieceValue};
     ghost use Rattle.ts_check.specs.Certificates.{source_of};
 
@@ -33,13 +47,13 @@ impl<'a> Model for Piece<'a> {
     ghost view = { λ p. record { source = source_of p.source; from = p.from; to = p.to } };
 }
 
-impl<'a> Piece<'a> {
+impl Piece {
     /// Returns a copy of the piece.
-    pub fn copied(&self) -> Piece<'a>
+    pub fn copied(&self) -> Piece
         ensures { result ≡ self.now }
     {
         Piece {
-            source: self.source,
+            source: self.source.copied(),
             from: self.from,
             to: self.to,
         }
@@ -47,31 +61,39 @@ impl<'a> Piece<'a> {
 }
 
 /// A plan that isn't checked: pieces ordered by time. `check` decides whether they are valid.
+/// Each piece has a spelling in the text of a certificate.
 #[derive(Drop)]
-pub struct Certificate<'a, A: Allocator> {
-    pieces: Vec<Piece<'a>, A>,
+pub struct Certificate<A: Allocator> {
+    pieces: Vec<Piece, A>,
 }
 
-impl<'a, A: Allocator> Model for Certificate<'a, A> {
+impl<A: Allocator> Model for Certificate<A> {
     ghost use Rattle.std.specs.Prelude.{List};
     ghost use Rattle.ts_core.specs.Pieces.{Piece as PieceValue};
+    ghost use Rattle.ts_check.specs.CertificateTexts.{EachHasSpelling};
 
     ghost Value = { List PieceValue };
 
     ghost view = { λ c. c.pieces.items };
+
+    ghost invariant = { λ c. EachHasSpelling c.pieces.items };
 }
 
-impl<'a, A: Allocator> Certificate<'a, A> {
+impl<A: Allocator> Certificate<A> {
+    ghost use Rattle.ts_check.specs.CertificateTexts.{EachHasSpelling};
+
     /// Creates a certificate from pieces.
-    pub fn new(pieces: Vec<Piece<'a>, A>) -> Certificate<'a, A>
-        ensures { result ≡ pieces.entry.items }
+    pub fn new(pieces: Vec<Piece, A>) -> Certificate<A>
+        requires { EachHasSpelling pieces.items }
+        ensures { result ≡ pieces.items }
     {
         Certificate { pieces }
     }
 
     /// Returns the pieces.
-    pub fn pieces(&self) -> &[Piece<'a>]
-        ensures { result.now ≡ self.now }
+    pub fn pieces(&self) -> &[Piece]
+        ensures value { result.now ≡ self.now }
+        ensures spelled { EachHasSpelling self.now }
     {
         self.pieces.as_slice()
     }

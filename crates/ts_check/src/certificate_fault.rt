@@ -1,12 +1,12 @@
 //! Error of a certificate's text, with its byte offset and its message.
 ghost use Rattle.std.specs.Prelude.{◌≡◌, ◌≤◌, length};
 ghost use Rattle.ts_core.specs.FaultTexts.{IsAppended};
-ghost use Rattle.ts_check.specs.CheckTexts.{certificate_fault_text};
+ghost use Rattle.ts_check.specs.CheckTexts.{certificate_fault_text, read_certificate_error_text};
 ghost use Rattle.ts_check.specs.declared.certificate_fault.ReadCertificateError.TheVariants as errors;
 
 use std::alloc::{AllocError, AllocFailed, Allocator};
 use thiserror::Error;
-use ts_core::{FaultCode, FaultDetail};
+use ts_core::{FaultCode, FaultDetail, append_words};
 
 /// Malformed certificate.
 #[derive(Clone, Copy, Debug, PartialEq, Eq, Error)]
@@ -68,5 +68,18 @@ impl<T: Drop> From<AllocFailed<T>> for ReadCertificateError {
 
     fn from(_failed: AllocFailed<T>) -> ReadCertificateError {
         ReadCertificateError::OutOfMemory
+    }
+}
+
+impl ReadCertificateError {
+    /// Appends the message to `text`. When out of memory, `text` may end in part of the message. Does not allocate if
+    /// `text` has the capacity.
+    pub fn text_to<A: Allocator>(&self, text: &mut String<A>) -> Result<(), AllocError>
+        ensures { IsAppended (read_certificate_error_text self.now) text.old text.new result }
+    {
+        match self {
+            ReadCertificateError::Fault(fault) => fault.text_to(text),
+            ReadCertificateError::OutOfMemory => append_words(text, &["fault memory"]),
+        }
     }
 }

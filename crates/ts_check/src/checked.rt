@@ -11,15 +11,16 @@ use ts_core::{Marks, Settings};
 use ts_ql::Query;
 
 /// A query with a checked plan: under these settings and marks, its pieces cover all points that the query asks for.
+/// It owns all four, so the store may change after the check; the plan is then stale.
 #[derive(Drop)]
-pub struct Checked<'a, A: Allocator> {
+pub struct Checked<A: Allocator> {
     settings: Settings<A>,
     marks: Marks<A>,
     query: Query<A>,
-    pieces: Vec<Piece<'a>, A>,
+    pieces: Vec<Piece, A>,
 }
 
-impl<'a, A: Allocator> Model for Checked<'a, A> {
+impl<A: Allocator> Model for Checked<A> {
     ghost use Rattle.ts_check.specs.Checks.{Plan, IsValidPlan};
 
     ghost Value = { Plan };
@@ -29,7 +30,7 @@ impl<'a, A: Allocator> Model for Checked<'a, A> {
     ghost invariant = { λ c. IsValidPlan (record { settings = c.settings; marks = c.marks; select = c.query; pieces = c.pieces.items }) };
 }
 
-impl<'a, A: Allocator> Checked<'a, A> {
+impl<A: Allocator> Checked<A> {
     ghost use Rattle.ts_check.specs.Checks.{IsValidPlan};
 
     /// Returns the settings that the plan is valid under.
@@ -54,7 +55,7 @@ impl<'a, A: Allocator> Checked<'a, A> {
     }
 
     /// Returns the pieces, which are a valid plan of the query.
-    pub fn pieces(&self) -> &[Piece<'a>]
+    pub fn pieces(&self) -> &[Piece]
         ensures value { result.now ≡ self.now.pieces }
         ensures valid { IsValidPlan self.now }
     {
@@ -63,7 +64,7 @@ impl<'a, A: Allocator> Checked<'a, A> {
 }
 
 /// Copies pieces.
-fn copied<'a, A: Allocator>(alloc: A, pieces: &[Piece<'a>]) -> Result<Vec<Piece<'a>, A>, AllocError>
+fn copied<A: Allocator>(alloc: A, pieces: &[Piece]) -> Result<Vec<Piece, A>, AllocError>
     ensures { IfOk result (λ v. v.items ≡ pieces.now) }
 {
     let mut all = Vec::new(alloc);
@@ -76,13 +77,13 @@ fn copied<'a, A: Allocator>(alloc: A, pieces: &[Piece<'a>]) -> Result<Vec<Piece<
 /// Checks that the pieces of a certificate cover all points that a query asks for, under these settings and marks.
 /// Returns a plan with copies of all four, or the first error with the index of its piece. Errors other than
 /// `OutOfMemory` are found before anything is allocated.
-pub fn check<'a, A: Allocator + Copy>(
+pub fn check<A: Allocator + Copy>(
     alloc: A,
     settings: &Settings<A>,
     marks: &Marks<A>,
     query: &Query<A>,
-    certificate: &Certificate<'a, A>,
-) -> Result<Checked<'a, A>, CheckError>
+    certificate: &Certificate<A>,
+) -> Result<Checked<A>, CheckError>
     requires { length marks.now.lows ≡ length settings.now.rules }
     ensures { IsCheckOf (record { settings = settings.now; marks = marks.now; select = query.now; pieces = certificate.now }) result }
 {

@@ -1,12 +1,12 @@
 //! Errors of a plan, with their pieces and messages.
 ghost use Rattle.std.specs.Prelude.{◌≡◌, ◌≤◌, length};
 ghost use Rattle.ts_core.specs.FaultTexts.{IsAppended};
-ghost use Rattle.ts_check.specs.CheckTexts.{check_fault_text};
+ghost use Rattle.ts_check.specs.CheckTexts.{check_fault_text, check_error_text};
 ghost use Rattle.ts_check.specs.declared.fault.CheckError.TheVariants as errors;
 
 use std::alloc::{AllocError, Allocator};
 use thiserror::Error;
-use ts_core::{Fault, FaultDetail};
+use ts_core::{Fault, FaultDetail, append_words};
 
 /// Error in a plan of a query.
 #[derive(Clone, Copy, Debug, PartialEq, Eq, Error)]
@@ -56,5 +56,18 @@ impl From<AllocError> for CheckError {
 
     fn from(_failed: AllocError) -> CheckError {
         CheckError::OutOfMemory
+    }
+}
+
+impl CheckError {
+    /// Appends the message to `text`. When out of memory, `text` may end in part of the message. Does not allocate if
+    /// `text` has the capacity.
+    pub fn text_to<A: Allocator>(&self, text: &mut String<A>) -> Result<(), AllocError>
+        ensures { IsAppended (check_error_text self.now) text.old text.new result }
+    {
+        match self {
+            CheckError::Fault(fault) => fault.text_to(text),
+            CheckError::OutOfMemory => append_words(text, &["fault memory"]),
+        }
     }
 }

@@ -1,14 +1,13 @@
 //! Parses certificates from text.
 ghost use Rattle.std.specs.Prelude.{◌≡◌, ◌+◌, ◌<◌, ◌≤◌, List, ◌∷◌, ◌++◌, codes, length, IfOk, IfErr, IfSome, IfNone, option_map};
-ghost use Rattle.std.specs.List.{list_all};
 ghost use Rattle.ts_core.specs.Pieces.{Piece as PieceValue};
-ghost use Rattle.ts_core.specs.SettingsFaults.{is_name_byte, is_rule_name};
 ghost use Rattle.ts_check.specs.Certificates.{source_of};
 ghost use Rattle.ts_check.specs.CertificateTexts.{EachHasSpelling, IsCertificate, IsFirstBadLine, IsReadingOf, IsReadAs, IsPlainSpelling};
 ghost use Rattle.ts_check.specs.CertificateLines.{TakesSpelled, Lacks, IsNumber, IsRange, IsSource, IsPiece, HasPiece, Stops, IsReadingIfRoom};
 
 use crate::certificate::{Certificate, Piece, PieceSource};
 use crate::certificate_fault::{CertificateFault, ReadCertificateError};
+use crate::rule_name::RuleName;
 use itoa::Buffer;
 use std::alloc::Allocator;
 
@@ -45,26 +44,8 @@ fn range(text: &str) -> Option<(i64, i64)>
     Some((number(from)?, number(to)?))
 }
 
-fn is_name_byte(byte: u8) -> bool
-    ensures { result ≡ is_name_byte byte }
-{
-    matches!(byte, b'a'..=b'z' | b'0'..=b'9' | b'_')
-}
-
-fn are_name_bytes(bytes: &[u8]) -> bool
-    ensures { result ≡ list_all is_name_byte bytes.now }
-{
-    bytes.iter().all(|byte| is_name_byte(*byte))
-}
-
-fn is_name(name: &str) -> bool
-    ensures { result ≡ is_rule_name name.now }
-{
-    (1 <= name.len() && name.len() <= 32) && are_name_bytes(name.as_bytes())
-}
-
 /// Parses the source at the start of a line; returns it and the text after the following space.
-fn source(line: &str) -> Option<(PieceSource<'_>, &str)>
+fn source(line: &str) -> Option<(PieceSource, &str)>
     ensures { TakesSpelled (IsSource line.now) (option_map (λ x. (source_of x.0, x.1.now)) result) }
 {
     let (word, rest) = cut(line, ' ')?;
@@ -72,10 +53,9 @@ fn source(line: &str) -> Option<(PieceSource<'_>, &str)>
         "raw" => Some((PieceSource::Raw, rest)),
         "rollup" => {
             let (name, rest) = cut(rest, ' ')?;
-            if is_name(name) {
-                Some((PieceSource::Rollup(name), rest))
-            } else {
-                None
+            match RuleName::new(name) {
+                Some(name) => Some((PieceSource::Rollup(name), rest)),
+                None => None,
             }
         }
         _ => None,
@@ -83,10 +63,12 @@ fn source(line: &str) -> Option<(PieceSource<'_>, &str)>
 }
 
 /// Parses a line, without its line feed, as a piece.
-fn piece(line: &str) -> Option<Piece<'_>>
+fn piece(line: &str) -> Option<Piece>
     ensures { TakesSpelled (IsPiece line.now) result }
 {
-    let (source, rest) = source(line)?;
+    let Some((source, rest)) = source(line) else {
+        return None;
+    };
     let (from, to) = range(rest)?;
     Some(Piece { source, from, to })
 }
@@ -102,7 +84,7 @@ fn after_first(text: &str) -> Option<&str>
 
 /// Parses the next line. Returns `Ok(Some((piece, rest)))`, `Ok(None)` at the final `end`, or `Err(rest)` from the
 /// malformed part on.
-fn next<'a>(rest: &'a str) -> Result<Option<(Piece<'a>, &'a str)>, &'a str>
+fn next<'a>(rest: &'a str) -> Result<Option<(Piece, &'a str)>, &'a str>
     ensures piece { IfOk result (λ next. IfSome next (λ x. HasPiece rest.now x.0 x.1.now)) }
     ensures last { IfOk result (λ next. IfNone next (rest.now ≡ codes "end\n")) }
     ensures fault { IfErr result (λ at. Stops rest.now at.now) }
@@ -155,7 +137,7 @@ fn checked(text: &str) -> Result<(), CertificateFault>
 fn read_lines<A: Allocator + Copy>(
     alloc: A,
     text: &str,
-) -> Result<Certificate<'_, A>, ReadCertificateError>
+) -> Result<Certificate<A>, ReadCertificateError>
     ensures { IsReadingIfRoom text.now result }
 {
     let mut pieces = Vec::new(alloc);
@@ -175,13 +157,12 @@ fn read_lines<A: Allocator + Copy>(
     }
 }
 
-/// Parses a certificate, whose pieces borrow their names from the text. An error in the text is found before anything
-/// is allocated.
+/// Parses a certificate. An error in the text is found before anything is allocated.
 /// (In a script, `;` is written for a line feed. The text passed here has line feeds, and offsets are the same.)
 pub fn read_certificate<A: Allocator + Copy>(
     alloc: A,
     text: &str,
-) -> Result<Certificate<'_, A>, ReadCertificateError>
+) -> Result<Certificate<A>, ReadCertificateError>
     // the result spells the text, or is its first error
     ensures value { IsReadingOf text.now result }
 

@@ -54,11 +54,11 @@ fn rule_fault<A: Allocator>(
 
 impl<'a, A: Allocator> Asked<'a, A> {
     /// Returns the first error of a piece by itself, whatever its neighbours are.
-    pub(crate) fn piece_fault(&self, piece: &Piece<'_>) -> Option<Fault>
+    pub(crate) fn piece_fault(&self, piece: &Piece) -> Option<Fault>
         requires { AllByRecursion (λ r. pos 1 ≤ℤ r.rule.interval) self.now.rules }
         ensures { result ≡ piece_fault self.now piece.now }
     {
-        match piece.source {
+        match &piece.source {
             PieceSource::Raw => {
                 if piece.from < self.mark() {
                     Some(Fault::BelowMark)
@@ -66,7 +66,7 @@ impl<'a, A: Allocator> Asked<'a, A> {
                     None
                 }
             }
-            PieceSource::Rollup(name) => match self.rule_named(name) {
+            PieceSource::Rollup(name) => match self.rule_named(name.as_str()) {
                 None => Some(Fault::NoSuchRule),
                 Some(marked) => rule_fault(self.query(), &marked, piece.from, piece.to),
             },
@@ -75,7 +75,7 @@ impl<'a, A: Allocator> Asked<'a, A> {
 }
 
 /// Returns true if a piece starts at `at`, isn't empty, and ends at `end` or earlier.
-fn joins(piece: &Piece<'_>, at: i64, end: i64) -> bool
+fn joins(piece: &Piece, at: i64, end: i64) -> bool
     ensures { result ≡ (int_eq piece.now.from at && (int_lt piece.now.from piece.now.to && int_le piece.now.to end)) }
 {
     piece.from == at && piece.from < piece.to && piece.to <= end
@@ -83,7 +83,7 @@ fn joins(piece: &Piece<'_>, at: i64, end: i64) -> bool
 
 /// Returns the index of the first piece that doesn't join the one before it. If the last one doesn't reach the end,
 /// returns the number of pieces.
-fn gap(from: i64, end: i64, pieces: &[Piece<'_>]) -> Option<usize>
+fn gap(from: i64, end: i64, pieces: &[Piece]) -> Option<usize>
     ensures { result ≡ gap_at 0 from end pieces.now }
 {
     let mut at = from;
@@ -97,10 +97,7 @@ fn gap(from: i64, end: i64, pieces: &[Piece<'_>]) -> Option<usize>
 }
 
 /// Returns the first error of a piece by itself, with the piece's index.
-fn first_of_pieces<A: Allocator>(
-    asked: &Asked<'_, A>,
-    pieces: &[Piece<'_>],
-) -> Option<(Fault, usize)>
+fn first_of_pieces<A: Allocator>(asked: &Asked<'_, A>, pieces: &[Piece]) -> Option<(Fault, usize)>
     requires { AllByRecursion (λ r. pos 1 ≤ℤ r.rule.interval) asked.now.rules }
     ensures { result ≡ pieces_fault asked.now 0 pieces.now }
 {
@@ -118,7 +115,7 @@ pub(crate) fn first_fault<A: Allocator>(
     settings: &Settings<A>,
     marks: &Marks<A>,
     query: &Query<A>,
-    pieces: &[Piece<'_>],
+    pieces: &[Piece],
 ) -> Option<(Fault, usize)>
     ensures { result ≡ first_fault settings.now marks.now query.now.query pieces.now }
 {

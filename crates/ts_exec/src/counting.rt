@@ -79,16 +79,12 @@ fn rollup_points<A: Allocator + Copy, V: View<A>>(
 }
 
 /// Returns the number of points of a piece that match a query.
-fn piece_points<A: Allocator + Copy, V: View<A>>(
-    view: &V,
-    query: &Query<A>,
-    piece: &Piece<'_>,
-) -> u64
+fn piece_points<A: Allocator + Copy, V: View<A>>(view: &V, query: &Query<A>, piece: &Piece) -> u64
     ensures { result ≡ min (points_of_shares (source_shares (V.seen view.now) query.now.query piece.now.source piece.now.from piece.now.to)) 18446744073709551615 }
 {
-    match piece.source {
+    match &piece.source {
         PieceSource::Raw => raw_points(view, query, piece.from, piece.to),
-        PieceSource::Rollup(name) => match rule_from(0, view.settings().rules(), name) {
+        PieceSource::Rollup(name) => match rule_from(0, view.settings().rules(), name.as_str()) {
             Some((number, rule)) => {
                 rollup_points(view, query, rule, number, piece.from, piece.to)
             }
@@ -101,7 +97,7 @@ fn piece_points<A: Allocator + Copy, V: View<A>>(
 fn pieces_points<A: Allocator + Copy, V: View<A>>(
     view: &V,
     query: &Query<A>,
-    pieces: &[Piece<'_>],
+    pieces: &[Piece],
 ) -> u64
     ensures { result ≡ min (points_of_shares (pieces_shares (V.seen view.now) query.now.query pieces.now)) 18446744073709551615 }
 {
@@ -118,7 +114,7 @@ fn pieces_points<A: Allocator + Copy, V: View<A>>(
 /// Fails with `Stale` as `execute` does.
 pub fn count_points<'a, A: Allocator + Copy + 'a, V: View<A> + 'a>(
     view: &'a V,
-    checked: &Checked<'_, A>,
+    checked: &Checked<A>,
 ) -> Result<u64, ExecFault<'a, A>>
     ensures { IsCountOf (V.seen view.now) checked.now result }
 {

@@ -20,7 +20,7 @@ fn groups_given<'a, A: Allocator + Copy + 'a, V: View<A> + 'a>(
     alloc: A,
     view: &'a V,
     query: &Query<A>,
-    pieces: &[Piece<'_>],
+    pieces: &[Piece],
 ) -> Result<Vec<GroupRows<'a, A>, A>, AllocError>
     ensures given { IfOk result (λ v. v.items ≡ with_pieces (V.seen view.now) query.now.query pieces.now []) }
     ensures rows { IfOk result (λ v. AllByRecursion (HasRows (width query.now.query)) v.items) }
@@ -33,7 +33,7 @@ fn groups_given<'a, A: Allocator + Copy + 'a, V: View<A> + 'a>(
 }
 
 /// Returns true if the view has the settings and marks that the plan was checked under.
-pub(crate) fn is_fresh<A: Allocator, V: View<A>>(view: &V, checked: &Checked<'_, A>) -> bool
+pub(crate) fn is_fresh<A: Allocator, V: View<A>>(view: &V, checked: &Checked<A>) -> bool
     ensures { IsTrue result ↔ IsFresh (V.seen view.now) checked.now }
 {
     view.settings().is(checked.settings()) && view.marks().is(checked.marks())
@@ -45,7 +45,7 @@ pub(crate) fn is_fresh<A: Allocator, V: View<A>>(view: &V, checked: &Checked<'_,
 pub fn execute<'a, A: Allocator + Copy + 'a, V: View<A> + 'a>(
     alloc: A,
     view: &'a V,
-    checked: &Checked<'_, A>,
+    checked: &Checked<A>,
 ) -> Result<Table<'a, A>, ExecFault<'a, A>>
     ensures { IsExecutionOf (V.seen view.now) checked.now result }
 {

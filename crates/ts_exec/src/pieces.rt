@@ -336,14 +336,14 @@ fn add_piece<'a, A: Allocator + Copy + 'a, V: View<A> + 'a>(
     groups: &mut Groups<'a, A>,
     scan: &mut Scan<'a, '_, A>,
     view: &'a V,
-    piece: &Piece<'_>,
+    piece: &Piece,
 ) -> Result<(), AllocError>
     ensures value { OnOk result (groups.new ≡ with_source (V.seen view.now) scan.old piece.now.source piece.now.from piece.now.to groups.old) }
     ensures same { scan.new ≡ scan.old }
 {
-    match piece.source {
+    match &piece.source {
         PieceSource::Raw => add_raw(groups, scan, view, piece.from, piece.to),
-        PieceSource::Rollup(name) => match rule_from(0, view.settings().rules(), name) {
+        PieceSource::Rollup(name) => match rule_from(0, view.settings().rules(), name.as_str()) {
             Some((number, rule)) => add_cells(
                 groups, scan, view, rule, number, piece.from, piece.to,
             ),
@@ -357,7 +357,7 @@ pub(crate) fn add_pieces<'a, A: Allocator + Copy + 'a, V: View<A> + 'a>(
     groups: &mut Groups<'a, A>,
     scan: &mut Scan<'a, '_, A>,
     view: &'a V,
-    pieces: &[Piece<'_>],
+    pieces: &[Piece],
 ) -> Result<(), AllocError>
     ensures { OnOk result (groups.new ≡ with_pieces (V.seen view.now) scan.old pieces.now groups.old) }
 {

@@ -111,4 +111,4 @@ join_held t h d s k held e j =
     let none = faultless_none (piece_fault t (drawn (held_piece t h) (bucket_piece t s))) (and_parts (is_same_rule (held_piece t h).source (bucket_piece t s).source) _ j).1 in
     let v = source_from t (held_piece t h).source h.from s.to none in
     let q : v.0 ≡ held.rule = (let f : Some v.0 ≡ Some held.rule = sym v.1 ∙ found t h k held in cc) in
-    subst (IsHeldPiece t) (sym e) (record { rule = held.rule; there = held.there; nests = held.nests; serves = subst (λ (x : MarkedRule). RuleServes t.query x h.from s.to) q v.2 })
+    subst (IsHeldPiece t) (sym e) (record { rule = held.rule; there = held.there; spelled = held.spelled; nests = held.nests; serves = subst (λ (x : MarkedRule). RuleServes t.query x h.from s.to) q v.2 })

@@ -1,6 +1,7 @@
 -- Planning: what a planner answers
 pub mod Planned
 pub mod Plannable
+pub mod Spellings
 pub mod TooMany
 pub mod RuleNumbers
 -- Steps: the sweep and the walk give the plan

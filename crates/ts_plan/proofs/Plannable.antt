@@ -1,19 +1,26 @@
--- What is asked of a store can be planned: no interval is empty, and the names of rules differ.
-use Rattle.std.proofs.Common.{◌≡◌, length, sym, subst}
+-- What is asked of a store can be planned: no interval is empty, and the names of rules differ and have the form of names.
+use Rattle.std.proofs.Common.{◌≡◌, None, length, sym, subst}
 use Rattle.ts_core.specs.Members.{AllDistinct}
 use Rattle.ts_core.specs.Settings.{Settings, AreSettings}
+use Rattle.ts_core.specs.SettingsFaults.{settings_fault}
 use Rattle.ts_core.specs.Marks.{Marks}
 use Rattle.ts_core.specs.Queries.{Query}
 use Rattle.ts_core.specs.Pieces.{Asked, asked}
 use Rattle.ts_core.proofs.Intervals.{IsWide}
 use Rattle.ts_core.proofs.RuleNames.{marked_names}
 use Rattle.ts_plan.specs.Steps.{IsPlannable}
+use Rattle.ts_plan.proofs.Spellings.{settings_named}
 use Rattle.ts_check.specs.Checks.{HasPositiveIntervals}
 
 -- what a query and rules always have
 pub are_wide : (t : Asked) → HasPositiveIntervals t → IsWide t
 are_wide t has = record { query = has.query; rules = has.rules }
 
-pub plannable : (s : Settings) (m : Marks) (q : Query) (t : Asked) → length m.lows ≡ length s.rules → AreSettings s → t ≡ asked s m q → IsWide t → IsPlannable t
-plannable s m q t l are e wide =
-    subst IsPlannable (sym e) (record { wide = subst IsWide e wide; named = subst AllDistinct (sym (marked_names s.rules m.lows l)) are.names })
+pub plannable : (s : Settings) (m : Marks) (q : Query) (t : Asked) → length m.lows ≡ length s.rules → AreSettings s → settings_fault s ≡ None → t ≡ asked s m q → IsWide t → IsPlannable t
+plannable s m q t l are faultless e wide =
+    let parts : IsPlannable (asked s m q) = record {
+      wide = subst IsWide e wide;
+      named = subst AllDistinct (sym (marked_names s.rules m.lows l)) are.names;
+      spelled = settings_named s m q faultless;
+    } in
+    subst IsPlannable (sym e) parts

@@ -1,13 +1,13 @@
 -- What a planner answers, from the walk that it found.
-use Rattle.std.proofs.Common.{◌≡◌, List, sym, ◌∙◌, false, true≢false}
+use Rattle.std.proofs.Common.{◌≡◌, List, sym, subst, ◌∙◌, false, true≢false}
 use Rattle.std.specs.Bool.{IsTrue}
 use Rattle.std.specs.Prelude.{◌↔◌, Bool}
 use Rattle.ts_core.specs.Settings.{Settings}
 use Rattle.ts_core.specs.Marks.{Marks}
 use Rattle.ts_core.specs.Queries.{Query}
-use Rattle.ts_core.specs.Pieces.{Piece, asked}
+use Rattle.ts_core.specs.Pieces.{Piece, Asked, asked}
 use Rattle.ts_core.proofs.Intervals.{IsWide}
-use Rattle.ts_core.specs.Plans.{IsWalk, joined, IsPlan, IsTooMany}
+use Rattle.ts_core.specs.Plans.{IsWalk, joined, IsPlan, IsPlanOf, IsTooMany}
 use Rattle.ts_core.proofs.Walks.{plan_valid}
 use Rattle.ts_plan.specs.Planning.{IsPlanned}
 
@@ -19,3 +19,9 @@ pub planned : (s : Settings) (m : Marks) (q : Query) (bs ps : List Piece) → Is
 planned s m q bs ps wide few w e =
     let plan : IsPlan s m q ps = (bs, w, e) in
     record { searched = few; determined = plan; valid = plan_valid (asked s m q) ps wide plan }
+
+-- the same from what a planner knows
+pub planned_of : (s : Settings) (m : Marks) (q : Query) (t : Asked) (ps : List Piece) → t ≡ asked s m q → IsWide t → (IsTooMany s m q → ⊥) → IsPlanOf t ps → IsPlanned s m q ps
+planned_of s m q t ps same wide few made =
+    let plan : IsPlan s m q ps = subst (λ x. IsPlanOf x ps) same made in
+    planned s m q plan.0 ps (subst IsWide same wide) few plan.1 plan.2

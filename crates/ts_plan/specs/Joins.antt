@@ -1,5 +1,6 @@
 -- Pieces that the next bucket may extend. (Own rules.)
-use Rattle.std.specs.Prelude.{◌≡◌, Bool, ◌&&◌, List, [], ◌∷◌, Option, Some, None, slice_get}
+use Rattle.std.specs.Prelude.{◌≡◌, Bool, true, ◌&&◌, List, [], ◌∷◌, Option, Some, None, slice_get}
+use Rattle.ts_core.specs.SettingsFaults.{is_rule_name}
 use Rattle.ts_core.specs.Pieces.{Piece, MarkedRule, Asked, RuleServes}
 use Rattle.ts_core.specs.Faults.{piece_fault, divides}
 use Rattle.ts_core.specs.Plans.{rollup_piece, is_same_rule, is_faultless, drawn, joined_onto, joined}
@@ -25,6 +26,7 @@ joined_after t (Some h) bs = joined_onto t (held_piece t h) bs
 pub record IsHeldPiece (t : Asked) (h : Held) : Type 0 where
   pub rule : MarkedRule
   pub there : slice_get t.rules h.rule ≡ Some rule
+  pub spelled : is_rule_name rule.rule.name ≡ true
   pub nests : h.nests ≡ divides rule.rule t.query
   pub serves : RuleServes t.query rule h.from h.to
 

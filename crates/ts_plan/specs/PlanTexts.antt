@@ -3,7 +3,9 @@ use Rattle.ts_core.specs.Facts.{Text}
 use Rattle.ts_core.specs.declared.fault_code.FaultCode.{FaultCode}
 use Rattle.ts_core.specs.declared.fault_code.FaultCode.TheVariants as coded
 use Rattle.ts_core.specs.declared.fault_text.FaultDetail.TheVariants.{Alone}
-use Rattle.ts_core.specs.FaultTexts.{fault_text}
+use Rattle.ts_core.specs.FaultTexts.{fault_text, memory_text}
+use Rattle.ts_plan.specs.declared.fault.PlanError.{PlanError}
+use Rattle.ts_plan.specs.declared.fault.PlanError.TheVariants as errors
 use Rattle.ts_plan.specs.declared.fault.PlanFault.{PlanFault}
 use Rattle.ts_plan.specs.declared.fault.PlanFault.TheVariants.{NoPlan, TooManyBuckets}
 
@@ -13,3 +15,7 @@ plan_fault_code TooManyBuckets = coded.TooManyRuleBuckets
 
 unfoldable pub plan_fault_text : PlanFault → Text
 plan_fault_text fault = fault_text (plan_fault_code fault) Alone
+
+abbrev pub plan_error_text : PlanError → Text
+plan_error_text (errors.Fault fault) = plan_fault_text fault
+plan_error_text errors.OutOfMemory = memory_text

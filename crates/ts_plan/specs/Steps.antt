@@ -1,10 +1,11 @@
 -- Single buckets as steps of a walk, and which of them reach the end. (Own rules.)
-use Rattle.std.specs.Prelude.{◌≡◌, ℕ, ◌≤◌, ℤ, ◌+ℤ◌, ◌≤ℤ◌, ◌<ℤ◌, int_le, Bool, false, ◌&&◌, ◌||◌, List, [], ◌∷◌, ◌++◌, map, Option, Some, None, MatchOption, slice_get, if◌then◌else◌}
+use Rattle.std.specs.Prelude.{◌≡◌, ℕ, ◌≤◌, ℤ, ◌+ℤ◌, ◌≤ℤ◌, ◌<ℤ◌, int_le, Bool, true, false, ◌&&◌, ◌||◌, List, [], ◌∷◌, ◌++◌, map, Option, Some, None, MatchOption, slice_get, if◌then◌else◌}
 use Rattle.std.specs.Ordering.{int_eq}
 use Rattle.std.specs.List.{AllByRecursion, list_all}
 use Rattle.ts_core.specs.Members.{Among, AllDistinct}
 use Rattle.ts_core.specs.Facts.{Text, same_text}
 use Rattle.ts_core.specs.Settings.{Rule}
+use Rattle.ts_core.specs.SettingsFaults.{is_rule_name}
 use Rattle.ts_core.specs.Marks.{index_of}
 use Rattle.ts_core.specs.Queries.{Query}
 use Rattle.ts_core.specs.Pieces.{Piece, MarkedRule, Asked, IsBoundary, tags_of, RuleServes, IsValidPiece}
@@ -13,10 +14,15 @@ use Rattle.ts_core.specs.Plans.{rollup_piece, raw_piece}
 use Rattle.ts_core.proofs.Intervals.{IsWide}
 use Rattle.ts_plan.specs.declared.steps.Step.{Step}
 
--- intervals are at least 1 nanosecond, and rule names are distinct
+-- each rule's name is 1 to 32 of a to z, 0 to 9 and _
+abbrev pub AreNamed : List MarkedRule → Type 0
+AreNamed rules = AllByRecursion (λ (r : MarkedRule). is_rule_name r.rule.name ≡ true) rules
+
+-- intervals are at least 1 nanosecond, and rule names are distinct and have the form of names
 pub record IsPlannable (t : Asked) : Type 0 where
   pub wide : IsWide t
   pub named : AllDistinct (map (λ (r : MarkedRule). r.rule.name) t.rules)
+  pub spelled : AreNamed t.rules
 
 -- ---- steps
 

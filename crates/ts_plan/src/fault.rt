@@ -1,12 +1,12 @@
 //! Errors of planning, with their messages.
 ghost use Rattle.std.specs.Prelude.{◌≡◌};
 ghost use Rattle.ts_core.specs.FaultTexts.{IsAppended};
-ghost use Rattle.ts_plan.specs.PlanTexts.{plan_fault_code, plan_fault_text};
+ghost use Rattle.ts_plan.specs.PlanTexts.{plan_fault_code, plan_fault_text, plan_error_text};
 ghost use Rattle.ts_plan.specs.declared.fault.PlanError.TheVariants as errors;
 
 use std::alloc::{AllocError, Allocator};
 use thiserror::Error;
-use ts_core::{FaultCode, FaultDetail};
+use ts_core::{FaultCode, FaultDetail, append_words};
 
 /// Reason why a query has no plan.
 #[derive(Clone, Copy, Debug, PartialEq, Eq, Error)]
@@ -64,5 +64,18 @@ impl From<AllocError> for PlanError {
 
     fn from(_failed: AllocError) -> PlanError {
         PlanError::OutOfMemory
+    }
+}
+
+impl PlanError {
+    /// Appends the message to `text`. When out of memory, `text` may end in part of the message. Does not allocate if
+    /// `text` has the capacity.
+    pub fn text_to<A: Allocator>(&self, text: &mut String<A>) -> Result<(), AllocError>
+        ensures { IsAppended (plan_error_text self.now) text.old text.new result }
+    {
+        match self {
+            PlanError::Fault(fault) => fault.text_to(text),
+            PlanError::OutOfMemory => append_words(text, &["fault memory"]),
+        }
     }
 }

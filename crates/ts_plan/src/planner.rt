@@ -20,11 +20,11 @@ use ts_ql::Query;
 
 /// Returns the plan over all steps, or `None` if the end can't be reached from the start. Compacts the steps that reach
 /// the end at the back of the slice.
-fn plan_over<'a, A: Allocator + Copy>(
+fn plan_over<A: Allocator + Copy>(
     alloc: A,
-    task: &Task<'a, A>,
+    task: &Task<'_, A>,
     steps: &mut [Step],
-) -> Result<Option<Vec<Piece<'a>, A>>, AllocError>
+) -> Result<Option<Vec<Piece, A>>, AllocError>
     requires plannable { IsPlannable task.now }
     requires sound { AllByRecursion (IsStep task.now) steps.old }
     requires complete { (x : Step) → IsStep task.now x → Among x steps.old }
@@ -39,22 +39,25 @@ fn plan_over<'a, A: Allocator + Copy>(
     Ok(Some(walk(alloc, task, kept)?))
 }
 
-/// Returns the plan of a query under these settings and marks.
+/// Returns the plan of a query under these settings and marks. It owns the names of its rules.
 /// Below the raw mark it consists of rules' buckets. At each time it takes the first rule, in the order of the
 /// settings, whose bucket leads to the end of the range. Neighbours of one rule are merged as long as they stay valid.
 /// From the raw mark on it consists of raw points. Takes O(n log n) time for n whole buckets.
-pub fn plan<'a, A: Allocator + Copy>(
+pub fn plan<A: Allocator + Copy>(
     alloc: A,
-    settings: &'a Settings<A>,
-    marks: &'a Marks<A>,
-    query: &'a Query<A>,
-) -> Result<Certificate<'a, A>, PlanError>
+    settings: &Settings<A>,
+    marks: &Marks<A>,
+    query: &Query<A>,
+) -> Result<Certificate<A>, PlanError>
     requires { length marks.now.lows ≡ length settings.now.rules }
     ensures { IsPlanFor settings.now marks.now query.now.query result }
 {
     if is_too_many(settings, marks, query) {
         return Err(PlanError::Fault(PlanFault::TooManyBuckets));
     }
+    let _rules = settings.rules();
+    let _from = query.from();
+    let _to = query.to();
     let task = Task::new(settings, marks, query);
     let mut steps = all_steps(alloc, &task)?;
     match plan_over(alloc, &task, steps.as_mut_slice())? {

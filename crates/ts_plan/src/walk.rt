@@ -10,7 +10,7 @@ use crate::place::Place;
 use crate::steps::Step;
 use crate::task::Task;
 use std::alloc::{AllocError, Allocator};
-use ts_check::{Piece, PieceSource, divides};
+use ts_check::{Piece, PieceSource, RuleName, divides};
 
 /// Pending piece, which the next bucket may extend.
 #[derive(Clone, Copy)]
@@ -40,13 +40,13 @@ impl Held {
         }
     }
 
-    fn piece<'a, A: Allocator>(&self, task: &Task<'a, A>) -> Piece<'a>
+    fn piece<A: Allocator>(&self, task: &Task<'_, A>) -> Piece
         requires { IsHeldPiece task.now self.now }
         ensures { result ≡ held_piece task.now self.now }
     {
         let marked = task.rule_at(self.rule).unwrap();
         Piece {
-            source: PieceSource::Rollup(marked.rule.name()),
+            source: PieceSource::Rollup(RuleName::new(marked.rule.name()).unwrap()),
             from: self.from.nanos(),
             to: self.to.nanos(),
         }
@@ -65,9 +65,9 @@ impl Held {
 
 /// Extends the pending piece by the bucket of a step, or appends the pending piece to `pieces` and starts a new one.
 /// Returns the piece that is now pending.
-fn follow<'a, A: Allocator>(
-    task: &Task<'a, A>,
-    pieces: &mut Vec<Piece<'a>, A>,
+fn follow<A: Allocator>(
+    task: &Task<'_, A>,
+    pieces: &mut Vec<Piece, A>,
     held: Option<Held>,
     step: &Step,
 ) -> Result<Held, AllocError>
@@ -94,9 +94,9 @@ fn follow<'a, A: Allocator>(
 }
 
 /// Appends the pending piece, if there is one.
-fn push_held<'a, A: Allocator>(
-    task: &Task<'a, A>,
-    pieces: &mut Vec<Piece<'a>, A>,
+fn push_held<A: Allocator>(
+    task: &Task<'_, A>,
+    pieces: &mut Vec<Piece, A>,
     held: Option<Held>,
 ) -> Result<(), AllocError>
     requires { AreHeld task.now held }
@@ -109,9 +109,9 @@ fn push_held<'a, A: Allocator>(
 }
 
 /// Appends the pending piece and, if the walk ended before the end of the range, a piece of raw points.
-fn end_walk<'a, A: Allocator>(
-    task: &Task<'a, A>,
-    pieces: &mut Vec<Piece<'a>, A>,
+fn end_walk<A: Allocator>(
+    task: &Task<'_, A>,
+    pieces: &mut Vec<Piece, A>,
     held: Option<Held>,
     at: Place,
 ) -> Result<(), AllocError>
@@ -133,11 +133,11 @@ fn end_walk<'a, A: Allocator>(
 
 /// Walks from the start of the range to its end or the raw mark; returns the pieces, with neighbours merged. Expects
 /// only steps from which the end is reachable.
-pub(crate) fn walk<'a, A: Allocator + Copy>(
+pub(crate) fn walk<A: Allocator + Copy>(
     alloc: A,
-    task: &Task<'a, A>,
+    task: &Task<'_, A>,
     steps: &[Step],
-) -> Result<Vec<Piece<'a>, A>, AllocError>
+) -> Result<Vec<Piece, A>, AllocError>
     requires plannable { IsPlannable task.now }
     requires steps { AllByRecursion (IsStep task.now) steps.now }
     ensures { IfOk result (λ pieces. pieces.items ≡ joined task.now (walked task.now task.now.query.from steps.now)) }

@@ -1,6 +1,5 @@
 -- What becomes of a query, by what a plan gives of a store.
 use Rattle.std.proofs.Common.{◌≡◌, List, Result, Ok, Err, Some, refl, sym, ap, ◌∙◌, subst}
-use Rattle.ts_core.proofs.Validity.{first_fault-not_valid}
 use Rattle.ts_core.specs.Facts.{Text}
 use Rattle.ts_core.specs.Faults.{first_fault}
 use Rattle.ts_core.specs.declared.fill.Fill.{Fill}
@@ -16,7 +15,7 @@ use Rattle.ts_core.specs.Views.{seen_of}
 use Rattle.ts_check.specs.CertificateTexts.{certificate_text, IsFirstBadLine}
 use Rattle.ts_check.specs.CheckTexts.{certificate_fault_text, check_fault_text}
 use Rattle.ts_check.specs.declared.certificate_fault.CertificateFault.{CertificateFault}
-use Rattle.ts_check.specs.Checks.{Plan, IsCheckOf, fault_of}
+use Rattle.ts_check.specs.Checks.{Plan, IsCheckOf}
 use Rattle.ts_check.specs.declared.fault.CheckError.{CheckError}
 use Rattle.ts_check.specs.declared.fault.CheckError.TheVariants as checks
 use Rattle.ts_check.specs.declared.fault.CheckFault.{CheckFault}
@@ -88,10 +87,10 @@ pub plan_faultless : (k : StoreData) (settings : Settings) (marks : Marks) (s : 
     → IsCheckOf (record { settings = settings; marks = marks; select = s; pieces = ps }) result → result ≡ Err e → e ≡ checks.Fault f → ⊥
 plan_faultless k settings marks s ps result e f st mt serves said is kind =
     let p : Plan = record { settings = settings; marks = marks; select = s; pieces = ps } in
-    let fault : fault_of p ≡ Some (f.kind, f.piece) = subst (IsCheckOf p) (is ∙ ap Err kind) said in
+    let refused : IsCheckOf p (Err (checks.Fault f)) = subst (IsCheckOf p) (is ∙ ap Err kind) said in
     let still : IsValid settings marks s.query ps =
     subst (λ (m : Marks). IsValid settings m s.query ps) (sym mt) (subst (λ (t : Settings). IsValid t k.marks s.query ps) (sym st) serves) in
-    first_fault-not_valid settings marks s.query ps (f.kind, f.piece) fault still
+    refused.1 still
 
 -- ---- by pieces that are handed in
 
@@ -111,8 +110,9 @@ pub checked_fault : (k : StoreData) (settings : Settings) (marks : Marks) (s : S
     → IsCheckOf (record { settings = settings; marks = marks; select = s; pieces = ps }) result → result ≡ Err (checks.Fault f)
     → o ≡ Fault (check_fault_text f) → OfEachHistory k (λ opening h. IsChecked opening h ps s o)
 checked_fault k settings marks s ps result f o shows st mt said is e opening h stands =
-    let fault : first_fault settings marks s.query ps ≡ Some (f.kind, f.piece) = subst (IsCheckOf (record { settings = settings; marks = marks; select = s; pieces = ps })) is said in
-    subst (IsChecked opening h ps s) (sym e) (invalid f (carried (λ t m. first_fault t m s.query ps ≡ Some (f.kind, f.piece)) k settings marks opening h shows stands st mt fault))
+    let p : Plan = record { settings = settings; marks = marks; select = s; pieces = ps } in
+    let refused : IsCheckOf p (Err (checks.Fault f)) = subst (IsCheckOf p) is said in
+    subst (IsChecked opening h ps s) (sym e) (invalid f (carried (λ t m. first_fault t m s.query ps ≡ Some (f.kind, f.piece)) k settings marks opening h shows stands st mt refused.0))
 
 pub certificate_fault : (k : StoreData) (text : Text) (s : Select) (f : CertificateFault) (o : Outcome)
     → IsFirstBadLine text f.at → o ≡ Fault (certificate_fault_text f) → OfEachHistory k (λ opening h. IsCertified opening h text s o)

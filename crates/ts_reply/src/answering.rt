@@ -34,7 +34,7 @@ pub struct Reply {
 fn rows_of<'a, A: Allocator + Copy + 'a>(
     alloc: A,
     store: &'a Store<A>,
-    checked: &Checked<'_, A>,
+    checked: &Checked<A>,
 ) -> Result<Rows<'a, A>, AllocError>
     requires shows { ShowsEach store.now }
     requires settings { checked.now.settings ≡ store.now.settings }
@@ -53,7 +53,7 @@ fn rows_by_plan<'a, A: Allocator + Copy + 'a>(
     alloc: A,
     store: &'a Store<A>,
     query: &Query<A>,
-    plan: &Certificate<'_, A>,
+    plan: &Certificate<A>,
 ) -> Result<Rows<'a, A>, AllocError>
     requires { IsValid store.now.settings store.now.marks query.now.query plan.now }
     ensures { IfOk result (λ r. OfEachHistory store.now (λ opening h. rows_outcome r ≡ rows_over (latest_of h) query.now)) }
@@ -87,7 +87,7 @@ fn outcome_by<'a, A: Allocator + Copy + 'a>(
     json: Global,
     store: &'a Store<A>,
     query: &Query<A>,
-    certificate: &Certificate<'_, A>,
+    certificate: &Certificate<A>,
 ) -> Result<Outcome<'a, A>, AllocError>
     ensures { IfOk result (λ o. OfEachHistory store.now (λ opening h. IsChecked opening h certificate.now query.now (outcome_view o))) }
 {

@@ -22,7 +22,7 @@ fn counted_by(
     alloc: Global,
     store: &Store<Global>,
     query: &Query<Global>,
-    plan: &Certificate<'_, Global>,
+    plan: &Certificate<Global>,
 ) -> Result<u64, AllocError>
     requires { IsValid store.now.settings store.now.marks query.now.query plan.now }
     ensures { IfOk result (λ n. OfEachHistory store.now (λ opening h. n ≡ length (filter (matches query.now.query) (latest_of h)))) }

@@ -1,4 +1,3 @@
-use Rattle.std.proofs.Common.{sym, ◌∙◌}
 use Rattle.ts_check.proofs.CertificateTokens.{source_uncut, source_other, source_nameless, source_misnamed}
 use Rattle.ts_check.proofs.read.source.Goals as goal
 
@@ -10,10 +9,10 @@ returns-in_err-name-in-rollup c =
     rw c.from_residual-in_err-name-in-rollup.ensures
     (source_nameless c.args.line.now c.in_ok-word.word.now c.in_ok-word.rest.now c.in_ok-word.ensures.found c.in_ok-word.ensures.first c.in-rollup.is c.in_err-name-in-rollup.ensures.none)
 
-pub returns-else-is_name : goal.returns-else-is_name
-returns-else-is_name c =
+pub returns-in-None : goal.returns-in-None
+returns-in-None c =
     source_misnamed c.args.line.now c.in_ok-word.word.now c.in_ok-word.rest.now c.in_ok-name-in-rollup.name.now c.in_ok-name-in-rollup.rest.now c.in_ok-word.ensures.found c.in_ok-word.ensures.first
-    c.in-rollup.is c.in_ok-name-in-rollup.ensures.found c.in_ok-name-in-rollup.ensures.first (sym c.is_name.ensures ∙ c.if-is_name.false)
+    c.in-rollup.is c.in_ok-name-in-rollup.ensures.found c.in_ok-name-in-rollup.ensures.first c.in-None.ensures
 
 pub returns-in_default : goal.returns-in_default
 returns-in_default c =

@@ -1,9 +1,21 @@
-use Rattle.std.proofs.Common.{◌≡◌, ◌∙◌, subst}
-use Rattle.ts_core.specs.Pieces.{asked}
-use Rattle.ts_core.specs.Plans.{IsPlan, IsPlanOf}
-use Rattle.ts_core.proofs.Intervals.{IsWide}
-use Rattle.ts_plan.proofs.Planned.{untrue, planned}
+use Rattle.std.proofs.Common.{sym, subst, FitsSigned, w64, rules}
+use Rattle.ts_core.specs.Plans.{IsPlanOf}
+use Rattle.ts_plan.specs.Planning.{IsPlanned}
+use Rattle.ts_plan.proofs.Planned.{untrue, planned_of}
+use Rattle.ts_plan.proofs.Spellings.{plan_spelled}
 use Rattle.ts_plan.proofs.planner.plan.Goals as goal
+
+pub new-requires : goal.new-requires
+new-requires g c =
+    let s = c.args.settings.now in
+    let m = c.args.marks.now in
+    let q = c.args.query.now.query in
+    let ps = c.in-Some.pieces.items in
+    let made : IsPlanOf c.new-task.result ps = rw c.in-Some.is at c.in_ok-plan_over.ensures in
+    let plan = planned_of s m q c.new-task.result ps c.new-task.ensures.value c.new-task.ensures.plannable.wide (untrue _ c.is_too_many.ensures c.if-is_too_many.false) made in
+    let from : FitsSigned w64 c.from-from.result = search rules in
+    let to : FitsSigned w64 c.to-to.result = search rules in
+    plan_spelled s m q ps c.rules-rules.ensures.faultless (subst (FitsSigned w64) c.from-from.ensures.value from) (subst (FitsSigned w64) c.to-to.ensures.value to) plan.valid
 
 pub returns : goal.returns
 returns g c =
@@ -11,7 +23,6 @@ returns g c =
     let m = c.args.marks.now in
     let q = c.args.query.now.query in
     let ps = c.in-Some.pieces.items in
-    let same : c.new-task.result ≡ asked s m q = c.new-task.ensures.value in
     let made : IsPlanOf c.new-task.result ps = rw c.in-Some.is at c.in_ok-plan_over.ensures in
-    let plan : IsPlan s m q ps = subst (λ t. IsPlanOf t ps) same made in
-    planned s m q plan.0 _ (subst IsWide same c.new-task.ensures.plannable.wide) (untrue _ c.is_too_many.ensures c.if-is_too_many.false) plan.1 (c.new.ensures ∙ plan.2)
+    let plan = planned_of s m q c.new-task.result ps c.new-task.ensures.value c.new-task.ensures.plannable.wide (untrue _ c.is_too_many.ensures c.if-is_too_many.false) made in
+    subst (IsPlanned s m q) (sym c.new.ensures) plan
