@@ -24,9 +24,8 @@ use Rattle.ts_script.specs.ScriptLines.{script_line_limit}
 use Rattle.ts_script.specs.ScriptCertificates.{with_line_feeds}
 use Rattle.ts_script.specs.Commands.{OpenWith, At, SetPrecision, SetEpoch, Write, Live, Retain, SetCertificate, Query, Explain, Count, CountFault, Unknown, is_skipped, command_of}
 use Rattle.ts_script.specs.MarksTexts.{marks_text}
-use Rattle.ts_script.specs.ScriptReplies.{line, text_of, unknown_text, bad_range_text}
+use Rattle.ts_script.specs.ScriptReplies.{line, text_of, written_text, unknown_text, bad_range_text}
 use Rattle.ts_script.specs.declared.reply.Reply.{Reply}
-use Rattle.ts_script.specs.declared.reply.Reply.TheVariants as reply
 use Rattle.ts_script.specs.declared.reply.Reply.TheVariants.{OutOfMemory}
 use Rattle.ts_script.specs.Machine.{State, no_longer_fresh, with_certificate, with_store, opened_with, with_run, marks_told, at_moment, in_precision, in_epoch, Counts, Does, Step, opens, refuses_settings, opens_no_memory, opens_late, moves, sets, shows, writes, writes_no_memory, retains, retains_no_memory, hands_in, hands_in_no_memory, replies, replies_no_memory, explains, explains_no_memory, tells_live, counts, counts_nothing, refuses_count, refuses_unknown, too_long, no_text, skips, does}
 use Rattle.ts_script.specs.Serving.{Serving, keeping, IsIn, Replied, HasExplanation, Did, Refused, Stepped, IsAnswered}
@@ -58,16 +57,12 @@ idle_without_memory s new text idle (RunsOutOfMemory.in_writing parts series e n
 storing : (s : State) (m : Serving) (new : StoreState) (k : StoreData) → IsIn s m → (IsRunOpen new.history → ⊥) → IsStoreIn new k → IsIn (with_store new s) (keeping k m)
 storing s m new k i idle is = record { moment = i.moment; precision = i.precision; epoch = i.epoch; fresh = i.fresh; certificate = i.certificate; store = is; idle = idle }
 
-abbrev pub reply_to : {E : Type 0} → Result LineOutcome E → Reply
-reply_to (Ok outcome) = reply.Written outcome
-reply_to (Err e) = OutOfMemory
-
-pub wrote : {E : Type 0} (text : Text) (r : Result LineOutcome E) (s : State) (m : Serving) (k : StoreData) → IsIn s m → ((t : StoreState) → IsStoreIn t m.kept → WritesFrom m.precision m.moment t text r k) → Did (Write text) s (text_of (reply_to r)) (keeping k m)
-wrote text (Ok outcome) s m k i each =
-    let w = written_by s m text (Ok outcome) k i (each s.store i.store) in
+pub wrote : {E : Type 0} (text : Text) (r : Result LineOutcome E) (s : State) (m : Serving) (k : StoreData) → IsIn s m → ((t : StoreState) → IsStoreIn t m.kept → WritesFrom m.precision m.moment t text r k) → Did (Write text) s (written_text r) (keeping k m)
+wrote {E} text (Ok outcome) s m k i each =
+    let w = written_by {E = E} s m text (Ok outcome) k i (each s.store i.store) in
     (with_store w.0 s, writes text outcome w.0 w.1, storing s m w.0 k i (still_idle s outcome w.0 text i.idle w.1) w.2)
-wrote text (Err e) s m k i each =
-    let w = written_by s m text (Err e) k i (each s.store i.store) in
+wrote {E} text (Err e) s m k i each =
+    let w = written_by {E = E} s m text (Err e) k i (each s.store i.store) in
     (with_store w.0 s, writes_no_memory text w.0 w.1, storing s m w.0 k i (idle_without_memory s w.0 text i.idle w.1) w.2)
 
 -- ---- the other commands

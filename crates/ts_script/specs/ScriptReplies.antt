@@ -1,5 +1,5 @@
 -- The replies to commands, by their texts. (Own rule: a fault is reported by its number.)
-use Rattle.std.specs.Prelude.{[], ◌∷◌, ◌++◌, codes, string_bytes}
+use Rattle.std.specs.Prelude.{[], ◌∷◌, ◌++◌, codes, string_bytes, Result, Ok, Err}
 use Rattle.std.specs.Fmt.{decimal}
 use Rattle.ts_core.specs.Facts.{Text}
 use Rattle.ts_core.specs.FaultTexts.{fault_text, memory_text}
@@ -30,6 +30,11 @@ abbrev pub outcome_text : LineOutcome → Text
 outcome_text outcome.Accepted = line (codes "ok")
 outcome_text outcome.NoLine = line (codes "none")
 outcome_text (outcome.Refused refusal) = line (line_refusal_text refusal)
+
+-- the same of a call that may run out of memory
+abbrev pub written_text : {E : Type 0} → Result LineOutcome E → Text
+written_text (Ok o) = outcome_text o
+written_text (Err e) = line memory_text
 
 abbrev pub text_of : Reply → Text
 text_of Nothing = []

@@ -6,7 +6,7 @@ ghost use Rattle.ts_script.specs.ScriptLines.{script_line_limit};
 ghost use Rattle.ts_script.specs.Machine.{State, start};
 ghost use Rattle.ts_script.specs.MarksTexts.{marks_text};
 ghost use Rattle.ts_script.specs.Commands.{OpenWith as OpenWithCommand, Write as WriteCommand, Retain as RetainCommand, SetCertificate as CertificateCommand, Query as QueryCommand, Explain as ExplainCommand, Count as CountCommand};
-ghost use Rattle.ts_script.specs.ScriptReplies.{line, text_of};
+ghost use Rattle.ts_script.specs.ScriptReplies.{line, text_of, written_text};
 ghost use Rattle.ts_script.specs.Serving.{IsIn, Replied, HasExplanation, Did, Refused, Stepped};
 
 use crate::certificate_text::with_line_feeds;
@@ -21,7 +21,7 @@ use std::marker::Model;
 use std::str;
 use ts_core::{Settings, SettingsError, Time, TimeUnit};
 use ts_reply::{Epoch, answer, explain};
-use ts_store::{Store, View};
+use ts_store::{LineOutcome, Store, View};
 
 /// State of a script: what its commands have set, whether settings may still come, and its store. `line_room` is an
 /// arena for the tags and fields of a line.
@@ -254,10 +254,17 @@ impl Machine {
             .write_text(&self.line_room, text, self.precision, self.moment);
         // nothing borrows from the arena any more
         let _ = self.line_room.reset();
-        match written {
-            Ok(outcome) => Reply::Written(outcome),
-            Err(_) => Reply::OutOfMemory,
-        }
+        written_reply(written)
+    }
+}
+
+/// Returns the reply to a line that was written.
+fn written_reply(written: Result<LineOutcome, AllocError>) -> Reply
+    ensures { text_of result ≡ written_text written }
+{
+    match written {
+        Ok(outcome) => Reply::Written(outcome),
+        Err(_) => Reply::OutOfMemory,
     }
 }
 

@@ -39,8 +39,8 @@ pub enum Reply {
 pub const TEXT_ROOM: usize = 35;
 
 impl Reply {
-    /// Appends the reply with its LF to the buffered answers. The message of a fault is built in `text`, which has the
-    /// capacity, so nothing is allocated.
+    /// Appends the reply with its LF to the buffered answers. The message of a refusal is built in `text`, which has
+    /// the capacity, so nothing is allocated.
     pub fn send<W: Write>(
         self,
         text: &mut String,
@@ -51,7 +51,6 @@ impl Reply {
         ensures room { TEXT_ROOM ≤ string_capacity text.new }
         ensures sent { IsBuffered sink.old answers.old result (text_of self) sink.new answers.new }
     {
-        text.clear();
         match self {
             Reply::Nothing => answers.put(b"", sink),
             Reply::Written(outcome) => send_outcome(outcome, text, answers, sink),
@@ -67,18 +66,18 @@ impl Reply {
 }
 
 /// Appends the outcome of a line with its LF to the buffered answers. The message of a refusal is built in `text`, which
-/// is empty and has the capacity.
+/// has the capacity, so nothing is allocated.
 fn send_outcome<W: Write>(
     outcome: LineOutcome,
     text: &mut String,
     answers: &mut OutputBuffer<Global>,
     sink: &mut Sink<W>,
 ) -> Result<(), Refused>
-    requires empty { string_len text.old ≡ 0 }
-    requires room { TEXT_ROOM ≤ string_capacity text.old }
+    requires { TEXT_ROOM ≤ string_capacity text.old }
     ensures room { TEXT_ROOM ≤ string_capacity text.new }
     ensures sent { IsBuffered sink.old answers.old result (outcome_text outcome) sink.new answers.new }
 {
+    text.clear();
     match outcome {
         LineOutcome::Accepted => answers.put(b"ok\n", sink),
         LineOutcome::NoLine => answers.put(b"none\n", sink),
