@@ -1,6 +1,7 @@
 """Starts `tsdb serve` on a free port and sends it requests, a connection each. The scripts of tests/ and bench/ use it."""
 import itertools
 import os
+import random
 import socket
 import subprocess
 import tempfile
@@ -9,7 +10,7 @@ import time
 OPEN_SETTINGS = '{"raw":"INF","rules":[]}'
 
 
-PORTS = itertools.chain(range(10000 + os.getpid() % 20000, 32000), itertools.cycle(range(10000, 32000)))
+PORTS = itertools.cycle(random.sample(range(10000, 32000), 22000))
 
 
 def free_port():
