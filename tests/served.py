@@ -1,5 +1,7 @@
 """Starts `tsdb serve` on a free port and sends it requests, a connection each. The scripts of tests/ and bench/ use it."""
+import itertools
 import os
+import random
 import socket
 import subprocess
 import tempfile
@@ -8,10 +10,18 @@ import time
 OPEN_SETTINGS = '{"raw":"INF","rules":[]}'
 
 
+PORTS = itertools.cycle(random.sample(range(10000, 32000), 22000))
+
+
 def free_port():
-    with socket.socket() as probe:
-        probe.bind(('127.0.0.1', 0))
-        return probe.getsockname()[1]
+    """Returns a port that nobody listens on. It isn't returned again soon, and connections don't take it by themselves."""
+    for port in PORTS:
+        with socket.socket() as probe:
+            try:
+                probe.bind(('127.0.0.1', port))
+                return port
+            except OSError:
+                continue
 
 
 class Server:
