@@ -9,10 +9,16 @@ use std::net::{Shutdown, TcpListener, TcpStream};
 use std::rt::Clock;
 use std::time::{SystemTime, UNIX_EPOCH};
 use ts_core::{Sink, Source, Time};
-use ts_http::{Served, serve_one};
+use ts_http::{Served, Status, serve_one};
 use ts_store::Store;
 
-/// How many reads after a reply are dropped at most, of 4 KiB each.
+/// How many seconds a client has to send its request, and as many to take the reply.
+const PATIENCE: u64 = 10;
+
+/// How many seconds the rest of a refused request is read and dropped at most.
+const DRAIN_PATIENCE: u64 = 2;
+
+/// How many reads of that rest there are at most, of 4 KiB each.
 const DRAINS: u32 = 512;
 
 /// Returns the moment by the machine's clock, or the least one if the clock fails or is beyond all moments.
@@ -29,17 +35,30 @@ fn moment(clock: &impl Clock) -> Time {
     }
 }
 
-/// Closes a connection so that its client gets the reply: reads and drops what it still sends, at most 2 MiB.
+/// Closes a connection after a refusal so that its client gets the reply: reads and drops what it still sends, at most
+/// 2 MiB. A connection that is closed with unread bytes is reset.
 fn drain(stream: &TcpStream, clock: &impl Clock) {
     if stream.shutdown(Shutdown::Write).is_err() {
         return;
     }
-    let mut timed = Timed::new(stream, clock);
+    let mut timed = Timed::new(stream, clock, DRAIN_PATIENCE);
     let mut room = [0; 4096];
     for _ in 0..DRAINS {
         match timed.read(&mut room) {
             Ok(n) if n > 0 => {}
             _ => return,
+        }
+    }
+}
+
+/// Ends a connection after its reply. Only a refused request may leave bytes that weren't read.
+fn finish(stream: &TcpStream, clock: &impl Clock, served: Served) {
+    match served {
+        Served::Nothing => {}
+        Served::Reply { status, route: _ } => {
+            if !matches!(status, Status::Success | Status::NoContent) {
+                drain(stream, clock);
+            }
         }
     }
 }
@@ -55,16 +74,11 @@ fn serve_stream(
     ensures { WentBy store.old store.new }
 {
     let _ = stream.set_nodelay(true);
-    let mut source = Source::new(Timed::new(stream, clock));
-    let mut sink = Sink::new(Timed::new(stream, clock));
+    let mut source = Source::new(Timed::new(stream, clock, PATIENCE));
+    let mut sink = Sink::new(Timed::new(stream, clock, PATIENCE));
     match serve_one(alloc, store, now, &mut source, &mut sink) {
-        Ok(
-            Served::Reply {
-                status: _,
-                route: _,
-            },
-        ) => drain(stream, clock),
-        _ => {}
+        Ok(served) => finish(stream, clock, served),
+        Err(_) => {}
     }
 }
 

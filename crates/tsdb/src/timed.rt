@@ -5,31 +5,30 @@ use std::net::TcpStream;
 use std::rt::Clock;
 use std::time::{Duration, Instant};
 
-/// How many seconds a client has to send its request, and as many to take the reply.
-const SECONDS: u64 = 10;
-
-/// A connection whose reads or writes fail with `TimedOut` 10 seconds after the first of them began. Reads and writes
-/// each take one of their own, so that the time that a query takes counts for neither.
+/// A connection whose reads or writes fail with `TimedOut` after a number of seconds since the first of them began. Reads
+/// and writes each take one of their own, so that the time that a query takes counts for neither.
 #[derive(Drop)]
 pub struct Timed<'a, C: Clock> {
     stream: &'a TcpStream,
     clock: &'a C,
+    seconds: u64,
     started: Option<Instant>,
 }
 
 impl<'a, C: Clock> Timed<'a, C> {
     /// Creates one whose time hasn't begun.
-    pub fn new(stream: &'a TcpStream, clock: &'a C) -> Timed<'a, C> {
+    pub fn new(stream: &'a TcpStream, clock: &'a C, seconds: u64) -> Timed<'a, C> {
         Timed {
             stream,
             clock,
+            seconds,
             started: None,
         }
     }
 
     /// Returns the time that is left, or `TimedOut`. The first call begins it.
     fn time_left(&mut self) -> io::Result<Duration> {
-        let all = Duration::from_secs(SECONDS);
+        let all = Duration::from_secs(self.seconds);
         let now = Instant::now(self.clock)?;
         let Some(started) = self.started else {
             self.started = Some(now);
