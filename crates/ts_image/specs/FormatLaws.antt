@@ -1,4 +1,4 @@
--- Laws of formats: reading and spelling are inverse, and no value's fields reach further than where reading stops. (Own rules.)
+-- Laws of formats: reading and spelling are inverse, and no value's fields reach further than reading. (Own rules.)
 use Rattle.std.specs.Prelude.{◌≡◌, ℕ, ◌+◌, ◌<◌, ◌≤◌, List, ◌++◌, length, get_or, Result, Ok, Err, IfOk, IfErr}
 use Rattle.ts_image.specs.Formats.{Place, Read, Format, concat, spelling}
 
@@ -39,8 +39,8 @@ pub record IsFormat {X : Type 0} (f : Format X) : Type 0 where
 
 -- ---- all of the bytes
 
--- The bytes from a place on spell no value. The first field at fault is at this offset: up to it some value's fields are
--- whole, and no value's whole fields reach further.
+-- The bytes from a place on spell no value. The first field at fault is at this offset: up to it some value's fields
+-- are whole, and no value's whole fields reach further.
 pub record IsMisshapen {X : Type 0} (f : Format X) (p : Place) (n : ℕ) : Type 0 where
   pub none : (x : X) → f.fits x → p.rest ≡ spelling f x → ⊥
   pub reached : Reaches f p n

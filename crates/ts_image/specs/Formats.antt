@@ -1,5 +1,5 @@
 -- Formats: how values are spelled field by field, and read from left to right up to the first field that isn't whole.
--- The format of a record is composed of the formats of its parts, so laws are proved once per way of composing. (Own rules.)
+-- The format of a record is composed of the formats of its parts, so laws are proved once per way. (Own rules.)
 use Rattle.std.specs.Prelude.{◌≡◌, ℕ, ◌+◌, ◌<◌, ◌^◌, ℤ, Bool, false, nat_lt, List, [], ◌∷◌, ◌++◌, length, take, drop, replicate, Result, Ok, Err, ◌==◌, if◌then◌else◌, FitsSigned}
 use Rattle.std.specs.Int.{Width, w64, byte_len, cast_unsigned, cast_signed, to_be_bytes, from_be_bytes}
 use mir.Val.{bits}

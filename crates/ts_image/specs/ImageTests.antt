@@ -1,5 +1,5 @@
--- Tests of an image of the form for contradictions. They don't find every contradiction. (Own rules. InfluxData 1.8, line
--- protocol: the parts of a point.)
+-- Tests of an image of the form for contradictions. They don't find every contradiction.
+-- (Own rules. InfluxData 1.8, line protocol: the parts of a point.)
 use Rattle.std.specs.Prelude.{◌≡◌, ◌≢◌, ◌⊎◌, ℕ, ℤ, pos, ◌+◌, ◌+ℤ◌, ◌≤◌, ◌^◌, ◌≤ℤ◌, ◌<ℤ◌, true, List, [], ◌∷◌, length, map, filter, None, unsigned_abs}
 use Rattle.std.specs.Ordering.{int_cmp, is_lt}
 use Rattle.std.specs.declared.cmp.Ordering.{Ordering}

@@ -1,5 +1,5 @@
--- The picture of a store in its image: all its data but live parts, empty cells and cells below a low index, in the image's
--- order. (Own rules.)
+-- The picture of a store in its image: all its data but live parts, empty cells and cells below a low index, in the
+-- image's order. (Own rules.)
 use Rattle.std.specs.Prelude.{◌≡◌, ◌↔◌, ℤ, ◌≤ℤ◌, ◌<◌, ◌==◌, true, None, List, [], ◌∷◌, ◌++◌, map, filter, Some}
 use Rattle.std.specs.FinMap as finmap
 use Rattle.ts_core.specs.Members.{Among, AllDistinct}
@@ -69,8 +69,8 @@ HaveCells (r ∷ rs) (low ∷ lows) facts [] = Unit {0}
 HaveCells (r ∷ rs) (low ∷ lows) facts (m ∷ ms) =
     ((f : Fact) → Among f facts → is_rolled r f ≡ true → low ≤ℤ (cell_of r f).index → finmap.get m (cell_of r f) ≡ None → ⊥) × HaveCells rs lows facts ms
 
--- The store is made of the data: the data is its picture, each column is there once, raw facts have their cells, and live
--- parts are folded from the raw facts.
+-- The store is made of the data: the data is its picture, each column is there once, raw facts have their cells, and
+-- live parts are folded from the raw facts.
 pub record IsMadeOf (d : ImageData) (k : StoreData) : Type 0 where
   pub picture : IsPictureOf k d
   pub waiting_once : AllDistinct k.waiting

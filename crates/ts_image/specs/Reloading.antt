@@ -24,8 +24,8 @@ HaveSameParts [] lows facts (m ∷ ms) (n ∷ ns) = Unit {0}
 HaveSameParts (r ∷ rs) [] facts (m ∷ ms) (n ∷ ns) = Unit {0}
 HaveSameParts (r ∷ rs) (low ∷ lows) facts (m ∷ ms) (n ∷ ns) = HasSameParts r low facts m n × HaveSameParts rs lows facts ms ns
 
--- The same settings, marks, count of accepted facts and open run; the same columns with the same points in any order, of
--- which the same wait; each series is still registered; live parts are those of the raw facts.
+-- The same settings, marks, count of accepted facts and open run; the same columns with the same points in any order,
+-- of which the same wait; each series is still registered; live parts are those of the raw facts.
 pub record IsReloaded (old new : StoreData) : Type 0 where
   pub settings : new.settings ≡ old.settings
   pub marks : new.marks ≡ old.marks
