@@ -1,0 +1,81 @@
+-- An image that was read, and is tested then.
+use Rattle.std.proofs.Common.{◌≡◌, ◌≤ℤ◌, ℕ, List, [], ◌∷◌, map, Option, Some, None, Result, Ok, Err, ap}
+use Rattle.std.specs.Prelude.{pos, IfSome}
+use Rattle.std.specs.List.{AllByRecursion}
+use Rattle.ts_core.specs.Devices.{Input}
+use Rattle.ts_core.specs.Settings.{Rule, Settings}
+use Rattle.ts_image.specs.declared.rule_reading.RuleParts.{RuleParts}
+use Rattle.ts_image.specs.declared.image_reading.ImageParts.{ImageParts}
+use Rattle.ts_image.specs.declared.image_loading.LoadedImage.{LoadedImage}
+use Rattle.ts_image.specs.declared.version.Version.{Version}
+use Rattle.ts_image.specs.declared.load_fault.LoadFault.{LoadFault}
+use Rattle.ts_image.specs.declared.load_fault.LoadFault.TheVariants.{Contradiction, Turns, OutOfMemory}
+use Rattle.ts_image.specs.FormatLaws.{AreBytes}
+use Rattle.ts_image.specs.RuleParts.{rule_of, settings_of_parts}
+use Rattle.ts_image.specs.ImageTests.{IsPossible, rule_in, settings_in}
+use Rattle.ts_image.specs.TestParts.{IsLong}
+use Rattle.ts_image.specs.ImageFaults.{IsImageOf, IsFaultOf}
+use Rattle.ts_image.specs.ImageReading.{image_of, LoadsParts}
+use Rattle.ts_image.specs.ImageLoading.{LoadsImage}
+
+-- intervals of a nanosecond or more are those of the parts
+pub long_from : {A : Type 0} (rs : List (RuleParts A)) → AllByRecursion (λ (r : Rule). pos 1 ≤ℤ r.interval) (map rule_in (map rule_of rs)) → AllByRecursion IsLong rs
+long_from [] h = tt
+long_from (r ∷ rs) h = (h.0, long_from rs h.1)
+
+if_some : (o : Option (List ℕ)) (P Q : List ℕ → Type 0) → ((bytes : List ℕ) → P bytes → Q bytes) → IfSome o P → IfSome o Q
+if_some None P Q h p = tt
+if_some (Some bytes) P Q h p = h bytes p
+
+abbrev fault_or : {T : Type 0} → LoadFault → Result T LoadFault → LoadFault
+fault_or d (Ok x) = d
+fault_or d (Err e) = e
+
+turns_again : (S T : Type 0) (e : LoadFault) → (let r : Result S LoadFault = Err e in r ≡ Err Turns) → (let r : Result T LoadFault = Err e in r ≡ Err Turns)
+turns_again S T e h = ap (λ (x : LoadFault). Err x) (ap (fault_or e) h)
+
+never_turns : (S : Type 0) → (let r : Result S LoadFault = Err Contradiction in r ≡ Err Turns) → ⊥
+never_turns S h = cc
+
+no_room : (S : Type 0) → (let r : Result S LoadFault = Err OutOfMemory in r ≡ Err Turns) → ⊥
+no_room S h = cc
+
+never_read : (S : Type 0) (x : S) → (let r : Result S LoadFault = Ok x in r ≡ Err Turns) → ⊥
+never_read S x h = cc
+
+module _ (A : Type 0) (s : Input) (turns : ℕ) (t : Input) where
+  -- what isn't read isn't loaded
+  pub not_read : (e : LoadFault) → LoadsParts {A = A} s turns (Err e) t → LoadsImage {A = A} s turns (Err e) t
+  not_read e p = record { ok = tt; err = p.err; failures = p.failures; ends = tt; within = p.within; spent = λ z. p.spent (turns_again (LoadedImage A) (Version × ImageParts A) e z) }
+
+  module _ (v : Version) (parts : ImageParts A) (p : LoadsParts s turns (Ok (v, parts)) t) where
+    pub is_loaded : (settings : Settings) → IsPossible v (image_of parts) → settings ≡ settings_in (settings_of_parts parts.settings)
+        → LoadsImage {A = A} s turns (Ok (record { version = v; settings = settings; parts = parts })) t
+    is_loaded settings is made = record {
+      ok = record { bytes = p.ok; possible = is; settings = made };
+      err = tt;
+      failures = p.failures;
+      ends = p.ends;
+      within = p.within;
+      spent = λ z. absurd (never_read (LoadedImage A) (record { version = v; settings = settings; parts = parts }) z);
+    }
+
+    pub contradicts : (IsPossible v (image_of parts) → ⊥) → LoadsImage {A = A} s turns (Err Contradiction) t
+    contradicts never = record {
+      ok = tt;
+      err = if_some s.remaining (λ bytes. AreBytes bytes → IsImageOf v (image_of parts) bytes) (λ bytes. AreBytes bytes → IsFaultOf bytes Contradiction) (λ bytes is are. (v, image_of parts, is are, never)) p.ok;
+      failures = p.failures;
+      ends = tt;
+      within = p.within;
+      spent = λ z. absurd (never_turns (LoadedImage A) z);
+    }
+
+    pub out_of_memory : LoadsImage {A = A} s turns (Err OutOfMemory) t
+    out_of_memory = record {
+      ok = tt;
+      err = if_some s.remaining (λ bytes. AreBytes bytes → IsImageOf v (image_of parts) bytes) (λ bytes. AreBytes bytes → IsFaultOf bytes OutOfMemory) (λ bytes is are. tt) p.ok;
+      failures = p.failures;
+      ends = tt;
+      within = p.within;
+      spent = λ z. absurd (no_room (LoadedImage A) z);
+    }

@@ -1,0 +1,243 @@
+-- Bytes that are consumed one after another, and the counts of a source over several calls.
+use Rattle.std.proofs.Common.{◌≡◌, ℕ, ℤ, ◌+◌, ◌<◌, Bool, true, false, ltb, List, [], ◌++◌, length, Option, Some, None, Result, Ok, Err, refl, sym, ap, ap₂, ◌∙◌, append_assoc, arith, length-append}
+use Rattle.std.specs.Prelude.{IsSome}
+use Rattle.std.specs.Int.{Width, w64, byte_len, from_be_bytes, cast_signed}
+use Rattle.std.specs.Str.{IsUtf8, is_utf8}
+use Rattle.std.proofs.lemmas.Str.{IsUtf8-from_is_utf8, is_utf8-from_IsUtf8}
+use Rattle.ts_core.specs.Facts.{Text}
+use Rattle.std.proofs.lemmas.Bool.{lt-ltb, le-ltb}
+use Rattle.std.proofs.lemmas.List.{append-nil, take_at, drop_at}
+use Rattle.std.specs.Io.KnownBytes.{Consumes, Keeps, IsAtEnd}
+use Rattle.ts_core.specs.Devices.{Input}
+use Rattle.ts_core.specs.ReadingAhead.{Ahead, EndIsEnd}
+use Rattle.ts_image.specs.declared.field_fault.FieldFault.{FieldFault}
+use Rattle.ts_image.specs.declared.field_fault.FieldFault.TheVariants.{Misshapen, Device, Turns, OutOfMemory}
+use Rattle.ts_image.specs.Formats.{Place, Read, ◌>>=◌, read_number, number, signed, read_text, text}
+use Rattle.ts_image.specs.FieldReading.{FieldsRead, to_come, known_bytes, place_of, IsKnown, one_if_failed, CallsSource, UsesBytes, FindsEnd, FillsRoom, IsShaped, Gives, Reads}
+use Rattle.ts_image.proofs.Fields.{done, failed}
+
+consumes_more : (a b c : Option (List ℕ)) (xs ys : List ℕ) → Consumes a b xs → Consumes b c ys → Consumes a c (xs ++ ys)
+consumes_more None b c xs ys p q = tt
+consumes_more (Some x) None c xs ys p q = absurd p
+consumes_more (Some x) (Some y) None xs ys p q = absurd q
+consumes_more (Some x) (Some y) (Some z) xs ys p q = p ∙ ap (λ (t : List ℕ). xs ++ t) q ∙ sym (append_assoc xs ys z)
+
+pub uses_more : (a b c : FieldsRead) (s t u : Input) (xs ys : List ℕ) → UsesBytes a s xs b t → UsesBytes b t ys c u → UsesBytes a s (xs ++ ys) c u
+uses_more a b c s t u xs ys p q = record {
+  used = consumes_more (to_come a s) (to_come b t) (to_come c u) xs ys p.used q.used;
+  at = let x = p.at in let y = q.at in let l = length-append xs ys in omega (arith, x, y, l);
+}
+
+consumes_none : (a : Option (List ℕ)) → Consumes a a []
+consumes_none None = tt
+consumes_none (Some x) = refl
+
+pub uses_none : (a : FieldsRead) (s : Input) → UsesBytes a s [] a s
+uses_none a s = record { used = consumes_none (to_come a s); at = let e : a.at ≡ a.at + 0 = omega arith in e }
+
+-- where bytes that were used are all that there is
+all_used : (a b c : Option (List ℕ)) (xs : List ℕ) → Consumes a b xs → Keeps b c → IsAtEnd c → IsSome a → known_bytes a ≡ xs
+all_used None b c xs p q e k = absurd cc
+all_used (Some x) None c xs p q e k = absurd p
+all_used (Some x) (Some y) None xs p q e k = absurd q
+all_used (Some x) (Some y) (Some z) xs p q e k = p ∙ ap (λ (t : List ℕ). xs ++ t) (sym q ∙ e) ∙ append-nil xs
+
+pub ends_short : (a b c : FieldsRead) (s t u : Input) (xs : List ℕ) → UsesBytes a s xs b t → FindsEnd b t c u → IsKnown a s → (place_of a s).rest ≡ xs
+ends_short a b c s t u xs p q k = all_used (to_come a s) (to_come b t) (to_come c u) xs p.used q.bytes q.end k
+
+-- what is known stays known
+known_after : (a b : Option (List ℕ)) (xs : List ℕ) → Consumes a b xs → IsSome a → IsSome b
+known_after None b xs p k = absurd cc
+known_after (Some x) None xs p k = absurd p
+known_after (Some x) (Some y) xs p k = refl
+
+pub stays_known : (a b : FieldsRead) (s t : Input) (xs : List ℕ) → UsesBytes a s xs b t → IsKnown a s → IsKnown b t
+stays_known a b s t xs p k = known_after (to_come a s) (to_come b t) xs p.used k
+
+front_known : (a b : Option (List ℕ)) (xs : List ℕ) → Consumes a b xs → IsSome a → known_bytes a ≡ xs ++ known_bytes b
+front_known None b xs p k = absurd cc
+front_known (Some x) None xs p k = absurd p
+front_known (Some x) (Some y) xs p k = p
+
+pub front_of : (a b : FieldsRead) (s t : Input) (xs : List ℕ) → UsesBytes a s xs b t → IsKnown a s → (place_of a s).rest ≡ xs ++ (place_of b t).rest
+front_of a b s t xs p k = front_known (to_come a s) (to_come b t) xs p.used k
+
+-- ---- the counts of a source
+
+-- a call that has gone well so far
+abbrev pub nothing_yet : Result (Unit {0}) FieldFault
+nothing_yet = Ok tt
+
+pub calls_nothing : (a : Ahead) (s : Input) → EndIsEnd a s → CallsSource a s nothing_yet a s
+calls_nothing a s end = record { end = end; allowed = refl; within = λ h. h; spent = λ h. cc; failures = omega arith; turns = omega arith; ends = refl }
+
+abbrev pub fine : {X : Type 0} → X → Result X FieldFault
+fine x = Ok x
+
+abbrev pub faulty : (X : Type 0) → FieldFault → Result X FieldFault
+faulty X e = Err e
+
+module _ {X Y : Type 0} where
+  pub calls_more : (a b c : Ahead) (s t u : Input) (x : X) (r : Result Y FieldFault) → CallsSource a s (fine x) b t → CallsSource b t r c u → CallsSource a s r c u
+  calls_more a b c s t u x r p q = record {
+    end = q.end;
+    allowed = q.allowed ∙ p.allowed;
+    within = λ h. q.within (p.within h);
+    spent = q.spent;
+    failures = let f = p.failures in let g = q.failures in omega (arith, f, g);
+    turns = let f = p.turns in let g = q.turns in omega (arith, f, g);
+    ends = let f = p.ends in let g = q.ends in omega (arith, f, g);
+  }
+
+module _ (X Y : Type 0) where
+  err_same : (e d : FieldFault) → faulty Y e ≡ Err d → faulty X e ≡ Err d
+  err_same e d h = let k : e ≡ d = cc in ap (faulty X) k
+
+  failures_same : (e : FieldFault) → one_if_failed (faulty X e) ≡ one_if_failed (faulty Y e)
+  failures_same (Misshapen n) = refl
+  failures_same Device = refl
+  failures_same Turns = refl
+  failures_same OutOfMemory = refl
+
+  -- a fault that is passed on
+  pub calls_on : (a b : Ahead) (s t : Input) (e : FieldFault) → CallsSource a s (faulty X e) b t → CallsSource a s (faulty Y e) b t
+  calls_on a b s t e p = record {
+    end = p.end;
+    allowed = p.allowed;
+    within = p.within;
+    spent = λ h. p.spent (err_same e Turns h);
+    failures = p.failures ∙ ap (λ n. s.failures + n) (failures_same e);
+    turns = p.turns;
+    ends = p.ends;
+  }
+
+not_turns : {X : Type 0} (n : ℕ) → faulty X (Misshapen n) ≡ Err Turns → ⊥
+not_turns n h = cc
+
+no_memory_not_turns : {X : Type 0} → faulty X OutOfMemory ≡ Err Turns → ⊥
+no_memory_not_turns h = cc
+
+fine_not : {X : Type 0} (x : X) → fine x ≡ Err Turns → ⊥
+fine_not x h = cc
+
+-- another end of a call that went well so far
+pub calls_as : {X : Type 0} (Y : Type 0) (a b : Ahead) (s t : Input) (x : X) (n : ℕ) → CallsSource a s (fine x) b t → CallsSource a s (faulty Y (Misshapen n)) b t
+calls_as Y a b s t x n p = record { end = p.end; allowed = p.allowed; within = p.within; spent = λ h. absurd (not_turns n h); failures = p.failures; turns = p.turns; ends = p.ends }
+
+pub calls_unless : {X : Type 0} (Y : Type 0) (a b : Ahead) (s t : Input) (x : X) → CallsSource a s (fine x) b t → CallsSource a s (faulty Y OutOfMemory) b t
+calls_unless Y a b s t x p = record { end = p.end; allowed = p.allowed; within = p.within; spent = λ h. absurd (no_memory_not_turns h); failures = p.failures; turns = p.turns; ends = p.ends }
+
+pub calls_ok : {X Y : Type 0} (a b : Ahead) (s t : Input) (x : X) (y : Y) → CallsSource a s (fine x) b t → CallsSource a s (fine y) b t
+calls_ok a b s t x y p = record { end = p.end; allowed = p.allowed; within = p.within; spent = λ h. absurd (fine_not y h); failures = p.failures; turns = p.turns; ends = p.ends }
+
+-- ---- numbers
+
+-- bytes that were used are read as a number
+pub number_read : (w : Width) (a b : FieldsRead) (s t : Input) (bytes : List ℕ) → length bytes ≡ byte_len w → UsesBytes a s bytes b t → IsKnown a s → read_number w (place_of a s) ≡ Ok (from_be_bytes w bytes, place_of b t)
+number_read w a b s t bytes len u k =
+    let rest : List ℕ = (place_of b t).rest in
+    let front = front_of a b s t bytes u k in
+    let long : ltb (length (bytes ++ rest)) (byte_len w) ≡ false = le-ltb _ _ (omega (arith, length-append bytes rest)) in
+    let at : a.at + byte_len w ≡ b.at = let e = u.at in omega (arith, e, len) in
+    ap (λ (x : List ℕ). read_number w (record { at = a.at; rest = x })) front
+    ∙ rw (long, take_at bytes rest (byte_len w) len, drop_at bytes rest (byte_len w) len, at) refl
+
+pub number_short : (w : Width) (p : Place) (room : List ℕ) (n : ℕ) → length room ≡ byte_len w → n ≡ p.at → length p.rest < length room → read_number w p ≡ Err n
+number_short w p room n len e short =
+    let less : ltb (length p.rest) (byte_len w) ≡ true = lt-ltb _ _ (omega (arith, short, len)) in
+    rw less (ap (λ (m : ℕ). failed m) (sym e))
+
+-- a number as its format says
+pub number_reads : (w : Width) (a b : FieldsRead) (s t : Input) (bytes : List ℕ) → length bytes ≡ byte_len w → UsesBytes a s bytes b t → CallsSource a.ahead s nothing_yet b.ahead t → Reads (number w) (λ (n : ℕ). n) a s (fine (from_be_bytes w bytes)) b t
+number_reads w a b s t bytes len u q = record { stays = λ k. stays_known a b s t bytes u k; value = λ k. number_read w a b s t bytes len u k; calls = calls_ok a.ahead b.ahead s t tt (from_be_bytes w bytes) q }
+
+pub signed_reads : (w : Width) (a b : FieldsRead) (s t : Input) (bytes : List ℕ) → length bytes ≡ byte_len w → UsesBytes a s bytes b t → CallsSource a.ahead s nothing_yet b.ahead t → Reads (signed w) (λ (z : ℤ). z) a s (fine (cast_signed w (from_be_bytes w bytes))) b t
+signed_reads w a b s t bytes len u q = record { stays = λ k. stays_known a b s t bytes u k; value = λ k. ap (λ r. r >>= λ n. done (cast_signed w n.0, n.1)) (number_read w a b s t bytes len u k); calls = calls_ok a.ahead b.ahead s t tt (cast_signed w (from_be_bytes w bytes)) q }
+
+-- or the input ends before
+number_gives : (w : Width) (e : FieldFault) (a b : FieldsRead) (s t : Input) (room : List ℕ) → length room ≡ byte_len w → FillsRoom a s (Err e) room b t → IsKnown a s → Gives (λ (n : ℕ). n) (faulty ℕ e) (place_of b t) (read_number w (place_of a s))
+number_gives w (Misshapen n) a b s t room len f k = number_short w (place_of a s) room n len f.0 (f.1 k)
+number_gives w Device a b s t room len f k = tt
+number_gives w Turns a b s t room len f k = tt
+number_gives w OutOfMemory a b s t room len f k = tt
+
+signed_gives : (w : Width) (e : FieldFault) (a b : FieldsRead) (s t : Input) (room : List ℕ) → length room ≡ byte_len w → FillsRoom a s (Err e) room b t → IsKnown a s → Gives (λ (z : ℤ). z) (faulty ℤ e) (place_of b t) ((signed w).read (place_of a s))
+signed_gives w (Misshapen n) a b s t room len f k = ap (λ r. r >>= λ m. done (cast_signed w m.0, m.1)) (number_short w (place_of a s) room n len f.0 (f.1 k))
+signed_gives w Device a b s t room len f k = tt
+signed_gives w Turns a b s t room len f k = tt
+signed_gives w OutOfMemory a b s t room len f k = tt
+
+pub number_cut : (w : Width) (e : FieldFault) (a b : FieldsRead) (s t : Input) (room : List ℕ) → length room ≡ byte_len w → FillsRoom a s (Err e) room b t → CallsSource a.ahead s (faulty (Unit {0}) e) b.ahead t → Reads (number w) (λ (n : ℕ). n) a s (faulty ℕ e) b t
+number_cut w e a b s t room len f q = record { stays = λ k. tt; value = number_gives w e a b s t room len f; calls = calls_on (Unit {0}) ℕ a.ahead b.ahead s t e q }
+
+pub signed_cut : (w : Width) (e : FieldFault) (a b : FieldsRead) (s t : Input) (room : List ℕ) → length room ≡ byte_len w → FillsRoom a s (Err e) room b t → CallsSource a.ahead s (faulty (Unit {0}) e) b.ahead t → Reads (signed w) (λ (z : ℤ). z) a s (faulty ℤ e) b t
+signed_cut w e a b s t room len f q = record { stays = λ k. tt; value = signed_gives w e a b s t room len f; calls = calls_on (Unit {0}) ℤ a.ahead b.ahead s t e q }
+
+-- ---- texts
+
+text_made : (p m q : Place) (n : ℕ) (bytes : List ℕ) → read_number w64 p ≡ Ok (n, m) → m.rest ≡ bytes ++ q.rest → length bytes ≡ n → q.at ≡ m.at + length bytes → IsUtf8 bytes → text.read p ≡ Ok (bytes, q)
+text_made p m q n bytes e rest len at u =
+    let long : ltb (length (bytes ++ q.rest)) (length bytes) ≡ false = le-ltb _ _ (omega (arith, length-append bytes q.rest)) in
+    let here : m ≡ record { at = m.at; rest = bytes ++ q.rest } = ap (λ (x : List ℕ). record { at = m.at; rest = x }) rest in
+    let there : read_text p (length bytes, record { at = m.at; rest = bytes ++ q.rest }) ≡ Ok (bytes, q) =
+    rw (long, take_at bytes q.rest (length bytes) refl, drop_at bytes q.rest (length bytes) refl, is_utf8-from_IsUtf8 bytes u) (ap (λ (x : ℕ). done (bytes, record { at = x; rest = q.rest })) (sym at)) in
+    ap (λ r. r >>= read_text p) e ∙ ap₂ (λ (x : ℕ) (y : Place). read_text p (x, y)) (sym len) here ∙ there
+
+text_bad : (p m q : Place) (n : ℕ) (bytes : List ℕ) → read_number w64 p ≡ Ok (n, m) → m.rest ≡ bytes ++ q.rest → length bytes ≡ n → (IsUtf8 bytes → ⊥) → text.read p ≡ Err p.at
+text_bad p m q n bytes e rest len not_text =
+    let long : ltb (length (bytes ++ q.rest)) (length bytes) ≡ false = le-ltb _ _ (omega (arith, length-append bytes q.rest)) in
+    let here : m ≡ record { at = m.at; rest = bytes ++ q.rest } = ap (λ (x : List ℕ). record { at = m.at; rest = x }) rest in
+    let bad : is_utf8 bytes ≡ false = elim (is_utf8 bytes) as (λ b. is_utf8 bytes ≡ b → b ≡ false) [ true ↦ λ y. absurd (not_text (IsUtf8-from_is_utf8 bytes y)) | false ↦ λ y. refl ] refl in
+    let there : read_text p (length bytes, record { at = m.at; rest = bytes ++ q.rest }) ≡ Err p.at = rw (long, take_at bytes q.rest (length bytes) refl, bad) refl in
+    ap (λ r. r >>= read_text p) e ∙ ap₂ (λ (x : ℕ) (y : Place). read_text p (x, y)) (sym len) here ∙ there
+
+text_cut : (p m : Place) (n : ℕ) → read_number w64 p ≡ Ok (n, m) → length m.rest < n → text.read p ≡ Err p.at
+text_cut p m n e short =
+    let less : ltb (length m.rest) n ≡ true = lt-ltb _ _ short in
+    let there : read_text p (n, m) ≡ Err p.at = rw less refl in
+    ap (λ r. r >>= read_text p) e ∙ there
+
+module _ {X : Type 0} (view : X → Text) (a b c : FieldsRead) (s t u : Input) (n : ℕ) (first : Reads (number w64) (λ (m : ℕ). m) a s (fine n) b t) where
+  pub text_reads : (bytes : List ℕ) (x : X) → UsesBytes b t bytes c u → length bytes ≡ n → IsUtf8 bytes → view x ≡ bytes → CallsSource b.ahead t (fine true) c.ahead u → Reads text view a s (fine x) c u
+  text_reads bytes x uses len ok e q = record {
+    stays = λ k. stays_known b c t u bytes uses (first.stays k);
+    value = λ k. text_made (place_of a s) (place_of b t) (place_of c u) n bytes (first.value k) (front_of b c t u bytes uses (first.stays k)) len uses.at ok ∙ ap (λ (y : Text). done (y, place_of c u)) (sym e);
+    calls = calls_more a.ahead b.ahead c.ahead s t u n (fine x) first.calls (calls_ok b.ahead c.ahead t u true x q);
+  }
+
+  pub text_is_none : (bytes : List ℕ) → UsesBytes b t bytes c u → length bytes ≡ n → (IsUtf8 bytes → ⊥) → CallsSource b.ahead t (fine true) c.ahead u → (at : ℕ) → at ≡ a.at → Reads text view a s (faulty X (Misshapen at)) c u
+  text_is_none bytes uses len not_text q at same = record {
+    stays = λ k. tt;
+    value = λ k. text_bad (place_of a s) (place_of b t) (place_of c u) n bytes (first.value k) (front_of b c t u bytes uses (first.stays k)) len not_text ∙ ap (λ (m : ℕ). failed m) (sym same);
+    calls = calls_more a.ahead b.ahead c.ahead s t u n (faulty X (Misshapen at)) first.calls (calls_as X b.ahead c.ahead t u true at q);
+  }
+
+  pub text_ends : (IsKnown b t → length (place_of b t).rest < n) → CallsSource b.ahead t (fine false) c.ahead u → (at : ℕ) → at ≡ a.at → Reads text view a s (faulty X (Misshapen at)) c u
+  text_ends short q at same = record {
+    stays = λ k. tt;
+    value = λ k. text_cut (place_of a s) (place_of b t) n (first.value k) (short (first.stays k)) ∙ ap (λ (m : ℕ). failed m) (sym same);
+    calls = calls_more a.ahead b.ahead c.ahead s t u n (faulty X (Misshapen at)) first.calls (calls_as X b.ahead c.ahead t u false at q);
+  }
+
+  unshaped : (e : FieldFault) → IsShaped (faulty Bool e) → (r : Read Text) → Gives view (faulty X e) (place_of c u) r
+  unshaped (Misshapen m) k r = absurd k
+  unshaped Device k r = tt
+  unshaped Turns k r = tt
+  unshaped OutOfMemory k r = tt
+
+  pub text_fails : (e : FieldFault) → IsShaped (faulty Bool e) → CallsSource b.ahead t (faulty Bool e) c.ahead u → Reads text view a s (faulty X e) c u
+  text_fails e k q = record {
+    stays = λ z. tt;
+    value = λ z. unshaped e k (text.read (place_of a s));
+    calls = calls_more a.ahead b.ahead c.ahead s t u n (faulty X e) first.calls (calls_on Bool X b.ahead c.ahead t u e q);
+  }
+
+-- its length can't be read
+length_gives : {X : Type 0} (view : X → Text) (a b : FieldsRead) (s t : Input) (e : FieldFault) → Gives (λ (m : ℕ). m) (faulty ℕ e) (place_of b t) (read_number w64 (place_of a s)) → Gives view (faulty X e) (place_of b t) (text.read (place_of a s))
+length_gives view a b s t (Misshapen n) g = ap (λ r. r >>= read_text (place_of a s)) g
+length_gives view a b s t Device g = tt
+length_gives view a b s t Turns g = tt
+length_gives view a b s t OutOfMemory g = tt
+
+pub text_starts_not : {X : Type 0} (view : X → Text) (a b : FieldsRead) (s t : Input) (e : FieldFault) → Reads (number w64) (λ (m : ℕ). m) a s (faulty ℕ e) b t → Reads text view a s (faulty X e) b t
+text_starts_not {X} view a b s t e r = record { stays = λ k. tt; value = λ k. length_gives view a b s t e (r.value k); calls = calls_on ℕ X a.ahead b.ahead s t e r.calls }

@@ -1,0 +1,11 @@
+-- The fault of an image that a fault of a field is. (Own rules.)
+use Rattle.ts_image.specs.declared.field_fault.FieldFault.{FieldFault}
+use Rattle.ts_image.specs.declared.field_fault.FieldFault.TheVariants as field
+use Rattle.ts_image.specs.declared.load_fault.LoadFault.{LoadFault}
+use Rattle.ts_image.specs.declared.load_fault.LoadFault.TheVariants.{Misshapen, Device, Turns, OutOfMemory}
+
+abbrev pub fault_of : FieldFault → LoadFault
+fault_of (field.Misshapen n) = Misshapen n
+fault_of field.Device = Device
+fault_of field.Turns = Turns
+fault_of field.OutOfMemory = OutOfMemory

@@ -1,0 +1,79 @@
+-- The picture of a store in its image: all its data but live parts, empty cells and cells below a low index, in the
+-- image's order. (Own rules.)
+use Rattle.std.specs.Prelude.{◌≡◌, ◌↔◌, ℤ, ◌≤ℤ◌, ◌<◌, ◌==◌, true, None, List, [], ◌∷◌, ◌++◌, map, filter, Some}
+use Rattle.std.specs.FinMap as finmap
+use Rattle.ts_core.specs.Members.{Among, AllDistinct}
+use Rattle.ts_core.specs.Facts.{Series, Column, Fact}
+use Rattle.ts_core.specs.Settings.{Rule}
+use Rattle.ts_core.specs.Aggregates.{Aggregate, empty_aggregate}
+use Rattle.ts_core.specs.Cells.{Cell, cell_of, is_rolled}
+use Rattle.ts_core.specs.Changes.{or_else}
+use Rattle.ts_core.specs.StoreStates.{ColumnPoints, column_of, facts_of}
+use Rattle.ts_core.specs.StoreData.{CellMap, StoreData, no_parts, AreLive}
+use Rattle.ts_core.specs.ReadingAhead.{bit}
+use Rattle.ts_image.specs.Images.{ImageColumn, ImageSeries, ImageCell, ImageData}
+use Rattle.ts_image.specs.ImageTests.{settings_in}
+
+abbrev pub column_in : Series → ImageColumn → Column
+column_in s c = record { series = s; field = c.field }
+
+abbrev pub points_in : Series → ImageColumn → ColumnPoints
+points_in s c = record { column = column_in s c; points = c.points }
+
+-- the columns of series with their points, and those of them that wait
+abbrev pub columns_in : List ImageSeries → List ColumnPoints
+columns_in [] = []
+columns_in (s ∷ ss) = map (points_in s.series) s.columns ++ columns_in ss
+
+abbrev pub waiting_in : List ImageSeries → List Column
+waiting_in [] = []
+waiting_in (s ∷ ss) = map (column_in s.series) (filter (λ (c : ImageColumn). c.waits == 1) s.columns) ++ waiting_in ss
+
+abbrev pub part_of : ImageCell → Aggregate
+part_of c = record { count = c.count; sum = c.sum; extremes = Some c.extremes }
+
+-- the frozen part of a cell; a missing cell has an empty one
+abbrev pub part_at : CellMap → Cell → Aggregate
+part_at m k = (or_else no_parts (finmap.get m k)).frozen
+
+-- the cells of a rule that aren't empty, from its low index on
+pub record PicturesCells (low : ℤ) (m : CellMap) (cells : List ImageCell) : Type 0 where
+  pub each : (c : ImageCell) → Among c cells → part_at m c.cell ≡ part_of c
+  pub all : (k : Cell) → low ≤ℤ k.index → 0 < (part_at m k).count → (c : ImageCell) × Among c cells × (c.cell ≡ k)
+  pub sound : (k : Cell) → (part_at m k).count ≡ 0 → part_at m k ≡ empty_aggregate
+
+abbrev pub PictureCells : List ℤ → List CellMap → List (List ImageCell) → Type 0
+PictureCells [] [] [] = Unit {0}
+PictureCells [] [] (c ∷ cs) = ⊥
+PictureCells [] (m ∷ ms) cs = ⊥
+PictureCells (low ∷ lows) [] cs = ⊥
+PictureCells (low ∷ lows) (m ∷ ms) [] = ⊥
+PictureCells (low ∷ lows) (m ∷ ms) (c ∷ cs) = PicturesCells low m c × PictureCells lows ms cs
+
+-- the data is the picture of a store
+pub record IsPictureOf (k : StoreData) (d : ImageData) : Type 0 where
+  pub settings : settings_in d.settings ≡ k.settings
+  pub marks : d.marks ≡ k.marks
+  pub runs : d.runs ≡ bit k.running
+  pub accepted : d.accepted ≡ k.accepted
+  pub series : (s : Series) → Among s (map (λ (x : ImageSeries). x.series) d.series) ↔ Among s k.series
+  pub columns : (c : ColumnPoints) → Among c (columns_in d.series) ↔ Among c k.columns
+  pub waiting : (c : Column) → Among c (waiting_in d.series) ↔ Among c k.waiting
+  pub cells : PictureCells k.marks.lows k.cells d.cells
+
+-- each raw fact has its cell under each rule, from the low index on
+abbrev pub HaveCells : List Rule → List ℤ → List Fact → List CellMap → Type 0
+HaveCells [] lows facts ms = Unit {0}
+HaveCells (r ∷ rs) [] facts ms = Unit {0}
+HaveCells (r ∷ rs) (low ∷ lows) facts [] = Unit {0}
+HaveCells (r ∷ rs) (low ∷ lows) facts (m ∷ ms) =
+    ((f : Fact) → Among f facts → is_rolled r f ≡ true → low ≤ℤ (cell_of r f).index → finmap.get m (cell_of r f) ≡ None → ⊥) × HaveCells rs lows facts ms
+
+-- The store is made of the data: the data is its picture, each column is there once, raw facts have their cells, and
+-- live parts are folded from the raw facts.
+pub record IsMadeOf (d : ImageData) (k : StoreData) : Type 0 where
+  pub picture : IsPictureOf k d
+  pub waiting_once : AllDistinct k.waiting
+  pub columns_once : AllDistinct (map column_of k.columns)
+  pub rooms : HaveCells k.settings.rules k.marks.lows (facts_of k.columns) k.cells
+  pub live : AreLive k.columns k.settings.rules k.cells

@@ -1,0 +1,44 @@
+-- A store that was saved and loaded again: what is the same, and what may differ. (Own rules.)
+use Rattle.std.specs.Prelude.{◌≡◌, ◌↔◌, ℤ, ◌≤ℤ◌, true, None, List, [], ◌∷◌, map}
+use Rattle.std.specs.FinMap as finmap
+use Rattle.ts_core.specs.Members.{Among, AllDistinct}
+use Rattle.ts_core.specs.Facts.{Series, Column, Fact}
+use Rattle.ts_core.specs.Settings.{Rule}
+use Rattle.ts_core.specs.Cells.{Cell, cell_of, is_rolled}
+use Rattle.ts_core.specs.Changes.{or_else}
+use Rattle.ts_core.specs.StoreStates.{ColumnPoints, column_of, facts_of}
+use Rattle.ts_core.specs.StoreData.{CellMap, StoreData, no_parts, AreLive, StaysFor}
+
+-- From the low index of a rule on, the frozen parts are the same, and each raw fact has its cell. Cells below it may
+-- differ, and an empty cell is as good as none.
+pub record HasSameParts (r : Rule) (low : ℤ) (facts : List Fact) (m n : CellMap) : Type 0 where
+  pub parts : (k : Cell) → low ≤ℤ k.index → (or_else no_parts (finmap.get n k)).frozen ≡ (or_else no_parts (finmap.get m k)).frozen
+  pub there : (f : Fact) → Among f facts → is_rolled r f ≡ true → low ≤ℤ (cell_of r f).index → finmap.get n (cell_of r f) ≡ None → ⊥
+
+-- so for each rule
+abbrev pub HaveSameParts : List Rule → List ℤ → List Fact → List CellMap → List CellMap → Type 0
+HaveSameParts rs lows facts [] [] = Unit {0}
+HaveSameParts rs lows facts [] (n ∷ ns) = ⊥
+HaveSameParts rs lows facts (m ∷ ms) [] = ⊥
+HaveSameParts [] lows facts (m ∷ ms) (n ∷ ns) = Unit {0}
+HaveSameParts (r ∷ rs) [] facts (m ∷ ms) (n ∷ ns) = Unit {0}
+HaveSameParts (r ∷ rs) (low ∷ lows) facts (m ∷ ms) (n ∷ ns) = HasSameParts r low facts m n × HaveSameParts rs lows facts ms ns
+
+-- The same settings, marks, count of accepted facts and open run; the same columns with the same points in any order,
+-- of which the same wait; each series is still registered; live parts are those of the raw facts.
+pub record IsReloaded (old new : StoreData) : Type 0 where
+  pub settings : new.settings ≡ old.settings
+  pub marks : new.marks ≡ old.marks
+  pub running : new.running ≡ old.running
+  pub accepted : new.accepted ≡ old.accepted
+  pub waiting_once : AllDistinct new.waiting
+  pub waiting : (c : Column) → Among c new.waiting ↔ Among c old.waiting
+  pub series : (s : Series) → Among s old.series → Among s new.series
+  pub columns_once : AllDistinct (map column_of new.columns)
+  pub columns : (c : ColumnPoints) → Among c new.columns ↔ Among c old.columns
+  pub cells : HaveSameParts old.settings.rules old.marks.lows (facts_of old.columns) old.cells new.cells
+  pub live : AreLive new.columns old.settings.rules new.cells
+
+-- the new store stands for each history that the old one stood for
+abbrev pub Reloads : Type 0
+Reloads = (old new : StoreData) → IsReloaded old new → StaysFor old new

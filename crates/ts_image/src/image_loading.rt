@@ -1,0 +1,64 @@
+//! Images loaded from a source: read up to their form, then tested for contradictions.
+ghost use Rattle.std.specs.Prelude.{◌≤◌, ◌^◌, IfOk};
+ghost use Rattle.ts_image.specs.ImageTests.{IsPossible, settings_in};
+ghost use Rattle.ts_image.specs.RuleParts.{settings_of_parts};
+ghost use Rattle.ts_image.specs.ImageReading.{image_of};
+ghost use Rattle.ts_image.specs.ImageLoading.{LoadsImage};
+ghost use Rattle.ts_image.specs.SettingsMade.{IsMadeIf};
+
+use crate::image_reading::{ImageParts, read_parts};
+use crate::image_tests::is_rest_possible;
+use crate::load_fault::LoadFault;
+use crate::settings_making::make_settings;
+use crate::version::Version;
+use std::alloc::{AllocError, Allocator};
+use std::io::Read;
+use ts_core::{Settings, Source};
+
+/// What an image without contradictions says, and the settings made of it.
+#[derive(Drop)]
+pub struct LoadedImage<A: Allocator> {
+    pub version: Version,
+    pub settings: Settings<A>,
+    pub parts: ImageParts<A>,
+}
+
+/// Returns the settings of an image, or `None` if the image contradicts itself.
+fn possible_settings<A: Allocator + Copy>(
+    alloc: A,
+    version: Version,
+    parts: &ImageParts<A>,
+) -> Result<Option<Settings<A>>, AllocError>
+    ensures { IfOk result (IsMadeIf (IsPossible version (image_of parts.now)) (settings_in (settings_of_parts parts.now.settings))) }
+{
+    match make_settings(alloc, &parts.settings)? {
+        Some(settings) => {
+            if is_rest_possible(version, parts) {
+                Ok(Some(settings))
+            } else {
+                Ok(None)
+            }
+        }
+        None => Ok(None),
+    }
+}
+
+/// Reads an image to the end of the input, with at most `turns` reads, and tests it for contradictions.
+pub fn load_parts<R: Read, A: Allocator + Copy>(
+    alloc: A,
+    source: &mut Source<R>,
+    turns: u64,
+) -> Result<LoadedImage<A>, LoadFault>
+    requires { turns ≤ 2 ^ 32 }
+    ensures { LoadsImage source.old turns result source.new }
+{
+    let read = read_parts(alloc, source, turns)?;
+    match possible_settings(alloc, read.0, &read.1)? {
+        Some(settings) => Ok(LoadedImage {
+            version: read.0,
+            settings,
+            parts: read.1,
+        }),
+        None => Err(LoadFault::Contradiction),
+    }
+}

@@ -1,0 +1,60 @@
+//! Images: the data of a store as bytes, and back. An image has settings, marks, series with their raw points, and the
+//! frozen parts of cells. It depends on ts_core alone.
+//! It promises exactness: each image is read as its data and only that. Other bytes are refused with the offset of the
+//! first field at fault, and an image that contradicts itself is refused. A store that is made of the data of an image
+//! stands for each history that the saved store stood for.
+//!
+//! ```text
+//! let image = load_parts(alloc, &mut source, turns)?;  // LoadedImage: version, settings, parts; or a LoadFault
+//! ```
+#![tactic(auto)]
+
+ghost use Rattle.ts_image.specs.FormatLaws.{AreBytes, IsFormat, IsExact};
+ghost use Rattle.ts_image.specs.Formats.{Place, read_whole};
+ghost use Rattle.ts_image.specs.declared.version.Version.{Version};
+ghost use Rattle.ts_image.specs.Images.{ImageData, image};
+ghost use Rattle.ts_image.specs.Pictures.{IsPictureOf, IsMadeOf};
+ghost use Rattle.ts_core.specs.StoreData.{StoreData, StaysFor};
+ghost use Rattle.ts_image.specs.ImageFaults.{AreUnambiguous};
+ghost use Rattle.ts_image.specs.Reloading.{Reloads};
+
+mod cell_reading;
+mod cell_tests;
+mod cell_writing;
+mod column_reading;
+mod column_writing;
+mod count_tests;
+mod field_fault;
+mod field_reader;
+mod image_loading;
+mod image_reading;
+mod image_tests;
+mod load_fault;
+mod rule_reading;
+mod rule_tests;
+mod rule_writing;
+mod series_reading;
+mod series_tests;
+mod settings_making;
+mod version;
+
+pub use cell_reading::{CellKeyParts, CellParts, ExtremesParts, MarksParts};
+pub use image_loading::{LoadedImage, load_parts};
+pub use image_reading::ImageParts;
+pub use load_fault::LoadFault;
+pub use rule_reading::{RuleParts, SettingsParts};
+pub use series_reading::{ColumnParts, KeyParts, SeriesParts};
+pub use version::Version;
+
+/// States that a store made of an image stands for each history that the saved store stood for.
+pub fn reloads()
+    ensures any { Reloads }
+    ensures pictured { (k n : StoreData) (d : ImageData) → IsPictureOf k d → IsMadeOf d n → StaysFor k n }
+{}
+
+/// States that reading an image is exact.
+pub fn images_are_exact()
+    ensures unambiguous { AreUnambiguous }
+    ensures format { (v : Version) → IsFormat (image v) }
+    ensures exact { (v : Version) (p : Place) → AreBytes p.rest → IsExact (image v) p (read_whole (image v) p) }
+{}

@@ -1,0 +1,191 @@
+//! Tests series, columns and points of an image for contradictions. Does not allocate.
+ghost use Rattle.std.specs.Prelude.{◌≡◌, true, ◌≢◌, ◌⊎◌, ◌↔◌, ◌≤ℤ◌, [], map, IsTrue, length};
+ghost use Rattle.std.specs.Ordering.{int_cmp, is_lt};
+ghost use Rattle.std.specs.List.{AllByRecursion};
+ghost use Rattle.ts_core.specs.Facts.{Text, Series, text_cmp, series_cmp};
+ghost use Rattle.ts_core.specs.Times.{IsTime};
+ghost use Rattle.ts_image.specs.Images.{ImageColumn, ImageSeries};
+ghost use Rattle.ts_image.specs.ImageTests.{AreRising, IsName, IsImagePoint, IsImageColumn, IsImageSeriesKey, IsImageSeries};
+ghost use Rattle.ts_image.specs.PointParts.{point_of};
+ghost use Rattle.ts_image.specs.SeriesParts.{tag_of, key_of, column_of_parts, series_of_parts};
+ghost use Rattle.ts_image.specs.TestParts.{IsTag, key_of_tag, field_of, time_of, series_key_of};
+
+use crate::series_reading::{ColumnParts, KeyParts, SeriesParts};
+use std::alloc::Allocator;
+use std::cmp::Ordering;
+
+/// Returns whether a text may be the key of a tag or a field.
+pub(crate) fn is_name(text: &str) -> bool
+    ensures { IsTrue result ↔ IsName text.now }
+{
+    !text.is_empty() && text != "time"
+}
+
+fn is_tag<A: Allocator>(tag: &(String<A>, String<A>)) -> bool
+    ensures { IsTrue result ↔ IsTag (tag_of tag.now) }
+{
+    is_name(tag.0.as_str()) && !tag.1.is_empty()
+}
+
+fn are_tags<A: Allocator>(tags: &[(String<A>, String<A>)]) -> bool
+    ensures { IsTrue result ↔ AllByRecursion IsTag (map tag_of tags.now) }
+{
+    for tag in tags {
+        if !is_tag(tag) {
+            return false;
+        }
+    }
+    true
+}
+
+fn is_tag_before<A: Allocator>(a: &(String<A>, String<A>), b: &(String<A>, String<A>)) -> bool
+    ensures { IsTrue result ↔ (is_lt (text_cmp (key_of_tag a.now) (key_of_tag b.now)) ≡ true) }
+{
+    a.0.as_str() < b.0.as_str()
+}
+
+fn are_tags_rising<A: Allocator>(tags: &[(String<A>, String<A>)]) -> bool
+    ensures { IsTrue result ↔ AreRising text_cmp (map key_of_tag tags.now) }
+{
+    for i in 1..tags.len() {
+        if !is_tag_before(&tags[i - 1], &tags[i]) {
+            return false;
+        }
+    }
+    true
+}
+
+fn is_key<A: Allocator>(key: &KeyParts<A>) -> bool
+    ensures { IsTrue result ↔ IsImageSeriesKey (key_of key.now) }
+{
+    if key.measurement.is_empty() || key.tags.len() > 64 {
+        return false;
+    }
+    are_tags(&key.tags) && are_tags_rising(&key.tags)
+}
+
+/// Returns whether a number of nanoseconds is a valid time.
+pub(crate) fn is_time(nanos: &i64) -> bool
+    ensures { IsTrue result ↔ IsTime nanos.now }
+{
+    *nanos >= -9_223_372_036_854_775_806 && *nanos <= 9_223_372_036_854_775_806
+}
+
+fn is_point(mark: &i64, waits: u8, point: &(i64, i64)) -> bool
+    ensures { IsTrue result ↔ IsImagePoint mark.now waits (point_of point.now) }
+{
+    is_time(&point.0) && (waits == 1 || *mark <= point.0)
+}
+
+fn are_points(mark: &i64, waits: u8, points: &[(i64, i64)]) -> bool
+    ensures { IsTrue result ↔ AllByRecursion (IsImagePoint mark.now waits) (map point_of points.now) }
+{
+    for point in points {
+        if !is_point(mark, waits, point) {
+            return false;
+        }
+    }
+    true
+}
+
+fn is_point_before(a: &(i64, i64), b: &(i64, i64)) -> bool
+    ensures { IsTrue result ↔ (is_lt (int_cmp (time_of a.now) (time_of b.now)) ≡ true) }
+{
+    a.0 < b.0
+}
+
+fn are_points_rising(points: &[(i64, i64)]) -> bool
+    ensures { IsTrue result ↔ AreRising int_cmp (map time_of points.now) }
+{
+    for i in 1..points.len() {
+        if !is_point_before(&points[i - 1], &points[i]) {
+            return false;
+        }
+    }
+    true
+}
+
+fn is_column<A: Allocator>(mark: &i64, runs: u8, column: &ColumnParts<A>) -> bool
+    ensures { IsTrue result ↔ IsImageColumn mark.now runs (column_of_parts column.now) }
+{
+    if !is_name(column.field.as_str()) || column.waits > runs {
+        return false;
+    }
+    are_points(mark, column.waits, &column.points) && are_points_rising(&column.points)
+}
+
+fn are_columns<A: Allocator>(mark: &i64, runs: u8, columns: &[ColumnParts<A>]) -> bool
+    ensures { IsTrue result ↔ AllByRecursion (IsImageColumn mark.now runs) (map column_of_parts columns.now) }
+{
+    for column in columns {
+        if !is_column(mark, runs, column) {
+            return false;
+        }
+    }
+    true
+}
+
+fn is_column_before<A: Allocator>(a: &ColumnParts<A>, b: &ColumnParts<A>) -> bool
+    ensures { IsTrue result ↔ (is_lt (text_cmp (field_of a.now) (field_of b.now)) ≡ true) }
+{
+    a.field.as_str() < b.field.as_str()
+}
+
+fn are_columns_rising<A: Allocator>(columns: &[ColumnParts<A>]) -> bool
+    ensures { IsTrue result ↔ AreRising text_cmp (map field_of columns.now) }
+{
+    for i in 1..columns.len() {
+        if !is_column_before(&columns[i - 1], &columns[i]) {
+            return false;
+        }
+    }
+    true
+}
+
+fn is_series<A: Allocator>(mark: &i64, runs: u8, series: &SeriesParts<A>) -> bool
+    ensures { IsTrue result ↔ IsImageSeries mark.now runs (series_of_parts series.now) }
+{
+    if !is_key(&series.key) {
+        return false;
+    }
+    are_columns(mark, runs, &series.columns) && are_columns_rising(&series.columns)
+}
+
+/// Returns whether each series is possible.
+pub(crate) fn are_series<A: Allocator>(mark: &i64, runs: u8, series: &[SeriesParts<A>]) -> bool
+    ensures { IsTrue result ↔ AllByRecursion (IsImageSeries mark.now runs) (map series_of_parts series.now) }
+{
+    for one in series {
+        if !is_series(mark, runs, one) {
+            return false;
+        }
+    }
+    true
+}
+
+fn compare_keys<A: Allocator>(a: &KeyParts<A>, b: &KeyParts<A>) -> Ordering
+    ensures { result ≡ series_cmp (key_of a.now) (key_of b.now) }
+{
+    match a.measurement.cmp(&b.measurement) {
+        Ordering::Equal => a.tags.cmp(&b.tags),
+        other => other,
+    }
+}
+
+fn is_series_before<A: Allocator>(a: &SeriesParts<A>, b: &SeriesParts<A>) -> bool
+    ensures { IsTrue result ↔ (is_lt (series_cmp (series_key_of a.now) (series_key_of b.now)) ≡ true) }
+{
+    compare_keys(&a.key, &b.key) == Ordering::Less
+}
+
+/// Returns whether series are in rising order.
+pub(crate) fn are_series_rising<A: Allocator>(series: &[SeriesParts<A>]) -> bool
+    ensures { IsTrue result ↔ AreRising series_cmp (map series_key_of series.now) }
+{
+    for i in 1..series.len() {
+        if !is_series_before(&series[i - 1], &series[i]) {
+            return false;
+        }
+    }
+    true
+}
