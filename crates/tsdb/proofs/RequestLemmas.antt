@@ -4,6 +4,7 @@ use Rattle.ts_core.specs.Facts.{Text}
 use Rattle.ts_core.specs.Devices.{Input, Output}
 use Rattle.ts_core.specs.StoreData.{StoreData}
 use Rattle.ts_store.specs.LineTexts.{State, IsIn}
+use Rattle.ts_http.specs.Maintaining.{left_in}
 use Rattle.ts_http.specs.Reading.{request_of}
 use Rattle.ts_http.specs.Served.{ServedAs, IsServed}
 use Rattle.ts_http.specs.declared.serve.IoFault.{IoFault}
@@ -27,7 +28,7 @@ went_on old mid new first then = λ s here.
 by_one : (now : ℤ) (bytes : Text) (old : StoreData) (served : Served) (new : StoreData) (Sent : Text → Type 0) → ServedAs now bytes old served new Sent → WentBy old new
 by_one now bytes old served new Sent one = λ s here.
     let done = one s here in
-    (record { now = now; bytes = bytes; served = served; reply = done.0 } ∷ [], done.1, (s, refl, done.2), done.3)
+    (record { now = now; left = left_in now old; bytes = bytes; served = served; reply = done.0 } ∷ [], done.1, (s, refl, done.2), done.3)
 
 -- a request that was served, or done and not answered whole, or not read
 pub went : (now : ℤ) (old : StoreData) (source : Input) (sink : Output) (result : Result Served IoFault) (new : StoreData) (source' : Input) (sink' : Output)

@@ -1,5 +1,5 @@
 -- What becomes of a store by HTTP requests, one after another. (Own rule.)
-use Rattle.std.specs.Prelude.{◌≡◌, ℤ, List, [], ◌∷◌}
+use Rattle.std.specs.Prelude.{◌≡◌, ℕ, ℤ, List, [], ◌∷◌}
 use Rattle.ts_core.specs.Facts.{Text}
 use Rattle.ts_core.specs.StoreData.{StoreData}
 use Rattle.ts_store.specs.LineTexts.{State, IsIn}
