@@ -17,6 +17,8 @@ def free_port():
     """Returns a port that nobody listens on. It isn't returned again soon, and connections don't take it by themselves."""
     for port in PORTS:
         with socket.socket() as probe:
+            # a process that another thread is just starting may hold the probe for a moment
+            probe.setsockopt(socket.SOL_SOCKET, socket.SO_REUSEADDR, 1)
             try:
                 probe.bind(('127.0.0.1', port))
                 return port
