@@ -1,15 +1,17 @@
 -- A list in the order of its keys, as a finite map.
-use Rattle.std.proofs.Common.{◌≡◌, ℕ, ℤ, ◌<◌, ◌≤◌, ◌-◌, Bool, true, false, true≢false, cond, is_lt, T, List, [], ◌∷◌, ◌++◌, length, filter, get_or, set, insert, refl, sym, ◌∙◌, ap, Option, None, Result, Ok, Err, Ordering, Less, Equal, Greater, arith}
+use Rattle.std.proofs.Common.{◌≡◌, ◌≢◌, ◌⊎◌, ⊎_elim, ℕ, suc, ℤ, ◌<◌, ◌≤◌, ◌-◌, Bool, true, false, true≢false, cond, is_lt, is_eq, T, List, [], ◌∷◌, ◌++◌, length, filter, get_or, set, insert, refl, sym, ◌∙◌, ap, Option, Some, None, Result, Ok, Err, Ordering, Less, Equal, Greater, arith}
 use Rattle.std.specs.Ordering.{int_cmp, ordering_index}
 use Rattle.std.specs.Cmp.{IsTotalOrder, int_cmp_total}
 use Rattle.std.specs.FinMap as map
-use Rattle.std.specs.FinMap.{put, is_sorted, from_sorted, entries, entries-from_sorted, get-from_sorted, entries-insert, same_entries_map, same_map, empty_of_len, len-entries, get-retain_keys, IsAntisymmetric, int_cmp-IsAntisymmetric}
+use Rattle.std.specs.FinMap.{put, find, is_sorted, from_sorted, entries, entries-from_sorted, get-from_sorted, entries-insert, same_entries_map, same_map, empty_of_len, len-entries, get-retain_keys, IsAntisymmetric, int_cmp-IsAntisymmetric}
 use Rattle.std.specs.FinMap.Entries.{by_order, is_sorted-put, is_sorted-where_key, find-where_key, where_key}
 use Rattle.std.specs.List.Sorted.{IsBinarySearchResult}
 use Rattle.std.proofs.lemmas.List.{get_or_default}
 use Rattle.std.proofs.lemmas.List.Edits.{insert_end}
 use Rattle.ts_core.specs.Times.{IsTime}
-use Rattle.ts_core.proofs.Places.{rises, put_at, put_between}
+use Rattle.ts_core.proofs.Places.{rises, found_at, put_at, put_between}
+use Rattle.ts_core.proofs.Ids.{equal_of}
+use Rattle.std.proofs.lemmas.Cmp.{tied_itself}
 use Rattle.ts_raw.specs.Columns.{AreTimed}
 use Rattle.ts_raw.specs.PlainColumns.{IsRising, IsPlaceOf}
 
@@ -95,3 +97,37 @@ put_last points s point last is before = sym (insert_end points point) ∙ put_n
 pub found_place : (points : List (ℤ × ℤ)) → IsRising points → (t : ℤ) (r : Result ℕ ℕ) → IsBinarySearchResult (λ (p : ℤ × ℤ). int_cmp p.0 t) points r → IsPlaceOf t points r
 found_place points s t (Ok i) h = h
 found_place points s t (Err i) h = h (rises int_cmp_total points s t)
+
+-- ---- the value at a time
+
+absent : (points : List (ℤ × ℤ)) (t : ℤ) → ((k : ℕ) (d : ℤ × ℤ) → k < length points → int_cmp (get_or points k d).0 t ≢ Equal) → find int_cmp t points ≡ None
+absent [] t other = refl
+absent (p ∷ points) t other =
+    let rest : find int_cmp t points ≡ None = absent points t (λ k d l. other (suc k) d (omega arith)) in
+    elim (is_eq (int_cmp t p.0)) as (λ b. is_eq (int_cmp t p.0) ≡ b → cond b (Some p.1) (find int_cmp t points) ≡ None) [
+      | true ↦ λ e.
+          let same : t ≡ p.0 = int_cmp-IsAntisymmetric t p.0 (equal_of (int_cmp t p.0) e) in
+          absurd (other 0 p (omega arith) (ap (λ x. int_cmp x t) (sym same) ∙ tied_itself int_cmp_total t))
+      | false ↦ λ e. rest
+    ] refl
+
+less_apart : Less ≡ Equal → ⊥
+less_apart e = true≢false (ap is_lt e)
+
+greater_apart : Greater ≡ Equal → ⊥
+greater_apart e = true≢false (sym (ap is_eq e))
+
+before_or : (k i : ℕ) → (k < i) ⊎ (i ≤ k)
+before_or k i = grind arith
+
+-- where a binary search found no point
+pub value_nowhere : (points : List (ℤ × ℤ)) (t : ℤ) (i : ℕ) → IsPlaceOf t points (Err i) → find int_cmp t points ≡ None
+value_nowhere points t i place = absent points t (λ k d l e. ⊎_elim {C = ⊥} (λ h. less_apart (sym (place.0 k d (omega arith) h) ∙ e)) (λ h. greater_apart (sym (place.1 k d h l) ∙ e)) (before_or k i))
+
+-- and where it found one
+pub value_there : (points : List (ℤ × ℤ)) → IsRising points → (t : ℤ) (i : ℕ) (d : ℤ × ℤ) → i < length points → IsPlaceOf t points (Ok i) → find int_cmp t points ≡ Some (get_or points i d).1
+value_there points s t i d l e = found_at int_cmp_total points s t i d l (e d)
+
+-- a time after the last one has none
+pub value_after : (points : List (ℤ × ℤ)) → IsRising points → (t : ℤ) (last : ℤ × ℤ) → last ≡ get_or points (length points - 1) last → int_cmp last.0 t ≡ Less → find int_cmp t points ≡ None
+value_after points s t last is before = value_nowhere points t (length points) (after_last points s t last is before)

@@ -76,6 +76,13 @@ impl<A: Allocator + Copy> Index<A> {
         self.series.len()
     }
 
+    /// Returns the keys of the registered series.
+    pub fn keys(&self) -> &[Key<A>]
+        ensures { result.now ≡ self.now.series }
+    {
+        self.series.keys()
+    }
+
     /// Returns the number of columns.
     pub fn column_count(&self) -> usize
         ensures value { result ≡ length self.now.columns }

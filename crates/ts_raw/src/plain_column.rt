@@ -2,11 +2,12 @@
 ghost use Rattle.std.specs.Prelude.{◌≡◌, ◌<◌, ◌≤◌, ◌≤ℤ◌, pos, ℤ, length, filter, vec_len, vec_capacity, drop};
 ghost use Rattle.std.specs.Ordering.{int_cmp, int_eq};
 ghost use Rattle.std.specs.FinMap as map;
-ghost use Rattle.std.specs.FinMap.{put};
+ghost use Rattle.std.specs.FinMap.{put, find};
 ghost use Rattle.std.specs.List.Sorted.{IsSearchInRange};
 ghost use Rattle.ts_core.specs.Buckets.{bucket_of};
 ghost use Rattle.ts_core.specs.Facts.{is_within};
 ghost use Rattle.ts_core.specs.StoreMoves.{points_below};
+ghost use Rattle.ts_raw.specs.Columns.{AreTimed};
 ghost use Rattle.ts_raw.specs.Edges.{IsEdgeAt};
 ghost use Rattle.ts_raw.specs.PlainColumns.{IsRising, IsPlaceOf, IsStartOf};
 
@@ -134,6 +135,30 @@ fn inside<'a>(
     }
 }
 
+/// Returns the value of the point at a time, if there is one, by binary search.
+#[cold]
+fn value_among(points: &[(Time, i64)], time: Time) -> Option<i64>
+    requires { IsRising points.now }
+    ensures { result ≡ find int_cmp time points.now }
+{
+    match place_of(points, time) {
+        Ok(at) => Some(points[at].1),
+        Err(_) => None,
+    }
+}
+
+/// Returns the value of the point at a time, if there is one. Compares the time with the last one first.
+fn value_in(points: &[(Time, i64)], time: Time) -> Option<i64>
+    requires { IsRising points.now }
+    ensures { result ≡ find int_cmp time points.now }
+{
+    let last = points.last()?;
+    if last.0 < time {
+        return None;
+    }
+    value_among(points, time)
+}
+
 /// Removes the first `count` points.
 fn drop_front<A: Allocator>(points: &mut Vec<(Time, i64), A>, count: usize)
     requires { count ≤ vec_len points.old }
@@ -152,6 +177,35 @@ impl<A: Allocator> PlainColumn<A> {
             points: Vec::new(alloc),
             aside: None,
         }
+    }
+
+    /// Creates a column of points, which must be in the order of time, each time once. Moves the vector in.
+    pub fn of(points: Vec<(Time, i64), A>) -> PlainColumn<A>
+        requires rising { IsRising points.items }
+        requires timed { AreTimed points.items }
+        ensures points { result.points ≡ map.from_sorted points.items }
+        ensures entries { map.entries result.points ≡ points.items }
+        ensures none_aside { result.aside ≡ None }
+    {
+        PlainColumn {
+            points,
+            aside: None,
+        }
+    }
+
+    /// Returns all points in the order of time.
+    pub fn all(&self) -> Points<'_>
+        ensures points { result ≡ map.entries self.now.points }
+        ensures timed { AreTimed result }
+    {
+        Points::plain(self.points.as_slice())
+    }
+
+    /// Returns the value at a time, if there is a point. Doesn't search if the time is after all others.
+    pub fn value_at(&self, time: Time) -> Option<i64>
+        ensures { result ≡ map.get self.now.points time }
+    {
+        value_in(self.points.as_slice(), time)
     }
 }
 

@@ -1,7 +1,9 @@
 //! Index of a column, used instead of its names.
-ghost use Rattle.std.specs.Prelude.{◌≡◌, ◌+◌, min};
+ghost use Rattle.std.specs.Prelude.{◌≡◌, ◌+◌, min, IfOk};
 
+use std::alloc::AllocError;
 use std::marker::Model;
+use ts_core::next_number;
 
 /// Index of a column, in creation order from 0.
 #[derive(Clone, Copy, Debug, PartialEq, Eq, PartialOrd, Ord)]
@@ -10,6 +12,15 @@ pub struct ColumnId {
 }
 
 impl ColumnId {
+    /// Returns the id of the column with this index. Fails if the index doesn't fit 32 bits.
+    pub fn of(number: usize) -> Result<ColumnId, AllocError>
+        ensures { IfOk result (λ id. id ≡ number) }
+    {
+        Ok(ColumnId {
+            number: next_number(number)?,
+        })
+    }
+
     /// Returns the index, which is the number of columns created before.
     pub fn number(self) -> usize
         ensures { result ≡ self }

@@ -90,6 +90,13 @@ impl<A: Allocator + Copy> SeriesTable<A> {
         self.keys.len()
     }
 
+    /// Returns the keys, in creation order.
+    pub(crate) fn keys(&self) -> &[Key<A>]
+        ensures { result.now ≡ self.now }
+    {
+        self.keys.as_slice()
+    }
+
     /// Returns the key of a series.
     pub(crate) fn key(&self, series: SeriesId) -> &Key<A>
         requires { series < length self.now }
