@@ -1,16 +1,9 @@
 -- A fact that was put into its column is put into its cell: one fact more is added, or the live part is corrected.
-use Rattle.std.proofs.Common.{◌≡◌, ℕ, ℤ, ◌&&◌, ◌+ℤ◌, pos, true, false, cond, List, [], ◌∷◌, length, filter, Option, Some, None, option_map, refl, sym, ◌∙◌, ap, subst, arith, is_eq, int_le, int_lt}
-use Rattle.std.specs.Ordering.{int_cmp}
+use Rattle.std.proofs.Common.{◌≡◌, ℕ, ℤ, false, cond, List, length, filter, Option, Some, None, option_map, refl, sym, ◌∙◌, ap, subst, arith}
 use Rattle.std.specs.FinMap as finmap
-use Rattle.std.specs.FinMap.{entries, get-entries, int_cmp-IsAntisymmetric}
-use Rattle.std.specs.FinMap.Entries.{find}
-use Rattle.std.specs.Cmp.{int_cmp_total}
-use Rattle.std.proofs.lemmas.Cmp.{tied_itself}
-use Rattle.std.proofs.lemmas.Int.{ints}
-use Rattle.std.proofs.lemmas.Bool.{and_parts}
 use Rattle.std.proofs.lemmas.Option.{get_or_from_slice_get, none-some, same_Some}
 use Rattle.ts_core.specs.Members.{AllDistinct}
-use Rattle.ts_core.specs.Facts.{Column, Fact, is_within}
+use Rattle.ts_core.specs.Facts.{Column, Fact}
 use Rattle.ts_core.specs.Settings.{Rule}
 use Rattle.ts_core.specs.Marks.{index_of}
 use Rattle.ts_core.specs.Aggregates.{Aggregate, aggregate_of_one, merged, IsSound}
@@ -22,55 +15,18 @@ use Rattle.ts_core.specs.TwoParts.{in_live, with_live}
 use Rattle.ts_core.specs.StoreStates.{ColumnPoints, facts_of}
 use Rattle.ts_core.specs.StoreData.{IsLive}
 use Rattle.ts_core.specs.StoreMoves.{frozen_with, refolded, put_cell}
-use Rattle.ts_core.proofs.Comparisons.{same_bool, le_from, le_true, lt_from, lt_true}
-use Rattle.ts_core.proofs.Ids.{equal_of}
 use Rattle.ts_core.proofs.Cuts.{one_fact}
 use Rattle.ts_core.proofs.Folds.{fold-count}
 use Rattle.ts_core.proofs.ListSteps.{length-filter}
 use Rattle.ts_core.proofs.PutCells.{add_puts, correct_puts}
 use Rattle.ts_cells.specs.Grids.{no_lane, cell_at, cell_in}
-use Rattle.ts_raw.specs.Columns.{PointMap, ColumnState, points_within}
+use Rattle.ts_raw.specs.Columns.{ColumnState}
 use Rattle.ts_store.specs.ColumnsKept.{with_points, point_maps}
 use Rattle.ts_store.specs.LivePoints.{lane_total}
 use Rattle.ts_store.specs.LivePuts.{IsOver, WasThere, IsPut}
 use Rattle.ts_store.specs.Rollups.{RollupState, IsLaneOf, lane_under, lane_at, added_in, corrected_in, live_part}
 use Rattle.ts_store.proofs.LiveParts.{cell_total}
 use Rattle.ts_store.proofs.RoomLemmas.{lane_known}
-
--- ---- the value at a time
-
-abbrev pub first_value : List (ℤ × ℤ) → Option ℤ
-first_value [] = None
-first_value (p ∷ ps) = Some p.1
-
-one_time : (t x : ℤ) → is_within t (t +ℤ pos 1) x ≡ is_eq (int_cmp t x)
-one_time t x =
-    same_bool (is_within t (t +ℤ pos 1) x) (is_eq (int_cmp t x))
-    (λ e.
-    let p = and_parts (int_le t x) (int_lt x (t +ℤ pos 1)) e in
-    let low = le_from t x p.0 in
-    let high = lt_from x (t +ℤ pos 1) p.1 in
-    let same : t ≡ x = omega (arith, ints, low, high) in
-    ap (λ y. is_eq (int_cmp t y)) (sym same) ∙ ap is_eq (tied_itself int_cmp_total t))
-    (λ e.
-    let same : t ≡ x = int_cmp-IsAntisymmetric t x (equal_of (int_cmp t x) e) in
-    let low : int_le t t ≡ true = le_true t t (omega (arith, ints)) in
-    let high : int_lt t (t +ℤ pos 1) ≡ true = lt_true t (t +ℤ pos 1) (omega (arith, ints)) in
-    ap (λ y. int_le t y && int_lt y (t +ℤ pos 1)) (sym same) ∙ ap (λ b. b && int_lt t (t +ℤ pos 1)) low ∙ high)
-
-first_found : (t : ℤ) (es : List (ℤ × ℤ)) → first_value (filter (λ (p : ℤ × ℤ). is_within t (t +ℤ pos 1) p.0) es) ≡ find int_cmp t es
-first_found t [] = refl
-first_found t (e ∷ es) =
-    let rest = first_found t es in
-    let others : List (ℤ × ℤ) = filter (λ (p : ℤ × ℤ). is_within t (t +ℤ pos 1) p.0) es in
-    ap (λ b. first_value (cond b (e ∷ others) others)) (one_time t e.0)
-    ∙ elim (is_eq (int_cmp t e.0)) as (λ b. first_value (cond b (e ∷ others) others) ≡ cond b (Some e.1) (find int_cmp t es)) [
-      | true ↦ refl
-      | false ↦ rest
-    ]
-
-pub value_found : (m : PointMap) (t : ℤ) → first_value (points_within m t (t +ℤ pos 1)) ≡ finmap.get m t
-value_found m t = first_found t (entries m) ∙ sym (get-entries m t)
 
 -- ---- the cell of a fact under a rule
 

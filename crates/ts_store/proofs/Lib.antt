@@ -1,10 +1,16 @@
 -- StandsFor of ts_core, LinesPut, Refusals: a store goes on standing for its history
 pub mod Stands
+-- OpenRuns
+pub mod WaitingColumns
 pub mod RunsGoOn
 pub mod RawReads
 pub mod RunsStay
+-- Inventories: columns and cells that exist
+pub mod InventoriesKept
+pub mod InventoriesGrown
 -- SizedStores
 pub mod SizesKept
+pub mod NamesKept
 -- CellIndices
 pub mod IndicesKept
 pub mod SeriesLimit
@@ -39,3 +45,16 @@ pub mod SeatLemmas
 pub mod LineTextLemmas
 -- StoreFaultTexts
 pub mod StoreFaultLemmas
+-- Saving
+pub mod SavedOrders
+pub mod ListedColumns
+pub mod FrozenShown
+pub mod WaitingAt
+-- Building: a store that is made of parts
+pub mod CellsCreated
+pub mod LivesFilled
+pub mod ColumnsInTurn
+pub mod RulesFilled
+pub mod PartsBuilt
+pub mod BuildersKept
+pub mod StoresBuilt

@@ -1,12 +1,14 @@
 -- LineTexts: the outcome of a text, by the result of parsing it and the store's answer.
-use Rattle.std.proofs.Common.{◌≡◌, ◌⊎◌, ⊎_elim, ℤ, Option, Some, None, Result, Ok, Err, IfSome, IsNone, refl, sym, ap, ◌∙◌, subst}
-use Rattle.ts_core.specs.Facts.{Text}
+use Rattle.std.proofs.Common.{◌≡◌, ◌⊎◌, ⊎_elim, ℤ, int_le, ◌+◌, ◌^◌, nat_le, length, List, Bool, true, false, not, Option, Some, None, Result, Ok, Err, IfSome, IsNone, refl, sym, ap, ◌∙◌, subst}
+use Rattle.ts_core.specs.Facts.{Text, Series}
+use Rattle.ts_core.specs.SettingsFaults.{unless}
 use Rattle.ts_core.specs.StoreData.{StoreData}
 use Rattle.ts_core.specs.declared.time_unit.TimeUnit.{TimeUnit}
-use Rattle.ts_line.specs.Parts.{Parts}
+use Rattle.ts_line.specs.Parts.{Parts, series_of, line_facts}
 use Rattle.ts_store.specs.LinesPut.{Leaves}
 use Rattle.ts_store.specs.LineTexts.{State, IsIn, WritesParts, WritesText, RunsOutOfMemory, WritesFrom, refusal_in, parts_in, with_line, with_series}
-use Rattle.ts_store.specs.Refusals.{write_fault}
+use Rattle.ts_store.specs.Refusals.{is_too_many, write_fault}
+use Rattle.ts_store.specs.Registered.{MayGain}
 use Rattle.ts_store.specs.declared.fault.WriteFault.{WriteFault}
 use Rattle.ts_store.specs.declared.fault.WriteFault.TheVariants as write
 use Rattle.ts_store.specs.declared.write_text.LineOutcome.{LineOutcome}
@@ -52,3 +54,33 @@ module _ (parts : Parts) (old new : StoreData) (fault : WriteFault) (refused : I
   wrote_refused s i =
       let now = refused_now (write_fault old.marks.raw old.series old.accepted parts) old new parts fault refused taken other in
       (sym (same_refusal s parts old i) ∙ now.0, subst (IsIn s) (sym now.1) i)
+
+-- ---- out of memory
+
+-- a line is never refused as out of memory
+never_memory : (a b c : Bool) (mark : ℤ) → unless a (write.BelowRawMark mark) (unless b write.TooManySeries (unless c write.TooManyFacts None)) ≡ Some write.OutOfMemory → ⊥
+never_memory true true true mark e = cc
+never_memory true true false mark e = cc
+never_memory true false c mark e = cc
+never_memory false b c mark e = cc
+
+module _ (parts : Parts) (old new : StoreData) (fault : WriteFault) (refused : IfSome (write_fault old.marks.raw old.series old.accepted parts) (λ f. (refused_by fault ≡ Err f) × (new ≡ old)))
+    (taken : IsNone (write_fault old.marks.raw old.series old.accepted parts) → (refused_by fault ≡ Ok tt) ⊎ ((refused_by fault ≡ Err write.OutOfMemory) × Leaves old new parts)) (memory : fault ≡ write.OutOfMemory) where
+  left_by_cases : (o : Option WriteFault) → write_fault old.marks.raw old.series old.accepted parts ≡ o → (write_fault old.marks.raw old.series old.accepted parts ≡ None) × Leaves old new parts
+  left_by_cases (Some f) e =
+      let same : f ≡ write.OutOfMemory = sym (err_same fault f (subst (λ (p : Option WriteFault). IfSome p (λ g. (refused_by fault ≡ Err g) × (new ≡ old))) e refused).0) ∙ memory in
+      absurd (never_memory (int_le old.marks.raw parts.time) (not (is_too_many old.series (series_of parts))) (nat_le (old.accepted + length (line_facts parts)) (2 ^ 62)) old.marks.raw (e ∙ ap Some same))
+  left_by_cases None e = (
+    e,
+    ⊎_elim {C = Leaves old new parts} (λ done. absurd (let p : refused_by fault ≡ Ok tt = done in cc)) (λ want. want.1) (subst (λ (p : Option WriteFault). IsNone p → (refused_by fault ≡ Ok tt) ⊎ ((refused_by fault ≡ Err write.OutOfMemory) × Leaves old new parts)) e taken refl),
+  )
+
+  pub left_without_memory : Leaves old new parts
+  left_without_memory = (left_by_cases (write_fault old.marks.raw old.series old.accepted parts) refl).1
+
+  pub wrote_without_memory : (s : State) → IsIn s old → (refusal_in s parts ≡ None) × ((series : List Series) × MayGain s.series series (series_of parts) × IsIn (with_series series s) new)
+  wrote_without_memory s i =
+      let none = (left_by_cases (write_fault old.marks.raw old.series old.accepted parts) refl).0 in (
+        sym (same_refusal s parts old i) ∙ none,
+        (new.series, subst (λ (before : List Series). MayGain before new.series (series_of parts)) i.series left_without_memory.series, record { stands = left_without_memory.history s.opening s.history i.stands; series = refl }),
+      )

@@ -1,6 +1,8 @@
 -- A point that was aside is put into its column: which value was there, and what the cells of all rules then are.
-use Rattle.std.proofs.Common.{◌≡◌, ℕ, zero, suc, ℤ, ◌+◌, ◌≤◌, ◌^◌, true, false, cond, List, [], ◌∷◌, length, map, set, get_or, Option, Some, None, refl, sym, ◌∙◌, ap, ap₂, subst, ⊎_elim, arith, slice_get, IsSome, IfSome, drop}
+use Rattle.std.proofs.Common.{◌≡◌, ℕ, zero, suc, ℤ, ◌+◌, ◌<◌, ◌≤◌, ◌^◌, Bool, true, false, true≢false, cond, List, [], ◌∷◌, length, map, set, get_or, Option, Some, None, refl, sym, ◌∙◌, ap, ap₂, subst, ⊎_elim, arith, slice_get, IsSome, IfSome, drop}
 use Rattle.std.specs.List.{AllByRecursion}
+use Rattle.std.specs.Bool.{OnFalse}
+use Rattle.std.specs.Option.{is_some}
 use Rattle.std.specs.FinMap as finmap
 use Rattle.std.specs.FinMap.{entries, entries_sorted, get-entries, len-insert, int_cmp-IsAntisymmetric}
 use Rattle.std.specs.Cmp.{int_cmp_total}
@@ -12,25 +14,26 @@ use Rattle.ts_core.specs.Facts.{Column, Fact, Id, id_of, same_id}
 use Rattle.ts_core.specs.Settings.{Rule}
 use Rattle.ts_core.specs.StoreStates.{ColumnPoints, facts_of}
 use Rattle.ts_core.specs.StoreData.{CellMap, AreLive}
-use Rattle.ts_core.specs.StoreMoves.{PutsFact, put_cell, put_cells, PutsFacts}
+use Rattle.ts_core.specs.StoreMoves.{PutsFact, refolded, put_cell, put_cells, PutsFacts}
 use Rattle.ts_core.proofs.Ids.{same_id-eq}
 use Rattle.ts_core.proofs.LivesKept.{lives_line}
 use Rattle.ts_core.proofs.MembersLemmas.{Among-append, Among-left, Among-right}
 use Rattle.ts_core.proofs.NumberedLemmas.{at_among}
 use Rattle.ts_core.proofs.Sorted.{found_among, among_found}
-use Rattle.ts_core.specs.Cells.{total_of}
+use Rattle.ts_core.specs.Cells.{cell_of, is_rolled, total_of}
 use Rattle.ts_line.specs.Parts.{LinePart, Parts, fact_of}
 use Rattle.ts_raw.specs.Columns.{PointMap, ColumnState}
 use Rattle.ts_store.specs.ColumnsKept.{facts_in, facts_of_columns, with_points, point_maps, no_column, with_aside, committed, all_committed, AreReady, AreAside}
 use Rattle.ts_store.specs.LivePuts.{IsOver, WasThere, IsPut, AreOfFields}
 use Rattle.ts_store.specs.PointsRead.{number_of_points}
-use Rattle.ts_store.specs.Rollups.{RollupState, AreRollups, with_frozen, cells_of}
+use Rattle.ts_store.specs.Rollups.{RollupState, IsLaneOf, AreRollups, lane_at, with_frozen, cells_of}
 use Rattle.ts_store.specs.RollupSteps.{with_frozen_all}
 use Rattle.ts_store.proofs.ColumnsAside.{points_at, one_committed, aside_others, same_names, ready_others, committed_is}
 use Rattle.ts_store.proofs.ColumnsLemmas.{in_column, column_among, to_column, facts-distinct}
 use Rattle.ts_store.proofs.ColumnsReads.{facts-length}
 use Rattle.ts_store.proofs.RollupMoves.{rollups_with}
 use Rattle.ts_store.proofs.RollupsGrow.{lanes-length}
+use Rattle.ts_store.proofs.RoomLemmas.{lane_known}
 
 -- ---- what was there
 
@@ -142,6 +145,34 @@ pub nowhere_put : (rs : List Rule) (f : Fact) (facts : List Fact) (ss : List Rol
 nowhere_put [] f facts ss e = refl
 nowhere_put (r ∷ rs) f facts [] e = refl
 nowhere_put (r ∷ rs) f facts (s ∷ ss) e = absurd (omega arith)
+
+-- each has an entry for the column
+pub inside_each : (n m k : ℕ) (ss : List RollupState) → k ≡ n → n < m → AllByRecursion (λ (s : RollupState). length s.lanes ≡ m) ss → AllByRecursion (λ (s : RollupState). k < length s.lanes) ss
+inside_each n m k [] e l all = tt
+inside_each n m k (s ∷ ss) e l all = (let h = all.0 in omega (arith, e, l, h), inside_each n m k ss e l all.1)
+
+-- where the first rule doesn't roll the column up, the others tell
+pub none_rolls : (n : ℕ) (ss : List RollupState) → length ss ≡ 0 → AllByRecursion (λ (s : RollupState). lane_at s n ≡ None) ss
+none_rolls n [] e = tt
+none_rolls n (s ∷ ss) e = absurd (omega arith)
+
+without_lane : (o : Option ℕ) → is_some o ≡ false → o ≡ None
+without_lane None e = refl
+without_lane (Some l) e = absurd (true≢false e)
+
+pub rolls_more : (n : ℕ) (s : RollupState) (ss ss' : List RollupState) (first others : Bool) → ss' ≡ s ∷ ss → first ≡ is_some (lane_at s n) → first ≡ false
+    → OnFalse others (AllByRecursion (λ (t : RollupState). lane_at t n ≡ None) ss) → OnFalse others (AllByRecursion (λ (t : RollupState). lane_at t n ≡ None) ss')
+rolls_more n s ss ss' first true e is passed h = tt
+rolls_more n s ss ss' first false e is passed h = subst (AllByRecursion (λ (t : RollupState). lane_at t n ≡ None)) (sym e) (without_lane (lane_at s n) (sym is ∙ passed), h)
+
+-- where no rule rolls the column up
+pub unrolled_put : (rs : List Rule) (cs : List Column) (ss : List RollupState) (n : ℕ) (f : Fact) (facts : List Fact) → AreRollups rs cs ss → slice_get cs n ≡ Some f.column → AllByRecursion (λ (s : RollupState). lane_at s n ≡ None) ss
+    → cells_of ss ≡ put_cells rs f facts (cells_of ss)
+unrolled_put [] cs ss n f facts a at none = refl
+unrolled_put (r ∷ rs) cs [] n f facts a at none = refl
+unrolled_put (r ∷ rs) cs (s ∷ ss) n f facts a at none =
+    let passed : is_rolled r f ≡ false = subst (IsLaneOf r f.column s.grid.lanes) none.0 (lane_known r s.grid.lanes cs s.lanes n f.column a.0 at) in
+    ap₂ (λ (m : CellMap) (ms : List CellMap). m ∷ ms) (sym (ap (λ b. cond b (refolded r (cell_of r f) facts s.grid.cells) s.grid.cells) passed)) (unrolled_put rs cs ss n f facts a.1 at none.1)
 
 -- the first rule, and the others
 pub all_put-more : (r : Rule) (rs rs' : List Rule) (cs : List Column) (states : List ColumnState) (before : List ColumnPoints) (f : Fact) (facts : List Fact) (s t : RollupState) (ss ts ss' : List RollupState) → rs' ≡ r ∷ rs → ss' ≡ s ∷ ss

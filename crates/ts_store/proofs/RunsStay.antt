@@ -1,88 +1,43 @@
--- A step of a run keeps settings, the order of columns and the number of accepted facts, and creates no cell.
-use Rattle.std.proofs.Common.{◌≡◌, ◌≢◌, ◌⊎◌, ℤ, List, [], ◌∷◌, map, refl, sym, ◌∙◌, subst, ⊎_elim, Some, None}
-use Rattle.std.specs.FinMap as finmap
-use Rattle.std.proofs.lemmas.Option.{none-some}
-use Rattle.ts_core.specs.Members.{Among}
-use Rattle.ts_core.specs.Facts.{Column, Fact}
+-- A step of a run keeps settings, the number of accepted facts, and the cells from low indices on.
+use Rattle.std.proofs.Common.{◌≡◌, ◌⊎◌, ⊎_elim, ℕ, suc, ℤ, List, refl, sym, ◌∙◌, ap, subst}
+use Rattle.ts_core.specs.Marks.{Marks}
 use Rattle.ts_core.specs.Settings.{Rule}
-use Rattle.ts_core.specs.StoreStates.{column_of, facts_of}
-use Rattle.ts_core.specs.StoreData.{CellMap, StoreData}
-use Rattle.ts_core.specs.StoreMoves.{moved_cells, all_moved, points_below, kept_points, AreOf, run_begun, run_ended}
-use Rattle.ts_core.proofs.MovesStand.{key_there, key_not}
-use Rattle.ts_core.proofs.StepStands.{keys_column}
-use Rattle.ts_store.specs.WholeRuns.{MovesFirst, RemovesCells, CreateNone}
-use Rattle.ts_store.proofs.RunsGoOn.{kept-names}
-use Rattle.ts_store.proofs.TurnsLeft.{of-loses}
+use Rattle.ts_core.specs.StoreData.{StoreData}
+use Rattle.ts_core.specs.StoreMoves.{run_begun}
+use Rattle.ts_store.specs.Inventories.{inventory_of, all_waiting, StepsTo}
+use Rattle.ts_store.specs.WholeRuns.{MovesFirst, RemovesCells}
+use Rattle.ts_store.specs.declared.store.retention.StepAnswer.{StepAnswer}
+use Rattle.ts_store.specs.declared.store.retention.StepAnswer.TheVariants.{Moved, Done}
+use Rattle.ts_store.proofs.InventoriesKept.{KeptSince, HasEnded, none_taken, one_taken, run_over}
 
--- ---- no cell is created
-
-pub none_created : (ms : List CellMap) → CreateNone ms ms
-none_created [] = tt
-none_created (m ∷ ms) = (λ k some. some, none_created ms)
-
-created_then : (ms os ns : List CellMap) → CreateNone ms os → CreateNone os ns → CreateNone ms ns
-created_then [] [] [] a b = tt
-created_then [] [] (n ∷ ns) a b = absurd b
-created_then [] (o ∷ os) ns a b = absurd a
-created_then (m ∷ ms) [] ns a b = absurd a
-created_then (m ∷ ms) (o ∷ os) [] a b = absurd b
-created_then (m ∷ ms) (o ∷ os) (n ∷ ns) a b = (λ k some. a.0 k (b.0 k some), created_then ms os ns a.1 b.1)
-
-created_moved : (rs : List Rule) (c : Column) (ps : List (ℤ × ℤ)) (left : List Fact) (ms : List CellMap) → CreateNone ms (all_moved rs c ps left ms)
-created_moved [] c ps left ms = none_created ms
-created_moved (r ∷ rs) c ps left [] = tt
-created_moved (r ∷ rs) c ps left (m ∷ ms) = (
-  λ k some. key_not m k (subst (Among k) (keys_column r c ps left m) (key_there (moved_cells r c ps left m) k some)),
-  created_moved rs c ps left ms,
-)
-
-created_of : (ms ns : List CellMap) → AreOf ms ns → CreateNone ms ns
-created_of [] [] a = tt
-created_of [] (n ∷ ns) a = absurd a
-created_of (m ∷ ms) [] a = absurd a
-created_of (m ∷ ms) (n ∷ ns) a = (
-  λ k some. elim (finmap.get n k) as (λ x. finmap.get n k ≡ x → finmap.get m k ≢ None) [
-    | Some p ↦ λ e none. none-some p (sym none ∙ a.0 k p e)
-    | None ↦ λ e. absurd (some e)
-  ] refl,
-  created_of ms ns a.1,
-)
-
--- ---- a step
-
-pub record Stays (old new : StoreData) : Type 0 where
+-- what has stayed since a run began, after some steps
+pub record Stays (old new : StoreData) (taken : ℕ) : Type 0 where
   pub settings : new.settings ≡ old.settings
-  pub columns : map column_of new.columns ≡ map column_of old.columns
   pub accepted : new.accepted ≡ old.accepted
-  pub cells : CreateNone old.cells new.cells
+  pub inventory : KeptSince new.marks.lows (all_waiting (inventory_of old)) (inventory_of new) taken
 
-pub stays_then : (k l n : StoreData) → Stays k l → Stays l n → Stays k n
-stays_then k l n a b = record {
-  settings = b.settings ∙ a.settings;
-  columns = b.columns ∙ a.columns;
-  accepted = b.accepted ∙ a.accepted;
-  cells = created_then k.cells l.cells n.cells a.cells b.cells;
+pub begun_stays : (now : ℤ) (old new : StoreData) → new ≡ run_begun now old → Stays old new 0
+begun_stays now old new e =
+    subst (λ (k : StoreData). Stays old k 0) (sym e) (record { settings = refl; accepted = refl; inventory = none_taken (run_begun now old).marks.lows (all_waiting (inventory_of old)) })
+
+same_settings : (old new : StoreData) → MovesFirst old new ⊎ RemovesCells old new → new.settings ≡ old.settings
+same_settings old new m = ⊎_elim {C = new.settings ≡ old.settings} (λ c. ap (λ (k : StoreData). k.settings) c.moved) (λ c. ap (λ (k : StoreData). k.settings) c.others) m
+
+same_accepted : (old new : StoreData) → MovesFirst old new ⊎ RemovesCells old new → new.accepted ≡ old.accepted
+same_accepted old new m = ⊎_elim {C = new.accepted ≡ old.accepted} (λ c. ap (λ (k : StoreData). k.accepted) c.moved) (λ c. ap (λ (k : StoreData). k.accepted) c.others) m
+
+pub step_stays : (old mid new : StoreData) (taken : ℕ) (answer : StepAnswer) → Stays old mid taken → answer ≡ Moved → MovesFirst mid new ⊎ RemovesCells mid new → new.marks ≡ mid.marks
+    → StepsTo mid.marks.lows (inventory_of mid) answer (inventory_of new) → Stays old new (suc taken)
+step_stays old mid new taken answer stays moved moves marks step = record {
+  settings = same_settings mid new moves ∙ stays.settings;
+  accepted = same_accepted mid new moves ∙ stays.accepted;
+  inventory = subst (λ (m : Marks). KeptSince m.lows (all_waiting (inventory_of old)) (inventory_of new) (suc taken)) (sym marks)
+      (one_taken mid.marks.lows (all_waiting (inventory_of old)) (inventory_of mid) (inventory_of new) taken answer stays.inventory moved step);
 }
 
-stays_moved : (old new : StoreData) → MovesFirst old new → Stays old new
-stays_moved old new m =
-    subst (Stays old) (sym m.moved) (record {
-      settings = refl;
-      columns = kept-names m.column old.marks.raw old.columns;
-      accepted = refl;
-      cells = created_moved old.settings.rules m.column (points_below old.marks.raw m.points) (facts_of (map (kept_points m.column old.marks.raw) old.columns)) old.cells;
-    })
-
-stays_removed : (old new : StoreData) → RemovesCells old new → Stays old new
-stays_removed old new m =
-    let cells : CreateNone old.cells new.cells = created_of old.cells new.cells (of-loses old.marks.lows old.cells new.cells m.loses) in
-    subst (Stays old) (sym m.others) (record { settings = refl; columns = refl; accepted = refl; cells = cells })
-
-pub step_stays : (old new : StoreData) → MovesFirst old new ⊎ RemovesCells old new → Stays old new
-step_stays old new m = ⊎_elim {C = Stays old new} (stays_moved old new) (stays_removed old new) m
-
-pub end_stays : (old new : StoreData) → new ≡ run_ended old → Stays old new
-end_stays old new e = subst (Stays old) (sym e) (record { settings = refl; columns = refl; accepted = refl; cells = none_created old.cells })
-
-pub begun_stays : (now : ℤ) (old new : StoreData) → new ≡ run_begun now old → Stays old new
-begun_stays now old new e = subst (Stays old) (sym e) (record { settings = refl; columns = refl; accepted = refl; cells = none_created old.cells })
+-- after the last step
+pub run_ended_by : (rules : List Rule) (old mid new : StoreData) (taken : ℕ) (answer : StepAnswer) → Stays old mid taken → answer ≡ Done → new.marks ≡ mid.marks
+    → StepsTo mid.marks.lows (inventory_of mid) answer (inventory_of new) → HasEnded rules new.marks.lows (all_waiting (inventory_of old)) (inventory_of new) taken
+run_ended_by rules old mid new taken answer stays done marks step =
+    subst (λ (m : Marks). HasEnded rules m.lows (all_waiting (inventory_of old)) (inventory_of new) taken) (sym marks)
+    (run_over rules mid.marks.lows (all_waiting (inventory_of old)) (inventory_of mid) new taken answer stays.inventory done step)

@@ -10,7 +10,7 @@ use Rattle.ts_core.specs.Views.{totals_in}
 use Rattle.ts_raw.specs.Columns.{PointMap, points_within}
 use Rattle.ts_core.specs.Numbered.{numbers_where_from, numbers_where}
 use Rattle.ts_store.specs.ColumnsKept.{with_points}
-use Rattle.ts_store.specs.Seats.{Seat, seats_from, seats_where, seat_in, points_at}
+use Rattle.ts_store.specs.Seats.{Seat, no_points, seats_from, seats_where, seat_in, points_at}
 
 -- ---- which columns
 
@@ -75,3 +75,10 @@ pub none-shown : (cs : List ColumnPoints) (rs : List Rule) (lows : List ℤ) →
 none-shown cs [] lows = refl
 none-shown cs (r ∷ rs) [] = refl
 none-shown cs (r ∷ rs) (low ∷ lows) = refl
+
+-- all of them
+pub points-there : (cs : List Column) (ms : List PointMap) (n : ℕ) → length ms ≡ length cs → n < length cs → (get_or (with_points cs ms) n no_points).points ≡ finmap.entries (get_or ms n finmap.empty)
+points-there [] ms n l there = absurd (omega (arith, there))
+points-there (c ∷ cs) [] n l there = absurd (omega (arith, l))
+points-there (c ∷ cs) (m ∷ ms) zero l there = refl
+points-there (c ∷ cs) (m ∷ ms) (suc n) l there = points-there cs ms n (omega (arith, l)) (omega (arith, there))

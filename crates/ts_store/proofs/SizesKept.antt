@@ -26,6 +26,7 @@ use Rattle.ts_core.proofs.Moves.{is_left}
 use Rattle.ts_core.proofs.RunSteps.{facts_of-left, columns_of-left}
 use Rattle.ts_core.proofs.StepStands.{keys_column}
 use Rattle.ts_core.proofs.MovesStand.{key_there, key_not, put_cell-keys}
+use Rattle.ts_line.specs.Names.{IsKey, IsNamed}
 use Rattle.ts_store.specs.SizedStores.{IsSizedRule, IsSized}
 use Rattle.ts_store.proofs.CountsKept.{facts-put}
 use Rattle.ts_store.proofs.RollupMoves.{moved-length}
@@ -238,7 +239,9 @@ sized_new opening well = record {
   facts = omega arith;
   series = omega arith;
   columns = tt;
+  named = λ s a. absurd a;
   registered = λ c a. absurd a;
+  keys = λ c a. absurd a;
   once = tt;
   lows = length-map opening.rules (low_of opening []);
   cells = length-map opening.rules (λ (r : Rule). let none : CellMap = finmap.empty in none);
@@ -252,7 +255,9 @@ sized_begun k now s = record {
   facts = s.facts;
   series = s.series;
   columns = s.columns;
+  named = s.named;
   registered = s.registered;
+  keys = s.keys;
   once = s.once;
   lows = raised-length now k.settings.rules k.marks.lows s.lows;
   cells = s.cells;
@@ -272,7 +277,9 @@ sized_moved k c ps rest s =
       facts = let most = length-left (is_left c mark) (facts_of k.columns) in let all = s.facts in omega (arith, fewer, most, all);
       series = s.series;
       columns = subst AllDistinct (sym names) s.columns;
+      named = s.named;
       registered = λ d a. s.registered d (subst (Among d) names a);
+      keys = λ d a. s.keys d (subst (Among d) names a);
       once = subst AllDistinct (sym left) (AllDistinct-filter (is_left c mark) (facts_of k.columns) s.once);
       lows = s.lows;
       cells = moved-length k.settings.rules c (points_below mark ps) (facts_of columns) k.cells ∙ s.cells;
@@ -286,7 +293,9 @@ sized_gone k ms e s = record {
   facts = s.facts;
   series = s.series;
   columns = s.columns;
+  named = s.named;
   registered = s.registered;
+  keys = s.keys;
   once = s.once;
   lows = s.lows;
   cells = expired-length k.marks.lows k.cells ms (s.lows ∙ sym s.cells) e ∙ s.cells;
@@ -300,7 +309,9 @@ sized_ended k s = record {
   facts = s.facts;
   series = s.series;
   columns = s.columns;
+  named = s.named;
   registered = s.registered;
+  keys = s.keys;
   once = s.once;
   lows = s.lows;
   cells = s.cells;
@@ -308,14 +319,16 @@ sized_ended k s = record {
 }
 
 pub sized_grown : (k : StoreData) (series : List Series) (columns : List ColumnPoints) (ms : List CellMap) (facts : List Fact) → length series ≤ 1000000 → AllDistinct (map column_of columns) → ((c : Column) → Among c (map column_of columns) → Among c.series series)
-    → facts_of columns ≡ facts_of k.columns → HaveRoom k.settings.rules k.marks.lows facts k.cells ms → IsSized k → IsSized (grown series columns ms k)
-sized_grown k series columns ms facts few distinct registered same room s = record {
+    → ((x : Series) → Among x series → IsNamed x) → ((c : Column) → Among c (map column_of columns) → IsKey c.field) → facts_of columns ≡ facts_of k.columns → HaveRoom k.settings.rules k.marks.lows facts k.cells ms → IsSized k → IsSized (grown series columns ms k)
+sized_grown k series columns ms facts few distinct registered named keys same room s = record {
   settings = s.settings;
   accepted = s.accepted;
   facts = subst (λ (fs : List Fact). length fs ≤ k.accepted) (sym same) s.facts;
   series = few;
   columns = distinct;
+  named = named;
   registered = registered;
+  keys = keys;
   once = subst AllDistinct (sym same) s.once;
   lows = s.lows;
   cells = room-length k.settings.rules k.marks.lows facts k.cells ms s.lows s.cells room;
@@ -335,7 +348,9 @@ sized_put k columns facts ms ns room put few s =
       facts = let most = facts-put rs k.columns k.cells columns ns facts put in let all = s.facts in omega (arith, most, all);
       series = s.series;
       columns = subst AllDistinct (sym names) s.columns;
+      named = s.named;
       registered = λ c a. s.registered c (subst (Among c) names a);
+      keys = λ c a. s.keys c (subst (Among c) names a);
       once = puts-once rs k.columns k.cells columns ns facts s.once put;
       lows = s.lows;
       cells = puts-length rs k.columns k.cells columns ns facts put ∙ s.cells;

@@ -1,12 +1,12 @@
 -- A store goes on standing for its history, and what it tells is of that history.
-use Rattle.std.proofs.Common.{◌≡◌, ℕ, ℤ, ◌+◌, ◌<◌, ◌≤◌, ◌≤ℤ◌, ◌^◌, Bool, int_le, int_lt, Less, Equal, Greater, true, false, cond, not, ◌&&◌, ◌||◌, nat_le, List, [], ◌∷◌, ◌++◌, length, map, take, drop, replicate, refl, sym, ◌∙◌, ap, subst, inl, inr, ⊎_elim, arith, true≢false, Option, Some, None, IfSome, IfNone}
+use Rattle.std.proofs.Common.{◌≡◌, ℕ, ℤ, ◌+◌, ◌<◌, ◌≤◌, ◌≤ℤ◌, ◌^◌, Bool, int_le, int_lt, Less, Equal, Greater, true, false, cond, not, ◌&&◌, ◌||◌, nat_le, List, [], ◌∷◌, ◌++◌, length, map, replicate, refl, sym, ◌∙◌, ap, subst, inl, inr, ⊎_elim, arith, true≢false, Option, Some, None, IfSome, IfNone}
 use Rattle.std.specs.Option.{is_some}
 use Rattle.std.specs.FinMap as finmap
 use Rattle.std.specs.List.{slice_get, AllByRecursion}
 use Rattle.std.specs.Ordering.{int_cmp, is_lt}
 use Rattle.std.proofs.lemmas.Int.{ints}
 use Rattle.std.proofs.lemmas.Option.{none-some}
-use Rattle.std.proofs.lemmas.List.{append-nil, length-append, length-map, take-map, drop-map, take-append-le}
+use Rattle.std.proofs.lemmas.List.{append-nil}
 use Rattle.ts_core.specs.Members.{Among, AllDistinct}
 use Rattle.ts_core.specs.Facts.{Text, Series, Column, Fact, is_within}
 use Rattle.ts_core.specs.Settings.{Rule, Settings}
@@ -32,7 +32,8 @@ use Rattle.ts_core.proofs.LineStands.{length_before, line_put}
 use Rattle.ts_core.proofs.LeftOnData.{left-grows, left-puts}
 use Rattle.ts_core.specs.Runs.{steps_left}
 use Rattle.ts_core.specs.SettingsFaults.{unless, settings_fault}
-use Rattle.ts_line.specs.Parts.{LinePart, Parts, series_of, fact_of, line_facts as line_facts}
+use Rattle.ts_line.specs.Names.{AreKeys, IsNamed}
+use Rattle.ts_line.specs.Parts.{LinePart, Parts, series_of, fact_of, field_text, line_facts}
 use Rattle.ts_core.specs.Numbered.{IsAt}
 use Rattle.ts_core.proofs.NumberedLemmas.{at_among}
 use Rattle.ts_store.specs.ColumnsKept.{Held}
@@ -41,7 +42,7 @@ use Rattle.ts_store.specs.Registered.{new_columns, with_columns}
 use Rattle.ts_store.specs.declared.fault.WriteFault.{WriteFault}
 use Rattle.ts_store.specs.declared.fault.WriteFault.TheVariants.{BelowRawMark, TooManySeries, TooManyFacts}
 use Rattle.ts_store.specs.Refusals.{is_registered, is_too_many, write_fault}
-use Rattle.ts_store.specs.OpenRuns.{Run, waiting_in, kept_data, IsKept}
+use Rattle.ts_store.specs.OpenRuns.{Run, waiting_in, IsWithin, kept_data, IsKept}
 use Rattle.ts_store.specs.CellCounts.{HoldFew}
 use Rattle.ts_store.specs.SizedStores.{IsSized}
 use Rattle.ts_store.specs.CellIndices.{HaveIndices}
@@ -49,54 +50,15 @@ use Rattle.ts_store.specs.Rollups.{new_rollup, AreRollups, cells_of}
 use Rattle.ts_store.specs.LinesInColumns.{PutsLine, GrowsForLine}
 use Rattle.ts_store.specs.LivePuts.{StayLive}
 use Rattle.ts_store.specs.LinesPut.{Accepts, Leaves}
+use Rattle.ts_store.proofs.WaitingColumns.{NamesMore, within_more, waiting_more}
 use Rattle.ts_store.proofs.ColumnsAside.{names_with, same_facts}
 use Rattle.ts_store.proofs.ColumnsLemmas.{in_column}
 use Rattle.ts_store.proofs.CountsKept.{counts-put, counts-grown, counts-new}
 use Rattle.ts_store.proofs.SizesKept.{puts_names, sized_new, sized_grown, sized_put}
 use Rattle.ts_store.proofs.LivesGrown.{lives_grown}
 use Rattle.ts_store.proofs.IndicesKept.{indices_new, taken_valid, indices_gained, indices_put}
+use Rattle.ts_store.proofs.NamesKept.{gains_named, may_gain_named, all_keys, first_keys}
 use Rattle.ts_store.proofs.SeriesLimit.{registered-there, registered-not, gains_few, may_gain_few}
-
--- ---- columns that wait
-
-names_waiting : Option Run → List Column → List Column
-names_waiting None names = []
-names_waiting (Some run) names = drop run.next (take run.end names)
-
-waiting_names : (run : Option Run) (columns : List ColumnPoints) → waiting_in run columns ≡ names_waiting run (map column_of columns)
-unfolding names_waiting
-waiting_names None columns = refl
-waiting_names (Some run) columns = sym (drop-map column_of run.next (take run.end columns)) ∙ ap (drop run.next) (sym (take-map column_of run.end columns))
-
--- the run ends at a column that was there
-abbrev IsWithin : Option Run → List ColumnPoints → Type 0
-IsWithin run columns = IfSome run (λ r. (r.next ≤ r.end) × (r.end ≤ length columns))
-
--- more columns behind the others
-abbrev NamesMore : List ColumnPoints → List ColumnPoints → List Column → Type 0
-NamesMore before after made = map column_of after ≡ map column_of before ++ made
-
-length_more : (before after : List ColumnPoints) (made : List Column) → NamesMore before after made → length before ≤ length after
-length_more before after made more =
-    let a = length-map before column_of in
-    let b = length-map after column_of in
-    let c = ap length more in
-    omega (arith, a, b, c, length-append (map column_of before) made)
-
-within_more : (run : Option Run) (before after : List ColumnPoints) (made : List Column) → NamesMore before after made → IsWithin run before → IsWithin run after
-within_more None before after made more within = within
-within_more (Some run) before after made more within = (within.0, (let l = length_more before after made more in omega (arith, l, within.1)))
-
--- none of them waits
-waiting_more : (run : Option Run) (before after : List ColumnPoints) (made : List Column) → NamesMore before after made → IsWithin run before → waiting_in run after ≡ waiting_in run before
-unfolding names_waiting
-waiting_more None before after made more within = refl
-waiting_more (Some run) before after made more within =
-    let end : run.end ≤ length (map column_of before) = let l = length-map before column_of in omega (arith, l, within.1) in
-    waiting_names (Some run) after
-    ∙ ap (λ names. drop run.next (take run.end names)) more
-    ∙ ap (drop run.next) (take-append-le run.end (map column_of before) made end)
-    ∙ sym (waiting_names (Some run) before)
 
 -- ---- columns without points
 
@@ -104,11 +66,11 @@ names_stay : (before : List ColumnPoints) (made : List Column) (c : Column) → 
 names_stay before made c a = subst (Among c) (sym (names_with before made)) (Among-left c (map column_of before) made a)
 
 -- a new store
-new_rollups : (rs : List Rule) → AreRollups rs [] (replicate (length rs) new_rollup)
+pub new_rollups : (rs : List Rule) → AreRollups rs [] (replicate (length rs) new_rollup)
 new_rollups [] = tt
 new_rollups (r ∷ rs) = (tt, new_rollups rs)
 
-new_cells : (rs : List Rule) → cells_of (replicate (length rs) new_rollup) ≡ map (λ (r : Rule). finmap.empty) rs
+pub new_cells : (rs : List Rule) → cells_of (replicate (length rs) new_rollup) ≡ map (λ (r : Rule). finmap.empty) rs
 new_cells [] = refl
 new_cells (r ∷ rs) = ap (λ (ms : List CellMap). finmap.empty ∷ ms) (new_cells rs)
 
@@ -167,7 +129,9 @@ sized_waits settings marks n run before after series columns ms s = record {
   facts = s.facts;
   series = s.series;
   columns = s.columns;
+  named = s.named;
   registered = s.registered;
+  keys = s.keys;
   once = s.once;
   lows = s.lows;
   cells = s.cells;
@@ -202,9 +166,9 @@ left_by settings marks n before after run p kept g =
     }
 
 -- the store is as it was between two calls
-pub kept_left : (settings : Settings) (marks : Marks) (n : ℕ) (before after : Held) (run : Option Run) (p : Parts) → IsKept (kept_data settings marks n before run) before run → is_too_many before.series (series_of p) ≡ false → GrowsForLine settings.rules marks.lows before after p
+pub kept_left : (settings : Settings) (marks : Marks) (n : ℕ) (before after : Held) (run : Option Run) (p : Parts) → IsKept (kept_data settings marks n before run) before run → is_too_many before.series (series_of p) ≡ false → IsNamed (series_of p) → AreKeys (map field_text p.fields) → GrowsForLine settings.rules marks.lows before after p
     → IsKept (kept_data settings marks n after run) after run
-kept_left settings marks n before after run p kept registers g =
+kept_left settings marks n before after run p kept registers named keys g =
     let made : List Column = g.columns.made in
     let k : StoreData = kept_data settings marks n before run in
     let same : facts_of after.columns ≡ facts_of before.columns = ap facts_of g.columns.columns ∙ same_facts before.columns made in
@@ -216,7 +180,8 @@ kept_left settings marks n before after run p kept registers g =
       indices = ⊎_elim {C = HaveIndices settings.rules (cells_of after.rollups)} (λ e. subst (HaveIndices settings.rules) (sym e) kept.indices)
           (λ taken. indices_gained (line_facts p) (taken_valid least_time (line_facts p) taken) settings.rules marks.lows (cells_of before.rollups) (cells_of after.rollups) kept.sized.lows g.cells kept.indices) g.taken;
       sized = sized_waits settings marks n run (waiting_in run before.columns) (waiting_in run after.columns) after.series after.columns (cells_of after.rollups)
-          (sized_grown k after.series after.columns (cells_of after.rollups) [] (may_gain_few before.series after.series (series_of p) kept.sized.series registers g.series) g.known.once g.known.registered same g.rooms kept.sized);
+          (sized_grown k after.series after.columns (cells_of after.rollups) [] (may_gain_few before.series after.series (series_of p) kept.sized.series registers g.series) g.known.once g.known.registered
+          (may_gain_named before.series after.series (series_of p) named g.series kept.sized.named) (first_keys p before.columns after.columns keys g.columns kept.sized.keys) same g.rooms kept.sized);
     }
 
 -- ---- a line
@@ -289,9 +254,9 @@ pub stay_live : (settings : Settings) (marks : Marks) (n : ℕ) (before : Held) 
 stay_live settings marks n before run kept = λ facts ms room. lives_grown marks.raw before.columns before.columns refl settings.rules marks.lows facts (cells_of before.rollups) ms kept.sized.lows room kept.sized.rules kept.live
 
 -- the store is again what it is between two calls
-pub kept_accepted : (settings : Settings) (marks : Marks) (n : ℕ) (before after : Held) (run : Option Run) (p : Parts) → IsKept (kept_data settings marks n before run) before run → is_too_many before.series (series_of p) ≡ false → PutsLine settings.rules marks.lows before after p
+pub kept_accepted : (settings : Settings) (marks : Marks) (n : ℕ) (before after : Held) (run : Option Run) (p : Parts) → IsKept (kept_data settings marks n before run) before run → is_too_many before.series (series_of p) ≡ false → IsNamed (series_of p) → AreKeys (map field_text p.fields) → PutsLine settings.rules marks.lows before after p
     → n + length (line_facts p) ≤ 2 ^ 62 → IsKept (kept_data settings marks (n + length (line_facts p)) after run) after run
-kept_accepted settings marks n before after run p kept registers put few =
+kept_accepted settings marks n before after run p kept registers named keys put few =
     let fs : List Fact = line_facts p in
     let made : List Column = new_columns (map column_of before.columns) fs in
     let columns : List ColumnPoints = with_columns before.columns made in
@@ -302,7 +267,8 @@ kept_accepted settings marks n before after run p kept registers put few =
     let names : map column_of after.columns ≡ map column_of columns = puts_names settings.rules columns put.roomy after.columns ns fs put.facts in
     let roomy : AreLive columns settings.rules put.roomy = lives_grown marks.raw before.columns columns same settings.rules marks.lows fs ms put.roomy kept.sized.lows put.rooms kept.sized.rules kept.live in
     let sized : IsSized (grown after.series columns put.roomy k) =
-    sized_grown k after.series columns put.roomy fs (gains_few before.series after.series (series_of p) kept.sized.series registers put.series) (subst AllDistinct names put.known.once) (λ c a. put.known.registered c (subst (Among c) (sym names) a)) same put.rooms kept.sized in
+    sized_grown k after.series columns put.roomy fs (gains_few before.series after.series (series_of p) kept.sized.series registers put.series) (subst AllDistinct names put.known.once) (λ c a. put.known.registered c (subst (Among c) (sym names) a))
+    (gains_named before.series after.series (series_of p) named put.series kept.sized.named) (all_keys p before.columns keys kept.sized.keys) same put.rooms kept.sized in
     record {
       rollups = put.rollups;
       few = within_more run before.columns after.columns made (line_names settings.rules before.columns put.roomy after.columns ns fs put.facts) kept.few;

@@ -6,7 +6,10 @@ pub mod Refusals
 pub mod StoreFaultTexts
 pub mod LinesPut
 pub mod LineTexts
+pub mod Inventories
 pub mod WholeRuns
+pub mod Saving
+pub mod Building
 -- used only by models and proofs of the code
 pub mod ColumnLists
 pub mod Rollups
@@ -22,3 +25,6 @@ pub mod LivePoints
 pub mod LivePuts
 pub mod LiveCells
 pub mod CellsLeft
+pub mod FrozenLeft
+pub mod ColumnsListed
+pub mod BuildingParts

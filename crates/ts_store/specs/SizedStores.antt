@@ -3,13 +3,14 @@
 use Rattle.std.specs.Prelude.{◌≡◌, ℤ, pos, ◌+ℤ◌, ◌≤◌, ◌≤ℤ◌, ◌^◌, IsTrue, List, length, map, None}
 use Rattle.std.specs.List.{AllByRecursion}
 use Rattle.ts_core.specs.Members.{Among, AllDistinct}
-use Rattle.ts_core.specs.Facts.{Column, Fact}
+use Rattle.ts_core.specs.Facts.{Series, Column, Fact}
 use Rattle.ts_core.specs.SettingsFaults.{settings_fault}
 use Rattle.ts_core.specs.Times.{least_time}
 use Rattle.ts_core.specs.Marks.{index_of}
 use Rattle.ts_core.specs.Cells.{cell_of, is_rolled}
 use Rattle.ts_core.specs.StoreStates.{RuleCells, column_of, facts_of}
 use Rattle.ts_core.specs.StoreData.{StoreData, rules_of}
+use Rattle.ts_line.specs.Names.{IsKey, IsNamed}
 
 -- The low index of a rule is at least that of the least time, and at most one more than that of the raw mark. From its low
 -- index on, the rule has the cell of each of these raw facts that it rolls up.
@@ -18,15 +19,18 @@ pub record IsSizedRule (mark : ℤ) (facts : List Fact) (r : RuleCells) : Type 0
   pub most : r.low ≤ℤ (index_of r.rule mark +ℤ pos 1)
   pub there : (f : Fact) → Among f facts → IsTrue (is_rolled r.rule f) → r.low ≤ℤ (cell_of r.rule f).index → Among (cell_of r.rule f) r.cells
 
--- The settings have no fault. No count overflows, and there are at most 1,000,000 series. Columns are distinct, their
--- series are registered, and each raw fact exists once. Each rule has a low index and a map of cells.
+-- The settings have no fault. No count overflows. There are at most 1,000,000 series, each one that a line can state.
+-- Columns are distinct, their series are registered, and their fields are names of fields. Each raw fact exists once.
+-- Each rule has a low index and a map of cells.
 pub record IsSized (k : StoreData) : Type 0 where
   pub settings : settings_fault k.settings ≡ None
   pub accepted : k.accepted ≤ 2 ^ 62
   pub facts : length (facts_of k.columns) ≤ k.accepted
   pub series : length k.series ≤ 1000000
+  pub named : (s : Series) → Among s k.series → IsNamed s
   pub columns : AllDistinct (map column_of k.columns)
   pub registered : (c : Column) → Among c (map column_of k.columns) → Among c.series k.series
+  pub keys : (c : Column) → Among c (map column_of k.columns) → IsKey c.field
   pub once : AllDistinct (facts_of k.columns)
   pub lows : length k.marks.lows ≡ length k.settings.rules
   pub cells : length k.cells ≡ length k.settings.rules

@@ -1,5 +1,5 @@
 //! Facts in columns, which an index finds.
-ghost use Rattle.std.specs.Prelude.{◌≡◌, ◌≤◌, ◌<◌, ◌+◌, ◌*◌, ◌^◌, [], false, length, map, pos, ◌≤ℤ◌, replicate, IfOk, OnOk, OnErr};
+ghost use Rattle.std.specs.Prelude.{◌≡◌, ◌≤◌, ◌<◌, ◌+◌, ◌*◌, ◌^◌, [], false, length, map, pos, ◌≤ℤ◌, replicate, slice_index_or, IfOk, OnOk, OnErr};
 ghost use Rattle.std.specs.List.{AllByRecursion};
 ghost use Rattle.ts_core.specs.Facts.{is_of};
 ghost use Rattle.ts_core.specs.StoreStates.{facts_of as facts_in};
@@ -8,12 +8,12 @@ ghost use Rattle.ts_store.specs.LivePuts.{StayLive};
 ghost use Rattle.ts_raw.specs.Columns.{AreTimed};
 ghost use Rattle.ts_raw.specs.PlainColumns.{IsRising};
 ghost use Rattle.ts_store.specs.Refusals.{is_too_many};
-ghost use Rattle.ts_store.specs.Seats.{seats_where, points_at};
+ghost use Rattle.ts_store.specs.Seats.{no_points, seats_where, points_at};
 ghost use Rattle.ts_store.specs.LinesInColumns.{PutsLine, GrowsForLine};
 ghost use Rattle.ts_store.specs.Rollups.{new_rollup, AreRollups, cells_of};
 ghost use Rattle.ts_core.specs.StoreStates.{column_of};
 
-use crate::column_reads::{held_points, raw_points, raw_range};
+use crate::column_reads::{all_points, held_points, raw_points, raw_range};
 use crate::columns::prepare_line;
 use crate::columns_seen::Columns;
 use crate::putting::put_points;
@@ -152,5 +152,15 @@ impl<A: Allocator + Copy> ColumnFacts<A> {
         ensures timed { AreTimed result }
     {
         raw_range(self.columns.as_slice(), column.number(), from, to)
+    }
+
+    /// Returns all points of a column, ordered by time.
+    pub(crate) fn points_of(&self, column: ColumnId) -> Points<'_>
+        requires { column < length self.now.columns }
+        ensures points { result ≡ (slice_index_or self.now.columns column no_points).points }
+        ensures rising { IsRising result }
+        ensures timed { AreTimed result }
+    {
+        all_points(self.columns.as_slice(), column.number())
     }
 }

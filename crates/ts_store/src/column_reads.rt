@@ -48,3 +48,13 @@ pub(crate) fn raw_range<'a, A: Allocator + Copy>(
 {
     columns[at].range(from, to)
 }
+
+/// Returns all points of the column at index `at`.
+pub(crate) fn all_points<A: Allocator + Copy>(columns: &[PlainColumn<A>], at: usize) -> Points<'_>
+    requires { at < length columns.now }
+    ensures points { result ≡ map.entries (get_or (point_maps columns.now) at map.empty) }
+    ensures rising { IsRising result }
+    ensures timed { AreTimed result }
+{
+    columns[at].all()
+}

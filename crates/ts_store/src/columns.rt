@@ -52,7 +52,7 @@ fn commit_rollups<A: Allocator + Copy>(rollups: &mut [Rollup<A>], column: Column
 
 /// Creates the column of a series and a field, without points, with its lane under each rule.
 #[cold]
-fn make_column<A: Allocator + Copy>(
+pub(crate) fn make_column<A: Allocator + Copy>(
     index: &mut Index<A>,
     columns: &mut Vec<PlainColumn<A>, A>,
     rules: &[Rule<A>],

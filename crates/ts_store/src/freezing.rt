@@ -47,7 +47,7 @@ fn freeze_points<A: Allocator + Copy>(
 }
 
 /// Returns true if this is the index of the last bucket.
-fn is_last(last: &Option<i128>, index: &i128) -> bool
+pub(crate) fn is_last(last: &Option<i128>, index: &i128) -> bool
     ensures { (result ≡ true) → last.now ≡ Some index.now }
 {
     match last {

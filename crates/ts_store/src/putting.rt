@@ -1,6 +1,6 @@
 //! Facts that are put into columns, and then into the cells of rules.
 ghost use Rattle.std.specs.Prelude.{◌≡◌, ◌+◌, ◌<◌, ◌≤◌, ◌^◌, pos, ◌≤ℤ◌, List, [], ◌∷◌, length, get_or, set};
-ghost use Rattle.std.specs.FinMap as finmap;
+ghost use Rattle.std.specs.Bool.{OnFalse};
 ghost use Rattle.std.specs.List.{AllByRecursion};
 ghost use Rattle.ts_core.specs.Facts.{Column, Fact};
 ghost use Rattle.ts_core.specs.Members.{AllDistinct};
@@ -10,7 +10,7 @@ ghost use Rattle.ts_core.specs.StoreStates.{ColumnPoints, facts_of};
 ghost use Rattle.ts_store.specs.ColumnsKept.{no_column, with_points, point_maps, committed, all_committed, AreReady, AreAside};
 ghost use Rattle.ts_store.specs.LivePuts.{IsOver, IsPut, AreOfFields};
 ghost use Rattle.ts_store.specs.PointsRead.{number_of_points};
-ghost use Rattle.ts_store.specs.Rollups.{AreRollups, with_frozen, cells_of};
+ghost use Rattle.ts_store.specs.Rollups.{AreRollups, lane_at, with_frozen, cells_of};
 ghost use Rattle.ts_store.specs.RollupSteps.{with_frozen_all};
 
 use crate::live_parts::lane_total;
@@ -20,12 +20,15 @@ use ts_core::{Agg, Partial, Remainder, Rule, Time, index_of};
 use ts_line::Field;
 use ts_raw::{Column as _, ColumnId, PlainColumn};
 
-/// The value that a column has at a time.
-fn value_at<A: Allocator + Copy>(column: &PlainColumn<A>, time: Time) -> Option<i64>
-    ensures { result ≡ finmap.get column.now.points time }
+/// Returns true if one of the rules rolls a column up.
+fn is_rolled<A: Allocator + Copy>(rollups: &[Rollup<A>], column: usize) -> bool
+    requires { AllByRecursion (λ s. column < length s.lanes) rollups.now }
+    ensures { OnFalse result (AllByRecursion (λ s. lane_at s column ≡ None) rollups.now) }
 {
-    let (_, value) = column.range(time.nanos(), time.nanos() + 1).next()?;
-    Some(value)
+    match rollups.split_first() {
+        Some((rollup, rollups)) => rollup.rolls(column) || is_rolled(rollups, column),
+        None => false,
+    }
 }
 
 /// Puts a fact, which is in its column already, into the cell of its bucket, where the rule rolls the column up and the cell is
@@ -89,7 +92,30 @@ fn put_under_all<A: Allocator + Copy>(
     }
 }
 
-/// Puts in what is aside in a column: a point of this time and value.
+/// Puts in what is aside in a column, a point of this time and value, and corrects the cells of the rules.
+fn put_rolled<A: Allocator + Copy>(
+    columns: &mut Vec<PlainColumn<A>, A>,
+    rules: &[Rule<A>],
+    rollups: &mut [Rollup<A>],
+    column: ColumnId,
+    time: Time,
+    value: i64,
+)
+    requires intervals { AllByRecursion (λ r. pos 1 ≤ℤ r.interval) rules.now }
+    requires ready { AreReady columns.old.items (column ∷ []) }
+    requires each { AllByRecursion (λ s. length s.lanes ≡ length columns.old.items) rollups.old }
+    requires few { number_of_points columns.old.items + 1 ≤ 2 ^ 62 }
+    ensures columns { columns.new.items ≡ set columns.old.items column (committed (get_or columns.old.items column no_column)) }
+    ensures lanes { rollups.new ≡ with_frozen_all (cells_of rollups.new) rollups.old }
+    ensures cells { (cs : List Column) (f : Fact) → f.time ≡ time → f.value ≡ value → length columns.old.items ≡ length cs → AllDistinct cs → AreRollups rules.now cs rollups.old → AreAside cs columns.old.items (column ∷ []) (f ∷ []) → AreLive (with_points cs (point_maps columns.old.items)) rules.now (cells_of rollups.old) → cells_of rollups.new ≡ put_cells rules.now f (facts_of (with_points cs (point_maps columns.new.items))) (cells_of rollups.old) }
+{
+    let old = columns[column.number()].value_at(time);
+    columns[column.number()].commit();
+    put_under_all(rules, rollups, columns.as_slice(), column, time, value, old);
+}
+
+/// Puts in what is aside in a column: a point of this time and value. If no rule rolls the column up,
+/// asks nothing else of it.
 fn put_point<A: Allocator + Copy>(
     columns: &mut Vec<PlainColumn<A>, A>,
     rules: &[Rule<A>],
@@ -106,9 +132,11 @@ fn put_point<A: Allocator + Copy>(
     ensures lanes { rollups.new ≡ with_frozen_all (cells_of rollups.new) rollups.old }
     ensures cells { (cs : List Column) (f : Fact) → f.time ≡ time → f.value ≡ value → length columns.old.items ≡ length cs → AllDistinct cs → AreRollups rules.now cs rollups.old → AreAside cs columns.old.items (column ∷ []) (f ∷ []) → AreLive (with_points cs (point_maps columns.old.items)) rules.now (cells_of rollups.old) → cells_of rollups.new ≡ put_cells rules.now f (facts_of (with_points cs (point_maps columns.new.items))) (cells_of rollups.old) }
 {
-    let old = value_at(&columns[column.number()], time);
-    columns[column.number()].commit();
-    put_under_all(rules, rollups, columns.as_slice(), column, time, value, old);
+    if is_rolled(rollups, column.number()) {
+        put_rolled(columns, rules, rollups, column, time, value);
+    } else {
+        columns[column.number()].commit();
+    }
 }
 
 /// Puts in what is aside in the columns of these numbers: points of this time with the values of fields. It takes no memory.

@@ -1,16 +1,17 @@
 //! The rollup of a rule: its cells, the lane of each column, and the columns of each lane. A lane is a field with the
 //! values of the kept tags.
-ghost use Rattle.std.specs.Prelude.{◌≡◌, ◌<◌, length, replicate, map, IsSome, is_some, IfSome, option_map, IfOk, OnOk, OnErr};
+ghost use Rattle.std.specs.Prelude.{◌≡◌, ◌<◌, length, replicate, map, IsSome, is_some, IfSome, option_map, IfOk, OnOk, OnErr, None, Some};
 ghost use Rattle.std.specs.FinMap as finmap;
 ghost use Rattle.std.specs.List.{AllByRecursion};
+ghost use Rattle.ts_core.specs.Aggregates.{empty_aggregate};
 ghost use Rattle.ts_core.specs.Members.{AllDistinct};
 ghost use Rattle.ts_core.specs.Tags.{tag_values};
 ghost use Rattle.ts_cells.specs.Expiry.{LosesBelow};
 ghost use Rattle.ts_core.specs.Numbered.{IsAt};
-ghost use Rattle.ts_cells.specs.Grids.{lane_of, lane_named, lent_texts, cell_in};
+ghost use Rattle.ts_cells.specs.Grids.{lane_of, lane_named, lent_texts, cell_at, cell_in};
 ghost use Rattle.ts_cells.specs.Walks.{entry_of, entries_within};
 ghost use Rattle.ts_store.specs.ColumnLists.{HasPlaceAt};
-ghost use Rattle.ts_store.specs.Rollups.{new_rollup, KeepsLists, KeepsCells, HasNext, with_next, with_frozen, roomed_in, frozen_in, added_in, corrected_in, live_part, lane_at, columns_of_lane};
+ghost use Rattle.ts_store.specs.Rollups.{new_rollup, Extends, KeepsLists, KeepsCells, HasNext, with_next, with_frozen, roomed_in, frozen_in, added_in, corrected_in, live_part, lane_at, columns_of_lane};
 
 use crate::lane_columns::LaneColumns;
 use std::alloc::{AllocError, Allocator};
@@ -170,6 +171,39 @@ impl<A: Allocator + Copy> Rollup<A> {
             Some(lane) => self.cells.make_room(index, lane),
             None => Ok(()),
         }
+    }
+
+    /// Creates the cell of a bucket in a lane unless it exists.
+    pub(crate) fn make_room_in(&mut self, lane: LaneId, index: &i128) -> Result<(), AllocError>
+        requires { lane < length self.old.grid.lanes }
+        ensures ok { OnOk result (self.new ≡ with_frozen (roomed_in self.old (Some lane) index.now) self.old) }
+        ensures err { OnErr result (self.new ≡ self.old) }
+    {
+        self.cells.make_room(index, lane)
+    }
+
+    /// Creates a cell, which must be missing, with this frozen part, and its lane if needed. On allocation failure, no
+    /// cell is created.
+    pub(crate) fn add_cell(
+        &mut self,
+        index: &i128,
+        field: &str,
+        group: &[&str],
+        frozen: Agg,
+    ) -> Result<(), AllocError>
+        requires absent { finmap.get self.old.grid.cells (cell_at index.now (lane_named field.now group.now)) ≡ None }
+        ensures made { Extends self.old.grid.lanes self.new.grid.lanes }
+        ensures lanes { self.new.lanes ≡ self.old.lanes }
+        ensures ok { OnOk result (self.new.grid.cells ≡ finmap.insert self.old.grid.cells (cell_at index.now (lane_named field.now group.now)) (record { frozen = frozen; live = empty_aggregate })) }
+        ensures err { OnErr result (self.new.grid.cells ≡ self.old.grid.cells) }
+    {
+        self.next = None;
+        let lane = listed_lane(&mut self.cells, &mut self.columns, field, group)?;
+        self.cells.make_room(index, lane)?;
+        // `freeze` needs a bound of the count, which the contract of `sum` states.
+        let _ = frozen.sum();
+        self.cells.freeze(index, lane, frozen);
+        Ok(())
     }
 
     /// Merges a part into the frozen part of the cell of a column in a bucket, if the cell exists and the counts add up

@@ -1,7 +1,9 @@
 //! Writes the text of a line: parses it, and writes its parts.
 ghost use Rattle.std.specs.Prelude.{◌≡◌, ◌≢◌, ◌≤◌, length, IfOk};
 ghost use Rattle.ts_core.specs.FaultTexts.{IsAppended};
-ghost use Rattle.ts_store.specs.LineTexts.{State, IsIn, WritesFrom, WritesParts, refusal_of, line_refusal_text};
+ghost use Rattle.ts_line.specs.Parts.{line_facts};
+ghost use Rattle.ts_store.specs.Inventories.{inventory_of, facts_of_text, GrowsAfter};
+ghost use Rattle.ts_store.specs.LineTexts.{State, IsIn, WritesFrom, WritesParts, parts_in, refusal_of, line_refusal_text};
 
 use crate::fault::WriteFault;
 use crate::store::Store;
@@ -67,6 +69,7 @@ impl<A: Allocator + Copy> Store<A> {
         now: Time,
     ) -> Result<LineOutcome, AllocError>
         ensures written { (s : State) → IsIn s self.old → WritesFrom precision now s text.now result self.new }
+        ensures inventory { GrowsAfter self.old.settings.rules self.old.marks.lows (facts_of_text (parts_in precision now text.now)) result (inventory_of self.old) (inventory_of self.new) }
         ensures unchanged { IfOk result (λ outcome. outcome ≢ LineOutcome.Accepted → self.new ≡ self.old) }
     {
         match read_line(room, text, precision, now) {
@@ -80,6 +83,7 @@ impl<A: Allocator + Copy> Store<A> {
     /// Writes a line; returns the outcome of its text.
     fn write_parts<L: Allocator>(&mut self, line: &Line<'_, L>) -> Result<LineOutcome, AllocError>
         ensures written { (s : State) → IsIn s self.old → WritesParts s line.now result self.new }
+        ensures inventory { GrowsAfter self.old.settings.rules self.old.marks.lows (line_facts line.now) result (inventory_of self.old) (inventory_of self.new) }
         ensures unchanged { IfOk result (λ outcome. outcome ≢ LineOutcome.Accepted → self.new ≡ self.old) }
     {
         match self.write(line) {

@@ -5,7 +5,8 @@ use Rattle.ts_core.specs.Settings.{Rule}
 use Rattle.ts_core.specs.Texts.{lent_pairs}
 use Rattle.ts_core.specs.StoreStates.{column_of}
 use Rattle.ts_core.specs.StoreData.{StoreData}
-use Rattle.ts_line.specs.Parts.{LinePart, Parts, fact_of, line_facts}
+use Rattle.ts_line.specs.Names.{AreKeys}
+use Rattle.ts_line.specs.Parts.{LinePart, Parts, fact_of, field_text, line_facts}
 use Rattle.ts_store.specs.LinesInColumns.{PutsLine, GrowsForLine}
 use Rattle.ts_store.specs.LinesPut.{Accepts, Leaves}
 use Rattle.ts_store.specs.OpenRuns.{IsKept, kept_data}
@@ -61,7 +62,7 @@ invariant_of-self g c =
     let grows : GrowsForLine before.settings.rules before.marks.lows before.facts c.put_line.new.self line = subst (λ (ls : List ℤ). GrowsForLine before.settings.rules ls before.facts c.put_line.new.self line) c.lows.ensures (subst (λ (rs : List Rule). GrowsForLine rs c.lows.result.now before.facts c.put_line.new.self line) c.rules.ensures.value c.in_err-put_line.ensures.err) in
     let none : write_fault before.marks.raw before.facts.series before.accepted line ≡ None = ap (λ (k : StoreData). write_fault k.marks.raw k.series k.accepted line) c.self.view_is ∙ sym c.refusal.ensures ∙ c.in_default.is in
     let welcome = not_refused before.marks.raw before.facts.series before.accepted line none in
-    kept_left before.settings before.marks before.accepted before.facts c.put_line.new.self before.run line c.self.invariant welcome.registers grows
+    kept_left before.settings before.marks before.accepted before.facts c.put_line.new.self before.run line c.self.invariant welcome.registers c.requires.named (subst (λ (l : List (LinePart × ℤ)). AreKeys (map field_text l)) c.fields.ensures.value c.fields.ensures.named) grows
 
 pub returns-in_err-put_line : goal.returns-in_err-put_line
 returns-in_err-put_line g c =
@@ -100,7 +101,7 @@ invariant_of-self-2 g c =
     let many : length c.fields.result.now ≡ length (line_facts line) = ap (λ (l : List (LinePart × ℤ)). length l) c.fields.ensures.value ∙ sym (length-map line.fields (fact_of line)) in
     let put : PutsLine before.settings.rules before.marks.lows before.facts c.put_line.new.self line = subst (λ (ls : List ℤ). PutsLine before.settings.rules ls before.facts c.put_line.new.self line) c.lows.ensures (subst (λ (rs : List Rule). PutsLine rs c.lows.result.now before.facts c.put_line.new.self line) c.rules.ensures.value c.in_ok-put_line.ensures.ok) in
     subst (λ (n : ℕ). IsKept (kept_data before.settings before.marks (before.accepted + n) c.put_line.new.self before.run) c.put_line.new.self before.run) (sym many)
-    (kept_accepted before.settings before.marks before.accepted before.facts c.put_line.new.self before.run line c.self.invariant welcome.registers put welcome.few)
+    (kept_accepted before.settings before.marks before.accepted before.facts c.put_line.new.self before.run line c.self.invariant welcome.registers c.requires.named (subst (λ (l : List (LinePart × ℤ)). AreKeys (map field_text l)) c.fields.ensures.value c.fields.ensures.named) put welcome.few)
 
 pub returns : goal.returns
 returns g c =

@@ -1,0 +1,18 @@
+use Rattle.std.proofs.Common.{subst}
+use Rattle.ts_core.specs.StoreData.{StoreData, AreLive}
+use Rattle.ts_store.specs.CellCounts.{HoldFew}
+use Rattle.ts_store.specs.CellIndices.{HaveIndices}
+use Rattle.ts_store.specs.SizedStores.{IsSized}
+use Rattle.ts_store.proofs.store.Store.accepted.Goals as goal
+
+pub returns-clause-sized : goal.returns-clause-sized
+returns-clause-sized g c = subst IsSized c.self.view_is c.self.invariant.sized
+
+pub returns-clause-counts : goal.returns-clause-counts
+returns-clause-counts g c = subst (λ (k : StoreData). HoldFew k.accepted k.columns k.settings.rules k.cells) c.self.view_is c.self.invariant.counts
+
+pub returns-clause-live : goal.returns-clause-live
+returns-clause-live g c = subst (λ (k : StoreData). AreLive k.columns k.settings.rules k.cells) c.self.view_is c.self.invariant.live
+
+pub returns-clause-indices : goal.returns-clause-indices
+returns-clause-indices g c = subst (λ (k : StoreData). HaveIndices k.settings.rules k.cells) c.self.view_is c.self.invariant.indices

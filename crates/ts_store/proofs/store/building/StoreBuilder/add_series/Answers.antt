@@ -1,0 +1,31 @@
+use Rattle.std.proofs.Common.{◌≡◌, ◌<◌, ◌∙◌, ◌++◌, [], ◌∷◌, length, ap, sym, subst}
+use Rattle.ts_core.specs.Members.{Among}
+use Rattle.ts_store.specs.Building.{Built, with_series}
+use Rattle.ts_store.specs.BuildingParts.{built_of}
+use Rattle.ts_store.specs.ColumnsKept.{Held}
+use Rattle.ts_store.proofs.BuildersKept.{order_series-either, built_series}
+use Rattle.ts_store.proofs.PartsBuilt.{ok_then, err_then}
+use Rattle.ts_store.proofs.store.building.StoreBuilder.add_series.Goals as goal
+
+pub add_series-requires-clause-absent : goal.add_series-requires-clause-absent
+add_series-requires-clause-absent g c = subst (λ (b : Built). Among c.args.key.now b.series → ⊥) (sym c.self.view_is) c.requires.absent
+
+pub add_series-requires-clause-few : goal.add_series-requires-clause-few
+add_series-requires-clause-few g c = subst (λ (b : Built). length b.series < 1000000) (sym c.self.view_is) c.requires.few
+
+pub invariant_of-self : goal.invariant_of-self
+invariant_of-self g c =
+    order_series-either c.add_series.result c.self.inside.settings c.self.inside.facts c.add_series.new.self c.self.inside.passed.items c.args.key.now (subst (λ (b : Built). length b.series < 1000000) (sym c.self.view_is) c.requires.few) c.requires.named
+    c.add_series.ensures.ok c.add_series.ensures.err c.self.invariant
+
+pub returns-clause-ok : goal.returns-clause-ok
+returns-clause-ok g c =
+    let i = c.self.inside in
+    ok_then c.add_series.result c.add_series.ensures.ok
+    (λ (e : c.add_series.new.self ≡ record { series = i.facts.series ++ c.args.key.now ∷ []; columns = i.facts.columns; rollups = i.facts.rollups }).
+    built_series i.settings i.marks i.running i.accepted i.facts c.add_series.new.self i.passed.items c.args.key.now e ∙ ap (with_series c.args.key.now) c.self.view_is)
+
+pub returns-clause-err : goal.returns-clause-err
+returns-clause-err g c =
+    let i = c.self.inside in
+    err_then c.add_series.result c.add_series.ensures.err (λ (e : c.add_series.new.self ≡ i.facts). ap (λ (h : Held). built_of i.settings i.marks i.running i.accepted h i.passed.items) e ∙ c.self.view_is)

@@ -1,0 +1,139 @@
+//! A store made of parts that were read from elsewhere: series, columns with their points, and frozen parts of cells.
+ghost use Rattle.std.specs.Prelude.{◌≡◌, ◌<◌, [], length, map, None, IfOk, OnOk, OnErr};
+ghost use Rattle.std.specs.FinMap as finmap;
+ghost use Rattle.ts_core.specs.Facts.{Series};
+ghost use Rattle.ts_core.specs.Members.{Among};
+ghost use Rattle.ts_core.specs.Numbered.{IsAt};
+ghost use Rattle.ts_core.specs.StoreStates.{column_of};
+ghost use Rattle.ts_line.specs.Names.{IsKey, IsNamed};
+ghost use Rattle.ts_cells.specs.Grids.{cell_at, lane_named};
+ghost use Rattle.ts_raw.specs.Columns.{AreTimed};
+ghost use Rattle.ts_raw.specs.PlainColumns.{IsRising};
+ghost use Rattle.ts_store.specs.Building.{new_built, with_series, with_column, with_cell, cells_at, IsBuildable, IsBuiltFrom};
+
+use crate::column_facts::ColumnFacts;
+use crate::run::Run;
+use crate::store::Store;
+use std::alloc::{AllocError, Allocator};
+use std::marker::Model;
+use ts_core::{Agg, KeyRef, Marks, Settings, Time};
+use ts_raw::SeriesId;
+
+/// A store under construction. What is added becomes part of the store; live parts of cells are computed at the end.
+#[derive(Drop)]
+pub struct StoreBuilder<A: Allocator> {
+    settings: Settings<A>,
+    marks: Marks<A>,
+    running: bool,
+    accepted: u64,
+    facts: ColumnFacts<A>,
+    /// For each column, whether it counts as moved, that is, doesn't wait for the open run.
+    passed: Vec<bool, A>,
+}
+
+impl<A: Allocator> Model for StoreBuilder<A> {
+    ghost use Rattle.ts_store.specs.Building.{Built, coded_built};
+    ghost use Rattle.ts_store.specs.BuildingParts.{built_of, IsInOrder};
+
+    ghost Value = { Built };
+
+    ghost coded = { coded_built };
+
+    ghost view = { λ b. built_of b.settings b.marks b.running b.accepted b.facts b.passed.items };
+
+    ghost invariant = { λ b. IsInOrder b.settings b.facts b.passed.items };
+}
+
+impl<A: Allocator + Copy> StoreBuilder<A> {
+    /// Begins a store without series and columns.
+    pub fn new(
+        alloc: A,
+        settings: Settings<A>,
+        marks: Marks<A>,
+        accepted: u64,
+        running: bool,
+    ) -> Result<StoreBuilder<A>, AllocError>
+        ensures { IfOk result (λ b. b ≡ new_built settings marks accepted running) }
+    {
+        let facts = ColumnFacts::new(alloc, settings.rules().len())?;
+        Ok(StoreBuilder {
+            settings,
+            marks,
+            running,
+            accepted,
+            facts,
+            passed: Vec::new(alloc),
+        })
+    }
+
+    /// Registers a series, which must be new, and returns its index. On allocation failure, nothing changes.
+    pub fn add_series(&mut self, key: &KeyRef<'_>) -> Result<SeriesId, AllocError>
+        requires absent { Among key.now self.old.series → ⊥ }
+        requires few { length self.old.series < 1000000 }
+        requires named { IsNamed key.now }
+        ensures number { IfOk result (λ n. IsAt self.new.series n key.now) }
+        ensures ok { OnOk result (self.new ≡ with_series key.now self.old) }
+        ensures err { OnErr result (self.new ≡ self.old) }
+    {
+        self.facts.add_series(key)
+    }
+
+    /// Adds a column, which must be new, with its points. These must be in the order of time, each time once. `waits` says
+    /// whether the column waits for the open run. On allocation failure, nothing changes.
+    pub fn add_column(
+        &mut self,
+        series: SeriesId,
+        field: &str,
+        waits: bool,
+        points: Vec<(Time, i64), A>,
+    ) -> Result<(), AllocError>
+        requires registered { series < length self.old.series }
+        requires absent { (s : Series) → IsAt self.old.series series s → Among (record { series = s; field = field.now }) (map column_of self.old.columns) → ⊥ }
+        requires key { IsKey field.now }
+        requires rising { IsRising points.items }
+        requires timed { AreTimed points.items }
+        ensures ok { (s : Series) → IsAt self.old.series series s → OnOk result (self.new ≡ with_column (record { column = record { series = s; field = field.now }; points = points.items }) waits self.old) }
+        ensures err { OnErr result (self.new ≡ self.old) }
+    {
+        self.passed.reserve(1)?;
+        self.facts
+            .add_column(self.settings.rules(), series, field, points)?;
+        self.passed.push(!waits).unwrap();
+        Ok(())
+    }
+
+    /// Adds a cell of the rule with this index, which must be new, with its frozen part. On allocation failure, nothing
+    /// changes.
+    pub fn add_cell(
+        &mut self,
+        rule: usize,
+        index: &i128,
+        field: &str,
+        group: &[&str],
+        frozen: Agg,
+    ) -> Result<(), AllocError>
+        requires rule { rule < length self.old.settings.rules }
+        requires absent { finmap.get (cells_at self.old.cells rule) (cell_at index.now (lane_named field.now group.now)) ≡ None }
+        ensures ok { OnOk result (self.new ≡ with_cell rule (cell_at index.now (lane_named field.now group.now)) frozen self.old) }
+        ensures err { OnErr result (self.new ≡ self.old) }
+    {
+        self.facts.add_cell(rule, index, field, group, frozen)
+    }
+
+    /// Creates the store: makes the cells of raw facts from low indices on, and folds live parts.
+    pub fn finish(self) -> Result<Store<A>, AllocError>
+        requires { IsBuildable self }
+        ensures { IfOk result (IsBuiltFrom self) }
+    {
+        let mut facts = self.facts;
+        facts.fill_cells(self.settings.rules(), self.marks.lows())?;
+        let columns = facts.column_count();
+        Ok(Store {
+            settings: self.settings,
+            marks: self.marks,
+            accepted: self.accepted,
+            facts,
+            run: Run::over(self.running, columns, self.passed),
+        })
+    }
+}

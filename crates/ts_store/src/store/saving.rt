@@ -1,0 +1,54 @@
+//! What an image takes of a store.
+ghost use Rattle.std.specs.Prelude.{◌≡◌, ◌↔◌, ◌<◌, IfOk, IsTrue, length, map, pos, slice_index_or};
+ghost use Rattle.std.specs.FinMap as finmap;
+ghost use Rattle.ts_core.specs.Members.{Among};
+ghost use Rattle.ts_core.specs.Numbered.{IsAt};
+ghost use Rattle.ts_core.specs.StoreStates.{ColumnPoints, column_of};
+ghost use Rattle.ts_raw.specs.Columns.{AreTimed};
+ghost use Rattle.ts_raw.specs.PlainColumns.{IsRising};
+ghost use Rattle.ts_store.specs.Saving.{SavesSeries, frozen_from};
+ghost use Rattle.ts_store.specs.Seats.{no_points};
+
+use crate::frozen_cells::FrozenCells;
+use crate::saved_series::SavedSeries;
+use crate::store::Store;
+use std::alloc::{AllocError, Allocator};
+use ts_raw::{ColumnId, Points};
+
+impl<A: Allocator + Copy> Store<A> {
+    /// Lists the registered series in the order of their keys, each with its columns in the order of their fields.
+    pub fn saved_series(&self, alloc: A) -> Result<Vec<SavedSeries<'_, A>, A>, AllocError>
+        ensures { IfOk result (λ all. SavesSeries self.now.series (map column_of self.now.columns) all.items) }
+    {
+        self.facts.saved_series(alloc)
+    }
+
+    /// Returns true if a run is open that hasn't moved the column yet.
+    pub fn waits(&self, column: ColumnId) -> bool
+        requires { column < length self.now.columns }
+        ensures { (c : ColumnPoints) → IsAt self.now.columns column c → IsTrue result ↔ Among c.column self.now.waiting }
+    {
+        self.run.waits(column.number())
+    }
+
+    /// Returns all points of a column, in the order of time.
+    pub fn points_of(&self, column: ColumnId) -> Points<'_>
+        requires { column < length self.now.columns }
+        ensures points { result ≡ (slice_index_or self.now.columns column no_points).points }
+        ensures rising { IsRising result }
+        ensures timed { AreTimed result }
+    {
+        self.facts.points_of(column)
+    }
+
+    /// Returns an iterator over the cells of a rule, by its number, from its low index on: those whose frozen part isn't
+    /// empty, in the order of index, field and group.
+    pub fn frozen_cells(&self, rule: usize) -> FrozenCells<'_, A>
+        requires { rule < length self.now.settings.rules }
+        ensures { result ≡ frozen_from (slice_index_or self.now.marks.lows rule (pos 0)) (slice_index_or self.now.cells rule finmap.empty) }
+    {
+        let kept = &self.settings.rules()[rule];
+        self.facts
+            .frozen_cells(kept, rule, &self.marks.lows()[rule])
+    }
+}
