@@ -23,7 +23,7 @@ use Rattle.ts_core.specs.Cells.{Cell, is_rolled, is_in_cell, same_cell, cell_of,
 use Rattle.ts_core.proofs.PieceCells.{same_cell-eq}
 
 -- how many members of a list pass
-abbrev number_of : {X : Type 0} → (X → Bool) → List X → ℕ
+abbrev pub number_of : {X : Type 0} → (X → Bool) → List X → ℕ
 number_of p xs = length (filter p xs)
 
 one_if : Bool → ℕ
@@ -131,7 +131,7 @@ length-left p (x ∷ xs) =
     let rest = length-left p xs in
     elim (p x) as (λ b. length (cond b (x ∷ filter p xs) (filter p xs)) ≤ length (x ∷ xs)) [ true ↦ omega arith | false ↦ omega arith ]
 
-latest-few : (fs : List Fact) → length (latest fs) ≤ length fs
+pub latest-few : (fs : List Fact) → length (latest fs) ≤ length fs
 latest-few [] = omega arith
 latest-few (f ∷ fs) = let rest = latest-few fs in let less = length-left (λ (g : Fact). not (same_id (id_of g) (id_of f))) (latest fs) in omega (arith, rest, less)
 
@@ -140,7 +140,7 @@ frozen-count : (cut : Column → ℤ) (r : Rule) (k : Cell) (fs : List Fact) →
 frozen-count cut r k fs = fold-count aggregate_laws one_fact (λ f. refl) (filter (here r (λ (f : Fact). not (is_kept cut f)) k) fs)
 
 -- each is among those from the low index on
-abbrev AreFrom : ℤ → List Cell → Type 0
+abbrev pub AreFrom : ℤ → List Cell → Type 0
 AreFrom low [] = Unit {0}
 AreFrom low (k ∷ ks) = (low ≤ℤ k.index) × AreFrom low ks
 

@@ -20,16 +20,16 @@ length-left p (x ∷ xs) =
     let rest = length-left p xs in
     elim (p x) as (λ b. length (cond b (x ∷ filter p xs) (filter p xs)) ≤ length (x ∷ xs)) [ true ↦ omega arith | false ↦ omega arith ]
 
-facts-append : (cs ds : List ColumnPoints) → facts_of (cs ++ ds) ≡ facts_of cs ++ facts_of ds
+pub facts-append : (cs ds : List ColumnPoints) → facts_of (cs ++ ds) ≡ facts_of cs ++ facts_of ds
 facts-append [] ds = refl
 facts-append (c ∷ cs) ds = ap (λ xs. facts_at c.column c.points ++ xs) (facts-append cs ds) ∙ sym (append_assoc (facts_at c.column c.points) (facts_of cs) (facts_of ds))
 
-facts-length : (c : Column) (ps : List (ℤ × ℤ)) → length (facts_at c ps) ≡ length ps
+pub facts-length : (c : Column) (ps : List (ℤ × ℤ)) → length (facts_at c ps) ≡ length ps
 facts-length c [] = refl
 facts-length c (p ∷ ps) = ap suc (facts-length c ps)
 
 -- the facts of a series are as many as its points
-series-length : (s : Series) (cs : List ImageColumn) → length (facts_of (map (points_in s) cs)) ≡ sum_by (λ (c : ImageColumn). length c.points) cs
+pub series-length : (s : Series) (cs : List ImageColumn) → length (facts_of (map (points_in s) cs)) ≡ sum_by (λ (c : ImageColumn). length c.points) cs
 series-length s [] = refl
 series-length s (c ∷ cs) =
     let here = facts-length (column_in s c) c.points in

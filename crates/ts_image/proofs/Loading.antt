@@ -1,5 +1,5 @@
 -- An image that was read, and is tested then.
-use Rattle.std.proofs.Common.{◌≡◌, ◌≤ℤ◌, ℕ, List, [], ◌∷◌, map, Option, Some, None, Result, Ok, Err, ap}
+use Rattle.std.proofs.Common.{◌≡◌, ◌≤ℤ◌, ℕ, List, [], ◌∷◌, map, Option, Some, None, Result, Ok, Err, ap, subst}
 use Rattle.std.specs.Prelude.{pos, IfSome}
 use Rattle.std.specs.List.{AllByRecursion}
 use Rattle.ts_core.specs.Devices.{Input}
@@ -15,8 +15,14 @@ use Rattle.ts_image.specs.RuleParts.{rule_of, settings_of_parts}
 use Rattle.ts_image.specs.ImageTests.{IsPossible, rule_in, settings_in}
 use Rattle.ts_image.specs.TestParts.{IsLong}
 use Rattle.ts_image.specs.ImageFaults.{IsImageOf, IsFaultOf}
+use Rattle.ts_core.specs.StoreData.{StoreData, StaysFor}
+use Rattle.ts_image.specs.Images.{ImageData}
 use Rattle.ts_image.specs.ImageReading.{image_of, LoadsParts}
-use Rattle.ts_image.specs.ImageLoading.{LoadsImage}
+use Rattle.ts_image.specs.ImageLoading.{LoadsImage, LoadsStore, StandsAsSaved}
+use Rattle.ts_image.specs.Pictures.{IsPictureOf}
+use Rattle.ts_image.specs.StoresMade.{IsStoreOf}
+use Rattle.ts_image.proofs.PictureLemmas.{pictured_stands}
+use Rattle.ts_image.proofs.Unambiguous.{are_unambiguous}
 
 -- intervals of a nanosecond or more are those of the parts
 pub long_from : {A : Type 0} (rs : List (RuleParts A)) → AllByRecursion (λ (r : Rule). pos 1 ≤ℤ r.interval) (map rule_in (map rule_of rs)) → AllByRecursion IsLong rs
@@ -79,3 +85,41 @@ module _ (A : Type 0) (s : Input) (turns : ℕ) (t : Input) where
       within = p.within;
       spent = λ z. absurd (no_room (LoadedImage A) z);
     }
+
+-- ---- the store that is made of it
+
+module _ (s : Input) (turns : ℕ) (t : Input) where
+  -- what isn't loaded gives no store
+  pub no_store : (A : Type 0) (e : LoadFault) → LoadsImage {A = A} s turns (Err e) t → LoadsStore s turns (Err e) t
+  no_store A e p = record { ok = tt; err = p.err; failures = p.failures; ends = tt; within = p.within; spent = λ z. p.spent (turns_again StoreData (LoadedImage A) e z) }
+
+  module _ (A : Type 0) (image : LoadedImage A) (p : LoadsImage s turns (Ok image) t) where
+    pub store_loaded : (k : StoreData) → IsStoreOf (image_of image.parts) k → LoadsStore s turns (Ok k) t
+    store_loaded k made = record {
+      ok = record { version = image.version; image = image_of image.parts; bytes = p.ok.bytes; possible = p.ok.possible; store = made };
+      err = tt;
+      failures = p.failures;
+      ends = p.ends;
+      within = p.within;
+      spent = λ z. absurd (never_read StoreData k z);
+    }
+
+    pub no_room_for_store : LoadsStore s turns (Err OutOfMemory) t
+    no_room_for_store = record {
+      ok = tt;
+      err = if_some s.remaining (λ bytes. AreBytes bytes → IsImageOf image.version (image_of image.parts) bytes) (λ bytes. AreBytes bytes → IsFaultOf bytes OutOfMemory) (λ bytes is are. tt) p.ok.bytes;
+      failures = p.failures;
+      ends = tt;
+      within = p.within;
+      spent = λ z. absurd (no_room StoreData z);
+    }
+
+    -- the image of a store is loaded as a store that stands for the same
+    pub as_saved : (k : StoreData) → IsStoreOf (image_of image.parts) k → StandsAsSaved s k
+    as_saved k made =
+        if_some s.remaining (λ bytes. AreBytes bytes → IsImageOf image.version (image_of image.parts) bytes)
+        (λ bytes. AreBytes bytes → (v : Version) (d : ImageData) (saved : StoreData) → IsImageOf v d bytes → IsPictureOf saved d → StaysFor saved k)
+        (λ bytes is are v d saved im pic.
+        let same = (are_unambiguous image.version (image_of image.parts) bytes (is are) p.ok.possible).1 v d im in
+        pictured_stands saved k (image_of image.parts) (subst (IsPictureOf saved) same.1 pic) made.made)
+        p.ok.bytes

@@ -8,8 +8,9 @@ use Rattle.ts_core.specs.Cells.{Cell}
 use Rattle.ts_core.specs.StoreStates.{ColumnPoints, facts_of}
 use Rattle.ts_core.specs.StoreData.{CellMap, StoreData, AreLive, StaysFor}
 use Rattle.ts_core.specs.ReadingAhead.{bit}
+use Rattle.ts_store.specs.Building.{HaveCells}
 use Rattle.ts_image.specs.Images.{ImageCell, ImageData}
-use Rattle.ts_image.specs.Pictures.{part_at, PicturesCells, PictureCells, IsPictureOf, HaveCells, IsMadeOf}
+use Rattle.ts_image.specs.Pictures.{part_at, PicturesCells, PictureCells, IsPictureOf, IsMadeOf}
 use Rattle.ts_image.specs.Reloading.{HaveSameParts, IsReloaded}
 use Rattle.ts_image.proofs.ReloadLemmas.{facts_same, reloads}
 
@@ -24,7 +25,7 @@ same_part low m n cells p q k l =
     ⊎_elim {C = part_at n k ≡ part_at m k}
     (λ none.
     ⊎_elim {C = part_at n k ≡ part_at m k}
-    (λ neither. q.sound k neither ∙ sym (p.sound k none))
+    (λ neither. q.sound k l neither ∙ sym (p.sound k l none))
     (λ some. let c = q.all k l some in sym (ap (part_at n) c.2) ∙ q.each c.0 c.1 ∙ sym (p.each c.0 c.1) ∙ ap (part_at m) c.2)
     (none_or_some (part_at n k).count))
     (λ some. let c = p.all k l some in sym (ap (part_at n) c.2) ∙ q.each c.0 c.1 ∙ sym (p.each c.0 c.1) ∙ ap (part_at m) c.2)

@@ -29,7 +29,7 @@ use Rattle.ts_image.specs.Reloading.{HasSameParts, HaveSameParts, IsReloaded, Re
 -- ---- facts of columns in another order
 
 -- a fact of columns is one of some column's
-facts_of-from : (cs : List ColumnPoints) (f : Fact) → Among f (facts_of cs) → (c : ColumnPoints) × Among c cs × Among f (facts_at c.column c.points)
+pub facts_of-from : (cs : List ColumnPoints) (f : Fact) → Among f (facts_of cs) → (c : ColumnPoints) × Among c cs × Among f (facts_at c.column c.points)
 facts_of-from [] f a = absurd a
 facts_of-from (d ∷ ds) f a =
     ⊎_elim {C = (c : ColumnPoints) × Among c (d ∷ ds) × Among f (facts_at c.column c.points)} (λ k. (d, inl refl, k)) (λ k. let s = facts_of-from ds f k in (s.0, inr s.1, s.2)) (Among-append f (facts_at d.column d.points) (facts_of ds) a)
@@ -41,7 +41,7 @@ pub facts_same : (cs ds : List ColumnPoints) → SameMembers cs ds → SameMembe
 facts_same cs ds h f a = let s = facts_of-from cs f a in facts_of-there ds s.0 f (h s.0 s.1) s.2
 
 -- a fact of a column is of that column
-facts_at-of : (c : Column) (ps : List (ℤ × ℤ)) (f : Fact) → Among f (facts_at c ps) → f.column ≡ c
+pub facts_at-of : (c : Column) (ps : List (ℤ × ℤ)) (f : Fact) → Among f (facts_at c ps) → f.column ≡ c
 facts_at-of c [] f a = absurd a
 facts_at-of c (p ∷ ps) f a = ⊎_elim {C = f.column ≡ c} (λ e. ap (λ (g : Fact). g.column) e) (λ k. facts_at-of c ps f k) a
 
@@ -49,14 +49,14 @@ distinct_parts : {X : Type 0} (xs ys : List X) → AllDistinct (xs ++ ys) → Al
 distinct_parts [] ys d = (tt, d)
 distinct_parts (x ∷ xs) ys d = let r = distinct_parts xs ys d.1 in ((λ a. d.0 (Among-left x xs ys a), r.0), r.1)
 
-column_once : (cs : List ColumnPoints) (c : ColumnPoints) → AllDistinct (facts_of cs) → Among c cs → AllDistinct (facts_at c.column c.points)
+pub column_once : (cs : List ColumnPoints) (c : ColumnPoints) → AllDistinct (facts_of cs) → Among c cs → AllDistinct (facts_at c.column c.points)
 column_once [] c d m = absurd m
 column_once (b ∷ bs) c d m =
     let parts = distinct_parts (facts_at b.column b.points) (facts_of bs) d in
     ⊎_elim {C = AllDistinct (facts_at c.column c.points)} (λ e. subst (λ (x : ColumnPoints). AllDistinct (facts_at x.column x.points)) (sym e) parts.0) (λ k. column_once bs c parts.1 k) m
 
 -- distinct columns, each with distinct facts
-facts_once : (cs : List ColumnPoints) → AllDistinct (map column_of cs) → ((c : ColumnPoints) → Among c cs → AllDistinct (facts_at c.column c.points)) → AllDistinct (facts_of cs)
+pub facts_once : (cs : List ColumnPoints) → AllDistinct (map column_of cs) → ((c : ColumnPoints) → Among c cs → AllDistinct (facts_at c.column c.points)) → AllDistinct (facts_of cs)
 facts_once [] d h = tt
 facts_once (c ∷ cs) d h =
     AllDistinct-append (facts_at c.column c.points) (facts_of cs) (h c (inl refl)) (facts_once cs d.1 (λ x a. h x (inr a)))
@@ -75,7 +75,7 @@ total_same fs gs d e h j r k =
 
 -- ---- waiting columns in another order
 
-is_waiting-among : (c : Column) (ds : List Column) → is_waiting ds c ≡ true → Among c ds
+pub is_waiting-among : (c : Column) (ds : List Column) → is_waiting ds c ≡ true → Among c ds
 is_waiting-among c [] h = absurd (true≢false (sym h))
 is_waiting-among c (d ∷ ds) h =
     elim (same_column c d) as (λ b. same_column c d ≡ b → b || is_waiting ds c ≡ true → Among c (d ∷ ds)) [

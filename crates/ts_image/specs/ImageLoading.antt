@@ -1,29 +1,42 @@
 -- Loading an image: exactly those without faults are loaded. (Own rules.)
-use Rattle.std.specs.Prelude.{◌≡◌, ℕ, ◌+◌, ◌≤◌, Result, Err, IfOk, IfErr, IfSome}
+use Rattle.std.specs.Prelude.{◌≡◌, ℕ, Result, IfSome}
 use Rattle.ts_core.specs.Devices.{Input}
+use Rattle.ts_core.specs.StoreData.{StoreData, StaysFor}
 use Rattle.ts_image.specs.declared.image_loading.LoadedImage.{LoadedImage}
 use Rattle.ts_image.specs.declared.load_fault.LoadFault.{LoadFault}
-use Rattle.ts_image.specs.declared.load_fault.LoadFault.TheVariants.{Turns}
+use Rattle.ts_image.specs.declared.version.Version.{Version}
 use Rattle.ts_image.specs.FormatLaws.{AreBytes}
+use Rattle.ts_image.specs.Images.{ImageData}
 use Rattle.ts_image.specs.RuleParts.{settings_of_parts}
-use Rattle.ts_image.specs.ImageFaults.{IsImageOf, IsFaultOf}
+use Rattle.ts_image.specs.ImageFaults.{IsImageOf}
 use Rattle.ts_image.specs.ImageTests.{IsPossible, settings_in}
-use Rattle.ts_image.specs.ImageReading.{image_of, one_if_device_failed}
+use Rattle.ts_image.specs.ImageReading.{image_of, Loads, HadImage}
+use Rattle.ts_image.specs.Pictures.{IsPictureOf}
+use Rattle.ts_image.specs.StoresMade.{IsStoreOf}
 
 -- the source had the image's bytes, the image has no contradiction, and the settings are made of it
 pub record IsLoaded {A : Type 0} (source : Input) (image : LoadedImage A) : Type 0 where
-  pub bytes : IfSome source.remaining (λ bytes. AreBytes bytes → IsImageOf image.version (image_of image.parts) bytes)
+  pub bytes : HadImage source image.version (image_of image.parts)
   pub possible : IsPossible image.version (image_of image.parts)
   pub settings : image.settings ≡ settings_in (settings_of_parts image.parts.settings)
 
--- a source is read to its end and has an image without contradictions, or has this fault
-pub record LoadsImage {A : Type 0} (source : Input) (turns : ℕ) (result : Result (LoadedImage A) LoadFault) (source' : Input) : Type 0 where
-  pub ok : IfOk result (IsLoaded source)
-  pub err : IfErr result (λ e. IfSome source.remaining (λ bytes. AreBytes bytes → IsFaultOf bytes e))
-  -- a read failed exactly if the fault says so
-  pub failures : source'.failures ≡ source.failures + one_if_device_failed result
-  -- the end was read
-  pub ends : IfOk result (λ r. source'.ends ≡ source.ends + 1)
-  pub within : source'.turns ≤ source.turns + turns
-  -- all allowed reads saw no end
-  pub spent : result ≡ Err Turns → (source'.turns ≡ source.turns + turns) × (source'.ends ≡ source.ends)
+-- loads an image without contradictions
+abbrev pub LoadsImage : {A : Type 0} → Input → ℕ → Result (LoadedImage A) LoadFault → Input → Type 0
+LoadsImage source turns result source' = Loads (IsLoaded source) source turns result source'
+
+-- the source had the bytes of an image without contradictions, and the store is made of its data
+pub record IsLoadedStore (source : Input) (k : StoreData) : Type 0 where
+  pub version : Version
+  pub image : ImageData
+  pub bytes : HadImage source version image
+  pub possible : IsPossible version image
+  pub store : IsStoreOf image k
+
+-- loads a store
+abbrev pub LoadsStore : Input → ℕ → Result StoreData LoadFault → Input → Type 0
+LoadsStore source turns result source' = Loads (IsLoadedStore source) source turns result source'
+
+-- if the source had the image of a store, the loaded store stands for each history that this one stood for
+abbrev pub StandsAsSaved : Input → StoreData → Type 0
+StandsAsSaved source k =
+    IfSome source.remaining (λ bytes. AreBytes bytes → (v : Version) (d : ImageData) (saved : StoreData) → IsImageOf v d bytes → IsPictureOf saved d → StaysFor saved k)

@@ -44,9 +44,9 @@ one_if_device_failed (Err Device) = 1
 one_if_device_failed (Err Turns) = 0
 one_if_device_failed (Err OutOfMemory) = 0
 
--- a source is read to its end and is of the form of an image, or it has this fault
-pub record LoadsParts {A : Type 0} (source : Input) (turns : ℕ) (result : Result (Version × ImageParts A) LoadFault) (source' : Input) : Type 0 where
-  pub ok : IfOk result (λ r. IfSome source.remaining (λ bytes. AreBytes bytes → IsImageOf r.0 (image_of r.1) bytes))
+-- a source is read to its end and gives what is wanted, or it has this fault
+pub record Loads {T : Type 0} (IsWanted : T → Type 0) (source : Input) (turns : ℕ) (result : Result T LoadFault) (source' : Input) : Type 0 where
+  pub ok : IfOk result IsWanted
   pub err : IfErr result (λ e. IfSome source.remaining (λ bytes. AreBytes bytes → IsFaultOf bytes e))
   -- a read failed exactly if the fault says so
   pub failures : source'.failures ≡ source.failures + one_if_device_failed result
@@ -55,3 +55,11 @@ pub record LoadsParts {A : Type 0} (source : Input) (turns : ℕ) (result : Resu
   pub within : source'.turns ≤ source.turns + turns
   -- all allowed reads saw no end
   pub spent : result ≡ Err Turns → (source'.turns ≡ source.turns + turns) × (source'.ends ≡ source.ends)
+
+-- the source had the bytes of this image
+abbrev pub HadImage : Input → Version → ImageData → Type 0
+HadImage source v d = IfSome source.remaining (λ bytes. AreBytes bytes → IsImageOf v d bytes)
+
+-- reads an image up to its form
+abbrev pub LoadsParts : {A : Type 0} → Input → ℕ → Result (Version × ImageParts A) LoadFault → Input → Type 0
+LoadsParts source turns result source' = Loads (λ r. HadImage source r.0 (image_of r.1)) source turns result source'

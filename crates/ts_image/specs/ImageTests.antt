@@ -147,6 +147,8 @@ pub record IsPossible (v : Version) (d : ImageData) : Type 0 where
   pub few : length d.series ≤ 1000000
   pub series : AllByRecursion (IsImageSeries d.marks.raw d.runs) d.series
   pub rising : AreRising series_cmp (map (λ (s : ImageSeries). s.series) d.series)
+  -- a list of cells for each rule
+  pub each : length d.cells ≡ length d.settings.rules
   pub cells : CellsAre d.marks.raw d.settings.rules d.marks.lows d.cells
   pub accepted : d.accepted ≤ 2 ^ 62
   pub points : points_in_all d.series ≤ d.accepted

@@ -4,7 +4,7 @@ pub mod FormatLaws
 pub mod Images
 pub mod FieldReading
 pub mod RuleParts
-pub mod RulesWritten
+pub mod FieldWriting
 pub mod ImageTests
 pub mod ImageFaults
 pub mod Pictures
@@ -17,5 +17,10 @@ pub mod LoadFaults
 pub mod TestParts
 pub mod SettingsMade
 pub mod ImageLoading
-pub mod ColumnsWritten
-pub mod CellsWritten
+pub mod PartsMade
+pub mod StoresMade
+pub mod SavedParts
+pub mod Saving
+pub mod ImageFaultTexts
+pub mod SavedImages
+pub mod WrittenImages

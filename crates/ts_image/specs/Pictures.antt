@@ -1,16 +1,16 @@
 -- The picture of a store in its image: all its data but live parts, empty cells and cells below a low index, in the
 -- image's order. (Own rules.)
-use Rattle.std.specs.Prelude.{◌≡◌, ◌↔◌, ℤ, ◌≤ℤ◌, ◌<◌, ◌==◌, true, None, List, [], ◌∷◌, ◌++◌, map, filter, Some}
+use Rattle.std.specs.Prelude.{◌≡◌, ◌↔◌, ℤ, ◌≤ℤ◌, ◌<◌, ◌==◌, List, [], ◌∷◌, ◌++◌, map, filter, Some}
 use Rattle.std.specs.FinMap as finmap
 use Rattle.ts_core.specs.Members.{Among, AllDistinct}
-use Rattle.ts_core.specs.Facts.{Series, Column, Fact}
-use Rattle.ts_core.specs.Settings.{Rule}
+use Rattle.ts_core.specs.Facts.{Series, Column}
 use Rattle.ts_core.specs.Aggregates.{Aggregate, empty_aggregate}
-use Rattle.ts_core.specs.Cells.{Cell, cell_of, is_rolled}
+use Rattle.ts_core.specs.Cells.{Cell}
 use Rattle.ts_core.specs.Changes.{or_else}
 use Rattle.ts_core.specs.StoreStates.{ColumnPoints, column_of, facts_of}
 use Rattle.ts_core.specs.StoreData.{CellMap, StoreData, no_parts, AreLive}
 use Rattle.ts_core.specs.ReadingAhead.{bit}
+use Rattle.ts_store.specs.Building.{HaveCells}
 use Rattle.ts_image.specs.Images.{ImageColumn, ImageSeries, ImageCell, ImageData}
 use Rattle.ts_image.specs.ImageTests.{settings_in}
 
@@ -40,7 +40,7 @@ part_at m k = (or_else no_parts (finmap.get m k)).frozen
 pub record PicturesCells (low : ℤ) (m : CellMap) (cells : List ImageCell) : Type 0 where
   pub each : (c : ImageCell) → Among c cells → part_at m c.cell ≡ part_of c
   pub all : (k : Cell) → low ≤ℤ k.index → 0 < (part_at m k).count → (c : ImageCell) × Among c cells × (c.cell ≡ k)
-  pub sound : (k : Cell) → (part_at m k).count ≡ 0 → part_at m k ≡ empty_aggregate
+  pub sound : (k : Cell) → low ≤ℤ k.index → (part_at m k).count ≡ 0 → part_at m k ≡ empty_aggregate
 
 abbrev pub PictureCells : List ℤ → List CellMap → List (List ImageCell) → Type 0
 PictureCells [] [] [] = Unit {0}
@@ -60,14 +60,6 @@ pub record IsPictureOf (k : StoreData) (d : ImageData) : Type 0 where
   pub columns : (c : ColumnPoints) → Among c (columns_in d.series) ↔ Among c k.columns
   pub waiting : (c : Column) → Among c (waiting_in d.series) ↔ Among c k.waiting
   pub cells : PictureCells k.marks.lows k.cells d.cells
-
--- each raw fact has its cell under each rule, from the low index on
-abbrev pub HaveCells : List Rule → List ℤ → List Fact → List CellMap → Type 0
-HaveCells [] lows facts ms = Unit {0}
-HaveCells (r ∷ rs) [] facts ms = Unit {0}
-HaveCells (r ∷ rs) (low ∷ lows) facts [] = Unit {0}
-HaveCells (r ∷ rs) (low ∷ lows) facts (m ∷ ms) =
-    ((f : Fact) → Among f facts → is_rolled r f ≡ true → low ≤ℤ (cell_of r f).index → finmap.get m (cell_of r f) ≡ None → ⊥) × HaveCells rs lows facts ms
 
 -- The store is made of the data: the data is its picture, each column is there once, raw facts have their cells, and
 -- live parts are folded from the raw facts.

@@ -78,5 +78,6 @@ pub record AreSeriesPossible (d : ImageData) : Type 0 where
 
 pub record AreRulesPossible (v : Version) (d : ImageData) : Type 0 where
   pub lows : AreLows v d.marks.raw d.settings.rules d.marks.lows
+  pub each : length d.cells ≡ length d.settings.rules
   pub cells : CellsAre d.marks.raw d.settings.rules d.marks.lows d.cells
   pub counted : AreCountedAll d.accepted d.series d.settings.rules d.cells

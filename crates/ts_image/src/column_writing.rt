@@ -1,67 +1,55 @@
-//! Columns written to memory, in the form of an image.
-ghost use Rattle.std.specs.Prelude.{◌≡◌, ◌++◌, OnOk};
-ghost use Rattle.ts_image.specs.ColumnsWritten.{u64_word, flag_word, point_word, point_words, column_words};
+//! Writes columns to an image.
+ghost use Rattle.std.specs.Int.{w64};
+ghost use Rattle.ts_core.specs.ReadingAhead.{bit};
+ghost use Rattle.ts_image.specs.declared.version.Version.TheVariants.{V2};
+ghost use Rattle.ts_image.specs.Formats.{list_of};
+ghost use Rattle.ts_image.specs.Images.{image_point, image_column};
+ghost use Rattle.ts_image.specs.FieldWriting.{Puts, PutsAll};
 
-use crate::rule_writing::{push_i64, push_text, push_u8};
-use crate::version::Version;
-use std::alloc::{AllocError, Allocator};
+use crate::cell_writing::put_point;
+use crate::field_writing::{put_text, put_u8, put_u64};
+use std::alloc::Allocator;
+use std::io::Write;
+use ts_core::{OutputBuffer, Refused, Sink};
+use ts_raw::Points;
 
-/// Appends an unsigned number of eight bytes.
-#[tactic(auto, unfolding(crate::specs::ColumnsWritten::u64_word))]
-pub(crate) fn push_u64<A: Allocator>(out: &mut Vec<u8, A>, number: u64) -> Result<(), AllocError>
-    ensures { OnOk result (out.new.items ≡ out.old.items ++ u64_word number) }
+/// Writes points, one after another.
+fn put_points<W: Write, A: Allocator>(
+    points: Points<'_>,
+    out: &mut OutputBuffer<A>,
+    sink: &mut Sink<W>,
+) -> Result<(), Refused>
+    ensures { PutsAll image_point points.entry sink.old out.old result sink.new out.new }
 {
-    out.extend_from_slice(&number.to_be_bytes())
-}
-
-/// Appends a byte that images have from version 2 on.
-fn push_flag<A: Allocator>(
-    out: &mut Vec<u8, A>,
-    version: Version,
-    flag: u8,
-) -> Result<(), AllocError>
-    ensures { OnOk result (out.new.items ≡ out.old.items ++ flag_word version flag) }
-{
-    match version {
-        Version::V1 => Ok(()),
-        Version::V2 => push_u8(out, flag),
-    }
-}
-
-/// Appends a point.
-#[tactic(auto, unfolding(crate::specs::ColumnsWritten::point_word))]
-pub(crate) fn push_point<A: Allocator>(
-    out: &mut Vec<u8, A>,
-    point: &(i64, i64),
-) -> Result<(), AllocError>
-    ensures { OnOk result (out.new.items ≡ out.old.items ++ point_word point.now) }
-{
-    push_i64(out, &point.0)?;
-    push_i64(out, &point.1)
-}
-
-/// Appends points.
-fn push_points<A: Allocator>(out: &mut Vec<u8, A>, points: &[(i64, i64)]) -> Result<(), AllocError>
-    ensures { OnOk result (out.new.items ≡ out.old.items ++ point_words points.now) }
-{
-    for point in points {
-        push_point(out, point)?;
+    for (time, value) in points {
+        put_point(time, &value, out, sink)?;
     }
     Ok(())
 }
 
-/// Appends a column.
-pub(crate) fn push_column<A: Allocator>(
-    out: &mut Vec<u8, A>,
-    version: Version,
-    field: &str,
-    waits: u8,
-    points: &[(i64, i64)],
-) -> Result<(), AllocError>
-    ensures { OnOk result (out.new.items ≡ out.old.items ++ column_words version (record { field = field.now; waits = waits; points = points.now })) }
+/// Writes the number of points, and the points.
+fn put_counted_points<W: Write, A: Allocator>(
+    points: Points<'_>,
+    out: &mut OutputBuffer<A>,
+    sink: &mut Sink<W>,
+) -> Result<(), Refused>
+    ensures { Puts (list_of w64 image_point) points.entry sink.old out.old result sink.new out.new }
 {
-    push_text(out, field)?;
-    push_flag(out, version, waits)?;
-    push_u64(out, points.len() as u64)?;
-    push_points(out, points)
+    put_u64(points.len() as u64, out, sink)?;
+    put_points(points, out, sink)
+}
+
+/// Writes a column: its field, whether it waits for the open run, and its points.
+pub(crate) fn put_column<W: Write, A: Allocator>(
+    field: &str,
+    waits: bool,
+    points: Points<'_>,
+    out: &mut OutputBuffer<A>,
+    sink: &mut Sink<W>,
+) -> Result<(), Refused>
+    ensures { Puts (image_column V2) (record { field = field.now; waits = bit waits; points = points.entry }) sink.old out.old result sink.new out.new }
+{
+    put_text(field, out, sink)?;
+    put_u8(u8::from(waits), out, sink)?;
+    put_counted_points(points, out, sink)
 }

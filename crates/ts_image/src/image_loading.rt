@@ -3,17 +3,22 @@ ghost use Rattle.std.specs.Prelude.{◌≤◌, ◌^◌, IfOk};
 ghost use Rattle.ts_image.specs.ImageTests.{IsPossible, settings_in};
 ghost use Rattle.ts_image.specs.RuleParts.{settings_of_parts};
 ghost use Rattle.ts_image.specs.ImageReading.{image_of};
-ghost use Rattle.ts_image.specs.ImageLoading.{LoadsImage};
+ghost use Rattle.ts_image.specs.ImageLoading.{LoadsImage, LoadsStore, StandsAsSaved};
 ghost use Rattle.ts_image.specs.SettingsMade.{IsMadeIf};
 
 use crate::image_reading::{ImageParts, read_parts};
 use crate::image_tests::is_rest_possible;
 use crate::load_fault::LoadFault;
 use crate::settings_making::make_settings;
+use crate::store_making::make_store;
 use crate::version::Version;
 use std::alloc::{AllocError, Allocator};
 use std::io::Read;
 use ts_core::{Settings, Source};
+use ts_store::Store;
+
+/// How many reads `load` makes at most: 2^32.
+const MOST_TURNS: u64 = 4_294_967_296;
 
 /// What an image without contradictions says, and the settings made of it.
 #[derive(Drop)]
@@ -61,4 +66,30 @@ pub fn load_parts<R: Read, A: Allocator + Copy>(
         }),
         None => Err(LoadFault::Contradiction),
     }
+}
+
+/// Loads a store from an image to the end of the input, with at most `turns` reads.
+pub fn load_within<R: Read, A: Allocator + Copy>(
+    alloc: A,
+    source: &mut Source<R>,
+    turns: u64,
+) -> Result<Store<A>, LoadFault>
+    requires { turns ≤ 2 ^ 32 }
+    ensures loads { LoadsStore source.old turns result source.new }
+    ensures stands { IfOk result (StandsAsSaved source.old) }
+{
+    let image = load_parts(alloc, source, turns)?;
+    let store = make_store(alloc, image)?;
+    Ok(store)
+}
+
+/// Loads a store from an image to the end of the input, with at most 2^32 reads.
+pub fn load<R: Read, A: Allocator + Copy>(
+    alloc: A,
+    source: &mut Source<R>,
+) -> Result<Store<A>, LoadFault>
+    ensures loads { LoadsStore source.old (2 ^ 32) result source.new }
+    ensures stands { IfOk result (StandsAsSaved source.old) }
+{
+    load_within(alloc, source, MOST_TURNS)
 }

@@ -48,6 +48,9 @@ fn are_rules_possible<A: Allocator>(version: Version, parts: &ImageParts<A>) -> 
     if !are_lows(version, &parts.marks.raw, rules, &parts.marks.lows) {
         return false;
     }
+    if parts.cells.len() != rules.len() {
+        return false;
+    }
     if !are_all_cells(&parts.marks.raw, rules, &parts.marks.lows, &parts.cells) {
         return false;
     }

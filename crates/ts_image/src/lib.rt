@@ -1,11 +1,13 @@
 //! Images: the data of a store as bytes, and back. An image has settings, marks, series with their raw points, and the
-//! frozen parts of cells. It depends on ts_core alone.
+//! frozen parts of cells. It depends on ts_core, on ts_line for what a line can name, and on ts_store, whose builder makes
+//! the store.
 //! It promises exactness: each image is read as its data and only that. Other bytes are refused with the offset of the
-//! first field at fault, and an image that contradicts itself is refused. A store that is made of the data of an image
-//! stands for each history that the saved store stood for.
+//! first field at fault, and so is an image that contradicts itself, which that of a store with a history never does. A
+//! loaded store has the data of its image, and stands for each history that the saved store stood for.
 //!
 //! ```text
-//! let image = load_parts(alloc, &mut source, turns)?;  // LoadedImage: version, settings, parts; or a LoadFault
+//! save(alloc, &store, &mut sink)?;            // the store's image is written; or a SaveFault
+//! let store = load(alloc, &mut source)?;      // a Store; or a LoadFault
 //! ```
 #![tactic(auto)]
 
@@ -17,8 +19,11 @@ ghost use Rattle.ts_image.specs.Pictures.{IsPictureOf, IsMadeOf};
 ghost use Rattle.ts_core.specs.StoreData.{StoreData, StaysFor};
 ghost use Rattle.ts_image.specs.ImageFaults.{AreUnambiguous};
 ghost use Rattle.ts_image.specs.Reloading.{Reloads};
+ghost use Rattle.ts_image.specs.SavedImages.{SavedImagesArePossible};
+ghost use Rattle.ts_image.specs.WrittenImages.{WrittenImagesAreAcceptable};
 
 mod cell_reading;
+mod cell_saving;
 mod cell_tests;
 mod cell_writing;
 mod column_reading;
@@ -26,23 +31,33 @@ mod column_writing;
 mod count_tests;
 mod field_fault;
 mod field_reader;
+mod field_writing;
+mod form_tests;
 mod image_loading;
 mod image_reading;
 mod image_tests;
 mod load_fault;
+mod part_making;
 mod rule_reading;
 mod rule_tests;
-mod rule_writing;
+mod save_fault;
+mod saving;
 mod series_reading;
+mod series_saving;
 mod series_tests;
+mod series_writing;
 mod settings_making;
+mod settings_writing;
+mod store_making;
 mod version;
 
 pub use cell_reading::{CellKeyParts, CellParts, ExtremesParts, MarksParts};
-pub use image_loading::{LoadedImage, load_parts};
+pub use image_loading::{LoadedImage, load, load_parts, load_within};
 pub use image_reading::ImageParts;
 pub use load_fault::LoadFault;
 pub use rule_reading::{RuleParts, SettingsParts};
+pub use save_fault::SaveFault;
+pub use saving::save;
 pub use series_reading::{ColumnParts, KeyParts, SeriesParts};
 pub use version::Version;
 
@@ -57,4 +72,10 @@ pub fn images_are_exact()
     ensures unambiguous { AreUnambiguous }
     ensures format { (v : Version) → IsFormat (image v) }
     ensures exact { (v : Version) (p : Place) → AreBytes p.rest → IsExact (image v) p (read_whole (image v) p) }
+{}
+
+/// States that the image of a store that stands for a history has no contradiction.
+pub fn saved_images_are_possible()
+    ensures any { SavedImagesArePossible }
+    ensures written { WrittenImagesAreAcceptable }
 {}

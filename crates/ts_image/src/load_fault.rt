@@ -1,10 +1,13 @@
 //! Errors of loading an image.
 ghost use Rattle.std.specs.Prelude.{◌≡◌};
 ghost use Rattle.ts_image.specs.declared.load_fault.LoadFault.TheVariants.{OutOfMemory};
+ghost use Rattle.ts_core.specs.FaultTexts.{IsAppended};
+ghost use Rattle.ts_image.specs.ImageFaultTexts.{load_fault_text};
 ghost use Rattle.ts_image.specs.LoadFaults.{fault_of};
 
 use crate::field_fault::FieldFault;
-use std::alloc::AllocError;
+use std::alloc::{AllocError, Allocator};
+use ts_core::{FaultCode, FaultDetail};
 
 /// Error of loading an image.
 #[derive(Clone, Copy, Debug, Drop)]
@@ -43,5 +46,25 @@ impl From<FieldFault> for LoadFault {
             FieldFault::Turns => LoadFault::Turns,
             FieldFault::OutOfMemory => LoadFault::OutOfMemory,
         }
+    }
+}
+
+impl LoadFault {
+    /// Appends the message to `text`. When out of memory, `text` may end in part of the message. Does not allocate if
+    /// `text` has the capacity.
+    #[tactic(auto, unfolding(crate::specs::ImageFaultTexts::load_fault_text))]
+    pub fn text_to<A: Allocator>(&self, text: &mut String<A>) -> Result<(), AllocError>
+        ensures { IsAppended (load_fault_text self.now) text.old text.new result }
+    {
+        let (code, detail) = match self {
+            LoadFault::NotAnImage => (FaultCode::NotAnImage, FaultDetail::Alone),
+            LoadFault::OtherVersion => (FaultCode::ImageVersion, FaultDetail::Alone),
+            LoadFault::Misshapen(at) => (FaultCode::BrokenImage, FaultDetail::At(*at as usize)),
+            LoadFault::Contradiction => (FaultCode::ContradictoryImage, FaultDetail::Alone),
+            LoadFault::Device => (FaultCode::ImageDevice, FaultDetail::Alone),
+            LoadFault::Turns => (FaultCode::EndlessImage, FaultDetail::Alone),
+            LoadFault::OutOfMemory => return text.push_str("fault memory"),
+        };
+        code.text_to(detail, text)
     }
 }

@@ -1,4 +1,5 @@
-use Rattle.std.proofs.Common.{ℤ, List, Vec, map, refl, sym, subst}
+use Rattle.std.proofs.Common.{◌≡◌, length, ℤ, List, Vec, map, refl, sym, ap, subst, arith}
+use Rattle.std.proofs.lemmas.List.{length-map}
 use Rattle.std.specs.Prelude.{◌↔◌, IsTrue}
 use Rattle.ts_image.specs.declared.rule_reading.RuleParts.{RuleParts}
 use Rattle.ts_image.specs.declared.series_reading.SeriesParts.{SeriesParts}
@@ -43,4 +44,10 @@ returns g c =
     subst (λ (s : List (SeriesParts g.row.A.Denot)). IsTrue c.are_counted.result ↔ AreCountedAll p.accepted (map series_of_parts s) (map rule_of p.settings.rules.items) (map cells_of p.cells.items)) c.deref-6.ensures.value
     (subst (λ (l : List (RuleParts g.row.A.Denot)). IsTrue c.are_counted.result ↔ AreCountedAll p.accepted (map series_of_parts c.deref-6.result.now) (map rule_of l) (map cells_of p.cells.items)) c.deref-7.ensures.value
     (subst (λ (y : List (Vec (CellParts g.row.A.Denot) g.row.A.Denot)). IsTrue c.are_counted.result ↔ AreCountedAll p.accepted (map series_of_parts c.deref-6.result.now) (map rule_of c.deref-7.result.now) (map cells_of y)) c.deref-8.ensures.value c.are_counted.ensures)) in
-    (λ h. record { lows = lows; cells = cells; counted = counts.0 h }, λ k. counts.1 k.counted)
+    let lists = length-map p.cells.items (cells_of {A = g.row.A.Denot}) in
+    let rules = length-map p.settings.rules.items (rule_of {A = g.row.A.Denot}) in
+    let cells_len = ap length c.deref-5.ensures.value in
+    let rules_len = ap length c.deref-3.ensures.value in
+    let each : length (map cells_of p.cells.items) ≡ length (map rule_of p.settings.rules.items) =
+    omega (arith, lists, rules, cells_len, rules_len, c.deref-5.ensures.len, c.deref-3.ensures.len, c.len.ensures, c.len-2.ensures, c.if-len.false) in
+    (λ h. record { lows = lows; each = each; cells = cells; counted = counts.0 h }, λ k. counts.1 k.counted)

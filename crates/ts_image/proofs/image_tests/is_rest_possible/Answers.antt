@@ -24,10 +24,11 @@ returns g c =
             few = s.few;
             series = t.series;
             rising = t.rising;
+            each = r.each;
             cells = r.cells;
             accepted = s.accepted;
             points = t.points;
             counted = counted_from d d.settings.rules d.cells r.counted;
           },
-      λ k. c.are_rules_possible.ensures.1 (record { lows = k.lows; cells = k.cells; counted = counted_all d d.settings.rules d.cells k.counted }),
+      λ k. c.are_rules_possible.ensures.1 (record { lows = k.lows; each = k.each; cells = k.cells; counted = counted_all d d.settings.rules d.cells k.counted }),
     )

@@ -1,0 +1,83 @@
+-- A store under construction, column by column.
+use Rattle.std.proofs.Common.{◌≡◌, ◌<◌, ℕ, zero, suc, Bool, List, [], ◌∷◌, ◌++◌, length, map, refl, sym, ap, subst, ◌∙◌, inl, inr, ⊎_elim, arith, append_assoc, append-nil}
+use Rattle.std.proofs.lemmas.List.{map-append}
+use Rattle.ts_core.specs.Members.{Among}
+use Rattle.ts_core.specs.Numbered.{IsAt}
+use Rattle.ts_core.specs.Facts.{Text, Series, Column, text_cmp}
+use Rattle.ts_core.specs.StoreStates.{ColumnPoints, column_of}
+use Rattle.ts_core.proofs.MembersLemmas.{Among-append}
+use Rattle.std.proofs.lemmas.Cmp.{nat_list_cmp_total}
+use Rattle.ts_store.specs.Building.{Built, with_column}
+use Rattle.ts_image.specs.Images.{ImageColumn}
+use Rattle.ts_image.specs.ImageTests.{AreRising}
+use Rattle.ts_image.specs.Pictures.{points_in}
+use Rattle.ts_image.specs.StoresMade.{is_waiting, with_columns}
+use Rattle.ts_image.proofs.Rising.{rising_mid}
+
+pub nothing_left : {X : Type 0} (l : List X) → length l ≡ 0 → l ≡ []
+nothing_left [] h = refl
+nothing_left (x ∷ xs) h = absurd (omega arith)
+
+-- a loop that consumes its items took one more of them, or all
+pub split_more : {X : Type 0} (xs : List X) (x : X) (ys zs all : List X) → ys ≡ x ∷ zs → xs ++ ys ≡ all → (xs ++ x ∷ []) ++ zs ≡ all
+split_more xs x ys zs all e h = append_assoc xs (x ∷ []) zs ∙ ap (λ us. xs ++ us) (sym e) ∙ h
+
+pub split_next : {X : Type 0} (xs ys zs all own : List X) (x : X) → ys ≡ x ∷ zs → xs ++ ys ≡ all → all ≡ own → own ≡ xs ++ x ∷ zs
+split_next xs ys zs all own x e h k = sym k ∙ sym h ∙ ap (λ us. xs ++ us) e
+
+pub split_all : {X : Type 0} (xs ys all : List X) → length ys ≡ 0 → xs ++ ys ≡ all → xs ≡ all
+split_all xs ys all e h = sym (append-nil xs) ∙ ap (λ us. xs ++ us) (sym (nothing_left ys e)) ∙ h
+
+-- there is something at each index
+pub some_at : {X : Type 0} (xs : List X) (n : ℕ) → n < length xs → (x : X) × IsAt xs n x
+some_at [] n lt = absurd (omega arith)
+some_at (x ∷ xs) zero lt = (x, refl)
+some_at (x ∷ xs) (suc n) lt = some_at xs n (omega arith)
+
+-- ---- columns of a series
+
+pub no_columns : (s : Series) (b : Built) → b ≡ with_columns s [] b
+no_columns s b i = record {
+  settings = b.settings;
+  marks = b.marks;
+  running = b.running;
+  accepted = b.accepted;
+  series = b.series;
+  columns = sym (append-nil b.columns) i;
+  waits = sym (append-nil b.waits) i;
+  cells = b.cells;
+}
+
+pub columns_more : (s : Series) (cs : List ImageColumn) (c : ImageColumn) (b : Built) → with_column (points_in s c) (is_waiting c) (with_columns s cs b) ≡ with_columns s (cs ++ c ∷ []) b
+columns_more s cs c b i = record {
+  settings = b.settings;
+  marks = b.marks;
+  running = b.running;
+  accepted = b.accepted;
+  series = b.series;
+  columns = (append_assoc b.columns (map (points_in s) cs) (points_in s c ∷ []) ∙ ap (λ (xs : List ColumnPoints). b.columns ++ xs) (sym (map-append (points_in s) cs (c ∷ [])))) i;
+  waits = (append_assoc b.waits (map is_waiting cs) (is_waiting c ∷ []) ∙ ap (λ (xs : List Bool). b.waits ++ xs) (sym (map-append is_waiting cs (c ∷ [])))) i;
+  cells = b.cells;
+}
+
+fields_of : {P : Type 0} (v : P → ImageColumn) (ps : List P) → map (λ (x : P). (v x).field) ps ≡ map (λ (x : ImageColumn). x.field) (map v ps)
+fields_of v [] = refl
+fields_of {P} v (p ∷ ps) = ap (λ (ts : List Text). (v p).field ∷ ts) (fields_of v ps)
+
+pub field_among : (s : Series) (f : Text) (cs : List ImageColumn) → Among (record { series = s; field = f }) (map column_of (map (points_in s) cs)) → Among f (map (λ (c : ImageColumn). c.field) cs)
+field_among s f [] a = a
+field_among s f (c ∷ cs) a = ⊎_elim {C = Among f (map (λ (x : ImageColumn). x.field) (c ∷ cs))} (λ e. inl (ap (λ (x : Column). x.field) e)) (λ k. inr (field_among s f cs k)) a
+
+-- the next column of a series is new
+pub column_absent : {P : Type 0} (v : P → ImageColumn) (s : Series) (xs : List P) (p : P) (ys : List P) (b c : Built)
+    → ((k : Column) → Among k (map column_of b.columns) → k.series ≡ s → ⊥)
+    → AreRising text_cmp (map (λ (x : ImageColumn). x.field) (map v (xs ++ p ∷ ys))) → c ≡ with_columns s (map v xs) b
+    → Among (record { series = s; field = (v p).field }) (map column_of c.columns) → ⊥
+column_absent {P} v s xs p ys b c none rising e a =
+    let name : Column = record { series = s; field = (v p).field } in
+    let a2 : Among name (map column_of b.columns ++ map column_of (map (points_in s) (map v xs))) =
+    subst (Among name) (map-append column_of b.columns (map (points_in s) (map v xs))) (subst (λ (z : Built). Among name (map column_of z.columns)) e a) in
+    ⊎_elim {C = ⊥}
+    (λ l. none name l refl)
+    (λ r. rising_mid nat_list_cmp_total (λ (x : P). (v x).field) xs p ys (subst (AreRising text_cmp) (sym (fields_of v (xs ++ p ∷ ys))) rising) (subst (Among (v p).field) (sym (fields_of v xs)) (field_among s (v p).field (map v xs) r)))
+    (Among-append name (map column_of b.columns) (map column_of (map (points_in s) (map v xs))) a2)

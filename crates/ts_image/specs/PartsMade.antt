@@ -1,0 +1,12 @@
+-- What parts of an image must be, so that parts of a store are made of them. (Own rules.)
+use Rattle.std.specs.Prelude.{◌≤◌, ◌^◌}
+use Rattle.ts_core.specs.Aggregates.{IsSpread}
+use Rattle.ts_core.specs.Times.{IsTime}
+use Rattle.ts_image.specs.Images.{ImageCell}
+
+-- some frozen part has the count, the sum and the extremes of a cell
+pub record HasPart (c : ImageCell) : Type 0 where
+  pub few : c.count ≤ 2 ^ 62
+  pub spread : IsSpread c.count c.sum c.extremes
+  pub first : IsTime c.extremes.first.0
+  pub last : IsTime c.extremes.last.0

@@ -1,0 +1,106 @@
+-- The image of a store, as it is written. (Own rules.)
+use Rattle.std.specs.Prelude.{◌≡◌, ◌+◌, ◌<◌, ◌^◌, ℕ, pos, FitsSigned, slice_index_or, List, [], ◌∷◌, map, length, Result, Ok, Err, OnOk}
+use Rattle.std.specs.Int.{w64}
+use Rattle.std.specs.List.{AllByRecursion}
+use Rattle.std.specs.FinMap as finmap
+use Rattle.std.specs.Io.KnownBytes.{Appends}
+use Rattle.ts_core.specs.Settings.{Rule}
+use Rattle.ts_core.specs.RawFacts.{is_waiting}
+use Rattle.ts_core.specs.StoreStates.{ColumnPoints, column_of}
+use Rattle.ts_core.specs.StoreData.{StoreData}
+use Rattle.ts_core.specs.ReadingAhead.{bit}
+use Rattle.ts_core.specs.Devices.{Output, AppendsFront}
+use Rattle.ts_store.specs.Saving.{SavedColumn, SavedSeries, SavesSeries, FrozenCell, frozen_from}
+use Rattle.ts_store.specs.Seats.{no_points}
+use Rattle.ts_image.specs.declared.save_fault.SaveFault.{SaveFault}
+use Rattle.ts_image.specs.declared.save_fault.SaveFault.TheVariants.{Device, OutOfMemory, Unfit}
+use Rattle.ts_image.specs.declared.version.Version.TheVariants.{V2}
+use Rattle.ts_image.specs.SavedParts.{image_settings_of, image_cell_with}
+use Rattle.ts_image.specs.Images.{ImageColumn, ImageSeries, ImageCell, ImageData, image, image_text}
+
+-- ---- the data
+
+abbrev pub image_cell_of : FrozenCell → ImageCell
+image_cell_of c = image_cell_with c.cell c.frozen
+
+-- the saved cells of the rule with this number
+abbrev pub cells_at : StoreData → ℕ → List FrozenCell
+cells_at k n = frozen_from (slice_index_or k.marks.lows n (pos 0)) (slice_index_or k.cells n finmap.empty)
+
+-- those of each of the rules from a number on
+abbrev pub image_cells_from : StoreData → ℕ → List Rule → List (List ImageCell)
+image_cells_from k n [] = []
+image_cells_from k n (r ∷ rs) = map image_cell_of (cells_at k n) ∷ image_cells_from k (n + 1) rs
+
+abbrev pub column_at : StoreData → SavedColumn → ColumnPoints
+column_at k c = slice_index_or k.columns c.number no_points
+
+abbrev pub image_column_of : StoreData → SavedColumn → ImageColumn
+image_column_of k c = record { field = c.field; waits = bit (is_waiting k.waiting (column_at k c).column); points = (column_at k c).points }
+
+abbrev pub image_series_of : StoreData → SavedSeries → ImageSeries
+image_series_of k s = record { series = s.series; columns = map (image_column_of k) s.columns }
+
+-- the columns of a series are among those of the store
+abbrev pub HasItsColumns : StoreData → SavedSeries → Type 0
+HasItsColumns k s = AllByRecursion (λ (c : SavedColumn). c.number < length k.columns) s.columns
+
+-- all data of a store, with its series and columns in this order
+abbrev pub image_of : StoreData → List SavedSeries → ImageData
+image_of k saved = record {
+  settings = image_settings_of k.settings;
+  marks = k.marks;
+  runs = bit k.running;
+  accepted = k.accepted;
+  series = map (image_series_of k) saved;
+  cells = image_cells_from k 0 k.settings.rules;
+}
+
+-- ---- what the form needs
+
+-- the index fits in 64 bits, and the group has a value for each kept tag
+pub record FitsCell (r : Rule) (c : FrozenCell) : Type 0 where
+  pub index : FitsSigned w64 c.cell.index
+  pub group : length c.cell.group ≡ length r.kept_tags
+
+pub record FitCells (r : Rule) (cells : List FrozenCell) : Type 0 where
+  pub each : AllByRecursion (FitsCell r) cells
+  pub few : length cells < 2 ^ 64
+
+-- the cells of each of the rules from a number on
+abbrev pub FitCellsFrom : StoreData → ℕ → List Rule → Type 0
+FitCellsFrom k n [] = Unit {0}
+FitCellsFrom k n (r ∷ rs) = FitCells r (cells_at k n) × FitCellsFrom k (n + 1) rs
+
+-- each series has few tags, and there are few series
+pub record FitSeries (all : List SavedSeries) : Type 0 where
+  pub few : length all < 2 ^ 32
+  pub each : AllByRecursion (λ (s : SavedSeries). length s.series.tags < 256) all
+
+-- the data of a store fits the form of images. That of a store that represents a history does.
+pub record FitsImage (k : StoreData) (all : List SavedSeries) : Type 0 where
+  pub lows : AllByRecursion (FitsSigned w64) k.marks.lows
+  pub series : FitSeries all
+  pub cells : FitCellsFrom k 0 k.settings.rules
+
+-- ---- saving
+
+-- the number of failures that a call adds to its sink's
+abbrev pub one_if_device : {T : Type 0} → Result T SaveFault → ℕ
+one_if_device (Ok x) = 0
+one_if_device (Err Device) = 1
+one_if_device (Err OutOfMemory) = 0
+one_if_device (Err Unfit) = 0
+
+-- the series and columns of a store in the image's order
+abbrev pub IsOrder : StoreData → List SavedSeries → Type 0
+IsOrder k order = SavesSeries k.series (map column_of k.columns) order
+
+-- Writes the image of a store in version 2. After a device fault a beginning of it was written. Without memory, or if
+-- the data doesn't fit, nothing was.
+pub record IsSaved {T : Type 0} (k : StoreData) (old : Output) (result : Result T SaveFault) (new : Output) : Type 0 where
+  pub ok : OnOk result ((order : List SavedSeries) × IsOrder k order × (image V2).fits (image_of k order) × Appends old.contents new.contents (image_text V2 (image_of k order)))
+  pub device : result ≡ Err Device → (order : List SavedSeries) × IsOrder k order × AppendsFront old.contents new.contents (image_text V2 (image_of k order))
+  pub memory : result ≡ Err OutOfMemory → new ≡ old
+  pub unfit : result ≡ Err Unfit → (new ≡ old) × ((order : List SavedSeries) × IsOrder k order × (FitsImage k order → ⊥))
+  pub failures : new.failures ≡ old.failures + one_if_device result

@@ -1,0 +1,142 @@
+-- Stores made of images. (Own rules.)
+use Rattle.std.specs.Prelude.{◌≡◌, ◌==◌, ℕ, ℤ, Bool, List, [], ◌∷◌, ◌++◌, map, set}
+use Rattle.std.specs.FinMap as finmap
+use Rattle.std.specs.Ordering.{int_cmp}
+use Rattle.std.specs.List.{AllByRecursion}
+use Rattle.ts_core.specs.Facts.{Series, text_cmp}
+use Rattle.ts_core.specs.Aggregates.{empty_aggregate}
+use Rattle.ts_core.specs.Cells.{Cell, cell_cmp}
+use Rattle.ts_core.specs.StoreStates.{CellParts, facts_of}
+use Rattle.ts_core.specs.StoreData.{CellMap, StoreData}
+use Rattle.ts_raw.specs.Columns.{AreTimed}
+use Rattle.ts_store.specs.Building.{Built, cells_at}
+use Rattle.ts_store.specs.LinesPut.{OfEachRule, PutsCells}
+use Rattle.ts_image.specs.Images.{ImageColumn, ImageSeries, ImageCell, ImageData}
+use Rattle.ts_image.specs.ImageTests.{IsName, IsImageSeriesKey, AreRising, settings_in}
+use Rattle.ts_image.specs.PartsMade.{HasPart}
+use Rattle.ts_image.specs.Pictures.{points_in, columns_in, waiting_in, part_of, IsMadeOf}
+
+-- ---- what can be added to a store
+
+pub record IsAddedColumn (c : ImageColumn) : Type 0 where
+  pub field : IsName c.field
+  pub timed : AreTimed c.points
+  pub rising : AreRising int_cmp (map (λ (p : ℤ × ℤ). p.0) c.points)
+
+pub record AreAddedColumns (cs : List ImageColumn) : Type 0 where
+  pub each : AllByRecursion IsAddedColumn cs
+  pub rising : AreRising text_cmp (map (λ (c : ImageColumn). c.field) cs)
+
+pub record IsAddedSeries (s : ImageSeries) : Type 0 where
+  pub key : IsImageSeriesKey s.series
+  pub columns : AreAddedColumns s.columns
+
+pub record AreAddedCells (cs : List ImageCell) : Type 0 where
+  pub each : AllByRecursion HasPart cs
+  pub rising : AreRising cell_cmp (map (λ (c : ImageCell). c.cell) cs)
+
+-- ---- a store under construction, with more of an image
+
+abbrev pub is_waiting : ImageColumn → Bool
+is_waiting c = c.waits == 1
+
+-- for each column of series, whether it waits
+abbrev pub waits_in : List ImageSeries → List Bool
+waits_in [] = []
+waits_in (s ∷ ss) = map is_waiting s.columns ++ waits_in ss
+
+abbrev pub with_columns : Series → List ImageColumn → Built → Built
+with_columns s cs b = record {
+  settings = b.settings;
+  marks = b.marks;
+  running = b.running;
+  accepted = b.accepted;
+  series = b.series;
+  columns = b.columns ++ map (points_in s) cs;
+  waits = b.waits ++ map is_waiting cs;
+  cells = b.cells;
+}
+
+abbrev pub key_in : ImageSeries → Series
+key_in s = s.series
+
+abbrev pub with_all_series : List ImageSeries → Built → Built
+with_all_series ss b = record {
+  settings = b.settings;
+  marks = b.marks;
+  running = b.running;
+  accepted = b.accepted;
+  series = b.series ++ map key_in ss;
+  columns = b.columns ++ columns_in ss;
+  waits = b.waits ++ waits_in ss;
+  cells = b.cells;
+}
+
+-- the parts of a stored cell
+abbrev pub parts_of : ImageCell → CellParts
+parts_of c = record { frozen = part_of c; live = empty_aggregate }
+
+abbrev pub cell_in : ImageCell → Cell
+cell_in c = c.cell
+
+-- a map with the cells of an image
+abbrev pub with_image_cells : List ImageCell → CellMap → CellMap
+with_image_cells [] m = m
+with_image_cells (c ∷ cs) m = with_image_cells cs (finmap.insert m c.cell (parts_of c))
+
+abbrev pub cells_in : List ImageCell → CellMap
+cells_in cs = with_image_cells cs finmap.empty
+
+abbrev pub with_cells_at : ℕ → List ImageCell → Built → Built
+with_cells_at rule cs b = record {
+  settings = b.settings;
+  marks = b.marks;
+  running = b.running;
+  accepted = b.accepted;
+  series = b.series;
+  columns = b.columns;
+  waits = b.waits;
+  cells = set b.cells rule (with_image_cells cs (cells_at b.cells rule));
+}
+
+-- each map with the cells of an image
+abbrev pub with_each : List (List ImageCell) → List CellMap → List CellMap
+with_each [] ms = ms
+with_each (c ∷ cs) [] = []
+with_each (c ∷ cs) (m ∷ ms) = with_image_cells c m ∷ with_each cs ms
+
+abbrev pub with_all_cells : List (List ImageCell) → Built → Built
+with_all_cells cs b = record {
+  settings = b.settings;
+  marks = b.marks;
+  running = b.running;
+  accepted = b.accepted;
+  series = b.series;
+  columns = b.columns;
+  waits = b.waits;
+  cells = with_each cs b.cells;
+}
+
+-- all parts of an image
+abbrev pub built_in : ImageData → Built
+built_in d = record {
+  settings = settings_in d.settings;
+  marks = d.marks;
+  running = d.runs == 1;
+  accepted = d.accepted;
+  series = map key_in d.series;
+  columns = columns_in d.series;
+  waits = waits_in d.series;
+  cells = map cells_in d.cells;
+}
+
+-- ---- the store
+
+-- The store is made of the data of an image, and has its series and columns in its order. Besides the image's cells it
+-- has those of raw facts from the low index on, and no others.
+pub record IsStoreOf (d : ImageData) (k : StoreData) : Type 0 where
+  pub made : IsMadeOf d k
+  pub series : k.series ≡ map key_in d.series
+  pub columns : k.columns ≡ columns_in d.series
+  pub waiting : k.waiting ≡ waiting_in d.series
+  pub cells : OfEachRule (PutsCells (facts_of (columns_in d.series))) (settings_in d.settings).rules d.marks.lows (map cells_in d.cells) k.cells

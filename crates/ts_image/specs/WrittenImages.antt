@@ -1,0 +1,21 @@
+-- What is written of a store that stands for a history. (Own rules.)
+use Rattle.ts_core.specs.Settings.{Settings}
+use Rattle.ts_core.specs.History.{History}
+use Rattle.ts_core.specs.StoreStates.{StandsFor}
+use Rattle.ts_core.specs.StoreData.{StoreData, state_of}
+use Rattle.std.specs.Prelude.{List}
+use Rattle.ts_image.specs.declared.version.Version.TheVariants.{V2}
+use Rattle.ts_image.specs.ImageTests.{IsPossible}
+use Rattle.ts_image.specs.Pictures.{IsPictureOf}
+use Rattle.ts_image.specs.SavedImages.{IsWellFormed}
+use Rattle.ts_store.specs.Saving.{SavedSeries}
+use Rattle.ts_image.specs.Saving.{image_of, FitsImage, IsOrder}
+
+-- it fits the form of images, is a picture of the store, and has no contradiction
+pub record IsAcceptable (k : StoreData) (order : List SavedSeries) : Type 0 where
+  pub fits : FitsImage k order
+  pub picture : IsPictureOf k (image_of k order)
+  pub possible : IsPossible V2 (image_of k order)
+
+abbrev pub WrittenImagesAreAcceptable : Type 0
+WrittenImagesAreAcceptable = (opening : Settings) (h : History) (k : StoreData) (order : List SavedSeries) → StandsFor opening h (state_of k) → IsWellFormed k → IsOrder k order → IsAcceptable k order

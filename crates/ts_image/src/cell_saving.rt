@@ -1,0 +1,97 @@
+//! Writes the cells of a store to an image.
+ghost use Rattle.std.specs.Prelude.{◌≡◌, ◌+◌, ◌<◌, ◌≤◌, ◌^◌, length, map};
+ghost use Rattle.std.specs.Int.{w64};
+ghost use Rattle.std.specs.List.{AllByRecursion};
+ghost use Rattle.ts_image.specs.Formats.{along, list_of};
+ghost use Rattle.ts_image.specs.Images.{image_cell};
+ghost use Rattle.ts_image.specs.FieldWriting.{Puts, PutsAll};
+ghost use Rattle.ts_image.specs.SavedParts.{image_rule_of};
+ghost use Rattle.ts_image.specs.Saving.{image_cell_of, cells_at, image_cells_from, FitsCell, FitCells, FitCellsFrom};
+
+use crate::cell_writing::put_cell;
+use crate::field_writing::put_u64;
+use std::alloc::Allocator;
+use std::io::Write;
+use ts_core::{OutputBuffer, Refused, Rule, Sink};
+use ts_store::{FrozenCell, FrozenCells, Store};
+
+/// Counts cells.
+fn count_cells<A: Allocator + Copy>(cells: FrozenCells<'_, A>) -> u64
+    requires { length cells < 2 ^ 64 }
+    ensures { result ≡ length cells.entry }
+{
+    let mut count = 0;
+    for _ in cells {
+        count += 1;
+    }
+    count
+}
+
+/// Writes a cell of a rule.
+fn put_frozen_cell<W: Write, A: Allocator>(
+    rule: &Rule<A>,
+    cell: &FrozenCell<'_, A>,
+    out: &mut OutputBuffer<A>,
+    sink: &mut Sink<W>,
+) -> Result<(), Refused>
+    requires fit { FitsCell rule.now cell.now }
+    requires some { 0 < cell.now.frozen.count }
+    ensures { Puts (image_cell (image_rule_of rule.now)) (image_cell_of cell.now) sink.old out.old result sink.new out.new }
+{
+    put_cell(&cell.index, cell.field, cell.group, &cell.frozen, out, sink)
+}
+
+/// Writes cells of a rule, one after another.
+fn put_frozen_cells<W: Write, A: Allocator + Copy>(
+    rule: &Rule<A>,
+    cells: FrozenCells<'_, A>,
+    out: &mut OutputBuffer<A>,
+    sink: &mut Sink<W>,
+) -> Result<(), Refused>
+    requires fit { AllByRecursion (FitsCell rule.now) cells }
+    requires some { AllByRecursion (λ c. 0 < c.frozen.count) cells }
+    ensures { PutsAll (image_cell (image_rule_of rule.now)) (map image_cell_of cells.entry) sink.old out.old result sink.new out.new }
+{
+    for cell in cells {
+        put_frozen_cell(rule, &cell, out, sink)?;
+    }
+    Ok(())
+}
+
+/// Writes the number of saved cells of a rule, and the cells.
+fn put_rule_cells<W: Write, A: Allocator + Copy>(
+    store: &Store<A>,
+    rule: &Rule<A>,
+    number: usize,
+    out: &mut OutputBuffer<A>,
+    sink: &mut Sink<W>,
+) -> Result<(), Refused>
+    requires number { number < length store.now.settings.rules }
+    requires fit { FitCells rule.now (cells_at store.now number) }
+    ensures { Puts (list_of w64 (image_cell (image_rule_of rule.now))) (map image_cell_of (cells_at store.now number)) sink.old out.old result sink.new out.new }
+{
+    put_u64(count_cells(store.frozen_cells(number)), out, sink)?;
+    put_frozen_cells(rule, store.frozen_cells(number), out, sink)
+}
+
+/// Writes the saved cells of these rules, of which the first has this number.
+pub(crate) fn put_cells_from<W: Write, A: Allocator + Copy>(
+    store: &Store<A>,
+    rules: &[Rule<A>],
+    number: usize,
+    out: &mut OutputBuffer<A>,
+    sink: &mut Sink<W>,
+) -> Result<(), Refused>
+    requires few { length store.now.settings.rules ≤ 32 }
+    requires last { number + length rules.now ≡ length store.now.settings.rules }
+    requires fit { FitCellsFrom store.now number rules.now }
+    ensures { Puts (along (λ r. list_of w64 (image_cell r)) (map image_rule_of rules.now)) (image_cells_from store.now number rules.now) sink.old out.old result sink.new out.new }
+{
+    match rules.split_first() {
+        None => Ok(()),
+        Some((rule, others)) => {
+            put_rule_cells(store, rule, number, out, sink)?;
+            put_cells_from(store, others, number + 1, out, sink)
+        }
+    }
+}

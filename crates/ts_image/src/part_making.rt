@@ -1,0 +1,97 @@
+//! Marks, tags, points and frozen parts made of what an image says of them.
+ghost use Rattle.std.specs.Prelude.{◌≡◌, ◌≤◌, [], length, map, string_bytes, IfOk};
+ghost use Rattle.ts_core.specs.Texts.{lent_pairs};
+ghost use Rattle.ts_core.specs.Times.{IsTime};
+ghost use Rattle.ts_cells.specs.Grids.{lent_texts};
+ghost use Rattle.ts_raw.specs.Columns.{AreTimed};
+ghost use Rattle.ts_image.specs.CellParts.{marks_of_parts, cell_of_parts};
+ghost use Rattle.ts_image.specs.PartsMade.{HasPart};
+ghost use Rattle.ts_image.specs.Pictures.{part_of};
+ghost use Rattle.ts_image.specs.PointParts.{point_of};
+ghost use Rattle.ts_image.specs.SeriesParts.{tag_of};
+
+use crate::cell_reading::{CellParts, MarksParts};
+use arrayvec::ArrayVec;
+use std::alloc::{AllocError, Allocator};
+use ts_core::{Agg, Extremes, Marks, Time};
+
+/// Makes marks. The raw mark must be a valid time.
+pub(crate) fn make_marks<A: Allocator + Copy>(
+    alloc: A,
+    parts: &MarksParts<A>,
+) -> Result<Marks<A>, AllocError>
+    requires { IsTime parts.now.raw }
+    ensures { IfOk result (λ m. m ≡ marks_of_parts parts.now) }
+{
+    let raw = Time::new(parts.raw).unwrap();
+    let mut lows = Vec::with_capacity(alloc, parts.lows.len())?;
+    for low in &parts.lows {
+        lows.push(i128::from(*low))?;
+    }
+    Ok(Marks::new(raw, lows))
+}
+
+/// Lends the texts of tags.
+pub(crate) fn lend_tags<'a, A: Allocator>(
+    tags: &'a [(String<A>, String<A>)],
+    lent: &mut ArrayVec<(&'a str, &'a str), 64>,
+)
+    requires none { lent.old.items ≡ [] }
+    requires few { length tags.now ≤ 64 }
+    ensures { lent_pairs lent.new.items ≡ map tag_of tags.now }
+{
+    for tag in tags {
+        lent.push((tag.0.as_str(), tag.1.as_str()));
+    }
+}
+
+/// Lends texts.
+pub(crate) fn lend_texts<'a, A: Allocator + Copy>(
+    alloc: A,
+    texts: &'a [String<A>],
+) -> Result<Vec<&'a str, A>, AllocError>
+    ensures { IfOk result (λ v. lent_texts v.items ≡ map string_bytes texts.now) }
+{
+    let mut lent = Vec::with_capacity(alloc, texts.len())?;
+    for text in texts {
+        lent.push(text.as_str())?;
+    }
+    Ok(lent)
+}
+
+/// Makes a point whose time is valid.
+fn make_point(point: (i64, i64)) -> (Time, i64)
+    requires { IsTime point.0 }
+    ensures { result ≡ point_of point }
+{
+    (Time::new(point.0).unwrap(), point.1)
+}
+
+/// Makes points whose times are valid.
+pub(crate) fn make_points<A: Allocator + Copy>(
+    alloc: A,
+    points: &[(i64, i64)],
+) -> Result<Vec<(Time, i64), A>, AllocError>
+    requires { AreTimed (map point_of points.now) }
+    ensures { IfOk result (λ v. v.items ≡ map point_of points.now) }
+{
+    let mut made = Vec::with_capacity(alloc, points.len())?;
+    for point in points {
+        made.push(make_point(*point))?;
+    }
+    Ok(made)
+}
+
+/// Makes the frozen part of a cell that was tested.
+pub(crate) fn make_part<A: Allocator>(parts: &CellParts<A>) -> Agg
+    requires { HasPart (cell_of_parts parts.now) }
+    ensures { result ≡ part_of (cell_of_parts parts.now) }
+{
+    let extremes = Extremes {
+        min: parts.extremes.min,
+        max: parts.extremes.max,
+        first: make_point(parts.extremes.first),
+        last: make_point(parts.extremes.last),
+    };
+    Agg::from_parts(parts.count, parts.sum, Some(extremes)).unwrap()
+}

@@ -1,0 +1,54 @@
+//! Errors of saving an image.
+ghost use Rattle.ts_core.specs.FaultTexts.{IsAppended};
+ghost use Rattle.ts_image.specs.ImageFaultTexts.{save_fault_text};
+
+use std::alloc::{AllocError, Allocator};
+use ts_core::{FaultCode, FaultDetail, Refused};
+
+/// Error of saving an image.
+#[derive(Clone, Copy, Debug, Drop)]
+pub enum SaveFault {
+    /// A write failed. A beginning of the image was written.
+    Device,
+    /// Out of memory. Nothing was written.
+    OutOfMemory,
+    /// The data doesn't fit the form of images. Nothing was written. That of a store that represents a history fits.
+    Unfit,
+}
+
+impl From<AllocError> for SaveFault {
+    ghost use Rattle.std.specs.Prelude.{◌≡◌};
+    ghost use Rattle.ts_image.specs.declared.save_fault.SaveFault.TheVariants.{OutOfMemory};
+
+    ghost from_gives = { λ _ e. e ≡ OutOfMemory };
+
+    fn from(_e: AllocError) -> SaveFault {
+        SaveFault::OutOfMemory
+    }
+}
+
+impl From<Refused> for SaveFault {
+    ghost use Rattle.std.specs.Prelude.{◌≡◌};
+    ghost use Rattle.ts_image.specs.declared.save_fault.SaveFault.TheVariants.{Device};
+
+    ghost from_gives = { λ _ e. e ≡ Device };
+
+    fn from(_e: Refused) -> SaveFault {
+        SaveFault::Device
+    }
+}
+
+impl SaveFault {
+    /// Appends the message to `text`. When out of memory, `text` may end in part of the message. Does not allocate if
+    /// `text` has the capacity.
+    #[tactic(auto, unfolding(crate::specs::ImageFaultTexts::save_fault_text))]
+    pub fn text_to<A: Allocator>(&self, text: &mut String<A>) -> Result<(), AllocError>
+        ensures { IsAppended (save_fault_text self.now) text.old text.new result }
+    {
+        match self {
+            SaveFault::Device => FaultCode::ImageDevice.text_to(FaultDetail::Alone, text),
+            SaveFault::OutOfMemory => text.push_str("fault memory"),
+            SaveFault::Unfit => FaultCode::ContradictoryImage.text_to(FaultDetail::Alone, text),
+        }
+    }
+}
