@@ -2,6 +2,9 @@
 pub mod Progress
 -- Machine: one step
 pub mod MachineLemmas
+pub mod ReloadLemmas
+pub mod ReloadedCells
+pub mod ReloadedStores
 pub mod CommandLemmas
 pub mod NumberLemmas
 -- Counted: what a count prints

@@ -1,19 +1,24 @@
 -- What the machine does with a command, in whatever state it is.
-use Rattle.std.proofs.Common.{◌≡◌, ◌⊎◌, ⊎_elim, List, ℕ, ℤ, ◌<ℤ◌, ◌≤ℤ◌, ◌≤◌, [], length, codes, sym, ap, ◌∙◌, subst, Bool, true, false, IsTrue, Option, Some, None, Result, Ok, Err, OnOk, IfOk, is_err, true≢false, IfSome, IsNone, inl, inr, refl}
-use Rattle.std.specs.Bool.{OnFalse}
+use Rattle.std.proofs.Common.{◌≡◌, ◌⊎◌, ⊎_elim, List, ℕ, ℤ, ◌<ℤ◌, ◌≤ℤ◌, ◌≤◌, [], length, codes, sym, ap, ◌∙◌, subst, Bool, true, false, IsTrue, Option, Some, None, Result, Ok, Err, OnOk, OnErr, IsErr, ◌↔◌, IfOk, is_err, zero, suc, ◌∷◌, true≢false, IfSome, IsNone, inl, inr, refl}
 use Rattle.std.specs.Fmt.{decimal}
 use Rattle.std.specs.Str.{IsUtf8}
 use Rattle.ts_core.specs.Facts.{Text}
-use Rattle.ts_core.specs.RawFacts.{raw_facts}
 use Rattle.ts_core.specs.Settings.{Settings}
 use Rattle.ts_core.specs.SettingsFaults.{settings_fault_text}
 use Rattle.ts_core.specs.SettingsTexts.{settings_read}
 use Rattle.ts_core.specs.declared.settings_fault.SettingsFault.{SettingsFault}
-use Rattle.ts_core.specs.StoreData.{StoreData, OfEachHistory, state_of}
+use Rattle.ts_core.specs.StoreData.{StoreData, OfEachHistory, GoesOn, state_of}
+use Rattle.ts_core.specs.StoreMoves.{run_begun}
+use Rattle.ts_core.specs.Marks.{Marks, marks_of}
 use Rattle.ts_core.specs.StoreStates.{StandsFor}
-use Rattle.ts_core.specs.History.{IsRunOpen}
-use Rattle.ts_store.specs.LineTexts.{State as StoreState, IsIn as IsStoreIn, opened as opened_store, WritesText, RunsOutOfMemory, WritesFrom}
-use Rattle.ts_store.specs.WholeRuns.{whole_run, Retains}
+use Rattle.ts_core.specs.History.{History, Begin, Step as StepEvent, IsRunOpen}
+use Rattle.ts_store.specs.LineTexts.{State as StoreState, IsIn as IsStoreIn, opened as opened_store, parts_in, WritesFrom}
+use Rattle.ts_store.specs.Inventories.{Inventory, inventory_of, new_inventory, all_waiting, facts_of_text, GrowsAfter, steps_in, StepsTo, LeavesRecent}
+use Rattle.ts_store.specs.PointsRead.{all_raw}
+use Rattle.ts_store.specs.StoreFaultTexts.{run_in_progress_text}
+use Rattle.ts_store.specs.WholeRuns.{steps_taken, whole_run, TakesStep, Retains}
+use Rattle.ts_store.specs.declared.store.retention.StepAnswer.{StepAnswer}
+use Rattle.ts_store.specs.declared.store.retention.StepAnswer.TheVariants.{Moved, Done}
 use Rattle.ts_store.specs.declared.write_text.LineOutcome.{LineOutcome}
 use Rattle.ts_core.specs.declared.time_unit.TimeUnit.{TimeUnit}
 use Rattle.ts_core.specs.FaultTexts.{memory_text}
@@ -22,12 +27,12 @@ use Rattle.ts_reply.specs.Explaining.{IsExplanation}
 use Rattle.ts_reply.specs.declared.epoch.Epoch.{Epoch}
 use Rattle.ts_script.specs.ScriptLines.{script_line_limit}
 use Rattle.ts_script.specs.ScriptCertificates.{with_line_feeds}
-use Rattle.ts_script.specs.Commands.{OpenWith, At, SetPrecision, SetEpoch, Write, Live, Retain, SetCertificate, Query, Explain, Count, CountFault, Unknown, is_skipped, command_of}
+use Rattle.ts_script.specs.Commands.{OpenWith, At, SetPrecision, SetEpoch, Write, Live, Retain, BeginRun, StepRun, SetCertificate, Query, Explain, Count, CountFault, Unknown, is_skipped, command_of}
 use Rattle.ts_script.specs.MarksTexts.{marks_text}
-use Rattle.ts_script.specs.ScriptReplies.{line, text_of, written_text, unknown_text, bad_range_text}
+use Rattle.ts_script.specs.ScriptReplies.{line, text_of, step_text, written_text, unknown_text, bad_range_text}
 use Rattle.ts_script.specs.declared.reply.Reply.{Reply}
 use Rattle.ts_script.specs.declared.reply.Reply.TheVariants.{OutOfMemory}
-use Rattle.ts_script.specs.Machine.{State, no_longer_fresh, with_certificate, with_store, opened_with, with_run, marks_told, at_moment, in_precision, in_epoch, Counts, Does, Step, opens, refuses_settings, opens_no_memory, opens_late, moves, sets, shows, writes, writes_no_memory, retains, retains_no_memory, hands_in, hands_in_no_memory, replies, replies_no_memory, explains, explains_no_memory, tells_live, counts, counts_nothing, refuses_count, refuses_unknown, too_long, no_text, skips, does}
+use Rattle.ts_script.specs.Machine.{State, no_longer_fresh, with_certificate, with_store, opened_with, with_begin, with_step, is_last, with_run, rules_in, lows_in, facts_in, RunsWhole, marks_told, at_moment, in_precision, in_epoch, Counts, Does, Step, opens, refuses_settings, opens_no_memory, opens_late, moves, sets, shows, writes, writes_no_memory, retains, refuses_retain, retains_no_memory, begins, refuses_begin, begins_no_memory, steps, steps_idle, hands_in, hands_in_no_memory, replies, replies_no_memory, explains, explains_no_memory, tells_live, counts, counts_nothing, refuses_count, refuses_unknown, too_long, no_text, skips, does}
 use Rattle.ts_script.specs.Serving.{Serving, keeping, IsIn, Replied, HasExplanation, Did, Refused, Stepped, IsAnswered}
 use Rattle.ts_script.specs.LineReading.{NextOf}
 use Rattle.ts_script.specs.declared.line_reader.Next.TheVariants as next
@@ -42,28 +47,29 @@ serving t p e f c k = record { moment = t; precision = p; epoch = e; fresh = f; 
 written_by : {E : Type 0} (s : State) (m : Serving) (text : Text) (r : Result LineOutcome E) (k : StoreData) → IsIn s m → WritesFrom m.precision m.moment s.store text r k → WritesFrom s.precision s.moment s.store text r k
 written_by s m text r k i w = subst (λ (t : ℤ). WritesFrom s.precision t s.store text r k) i.moment (subst (λ (p : TimeUnit). WritesFrom p m.moment s.store text r k) i.precision w)
 
--- a line leaves no run open
-still_idle : (s : State) (outcome : LineOutcome) (new : StoreState) (text : Text) → (IsRunOpen s.store.history → ⊥) → WritesText s.precision s.moment s.store text outcome new → IsRunOpen new.history → ⊥
-still_idle s outcome new text idle (WritesText.accepts parts series e none gains) = idle
-still_idle s outcome new text idle (WritesText.passes_over e) = idle
-still_idle s outcome new text idle (WritesText.misreads fault e) = idle
-still_idle s outcome new text idle (WritesText.refuses parts fault e refused) = idle
-
-idle_without_memory : (s : State) (new : StoreState) (text : Text) → (IsRunOpen s.store.history → ⊥) → RunsOutOfMemory s.precision s.moment s.store text new → IsRunOpen new.history → ⊥
-idle_without_memory s new text idle (RunsOutOfMemory.in_parsing needs) = idle
-idle_without_memory s new text idle (RunsOutOfMemory.in_writing parts series e none gains) = idle
+-- so do the columns and cells that it creates
+added_by : {E : Type 0} (s : State) (m : Serving) (text : Text) (r : Result LineOutcome E) (k : StoreData) → IsIn s m
+    → GrowsAfter m.kept.settings.rules m.kept.marks.lows (facts_of_text (parts_in m.precision m.moment text)) r (inventory_of m.kept) (inventory_of k)
+    → GrowsAfter (rules_in s) (lows_in s) (facts_in s text) r s.inventory (inventory_of k)
+added_by s m text r k i g =
+    subst (λ (z : Inventory). GrowsAfter (rules_in s) (lows_in s) (facts_in s text) r z (inventory_of k)) i.inventory
+    (subst (λ (t : ℤ). GrowsAfter (rules_in s) (lows_in s) (facts_of_text (parts_in s.precision t text)) r (inventory_of m.kept) (inventory_of k)) i.moment
+    (subst (λ (p : TimeUnit). GrowsAfter (rules_in s) (lows_in s) (facts_of_text (parts_in p m.moment text)) r (inventory_of m.kept) (inventory_of k)) i.precision
+    (subst (λ (z : Marks). GrowsAfter (rules_in s) z.lows (facts_of_text (parts_in m.precision m.moment text)) r (inventory_of m.kept) (inventory_of k)) i.store.stands.marks
+    (subst (λ (z : Settings). GrowsAfter z.rules m.kept.marks.lows (facts_of_text (parts_in m.precision m.moment text)) r (inventory_of m.kept) (inventory_of k)) i.store.stands.settings g))))
 
 -- a machine whose store is in this state
-storing : (s : State) (m : Serving) (new : StoreState) (k : StoreData) → IsIn s m → (IsRunOpen new.history → ⊥) → IsStoreIn new k → IsIn (with_store new s) (keeping k m)
-storing s m new k i idle is = record { moment = i.moment; precision = i.precision; epoch = i.epoch; fresh = i.fresh; certificate = i.certificate; store = is; idle = idle }
+storing : (s : State) (m : Serving) (new : StoreState) (k : StoreData) → IsIn s m → IsStoreIn new k → IsIn (with_store new (inventory_of k) s) (keeping k m)
+storing s m new k i is = record { moment = i.moment; precision = i.precision; epoch = i.epoch; fresh = i.fresh; certificate = i.certificate; store = is; inventory = refl }
 
-pub wrote : {E : Type 0} (text : Text) (r : Result LineOutcome E) (s : State) (m : Serving) (k : StoreData) → IsIn s m → ((t : StoreState) → IsStoreIn t m.kept → WritesFrom m.precision m.moment t text r k) → Did (Write text) s (written_text r) (keeping k m)
-wrote {E} text (Ok outcome) s m k i each =
+pub wrote : {E : Type 0} (text : Text) (r : Result LineOutcome E) (s : State) (m : Serving) (k : StoreData) → IsIn s m → ((t : StoreState) → IsStoreIn t m.kept → WritesFrom m.precision m.moment t text r k)
+    → GrowsAfter m.kept.settings.rules m.kept.marks.lows (facts_of_text (parts_in m.precision m.moment text)) r (inventory_of m.kept) (inventory_of k) → Did (Write text) s (written_text r) (keeping k m)
+wrote {E} text (Ok outcome) s m k i each grows =
     let w = written_by {E = E} s m text (Ok outcome) k i (each s.store i.store) in
-    (with_store w.0 s, writes text outcome w.0 w.1, storing s m w.0 k i (still_idle s outcome w.0 text i.idle w.1) w.2)
-wrote {E} text (Err e) s m k i each =
+    (with_store w.0 (inventory_of k) s, writes text outcome w.0 (inventory_of k) w.1 (added_by {E = E} s m text (Ok outcome) k i grows), storing s m w.0 k i w.2)
+wrote {E} text (Err e) s m k i each grows =
     let w = written_by {E = E} s m text (Err e) k i (each s.store i.store) in
-    (with_store w.0 s, writes_no_memory text w.0 w.1, storing s m w.0 k i (idle_without_memory s w.0 text i.idle w.1) w.2)
+    (with_store w.0 (inventory_of k) s, writes_no_memory text w.0 (inventory_of k) w.1 (added_by {E = E} s m text (Err e) k i grows), storing s m w.0 k i w.2)
 
 -- ---- the other commands
 
@@ -71,21 +77,21 @@ pub moved : (t : ℤ) (s : State) (m : Serving) → IsIn s m → Did (At t) s []
 moved t s m i = (
   at_moment t s,
   moves t,
-  record { moment = refl; precision = i.precision; epoch = i.epoch; fresh = i.fresh; certificate = i.certificate; store = i.store; idle = i.idle },
+  record { moment = refl; precision = i.precision; epoch = i.epoch; fresh = i.fresh; certificate = i.certificate; store = i.store; inventory = i.inventory },
 )
 
 pub was_set : (p : TimeUnit) (s : State) (m : Serving) → IsIn s m → Did (SetPrecision p) s [] (record m { precision = p })
 was_set p s m i = (
   in_precision p s,
   sets p,
-  record { moment = i.moment; precision = refl; epoch = i.epoch; fresh = i.fresh; certificate = i.certificate; store = i.store; idle = i.idle },
+  record { moment = i.moment; precision = refl; epoch = i.epoch; fresh = i.fresh; certificate = i.certificate; store = i.store; inventory = i.inventory },
 )
 
 pub was_shown : (e : Epoch) (s : State) (m : Serving) → IsIn s m → Did (SetEpoch e) s [] (record m { epoch = e })
 was_shown e s m i = (
   in_epoch e s,
   shows e,
-  record { moment = i.moment; precision = i.precision; epoch = refl; fresh = i.fresh; certificate = i.certificate; store = i.store; idle = i.idle },
+  record { moment = i.moment; precision = i.precision; epoch = refl; fresh = i.fresh; certificate = i.certificate; store = i.store; inventory = i.inventory },
 )
 
 pub was_counted : (measurement field answer : Text) (a b : ℤ) (s : State) (m : Serving) → IsIn s m → a <ℤ b → OfEachHistory m.kept (λ opening h. Counts opening h measurement field a b answer) → Did (Count measurement field a b) s answer m
@@ -96,11 +102,11 @@ none_counted measurement field a b s m i none = (s, counts_nothing measurement f
 
 -- ---- settings
 
-pub was_opened : (text : Text) (settings : Settings) (s : State) (m : Serving) (k : StoreData) → IsIn s m → m.fresh ≡ true → settings_read text ≡ Ok settings → IsStoreIn (opened_store settings) k → Did (OpenWith text) s [] (keeping k m)
-was_opened text settings s m k i fresh read empty = (
+pub was_opened : (text : Text) (settings : Settings) (s : State) (m : Serving) (k : StoreData) → IsIn s m → m.fresh ≡ true → settings_read text ≡ Ok settings → IsStoreIn (opened_store settings) k → inventory_of k ≡ new_inventory settings → Did (OpenWith text) s [] (keeping k m)
+was_opened text settings s m k i fresh read empty none = (
   opened_with settings s,
   opens text settings (sym i.fresh ∙ fresh) read,
-  record { moment = i.moment; precision = i.precision; epoch = i.epoch; fresh = i.fresh; certificate = i.certificate; store = empty; idle = λ running. running },
+  record { moment = i.moment; precision = i.precision; epoch = i.epoch; fresh = i.fresh; certificate = i.certificate; store = empty; inventory = none },
 )
 
 pub opened_no_memory : (text : Text) (s : State) (m : Serving) → IsIn s m → m.fresh ≡ true → Did (OpenWith text) s (line memory_text) m
@@ -119,25 +125,99 @@ opened_late text s m i late = (s, opens_late text (sym i.fresh ∙ late), i)
 
 -- ---- retention
 
-pub retained : (answer : Text) (s : State) (m : Serving) (k : StoreData) → IsIn s m → Retains m.moment m.kept k → answer ≡ line (marks_text k.settings k.marks) → Did Retain s answer (keeping k m)
-retained answer s m k i r told =
+-- steps leave the marks
+steps_marks : (opening : Settings) (n : ℕ) (h : History) → marks_of opening (steps_taken n h) ≡ marks_of opening h
+steps_marks opening zero h = refl
+steps_marks opening (suc n) h = steps_marks opening n h
+
+-- no run is open
+abbrev IsClosed : State → Type 0
+IsClosed s = IsRunOpen s.store.history → ⊥
+
+pub retained : (answer : Text) (s : State) (m : Serving) (k : StoreData) → IsIn s m → IsClosed s → Retains m.moment m.kept k → answer ≡ line (marks_text k.settings k.marks) → Did Retain s answer (keeping k m)
+retained answer s m k i idle r told =
     let stands : StandsFor s.store.opening (whole_run s.moment r.steps s.store.history) (state_of k) = subst (λ (t : ℤ). StandsFor s.store.opening (whole_run t r.steps s.store.history) (state_of k)) i.moment (r.history s.store.opening s.store.history i.store.stands) in
-    let marks : answer ≡ line (marks_told (with_run r.steps s)) = told ∙ (λ j. line (marks_text (stands.settings j) (stands.marks j))) in (
-      with_run r.steps s,
-      subst (λ (a : Text). Does s Retain a (with_run r.steps s)) (sym marks) (retains r.steps),
-      record { moment = i.moment; precision = i.precision; epoch = i.epoch; fresh = i.fresh; certificate = i.certificate; store = record { stands = stands; series = r.series ∙ i.store.series }; idle = λ running. running },
+    let new : State = with_run r.steps (inventory_of k) s in
+    let marks : answer ≡ line (marks_told new) = told ∙ (λ j. line (marks_text (stands.settings j) (stands.marks j))) in
+    let lows : k.marks.lows ≡ lows_in (with_begin s) = ap (λ (z : Marks). z.lows) (stands.marks ∙ steps_marks s.store.opening r.steps (Begin s.moment ∷ s.store.history)) in
+    let whole : RunsWhole s r.steps (inventory_of k) = record {
+      count = r.turns ∙ (λ j. steps_in (lows j) (all_waiting (i.inventory j)));
+      left = subst (λ (z : Inventory). LeavesRecent (rules_in s) (lows_in (with_begin s)) z (inventory_of k)) i.inventory
+          (subst (λ (ls : List ℤ). LeavesRecent (rules_in s) ls (inventory_of m.kept) (inventory_of k)) lows
+          (subst (λ (z : Settings). LeavesRecent z.rules k.marks.lows (inventory_of m.kept) (inventory_of k)) i.store.stands.settings r.inventory));
+    } in (
+      new,
+      subst (λ (a : Text). Does s Retain a new) (sym marks) (retains r.steps (inventory_of k) idle whole),
+      storing s m new.store k i (record { stands = stands; series = r.series ∙ i.store.series }),
     )
 
 pub retained_no_memory : (s : State) (m : Serving) → IsIn s m → Did Retain s (line memory_text) m
 retained_no_memory s m i = (s, retains_no_memory, i)
 
+pub begun : (answer : Text) (s : State) (m : Serving) (k : StoreData) → IsIn s m → IsClosed s → k ≡ run_begun m.moment m.kept → GoesOn m.kept (Begin m.moment) k → answer ≡ line (marks_text k.settings k.marks) → Did BeginRun s answer (keeping k m)
+begun answer s m k i idle is goes told =
+    let stands : StandsFor s.store.opening (Begin s.moment ∷ s.store.history) (state_of k) = subst (λ (t : ℤ). StandsFor s.store.opening (Begin t ∷ s.store.history) (state_of k)) i.moment (goes s.store.opening s.store.history i.store.stands) in
+    let marks : answer ≡ line (marks_told (with_begin s)) = told ∙ (λ j. line (marks_text (stands.settings j) (stands.marks j))) in (
+      with_begin s,
+      subst (λ (a : Text). Does s BeginRun a (with_begin s)) (sym marks) (begins idle),
+      record {
+        moment = i.moment;
+        precision = i.precision;
+        epoch = i.epoch;
+        fresh = i.fresh;
+        certificate = i.certificate;
+        store = record { stands = stands; series = ap (λ (z : StoreData). z.series) is ∙ i.store.series };
+        inventory = ap inventory_of is ∙ ap all_waiting i.inventory;
+      },
+    )
+
+pub begun_no_memory : (s : State) (m : Serving) → IsIn s m → Did BeginRun s (line memory_text) m
+begun_no_memory s m i = (s, begins_no_memory, i)
+
 pub when_ok : {T E : Type 0} (r : Result T E) (P : Type 0) → OnOk r P → is_err r ≡ false → P
 when_ok {T} {E} (Ok x) P ok none = ok
 when_ok {T} {E} (Err x) P ok none = absurd (true≢false none)
 
--- no run is open when a command comes
-pub never_open : (s : State) (m : Serving) → IsIn s m → IsTrue m.kept.running → ⊥
-never_open s m i running = i.idle (i.store.stands.running.0 running)
+pub when_err : {T E : Type 0} (r : Result T E) (P : Type 0) → OnErr r P → is_err r ≡ true → P
+when_err {T} {E} (Ok x) P err some = absurd (true≢false (sym some))
+when_err {T} {E} (Err x) P err some = err
+
+-- a call that began a run found none open
+pub was_closed : {T E : Type 0} (r : Result T E) (s : State) (m : Serving) → IsIn s m → IsErr r ↔ IsTrue m.kept.running → is_err r ≡ false → IsClosed s
+was_closed r s m i refused none = λ runs. true≢false (sym (refused.1 (i.store.stands.running.1 runs)) ∙ none)
+
+-- a call was refused, since a run is open
+pub retain_refused : {T E : Type 0} (r : Result T E) (s : State) (m : Serving) (k : StoreData) → IsIn s m → IsErr r ↔ IsTrue m.kept.running → OnErr r (k ≡ m.kept) → is_err r ≡ true → Did Retain s (line run_in_progress_text) (keeping k m)
+retain_refused r s m k i refused same some = (s, refuses_retain (i.store.stands.running.0 (refused.0 some)), subst (λ (z : StoreData). IsIn s (keeping z m)) (sym (when_err r (k ≡ m.kept) same some)) i)
+
+pub begin_refused : {T E : Type 0} (r : Result T E) (s : State) (m : Serving) (k : StoreData) → IsIn s m → IsErr r ↔ IsTrue m.kept.running → OnErr r (k ≡ m.kept) → is_err r ≡ true → Did BeginRun s (line run_in_progress_text) (keeping k m)
+begin_refused r s m k i refused same some = (s, refuses_begin (i.store.stands.running.0 (refused.0 some)), subst (λ (z : StoreData). IsIn s (keeping z m)) (sym (when_err r (k ≡ m.kept) same some)) i)
+
+-- ---- steps
+
+went_on : (answer : StepAnswer) (m : Serving) (k : StoreData) → TakesStep m.kept k answer → GoesOn m.kept (StepEvent (is_last answer)) k
+went_on Moved m k t = (t.moved refl).0
+went_on Done m k t = (t.done refl).0
+
+stepped_by : (running : Bool) (answer : StepAnswer) (s : State) (m : Serving) (k : StoreData) → m.kept.running ≡ running → IsIn s m → TakesStep m.kept k answer → Did StepRun s (step_text answer) (keeping k m)
+stepped_by true answer s m k e i t =
+    let to : StepsTo (lows_in s) s.inventory answer (inventory_of k) =
+    subst (λ (z : Inventory). StepsTo (lows_in s) z answer (inventory_of k)) i.inventory
+    (subst (λ (z : Marks). StepsTo z.lows (inventory_of m.kept) answer (inventory_of k)) i.store.stands.marks (t.inventory e)) in (
+      with_step answer (inventory_of k) s,
+      steps answer (inventory_of k) (i.store.stands.running.0 e) to,
+      storing s m (with_step answer (inventory_of k) s).store k i (record { stands = went_on answer m k t s.store.opening s.store.history i.store.stands; series = t.series ∙ i.store.series }),
+    )
+stepped_by false answer s m k e i t =
+    let none : IsRunOpen s.store.history → ⊥ = λ runs. true≢false (sym (i.store.stands.running.1 runs) ∙ e) in
+    let idle = t.idle e in (
+      s,
+      subst (λ (a : StepAnswer). Does s StepRun (step_text a) s) (sym idle.0) (steps_idle none),
+      subst (λ (z : StoreData). IsIn s (keeping z m)) (sym idle.1) i,
+    )
+
+pub stepped : (answer : StepAnswer) (s : State) (m : Serving) (k : StoreData) → IsIn s m → TakesStep m.kept k answer → Did StepRun s (step_text answer) (keeping k m)
+stepped answer s m k i t = stepped_by m.kept.running answer s m k refl i t
 
 -- ---- certificates and queries
 
@@ -146,7 +226,7 @@ abbrev pub holding : Option Text → Serving → Serving
 holding certificate m = record m { certificate = certificate }
 
 pub held : (certificate : Option Text) (s : State) (m : Serving) → IsIn s m → IsIn (with_certificate certificate s) (holding certificate m)
-held certificate s m i = record { moment = i.moment; precision = i.precision; epoch = i.epoch; fresh = i.fresh; certificate = refl; store = i.store; idle = i.idle }
+held certificate s m i = record { moment = i.moment; precision = i.precision; epoch = i.epoch; fresh = i.fresh; certificate = refl; store = i.store; inventory = i.inventory }
 
 pub was_handed_in : (text certificate : Text) (s : State) (m : Serving) → IsIn s m → certificate ≡ with_line_feeds text → Did (SetCertificate text) s [] (holding (Some certificate) m)
 was_handed_in text certificate s m i e = (
@@ -194,12 +274,10 @@ was_explained text answer s m i r = (s, subst (λ (a : Text). Does s (Explain te
 pub explained_no_memory : (text : Text) (s : State) (m : Serving) → IsIn s m → Did (Explain text) s (line memory_text) m
 explained_no_memory text s m i = (s, explains_no_memory text, i)
 
-pub told_live : (n : ℕ) (s : State) (m : Serving) → IsIn s m → OnFalse m.kept.running (OfEachHistory m.kept (λ opening h. n ≡ length (raw_facts opening h))) → Did Live s (line (decimal n)) m
-told_live n s m i facts =
-    elim m.kept.running as (λ b. (IsTrue b → ⊥) → OnFalse b (OfEachHistory m.kept (λ opening h. n ≡ length (raw_facts opening h))) → Did Live s (line (decimal n)) m) [
-      | true ↦ λ idle none. absurd (idle refl)
-      | false ↦ λ idle each. (s, subst (λ (k : ℕ). Does s Live (line (decimal k)) s) (sym (each s.store.opening s.store.history i.store.stands)) tells_live, i)
-    ] (never_open s m i) facts
+pub told_live : (n : ℕ) (s : State) (m : Serving) → IsIn s m → OfEachHistory m.kept (λ opening h. n ≡ length (all_raw m.kept.waiting opening h)) → Did Live s (line (decimal n)) m
+told_live n s m i each =
+    let same : n ≡ length (all_raw s.inventory.waiting s.store.opening s.store.history) = each s.store.opening s.store.history i.store.stands ∙ ap (λ (z : Inventory). length (all_raw z.waiting s.store.opening s.store.history)) i.inventory in
+    (s, subst (λ (k : ℕ). Does s Live (line (decimal k)) s) (sym same) tells_live, i)
 
 pub count_refused : (s : State) (m : Serving) → IsIn s m → Did CountFault s (line bad_range_text) m
 count_refused s m i = (s, refuses_count, i)
@@ -211,7 +289,7 @@ not_known s m i = (s, refuses_unknown, i)
 
 -- settings may no longer come
 begun_in : (s : State) (m : Serving) → IsIn s m → IsIn (no_longer_fresh s) (record m { fresh = false })
-begun_in s m i = record { moment = i.moment; precision = i.precision; epoch = i.epoch; fresh = refl; certificate = i.certificate; store = i.store; idle = i.idle }
+begun_in s m i = record { moment = i.moment; precision = i.precision; epoch = i.epoch; fresh = refl; certificate = i.certificate; store = i.store; inventory = i.inventory }
 
 pub did_it : (bytes answer : Text) (s : State) (m : Serving) → length bytes ≤ script_line_limit → IsUtf8 bytes → is_skipped bytes ≡ false → Did (command_of bytes) s answer m → Stepped bytes s answer (record m { fresh = false })
 did_it bytes answer s m short text some d = (no_longer_fresh d.0, does bytes answer d.0 short text some d.1, begun_in d.0 m d.2)

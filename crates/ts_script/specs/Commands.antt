@@ -24,6 +24,12 @@ pub data Command : Type 0 where
   Live : Command
   -- runs retention at the script's time
   Retain : Command
+  -- begins a run of retention at the script's time
+  BeginRun : Command
+  -- takes a step of the open run
+  StepRun : Command
+  -- saves the store to memory and loads it back
+  Reload : Command
   -- sets the certificate of the next query
   SetCertificate : Text → Command
   -- prints the reply to queries
@@ -98,6 +104,9 @@ command_of line =
     else if starts_with nat_eq line (codes "epoch ") then epoch_from (epoch_of (drop 6 line))
     else if starts_with nat_eq line (codes "write ") then Write (drop 6 line)
     else if same_text line (codes "retain") then Retain
+    else if same_text line (codes "begin") then BeginRun
+    else if same_text line (codes "step") then StepRun
+    else if same_text line (codes "reload") then Reload
     else if starts_with nat_eq line (codes "cert ") then SetCertificate (drop 5 line)
     else if starts_with nat_eq line (codes "query ") then Query (drop 6 line)
     else if starts_with nat_eq line (codes "explain ") then Explain (drop 8 line)

@@ -4,6 +4,7 @@ pub mod Commands
 pub mod Moments
 pub mod ScriptCertificates
 pub mod MarksTexts
+pub mod Reloads
 pub mod Machine
 pub mod ScriptReplies
 pub mod RunFaults
@@ -12,6 +13,7 @@ pub mod CommandParts
 -- used only by models and proofs of the code
 pub mod Counted
 pub mod Opening
+pub mod Reloading
 pub mod Serving
 pub mod HeldLine
 pub mod LineReading

@@ -1,17 +1,16 @@
 -- The state machine of a script: the output of each line, and the new state. (Own rule.)
-use Rattle.std.specs.Prelude.{◌≡◌, ℕ, ℤ, pos, ◌-ℤ◌, ◌≤ℤ◌, ◌<ℤ◌, ◌<◌, ◌≤◌, Bool, true, false, List, [], ◌∷◌, length, codes, Option, Some, None, Result, Ok, Err}
+use Rattle.std.specs.Prelude.{◌≡◌, ℕ, ℤ, pos, ◌-ℤ◌, ◌≤ℤ◌, ◌<ℤ◌, ◌+◌, ◌<◌, ◌≤◌, Bool, true, false, List, [], ◌∷◌, length, codes, Option, Some, None, Result, Ok, Err}
 use Rattle.std.specs.Fmt.{decimal}
 use Rattle.std.specs.Str.{IsUtf8}
-use Rattle.ts_core.specs.Facts.{Text}
-use Rattle.ts_core.specs.Settings.{Settings, open_settings}
+use Rattle.ts_core.specs.Facts.{Text, Series, Fact}
+use Rattle.ts_core.specs.Settings.{Rule, Settings, open_settings}
 use Rattle.ts_core.specs.SettingsFaults.{settings_fault_text}
 use Rattle.ts_core.specs.SettingsTexts.{settings_read}
 use Rattle.ts_core.specs.declared.settings_fault.SettingsFault.{SettingsFault}
-use Rattle.ts_core.specs.History.{History, settings_of}
+use Rattle.ts_core.specs.History.{History, Begin, Step as StepEvent, settings_of, IsRunOpen}
 use Rattle.ts_core.specs.Latest.{count_of}
 use Rattle.ts_core.specs.Marks.{marks_of}
 use Rattle.ts_core.specs.Pieces.{Piece}
-use Rattle.ts_core.specs.RawFacts.{raw_facts}
 use Rattle.ts_core.specs.declared.time_unit.TimeUnit.{TimeUnit}
 use Rattle.ts_core.specs.declared.time_unit.TimeUnit.TheVariants.{Nanoseconds}
 use Rattle.ts_core.specs.FaultTexts.{memory_text}
@@ -25,14 +24,20 @@ use Rattle.ts_reply.specs.Answering.{IsReply}
 use Rattle.ts_reply.specs.Explaining.{IsExplanation}
 use Rattle.ts_reply.specs.declared.epoch.Epoch.{Epoch}
 use Rattle.ts_reply.specs.declared.epoch.Epoch.TheVariants as epochs
-use Rattle.ts_store.specs.LineTexts.{State as StoreState, opened as opened_store, WritesText, RunsOutOfMemory}
+use Rattle.ts_store.specs.LineTexts.{State as StoreState, opened as opened_store, parts_in, with_series, WritesText, RunsOutOfMemory}
+use Rattle.ts_store.specs.Inventories.{Inventory, new_inventory, all_waiting, facts_of_text, GrowsBy, GrowsInPart, steps_in, StepsTo, LeavesRecent}
+use Rattle.ts_store.specs.PointsRead.{all_raw}
+use Rattle.ts_store.specs.StoreFaultTexts.{run_in_progress_text}
 use Rattle.ts_store.specs.WholeRuns.{whole_run}
+use Rattle.ts_store.specs.declared.store.retention.StepAnswer.{StepAnswer}
+use Rattle.ts_store.specs.declared.store.retention.StepAnswer.TheVariants.{Moved, Done}
 use Rattle.ts_store.specs.declared.write_text.LineOutcome.{LineOutcome}
+use Rattle.ts_script.specs.Reloads.{Reloaded}
 use Rattle.ts_script.specs.ScriptLines.{script_line_limit}
 use Rattle.ts_script.specs.ScriptCertificates.{with_line_feeds}
-use Rattle.ts_script.specs.Commands.{Command, OpenWith, At, SetPrecision, SetEpoch, Write, Live, Retain, SetCertificate, Query, Explain, Count, CountFault, Unknown, is_skipped, command_of}
+use Rattle.ts_script.specs.Commands.{Command, OpenWith, At, SetPrecision, SetEpoch, Write, Live, Retain, BeginRun, StepRun, Reload, SetCertificate, Query, Explain, Count, CountFault, Unknown, is_skipped, command_of}
 use Rattle.ts_script.specs.MarksTexts.{marks_text}
-use Rattle.ts_script.specs.ScriptReplies.{line, outcome_text, unknown_text, bad_range_text}
+use Rattle.ts_script.specs.ScriptReplies.{line, outcome_text, step_text, reloaded_text, unknown_text, bad_range_text}
 
 pub record State : Type 0 where
   -- the script's time, in nanoseconds, the precision of its timestamps, and the format of times in replies
@@ -45,6 +50,8 @@ pub record State : Type 0 where
   pub certificate : Option Text
   -- the settings that the script opened with, the events since, and the registered series
   pub store : StoreState
+  -- the columns, those that wait, and the cells of each rule
+  pub inventory : Inventory
 
 abbrev pub start : State
 start = record {
@@ -54,6 +61,7 @@ start = record {
   fresh = true;
   certificate = None;
   store = opened_store open_settings;
+  inventory = new_inventory open_settings;
 }
 
 abbrev pub at_moment : ℤ → State → State
@@ -72,17 +80,55 @@ no_longer_fresh s = record s { fresh = false }
 abbrev pub with_certificate : Option Text → State → State
 with_certificate certificate s = record s { certificate = certificate }
 
--- a store in this state instead of the script's own
-abbrev pub with_store : StoreState → State → State
-with_store k s = record s { store = k }
+-- a store in this state, with this inventory, instead of the script's own
+abbrev pub with_store : StoreState → Inventory → State → State
+with_store k inventory s = record s { store = k; inventory = inventory }
 
 -- an empty store with these settings
 abbrev pub opened_with : Settings → State → State
-opened_with settings = with_store (opened_store settings)
+opened_with settings = with_store (opened_store settings) (new_inventory settings)
+
+-- this history and inventory
+abbrev pub with_history : History → Inventory → State → State
+with_history h inventory s = with_store (record s.store { history = h }) inventory s
+
+-- a run of retention begins: each column waits
+abbrev pub with_begin : State → State
+with_begin s = with_history (Begin s.moment ∷ s.store.history) (all_waiting s.inventory) s
+
+-- whether a step was the last one of its run
+abbrev pub is_last : StepAnswer → Bool
+is_last Moved = false
+is_last Done = true
+
+-- a step of the open run
+abbrev pub with_step : StepAnswer → Inventory → State → State
+with_step answer inventory s = with_history (StepEvent (is_last answer) ∷ s.store.history) inventory s
 
 -- a whole retention run, of `steps` steps and a last one
-abbrev pub with_run : ℕ → State → State
-with_run steps s = with_store (record s.store { history = whole_run s.moment steps s.store.history }) s
+abbrev pub with_run : ℕ → Inventory → State → State
+with_run steps inventory s = with_history (whole_run s.moment steps s.store.history) inventory s
+
+-- the rules of the state, and their low indices
+abbrev pub rules_in : State → List Rule
+rules_in s = (settings_of s.store.opening s.store.history).rules
+
+abbrev pub lows_in : State → List ℤ
+lows_in s = (marks_of s.store.opening s.store.history).lows
+
+-- the facts of a line's text
+abbrev pub facts_in : State → Text → List Fact
+facts_in s text = facts_of_text (parts_in s.precision s.moment text)
+
+-- A whole run takes this number of steps before the last one, and leaves this inventory: of each rule the cells from its
+-- new low index on.
+pub record RunsWhole (old : State) (steps : ℕ) (new : Inventory) : Type 0 where
+  pub count : steps + 1 ≡ steps_in (lows_in (with_begin old)) (all_waiting old.inventory)
+  pub left : LeavesRecent (rules_in old) (lows_in (with_begin old)) old.inventory new
+
+-- the store of the state was saved and loaded back
+abbrev pub IsReload : State → List Series → Inventory → Type 0
+IsReload old series new = Reloaded old.store.history (rules_in old) (lows_in old) old.store.series old.inventory series new
 
 -- the marks of the state, as text
 abbrev pub marks_told : State → Text
@@ -112,12 +158,25 @@ pub data Does (old : State) : Command → Text → State → Type 0 where
   moves : (t : ℤ) → Does old (At t) [] (at_moment t old)
   sets : (p : TimeUnit) → Does old (SetPrecision p) [] (in_precision p old)
   -- a line is written with the script's precision; without a timestamp, it has the script's time
-  writes : (text : Text) (outcome : LineOutcome) (new : StoreState) → WritesText old.precision old.moment old.store text outcome new → Does old (Write text) (outcome_text outcome) (with_store new old)
-  writes_no_memory : (text : Text) (new : StoreState) → RunsOutOfMemory old.precision old.moment old.store text new → Does old (Write text) (line memory_text) (with_store new old)
+  writes : (text : Text) (outcome : LineOutcome) (new : StoreState) (inventory : Inventory) → WritesText old.precision old.moment old.store text outcome new → GrowsBy (rules_in old) (lows_in old) (facts_in old text) outcome old.inventory inventory
+      → Does old (Write text) (outcome_text outcome) (with_store new inventory old)
+  writes_no_memory : (text : Text) (new : StoreState) (inventory : Inventory) → RunsOutOfMemory old.precision old.moment old.store text new → GrowsInPart (rules_in old) (lows_in old) (facts_in old text) old.inventory inventory
+      → Does old (Write text) (line memory_text) (with_store new inventory old)
   shows : (e : Epoch) → Does old (SetEpoch e) [] (in_epoch e old)
-  -- retention runs at the script's time, and the new marks are printed
-  retains : (steps : ℕ) → Does old Retain (line (marks_told (with_run steps old))) (with_run steps old)
+  -- unless a run is open, retention runs at the script's time, and the new marks are printed
+  retains : (steps : ℕ) (inventory : Inventory) → (IsRunOpen old.store.history → ⊥) → RunsWhole old steps inventory → Does old Retain (line (marks_told (with_run steps inventory old))) (with_run steps inventory old)
+  refuses_retain : IsRunOpen old.store.history → Does old Retain (line run_in_progress_text) old
   retains_no_memory : Does old Retain (line memory_text) old
+  -- unless a run is open, one begins at the script's time, and the new marks are printed
+  begins : (IsRunOpen old.store.history → ⊥) → Does old BeginRun (line (marks_told (with_begin old))) (with_begin old)
+  refuses_begin : IsRunOpen old.store.history → Does old BeginRun (line run_in_progress_text) old
+  begins_no_memory : Does old BeginRun (line memory_text) old
+  -- a step of the open run; without one, nothing changes
+  steps : (answer : StepAnswer) (inventory : Inventory) → IsRunOpen old.store.history → StepsTo (lows_in old) old.inventory answer inventory → Does old StepRun (step_text answer) (with_step answer inventory old)
+  steps_idle : (IsRunOpen old.store.history → ⊥) → Does old StepRun (step_text Done) old
+  -- the store is saved to memory and loaded back: its history stays, and so does an open run
+  reloads : (series : List Series) (inventory : Inventory) → IsReload old series inventory → Does old Reload reloaded_text (with_store (with_series series old.store) inventory old)
+  reloads_no_memory : Does old Reload (line memory_text) old
   -- the certificate is set for the next query, replacing an earlier one
   hands_in : (text : Text) → Does old (SetCertificate text) [] (with_certificate (Some (with_line_feeds text)) old)
   hands_in_no_memory : (text : Text) → Does old (SetCertificate text) (line memory_text) old
@@ -126,8 +185,8 @@ pub data Does (old : State) : Command → Text → State → Type 0 where
   replies_no_memory : (text : Text) → Does old (Query text) (line memory_text) (with_certificate None old)
   explains : (text body : Text) (good : Bool) → IsExplanation old.store.opening old.store.history old.moment text good body → Does old (Explain text) (line body) old
   explains_no_memory : (text : Text) → Does old (Explain text) (line memory_text) old
-  -- the number of latest facts with raw points
-  tells_live : Does old Live (line (decimal (length (raw_facts old.store.opening old.store.history)))) old
+  -- the number of raw facts: the latest of each id from the raw mark on, and of a waiting column from the mark before
+  tells_live : Does old Live (line (decimal (length (all_raw old.inventory.waiting old.store.opening old.store.history)))) old
   counts : (measurement field answer : Text) (a b : ℤ) → a <ℤ b → Counts old.store.opening old.store.history measurement field a b answer → Does old (Count measurement field a b) answer old
   counts_nothing : (measurement field : Text) (a b : ℤ) → b ≤ℤ a → Does old (Count measurement field a b) (line (codes "0")) old
   refuses_count : Does old CountFault (line bad_range_text) old

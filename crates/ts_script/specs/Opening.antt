@@ -6,10 +6,11 @@ use Rattle.ts_core.specs.SettingsTexts.{settings_read}
 use Rattle.ts_core.specs.StoreData.{StoreData}
 use Rattle.ts_core.specs.declared.settings_fault.SettingsError.{SettingsError}
 use Rattle.ts_core.specs.declared.settings_fault.SettingsError.TheVariants.{Fault, OutOfMemory}
+use Rattle.ts_store.specs.Inventories.{inventory_of, new_inventory}
 use Rattle.ts_store.specs.LineTexts.{IsIn, opened}
 
 -- an empty store with the settings of the text, or their first error, or out of memory
 abbrev pub IsOpening : Text → Result StoreData SettingsError → Type 0
-IsOpening text (Ok k) = (settings : Settings) × (settings_read text ≡ Ok settings) × IsIn (opened settings) k
+IsOpening text (Ok k) = (settings : Settings) × (settings_read text ≡ Ok settings) × IsIn (opened settings) k × (inventory_of k ≡ new_inventory settings)
 IsOpening text (Err (Fault fault)) = settings_read text ≡ Err fault
 IsOpening text (Err OutOfMemory) = ⊤

@@ -8,10 +8,12 @@ use Rattle.ts_core.specs.declared.fault_text.FaultDetail.TheVariants as detail
 use Rattle.ts_plan.specs.PlanTexts.{plan_fault_text}
 use Rattle.ts_store.specs.LineTexts.{line_refusal_text}
 use Rattle.ts_store.specs.StoreFaultTexts.{run_in_progress_text}
+use Rattle.ts_store.specs.declared.store.retention.StepAnswer.{StepAnswer}
+use Rattle.ts_store.specs.declared.store.retention.StepAnswer.TheVariants.{Moved, Done}
 use Rattle.ts_store.specs.declared.write_text.LineOutcome.{LineOutcome}
 use Rattle.ts_store.specs.declared.write_text.LineOutcome.TheVariants as outcome
 use Rattle.ts_script.specs.declared.reply.Reply.{Reply}
-use Rattle.ts_script.specs.declared.reply.Reply.TheVariants.{Nothing, Written, Count, Body, NoPlan, Unknown, BadRange, RunInProgress, OutOfMemory}
+use Rattle.ts_script.specs.declared.reply.Reply.TheVariants.{Nothing, Written, Stepped, Reloaded, Count, Body, NoPlan, Unknown, BadRange, RunInProgress, OutOfMemory}
 
 -- a text with the LF that ends its line
 abbrev pub line : Text → Text
@@ -36,9 +38,20 @@ abbrev pub written_text : {E : Type 0} → Result LineOutcome E → Text
 written_text (Ok o) = outcome_text o
 written_text (Err e) = line memory_text
 
+-- the answer of a step
+abbrev pub step_text : StepAnswer → Text
+step_text Moved = line (codes "moved")
+step_text Done = line (codes "done")
+
+-- the store was saved and loaded back
+abbrev pub reloaded_text : Text
+reloaded_text = line (codes "ok")
+
 abbrev pub text_of : Reply → Text
 text_of Nothing = []
 text_of (Written o) = outcome_text o
+text_of (Stepped answer) = step_text answer
+text_of Reloaded = reloaded_text
 text_of (Count n) = line (decimal n)
 text_of (Body body) = string_bytes body
 text_of (NoPlan fault) = line (plan_fault_text fault)

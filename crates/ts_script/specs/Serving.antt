@@ -2,12 +2,12 @@
 use Rattle.std.specs.Prelude.{◌≡◌, ℕ, zero, suc, ℤ, Bool, ◌∷◌, Option, Some, None, refl}
 use Rattle.std.specs.Coded.{Coded, code_by, coded×, coded_ℕ, coded_ℤ, coded_bool, coded_option}
 use Rattle.ts_core.specs.Facts.{Text}
-use Rattle.ts_core.specs.History.{IsRunOpen}
 use Rattle.ts_core.specs.StoreData.{StoreData}
 use Rattle.ts_core.specs.StoreCodes.{coded_text, coded_store_data}
 use Rattle.ts_core.specs.declared.time_unit.TimeUnit.{TimeUnit}
 use Rattle.ts_core.specs.declared.time_unit.TimeUnit.TheVariants.{Nanoseconds, Microseconds, Milliseconds, Seconds, Minutes, Hours, Days, Weeks}
 use Rattle.ts_store.specs.LineTexts.{IsIn as IsStoreIn}
+use Rattle.ts_store.specs.Inventories.{inventory_of}
 use Rattle.ts_reply.specs.Answering.{IsReply}
 use Rattle.ts_reply.specs.Explaining.{IsExplanation}
 use Rattle.ts_reply.specs.declared.epoch.Epoch.{Epoch}
@@ -36,8 +36,7 @@ pub record IsIn (s : State) (m : Serving) : Type 0 where
   pub fresh : m.fresh ≡ s.fresh
   pub certificate : m.certificate ≡ s.certificate
   pub store : IsStoreIn s.store m.kept
-  -- a retention run ends before the next line comes
-  pub idle : IsRunOpen s.store.history → ⊥
+  pub inventory : inventory_of m.kept ≡ s.inventory
 
 -- in this state, queries have a reply with this body, here with an LF
 abbrev pub Replied : State → Text → Option Text → Text → Type 0

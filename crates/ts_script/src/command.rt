@@ -29,6 +29,12 @@ pub enum Command<'a> {
     Live,
     /// Runs retention at the script's time.
     Retain,
+    /// Begins a run of retention at the script's time.
+    BeginRun,
+    /// Takes a step of the open run.
+    StepRun,
+    /// Saves the store to memory and loads it back.
+    Reload,
     /// Sets the certificate of the next query. The text has `;` instead of LF.
     SetCertificate(&'a str),
     /// Prints the reply to these queries.
@@ -176,6 +182,15 @@ impl<'a> Command<'a> {
         }
         if line == "retain" {
             return Command::Retain;
+        }
+        if line == "begin" {
+            return Command::BeginRun;
+        }
+        if line == "step" {
+            return Command::StepRun;
+        }
+        if line == "reload" {
+            return Command::Reload;
         }
         if let Some(rest) = rest_behind(line, "cert ") {
             return Command::SetCertificate(rest);

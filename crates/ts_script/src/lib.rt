@@ -1,5 +1,6 @@
 //! Answers scripts: a line is a command, its reply goes to the output. Depends on ts_line, ts_store and ts_reply, which
-//! parse lines, keep points and answer queries, on ts_ql, ts_check, ts_plan and ts_exec for counts, and on ts_core.
+//! parse lines, keep points and answer queries, on ts_image, which saves and loads a store, on ts_ql, ts_check, ts_plan
+//! and ts_exec for counts, and on ts_core.
 //! Proved: the output is the answers that specs/Script defines; after a device error, a prefix of them.
 //!
 //! ```text
@@ -23,6 +24,7 @@ mod machine;
 mod marks_text;
 mod moment;
 mod opening;
+mod reloading;
 mod reply;
 mod run_fault;
 

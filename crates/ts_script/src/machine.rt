@@ -5,7 +5,7 @@ ghost use Rattle.ts_script.specs.CommandParts.{command_view};
 ghost use Rattle.ts_script.specs.ScriptLines.{script_line_limit};
 ghost use Rattle.ts_script.specs.Machine.{State, start};
 ghost use Rattle.ts_script.specs.MarksTexts.{marks_text};
-ghost use Rattle.ts_script.specs.Commands.{OpenWith as OpenWithCommand, Write as WriteCommand, Retain as RetainCommand, SetCertificate as CertificateCommand, Query as QueryCommand, Explain as ExplainCommand, Count as CountCommand};
+ghost use Rattle.ts_script.specs.Commands.{OpenWith as OpenWithCommand, Write as WriteCommand, Retain as RetainCommand, BeginRun as BeginCommand, StepRun as StepCommand, Reload as ReloadCommand, SetCertificate as CertificateCommand, Query as QueryCommand, Explain as ExplainCommand, Count as CountCommand};
 ghost use Rattle.ts_script.specs.ScriptReplies.{line, text_of, written_text};
 ghost use Rattle.ts_script.specs.Serving.{IsIn, Replied, HasExplanation, Did, Refused, Stepped};
 
@@ -14,6 +14,7 @@ use crate::command::{Command, is_skipped};
 use crate::count::count;
 use crate::marks_text::{MARKS_ROOM, marks_line};
 use crate::opening::{bad_settings, store_with};
+use crate::reloading::reloaded;
 use crate::reply::Reply;
 use bumpalo::Bump;
 use std::alloc::{AllocError, Global};
@@ -111,6 +112,9 @@ impl Machine {
             }
             Command::Write(line) => self.write(line),
             Command::Retain => self.retain(),
+            Command::BeginRun => self.begin(),
+            Command::StepRun => self.step(),
+            Command::Reload => self.reload(),
             Command::SetCertificate(text) => self.hand_in(text),
             Command::Query(text) => self.query(text),
             Command::Explain(text) => self.explain(text),
@@ -164,6 +168,47 @@ impl Machine {
             return Reply::RunInProgress;
         }
         self.marks(text)
+    }
+
+    /// Begins a run of retention at the script's time, and replies with the marks. Allocates the text of these first.
+    fn begin(&mut self) -> Reply
+        ensures { (s : State) → IsIn s self.old → Did BeginCommand s (text_of result) self.new }
+    {
+        match String::with_capacity(self.alloc, MARKS_ROOM) {
+            Ok(text) => self.begin_and_tell(text),
+            Err(_) => Reply::OutOfMemory,
+        }
+    }
+
+    /// Begins a run of retention at the script's time, and replies with the marks in an empty text that has the
+    /// capacity.
+    fn begin_and_tell(&mut self, text: String) -> Reply
+        requires empty { string_len text ≡ 0 }
+        requires room { MARKS_ROOM ≤ string_capacity text }
+        ensures { (s : State) → IsIn s self.old → Did BeginCommand s (text_of result) self.new }
+    {
+        if self.store.begin(self.moment).is_err() {
+            return Reply::RunInProgress;
+        }
+        self.marks(text)
+    }
+
+    /// Takes a step of the open run, and replies with its answer.
+    fn step(&mut self) -> Reply
+        ensures { (s : State) → IsIn s self.old → Did StepCommand s (text_of result) self.new }
+    {
+        Reply::Stepped(self.store.step())
+    }
+
+    /// Saves the store to memory and loads it back, in place of itself.
+    fn reload(&mut self) -> Reply
+        ensures { (s : State) → IsIn s self.old → Did ReloadCommand s (text_of result) self.new }
+    {
+        let Ok(store) = reloaded(self.alloc, &self.store) else {
+            return Reply::OutOfMemory;
+        };
+        self.store = store;
+        Reply::Reloaded
     }
 
     /// Replies with the marks in an empty text that has the capacity.

@@ -3,14 +3,14 @@ ghost use Rattle.std.specs.Prelude.{◌≡◌, ◌≤◌, ◌+◌, IsOk, string_
 ghost use Rattle.std.specs.Fmt.{decimal};
 ghost use Rattle.ts_core.specs.OutputBuffering.{IsBuffered};
 ghost use Rattle.ts_plan.specs.PlanTexts.{plan_fault_text};
-ghost use Rattle.ts_script.specs.ScriptReplies.{line, outcome_text, text_of};
+ghost use Rattle.ts_script.specs.ScriptReplies.{line, outcome_text, step_text, text_of};
 
 use itoa::write_digits;
 use std::alloc::{AllocError, Global};
 use std::io::Write;
 use ts_core::{OutputBuffer, Refused, Sink};
 use ts_plan::PlanFault;
-use ts_store::LineOutcome;
+use ts_store::{LineOutcome, StepAnswer};
 
 /// Reply to a line.
 #[derive(Drop)]
@@ -19,6 +19,10 @@ pub enum Reply {
     Nothing,
     /// Outcome of a line that was written.
     Written(LineOutcome),
+    /// Answer of a step of a retention run.
+    Stepped(StepAnswer),
+    /// The store was saved and loaded back.
+    Reloaded,
     /// A number of values.
     Count(u64),
     /// Any other text, with its LF: the reply to queries, marks, or an error of settings.
@@ -54,6 +58,8 @@ impl Reply {
         match self {
             Reply::Nothing => answers.put(b"", sink),
             Reply::Written(outcome) => send_outcome(outcome, text, answers, sink),
+            Reply::Stepped(answer) => answers.put(step_line(answer), sink),
+            Reply::Reloaded => answers.put(b"ok\n", sink),
             Reply::Count(count) => send_count(answers, sink, count),
             Reply::Body(body) => answers.put(body.as_bytes(), sink),
             Reply::NoPlan(fault) => answers.put(plan_fault_line(fault), sink),
@@ -111,6 +117,16 @@ fn plan_fault_line(fault: PlanFault) -> &'static [u8]
     match fault {
         PlanFault::NoPlan => b"fault 91\n",
         PlanFault::TooManyBuckets => b"fault 92\n",
+    }
+}
+
+/// Returns the answer of a step, with an LF.
+fn step_line(answer: StepAnswer) -> &'static [u8]
+    ensures { result.now ≡ step_text answer }
+{
+    match answer {
+        StepAnswer::Moved => b"moved\n",
+        StepAnswer::Done => b"done\n",
     }
 }
 

@@ -4,4 +4,4 @@ use Rattle.ts_script.proofs.opening.store_with.Goals as goal
 
 pub returns-in-Ok : goal.returns-in-Ok
 returns-in-Ok c =
-    (c.in_ok-settings.settings, c.in_ok-settings.ensures.ok, record { stands = c.in-Ok.ensures.stands; series = ap (λ (k : StoreData). k.series) c.in-Ok.ensures.value })
+    (c.in_ok-settings.settings, c.in_ok-settings.ensures.ok, record { stands = c.in-Ok.ensures.stands; series = ap (λ (k : StoreData). k.series) c.in-Ok.ensures.value }, c.in-Ok.ensures.inventory)

@@ -34,11 +34,20 @@ pub returns-in-Live : goal.returns-in-Live
 returns-in-Live c = λ s i.
     let m : Serving = serving c.self-in-Live.inside.moment c.self-in-Live.inside.precision c.self-in-Live.inside.epoch c.self-in-Live.inside.fresh (option_map string_bytes c.self-in-Live.inside.certificate) c.self-in-Live.inside.store in
     let before = subst (λ (k : Serving). IsIn s k) (sym c.self-in-Live.view_is) i in
-    let did = told_live c.raw_points.result s m before c.raw_points.ensures.facts in
+    let did = told_live c.raw_points.result s m before c.raw_points.ensures.raw in
     rw c.in-Live.is (subst (λ (k : Serving). Did Live s (line (decimal c.raw_points.result)) k) c.self-in-Live.view_is did)
 
 pub returns-in-Retain : goal.returns-in-Retain
 returns-in-Retain c = λ s i. rw c.in-Retain.is (c.retain.ensures s i)
+
+pub returns-in-BeginRun : goal.returns-in-BeginRun
+returns-in-BeginRun c = λ s i. rw c.in-BeginRun.is (c.begin.ensures s i)
+
+pub returns-in-StepRun : goal.returns-in-StepRun
+returns-in-StepRun c = λ s i. rw c.in-StepRun.is (c.step.ensures s i)
+
+pub returns-in-Reload : goal.returns-in-Reload
+returns-in-Reload c = λ s i. rw c.in-Reload.is (c.reload.ensures s i)
 
 pub returns-in-SetCertificate : goal.returns-in-SetCertificate
 returns-in-SetCertificate c = λ s i. rw c.in-SetCertificate.is (c.hand_in.ensures s i)

@@ -17,7 +17,7 @@ returns-in-Ok c = λ s i.
     let m : Serving = serving c.self.inside.moment c.self.inside.precision c.self.inside.epoch c.self.inside.fresh (option_map string_bytes c.self.inside.certificate) c.self.inside.store in
     let before = subst (λ (k : Serving). IsIn s k) (sym c.self.view_is) i in
     let e = c.in-Ok.ensures in
-    was_opened c.args.text.now e.0 s m c.in-Ok.store before c.if-not-self.false e.1 e.2
+    was_opened c.args.text.now e.0 s m c.in-Ok.store before c.if-not-self.false e.1 e.2 e.3
 
 pub returns-in-Err-Fault : goal.returns-in-Err-Fault
 returns-in-Err-Fault c = λ s i.

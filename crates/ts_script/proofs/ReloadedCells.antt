@@ -1,0 +1,120 @@
+-- The cells of a store that is made of the image of another.
+use Rattle.std.proofs.Common.{◌≡◌, ℕ, zero, suc, ◌+◌, ℤ, pos, ◌≤ℤ◌, ◌&&◌, true, List, [], ◌∷◌, length, map, refl, sym, ◌∙◌, ap, subst, Some, None, ⊎_elim, arith}
+use Rattle.std.specs.Prelude.{slice_index_or}
+use Rattle.std.specs.FinMap as finmap
+use Rattle.std.specs.List.{AllByRecursion}
+use Rattle.std.proofs.lemmas.Bool.{and_parts, and_from}
+use Rattle.std.proofs.lemmas.List.{length-map}
+use Rattle.std.proofs.lemmas.Option.{same_Some, get_or_from_slice_get}
+use Rattle.ts_core.specs.Members.{Among, AllDistinct}
+use Rattle.ts_core.specs.Numbered.{IsAt}
+use Rattle.ts_core.specs.Facts.{Column, Fact}
+use Rattle.ts_core.specs.Settings.{Rule, Settings}
+use Rattle.ts_core.specs.Marks.{Marks}
+use Rattle.ts_core.specs.History.{History}
+use Rattle.ts_core.specs.Latest.{latest_of}
+use Rattle.ts_core.specs.RawFacts.{kept_from, same_column, is_kept}
+use Rattle.ts_core.specs.Cells.{Cell, is_in_cell, cell_of, is_rolled, same_cell}
+use Rattle.ts_core.specs.StoreStates.{ColumnPoints, RuleCells, StandsFor, HasCells, facts_of}
+use Rattle.ts_core.specs.StoreData.{CellMap, StoreData, rule_cells, rules_of, state_of}
+use Rattle.ts_core.proofs.MembersLemmas.{Among-filter_was}
+use Rattle.ts_core.proofs.MovesStand.{key_not}
+use Rattle.ts_core.proofs.PieceCells.{same_cell-eq, same_cell-refl}
+use Rattle.ts_store.specs.LinesPut.{IsOfFacts, PutsCells}
+use Rattle.ts_store.specs.Inventories.{OfRules}
+use Rattle.ts_store.specs.Saving.{SavedSeries}
+use Rattle.ts_image.specs.Images.{ImageCell}
+use Rattle.ts_image.specs.ImageTests.{settings_in}
+use Rattle.ts_image.specs.Pictures.{columns_in}
+use Rattle.ts_image.specs.SavedParts.{image_settings_of}
+use Rattle.ts_image.specs.Saving.{cells_at, image_cell_of, image_cells_from, image_of}
+use Rattle.ts_image.specs.StoresMade.{cells_in, IsStoreOf}
+use Rattle.ts_image.proofs.FrozenPictures.{frozen_some}
+use Rattle.ts_image.proofs.MadeCells.{from_image}
+use Rattle.ts_image.proofs.WrittenPictures.{written, written_each, entry_of}
+use Rattle.ts_script.specs.Reloads.{AreFilled}
+use Rattle.ts_script.proofs.ReloadLemmas.{at_back}
+
+-- the cells of an image, by the number of their rule
+cells_from : (k : StoreData) (n : ℕ) (rs : List Rule) (i : ℕ) (r : Rule) → IsAt rs i r → IsAt (map cells_in (image_cells_from k n rs)) i (cells_in (map image_cell_of (cells_at k (n + i))))
+cells_from k n [] i r a = absurd (let none : None ≡ Some r = a in cc)
+cells_from k n (x ∷ rs) zero r a = subst (λ (j : ℕ). IsAt (map cells_in (image_cells_from k n (x ∷ rs))) zero (cells_in (map image_cell_of (cells_at k j)))) (let e : n ≡ n + 0 = omega arith in e) refl
+cells_from k n (x ∷ rs) (suc i) r a =
+    subst (λ (j : ℕ). IsAt (map cells_in (image_cells_from k n (x ∷ rs))) (suc i) (cells_in (map image_cell_of (cells_at k j)))) (let e : n + 1 + i ≡ n + suc i = omega arith in e) (cells_from k (n + 1) rs i r a)
+
+lists_from : (k : StoreData) (n : ℕ) (rs : List Rule) → length (image_cells_from k n rs) ≡ length rs
+lists_from k n [] = refl
+lists_from k n (r ∷ rs) = ap suc (lists_from k (n + 1) rs)
+
+-- a rule, by its number
+rolled_at : (P : RuleCells → Type 0) (rs : List Rule) (lows : List ℤ) (ms : List CellMap) (i : ℕ) (r : Rule) (low : ℤ) (m : CellMap) → IsAt rs i r → IsAt lows i low → IsAt ms i m → AllByRecursion P (rules_of rs lows ms) → P (rule_cells r low m)
+rolled_at P [] lows ms i r low m a b c h = absurd (let none : None ≡ Some r = a in cc)
+rolled_at P (x ∷ rs) [] ms i r low m a b c h = absurd (let none : None ≡ Some low = b in cc)
+rolled_at P (x ∷ rs) (l ∷ lows) [] i r low m a b c h = absurd (let none : None ≡ Some m = c in cc)
+rolled_at P (x ∷ rs) (l ∷ lows) (n ∷ ms) zero r low m a b c h = subst P (λ j. rule_cells (same_Some x r a j) (same_Some l low b j) (same_Some n m c j)) h.0
+rolled_at P (x ∷ rs) (l ∷ lows) (n ∷ ms) (suc i) r low m a b c h = rolled_at P rs lows ms i r low m a b c h.1
+
+module _ (opening : Settings) (h : History) (k n : StoreData) (order : List SavedSeries) (old : StandsFor opening h (state_of k)) (new : StandsFor opening h (state_of n)) (made : IsStoreOf (image_of k order) n) where
+  same_settings : n.settings ≡ k.settings
+  same_settings = new.settings ∙ sym old.settings
+
+  same_marks : n.marks ≡ k.marks
+  same_marks = new.marks ∙ sym old.marks
+
+  said : settings_in (image_settings_of k.settings) ≡ k.settings
+  said = made.made.picture.settings ∙ same_settings
+
+  module _ (i : ℕ) (r : Rule) (low : ℤ) (m m' : CellMap) (a : IsAt k.settings.rules i r) (b : IsAt k.marks.lows i low) (c : IsAt k.cells i m) (d : IsAt n.cells i m') where
+    was : HasCells (kept_from opening h k.waiting) (latest_of h) (rule_cells r low m)
+    was = rolled_at (HasCells (kept_from opening h k.waiting) (latest_of h)) k.settings.rules k.marks.lows k.cells i r low m a b c old.rolled
+
+    is : HasCells (kept_from opening h n.waiting) (latest_of h) (rule_cells r low m')
+    is = rolled_at (HasCells (kept_from opening h n.waiting) (latest_of h)) n.settings.rules n.marks.lows n.cells i r low m' (subst (λ (s : Settings). IsAt s.rules i r) (sym same_settings) a) (subst (λ (z : Marks). IsAt z.lows i low) (sym same_marks) b) d new.rolled
+
+    imaged : IsAt (map cells_in (image_of k order).cells) i (cells_in (written low m))
+    imaged =
+        subst (λ (x : ℤ). IsAt (map cells_in (image_of k order).cells) i (cells_in (written x m))) (get_or_from_slice_get k.marks.lows i low (pos 0) b)
+        (subst (λ (x : CellMap). IsAt (map cells_in (image_of k order).cells) i (cells_in (written (slice_index_or k.marks.lows i (pos 0)) x))) (get_or_from_slice_get k.cells i m finmap.empty c)
+        (subst (λ (j : ℕ). IsAt (map cells_in (image_of k order).cells) i (cells_in (map image_cell_of (cells_at k j)))) (let e : 0 + i ≡ i = omega arith in e) (cells_from k 0 k.settings.rules i r a)))
+
+    puts : PutsCells (facts_of (columns_in (image_of k order).series)) r low (cells_in (written low m)) m'
+    puts = made.cells.1 i r low (cells_in (written low m)) m' (subst (λ (s : Settings). IsAt s.rules i r) (sym said) a) b imaged d
+
+    -- a cell of the image has a frozen fact
+    of_image : (q : Cell) → (finmap.get (cells_in (written low m)) q ≡ None → ⊥) → (low ≤ℤ q.index) × IsOfFacts (latest_of h) r q
+    of_image q some =
+        let x = from_image (written low m) q some in
+        let e = entry_of low m x.0 x.1 in
+        let cell : e.0.0 ≡ x.0.cell = ap (λ (y : ImageCell). y.cell) e.4 in
+        let kept : low ≤ℤ x.0.cell.index = subst (λ (y : Cell). low ≤ℤ y.index) cell e.2 in
+        let f = frozen_some opening h k.waiting r x.0 (sym (written_each (kept_from opening h k.waiting) (latest_of h) r low m was x.0 x.1) ∙ was.frozen x.0.cell kept) in
+        let inside : is_in_cell r x.0.cell f.0 ≡ true = and_from (is_rolled r f.0) (same_cell (cell_of r f.0) x.0.cell) f.1.rolled (subst (λ (y : Cell). same_cell (cell_of r f.0) y ≡ true) f.1.cell (same_cell-refl (cell_of r f.0))) in
+        subst (λ (y : Cell). (low ≤ℤ y.index) × IsOfFacts (latest_of h) r y) x.2 (kept, (f.0, f.1.there, inside))
+
+    -- a raw fact is one of the latest
+    of_raw : (q : Cell) → (low ≤ℤ q.index) × IsOfFacts (facts_of (columns_in (image_of k order).series)) r q → (low ≤ℤ q.index) × IsOfFacts (latest_of h) r q
+    of_raw q o =
+        let f = o.1 in
+        let raw = (new.raw f.0).0 (subst (λ (cs : List ColumnPoints). Among f.0 (facts_of cs)) (sym made.columns) f.1) in
+        (o.0, (f.0, Among-filter_was (λ (g : Fact). same_column g.column f.0.column && is_kept (kept_from opening h n.waiting) g) f.0 (latest_of h) raw, f.2))
+
+    filled : AreFilled (latest_of h) r low (finmap.keys m')
+    filled = record {
+      there = λ q. (
+        λ there. ⊎_elim {C = (low ≤ℤ q.index) × IsOfFacts (latest_of h) r q} (of_image q) (of_raw q) ((puts.there q).0 (key_not m' q there)),
+        λ o.
+            let inside = and_parts (is_rolled r o.1.0) (same_cell (cell_of r o.1.0) q) o.1.2 in
+            let same : cell_of r o.1.0 ≡ q = same_cell-eq (cell_of r o.1.0) q inside.1 in
+            subst (λ (y : Cell). Among y (finmap.keys m')) same (is.there o.1.0 o.1.1 inside.0 (subst (λ (y : Cell). low ≤ℤ y.index) (sym same) o.0)),
+      );
+      once = is.once;
+    }
+
+  pub all_filled : length k.cells ≡ length k.settings.rules → OfRules (λ r low before after. AreFilled (latest_of h) r low after) k.settings.rules k.marks.lows (map (λ (m : CellMap). finmap.keys m) k.cells) (map (λ (m : CellMap). finmap.keys m) n.cells)
+  all_filled each = (
+    length-map n.cells (λ (m : CellMap). finmap.keys m) ∙ made.cells.0 ∙ length-map (image_of k order).cells cells_in ∙ lists_from k 0 k.settings.rules ∙ sym each ∙ sym (length-map k.cells (λ (m : CellMap). finmap.keys m)),
+    λ i r low before after a b c d.
+        let m = at_back (λ (m : CellMap). finmap.keys m) k.cells i before c in
+        let m' = at_back (λ (m : CellMap). finmap.keys m) n.cells i after d in
+        subst (AreFilled (latest_of h) r low) m'.2 (filled i r low m.0 m'.0 a b m.1 m'.1),
+  )

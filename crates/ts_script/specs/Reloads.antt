@@ -1,0 +1,35 @@
+-- A store that was saved and loaded back: what its series, columns and cells are then. (Own rules.)
+use Rattle.std.specs.Prelude.{◌≡◌, ◌↔◌, ℤ, ◌≤ℤ◌, List, [], ◌∷◌, ◌++◌, map, filter}
+use Rattle.ts_core.specs.Members.{Among, AllDistinct}
+use Rattle.ts_core.specs.Facts.{Series, Column, Fact}
+use Rattle.ts_core.specs.Settings.{Rule}
+use Rattle.ts_core.specs.History.{History}
+use Rattle.ts_core.specs.Latest.{latest_of}
+use Rattle.ts_core.specs.RawFacts.{is_waiting}
+use Rattle.ts_core.specs.Cells.{Cell}
+use Rattle.ts_store.specs.LinesPut.{IsOfFacts}
+use Rattle.ts_store.specs.Inventories.{Inventory, OfRules}
+use Rattle.ts_store.specs.Saving.{SavedColumn, SavedSeries, saved_key, SavesSeries}
+
+abbrev pub column_named : Series → SavedColumn → Column
+column_named s x = record { series = s; field = x.field }
+
+-- the columns of series, in this order
+abbrev pub columns_of : List SavedSeries → List Column
+columns_of [] = []
+columns_of (s ∷ ss) = map (column_named s.series) s.columns ++ columns_of ss
+
+-- exactly the cells from the low index on that a fact lies in
+pub record AreFilled (facts : List Fact) (r : Rule) (low : ℤ) (cells : List Cell) : Type 0 where
+  pub there : (k : Cell) → Among k cells ↔ ((low ≤ℤ k.index) × IsOfFacts facts r k)
+  pub once : AllDistinct cells
+
+-- The same series are registered, now in the order of their keys. The columns are the same, in the order of series and
+-- field, and the same of them wait, in that order. Empty cells and cells below a low index are gone.
+pub record Reloaded (h : History) (rules : List Rule) (lows : List ℤ) (registered : List Series) (old : Inventory) (kept : List Series) (new : Inventory) : Type 0 where
+  pub order : List SavedSeries
+  pub saved : SavesSeries registered old.columns order
+  pub series : kept ≡ map saved_key order
+  pub columns : new.columns ≡ columns_of order
+  pub waiting : new.waiting ≡ filter (is_waiting old.waiting) new.columns
+  pub cells : OfRules (λ r low before after. AreFilled (latest_of h) r low after) rules lows old.cells new.cells
