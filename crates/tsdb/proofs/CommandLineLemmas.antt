@@ -1,214 +1,75 @@
--- What clap makes of the program's command line.
-use Rattle.std.proofs.Common.{◌≡◌, ◌∙◌, ◌&&◌, ◌||◌, ◌==◌, ℕ, Bool, cond, codes, true, false, true≢false, refl, sym, ap, subst, List, [], ◌∷◌, drop, Option, Some, None, is_some, option_map, length}
-use Rattle.std.specs.Prelude.{slice_get, unwrap_or}
-use Rattle.std.specs.Option.{option_map_or}
-use Rattle.std.specs.Str.{bytes_eq, chars}
-use Rattle.std.proofs.lemmas.Slice.Eq.{bytes_eq-Decides}
-use Rattle.clap.specs.Lexer.{long_of, short_of}
-use Rattle.clap.specs.Walk.{Held, Names, Rule, Step, Text, Walk, after_flag, bundle_met, bundle_step, finished, idle, long_or_other, nothing_held, plain, settled, short_or_plain, subcommand_met, subcommand_or_other, trailing, walk, walk_from, walked}
-use Rattle.clap.specs.Simple.{Shape, built, entered, filled, help_rule, names_of, version_rule, with_index}
-use Rattle.clap.specs.Kinds.{Kinds, or_else}
-use Rattle.clap.specs.Faults.{bundle_fault, bundle_step_fault, check_fault, defaults_fault, entered_fault, fault_of, flag_word_fault, flags_fault, is_simple_and_free, level_fault, long_fault, other_fault, settle_fault, short_fault, step_fault, turn_fault, walk_fault}
-use Rattle.clap.specs.declared.error.kind.ErrorKind.TheVariants as kind
-use Rattle.clap.proofs.FaultLemmas.{stopped_fault}
+-- Commands as clap sees them, and the values of their arguments.
+use Rattle.std.proofs.Common.{◌≡◌, ◌∙◌, ◌||◌, ℕ, refl, sym, ap, ap₂, subst, codes, List, Option, Some, None, Result, Ok, Err, true, inl, Bor}
+use Rattle.std.specs.Prelude.{⊤, option_map, unwrap_or, IsErrAnd}
+use Rattle.std.specs.Str.Parse.{ParsesUnsigned}
+use Rattle.std.proofs.lemmas.Option.{none-some}
+use Rattle.clap.specs.Words.{App, HasKind, Row, Rule, Text, fault_of, first_of, with_rule, with_subcommand, AddsArg, AddsSubcommand, one_text, one_of, rows_of, is_simple_and_free, is_simple, subcommand_name_of, subcommand_rows_of}
+use Rattle.clap.specs.declared.builder.arg.Arg.{Arg}
+use Rattle.clap.specs.declared.builder.command.Command.{Command}
+use Rattle.clap.specs.declared.error.Error.{Error}
+use Rattle.clap.specs.declared.parser.matches.ArgMatches.{ArgMatches}
+use Rattle.clap.specs.declared.parser.matches.Found.{Found}
 use Rattle.clap.proofs.OnLiterals.{clap_on_literals}
-use Rattle.clap.proofs.WalkLemmas.{walk_stopped}
-use Rattle.tsdb.specs.CommandLines.{after_dashes, behind_told, flag_told, letter_told, letters_told, long_told, program_app, told, usage_told, word_told}
+use Rattle.clap.proofs.WalkLemmas.{one_text-rows}
+use Rattle.tsdb.specs.CommandLines.{IsArgument, IsCommand, IsActionOf, IsNumberIn, ParsesAs, program_app}
+use Rattle.tsdb.specs.declared.command_line.Action.{Action}
+use Rattle.tsdb.specs.declared.command_line.Action.TheVariants.{Faults}
 
-pub program_is_simple : is_simple_and_free program_app ≡ true
+pub argument_added : (old new : Command) (arg : Arg) (app : App) (rule : Rule) → IsCommand app old → IsArgument rule arg → AddsArg old arg new
+    → IsCommand (with_rule app rule) new
+argument_added old new arg app rule is given added =
+    (added.shape given.1 ∙ ap₂ with_rule is.0 given.0, added.globals ∙ ap₂ (λ a b. a || b) is.1 given.1)
+
+pub command_added : (old sub new : Command) (app below : App) → IsCommand app old → IsCommand below sub → AddsSubcommand old sub new
+    → IsCommand (with_subcommand app below.top) new
+command_added old sub new app below is given added =
+    (added.shape given.1 ∙ ap₂ (λ (a b : App). with_subcommand a b.top) is.0 given.0, added.globals ∙ ap₂ (λ a b. a || b) is.1 given.1)
+
+pub program_is_simple_and_free : is_simple_and_free program_app ≡ true
+unfolding clap_on_literals
+program_is_simple_and_free = refl
+
+pub program_is_simple : is_simple program_app ≡ true
 unfolding clap_on_literals
 program_is_simple = refl
 
--- ---- a word that is no subcommand, in front of `replay` or behind it
+-- ---- values of arguments
 
-abbrev shape_at : Bool → Shape
-shape_at true = (built program_app).top
-shape_at false = unwrap_or (slice_get (built program_app).subs 0) (built program_app).top
+module _ (bits : ℕ) where
+  number_read : (value : Option Text) (n : ℕ) → (value ≡ None → Some n ≡ None)
+      → ((text : Text) → value ≡ Some text → ParsesUnsigned {E = ⊤} bits 10 text (Ok n)) → IsNumberIn bits value n
+  number_read None n none some = absurd (none-some n (sym (none refl)))
+  number_read (Some text) n none some = some text refl
 
-abbrev names_at : Bool → Names
-names_at true = names_of (built program_app)
-names_at false = []
+  number_unread : (value : Option Text) (n : ℕ) → ((text : Text) → value ≡ Some text → ParsesUnsigned {E = ⊤} bits 10 text (Err tt)) → IsNumberIn bits value n → ⊥
+  number_unread None n some is = is
+  number_unread (Some text) n some is = some text refl is.0
 
-abbrev help : Rule
-help = with_index 1 (filled help_rule)
+  pub value_read : (found : Found) (id : Text) (n : ℕ) → (one_text found id ≡ None → Some n ≡ None)
+      → ((text : Text) → one_text found id ≡ Some text → ParsesUnsigned {E = ⊤} bits 10 text (Ok n)) → IsNumberIn bits (one_of id (rows_of found)) n
+  value_read found id n none some =
+      subst (λ (value : Option Text). IsNumberIn bits value n) (one_text-rows found id) (number_read (one_text found id) n none some)
 
-abbrev version : Rule
-version = with_index 1 (filled version_rule)
+  pub value_unread : (found : Found) (id : Text) (n : ℕ) → ((text : Text) → one_text found id ≡ Some text → ParsesUnsigned {E = ⊤} bits 10 text (Err tt))
+      → IsNumberIn bits (one_of id (rows_of found)) n → ⊥
+  value_unread found id n some is =
+      number_unread (one_text found id) n some (subst (λ (value : Option Text). IsNumberIn bits value n) (sym (one_text-rows found id)) is)
 
--- the flag that is meant, by whether it is help's and whether it is the version's
-abbrev flag_at : Bool → Bool → Bool → Option Rule
-flag_at true is_help is_version = cond (is_help || false) (Some help) (cond (is_version || false) (Some version) None)
-flag_at false is_help is_version = cond (is_help || false) (Some help) None
+-- the faults are requested, with this number
+pub faults_requested : (entered : Option (Text × List Row)) (name : Text) (rows : List Row) (number : Option (Bor Text))
+    → Some name ≡ option_map (λ p. p.0) entered → Some rows ≡ option_map (λ p. p.1) entered → name ≡ codes "faults"
+    → option_map (λ n. n.now) number ≡ first_of (codes "N") rows → IsActionOf entered (Faults number)
+faults_requested None name rows number named having is value = absurd (none-some name (sym named))
+faults_requested (Some (name', rows')) name rows number named having is value =
+    (sym (ap (λ o. unwrap_or o name) named) ∙ is, value ∙ ap (λ o. first_of (codes "N") (unwrap_or o rows)) having)
 
--- what is told where this turn is at fault, and the next ones may be
-abbrev first_told : Kinds → Kinds → Kinds → Kinds → Kinds
-first_told word step later last = or_else (or_else (or_else word step) later) last
+mapped : {X Y Z : Type 0} (f : X → Y) (g : Y → Z) (o : Option X) → option_map (λ x. g (f x)) o ≡ option_map g (option_map f o)
+mapped f g None = refl
+mapped f g (Some x) = refl
 
-abbrev step_told : Bool → Held × Step → Kinds
-step_told in_front met = step_fault (shape_at in_front) 1 met.0 met.1
+pub name_entered : (m : ArgMatches) → subcommand_name_of m ≡ option_map (λ p. p.0) (subcommand_rows_of m)
+name_entered m = mapped _ (λ p. p.0) _
 
-module _ (step later last : Kinds) where
-  letter_by : (in_front is_help is_version : Bool) (rest : Text) (next : Held → Kinds)
-      → first_told (short_fault (shape_at in_front).rules false (flag_at in_front is_help is_version) rest nothing_held next) step later last
-      ≡ cond is_help (kind.DisplayHelp ∷ []) (cond (in_front && is_version) (kind.DisplayVersion ∷ []) (kind.UnknownArgument ∷ []))
-  letter_by true true is_version rest next = refl
-  letter_by true false true rest next = refl
-  letter_by true false false rest next = refl
-  letter_by false true is_version rest next = refl
-  letter_by false false is_version rest next = refl
-
-  long_by : (in_front is_help is_version : Bool) (value : Option Text)
-      → first_told (long_fault (shape_at in_front).rules false (flag_at in_front is_help is_version) value nothing_held) step later last
-      ≡ cond is_help (flag_told kind.DisplayHelp value) (cond (in_front && is_version) (flag_told kind.DisplayVersion value) (kind.UnknownArgument ∷ []))
-  long_by true true is_version None = refl
-  long_by true true is_version (Some value) = refl
-  long_by true false true None = refl
-  long_by true false true (Some value) = refl
-  long_by true false false value = refl
-  long_by false true is_version None = refl
-  long_by false true is_version (Some value) = refl
-  long_by false false is_version value = refl
-
-module _ (word : Text) (later last : Kinds) where
-  letter_is : (in_front : Bool) (flags : Text) (k : ℕ) (letter : Option ℕ)
-      → first_told (bundle_step_fault (shape_at in_front).rules false letter flags 0 nothing_held (flags_fault (shape_at in_front).rules false k))
-      (step_told in_front (after_flag (shape_at in_front).rules idle word
-      (bundle_step (shape_at in_front).rules letter flags 0 plain nothing_held (bundle_met (shape_at in_front).rules k)).0
-      (bundle_step (shape_at in_front).rules letter flags 0 plain nothing_held (bundle_met (shape_at in_front).rules k)).1)) later last
-      ≡ letter_told in_front letter
-  letter_is true flags k None = refl
-  letter_is true flags k (Some x) = letter_by _ later last true (104 == x) (86 == x) _ _
-  letter_is false flags k None = refl
-  letter_is false flags k (Some x) = letter_by _ later last false (104 == x) (86 == x) _ _
-
-  letters_are : (in_front : Bool) (letters : Option Text)
-      → first_told (option_map_or (λ flags. bundle_fault (shape_at in_front).rules false flags nothing_held) letters [])
-      (step_told in_front (short_or_plain (shape_at in_front).rules idle word letters nothing_held)) later last
-      ≡ letters_told in_front letters
-  unfolding bundle_met flags_fault chars
-  letters_are true None = refl
-  letters_are false None = refl
-  letters_are true (Some []) = refl
-  letters_are false (Some []) = refl
-  letters_are true (Some (x ∷ xs)) = letter_is true (x ∷ xs) (length xs) (slice_get (chars (x ∷ xs)) 0)
-  letters_are false (Some (x ∷ xs)) = letter_is false (x ∷ xs) (length xs) (slice_get (chars (x ∷ xs)) 0)
-
-  flag_is : (in_front : Bool) (long : Option (Text × Option Text))
-      → first_told (flag_word_fault (shape_at in_front).rules false long word nothing_held)
-      (step_told in_front (long_or_other (shape_at in_front).rules idle word long nothing_held)) later last
-      ≡ option_map_or (λ p. long_told in_front p.0 p.1) long (letters_told in_front (short_of word))
-  flag_is in_front None = letters_are in_front (short_of word)
-  flag_is true (Some p) = long_by _ later last true (bytes_eq (codes "help") p.0) (bytes_eq (codes "version") p.0) p.1
-  flag_is false (Some p) = long_by _ later last false (bytes_eq (codes "help") p.0) (bytes_eq (codes "version") p.0) p.1
-
-  -- the word isn't `--`
-  other_by : (in_front is_dashes : Bool) → is_dashes ≡ false
-      → first_told (cond is_dashes [] (flag_word_fault (shape_at in_front).rules false (long_of word) word nothing_held))
-      (step_told in_front (cond is_dashes (nothing_held, trailing 1) (long_or_other (shape_at in_front).rules idle word (long_of word) nothing_held))) later last
-      ≡ word_told in_front word
-  other_by in_front true isnt = absurd (true≢false isnt)
-  other_by in_front false isnt = flag_is in_front (long_of word)
-
-  -- the turn of a word that is neither a subcommand nor `--`
-  turn_is : (in_front : Bool) → subcommand_met (names_at in_front) idle word ≡ None → bytes_eq word (codes "--") ≡ false
-      → or_else (or_else (turn_fault (shape_at in_front) (names_at in_front) (walk_from nothing_held) word) later) last ≡ word_told in_front word
-  turn_is true none isnt = subst (λ met. first_told (other_fault (shape_at true) met word nothing_held)
-      (step_told true (subcommand_or_other (shape_at true).rules met idle 1 word nothing_held)) later last ≡ word_told true word) (sym none)
-      (other_by true (bytes_eq word (codes "--")) isnt)
-  turn_is false none isnt = subst (λ met. first_told (other_fault (shape_at false) met word nothing_held)
-      (step_told false (subcommand_or_other (shape_at false).rules met idle 1 word nothing_held)) later last ≡ word_told false word) (sym none)
-      (other_by false (bytes_eq word (codes "--")) isnt)
-
-otherwise : (test : Bool) (a b : Kinds) → test ≡ false → b ≡ cond test a b
-otherwise test a b isnt = sym (ap (λ t. cond t a b) isnt)
-
--- ---- the words behind `replay`
-
-abbrev level_behind : List Text → Kinds
-level_behind words = level_fault (shape_at false) [] nothing_held words false []
-
-dashes_behind : (rest : List Text) → level_behind (codes "--" ∷ rest) ≡ behind_told (codes "--" ∷ rest)
-unfolding clap_on_literals
-dashes_behind [] = refl
-dashes_behind (word ∷ rest) = refl
-
-word_behind : (word : Text) (rest : List Text) (is_dashes : Bool) → bytes_eq word (codes "--") ≡ is_dashes → level_behind (word ∷ rest) ≡ behind_told (word ∷ rest)
-unfolding walk_fault
-word_behind word rest true is = subst (λ w. level_behind (w ∷ rest) ≡ behind_told (w ∷ rest)) (sym ((bytes_eq-Decides word (codes "--")).0 is)) (dashes_behind rest)
-word_behind word rest false is = turn_is word _ _ false refl is
-    ∙ otherwise (bytes_eq word (codes "--")) (after_dashes [] false rest) (word_told false word) is
-
-behind_is : (words : List Text) → level_behind words ≡ behind_told words
-unfolding clap_on_literals
-behind_is [] = refl
-behind_is (word ∷ rest) = word_behind word rest (bytes_eq word (codes "--")) refl
-
--- ---- the words behind the program's name
-
--- what the rest of the parse tells, from where the walk ended
-abbrev after_walk : Walk → Kinds
-after_walk end =
-    let rules = (shape_at true).rules in
-    or_else (entered_fault (built program_app) end.stopped)
-    (or_else (settle_fault rules false end.held)
-    (or_else (defaults_fault (settled rules end.held).rows rules)
-    (check_fault (shape_at true) (finished rules end.held) (is_some (entered (built program_app) end.stopped)))))
-
-abbrev at_replay : List Text → Walk
-at_replay rest = record (walk_from nothing_held) { stopped = Some (codes "replay", rest) }
-
-nothing_last : (kinds : Kinds) → or_else kinds [] ≡ kinds
-nothing_last [] = refl
-nothing_last (k ∷ ks) = refl
-
-after_replay : (rest : List Text) → after_walk (at_replay rest) ≡ level_behind rest
-unfolding defaults_fault
-after_replay rest = nothing_last (level_behind rest)
-
-replay_is : (name : Text) (rest : List Text) → fault_of program_app (name ∷ codes "replay" ∷ rest) ≡ told (codes "replay" ∷ rest)
-unfolding walk_fault walked
-replay_is name rest =
-    ap (λ k. or_else k (after_walk (walk (shape_at true).rules (names_at true) nothing_held (codes "replay" ∷ rest))))
-    (stopped_fault (shape_at true) (names_at true) (walk_from nothing_held) (codes "replay", []) rest)
-    ∙ sym (ap after_walk (walk_stopped (shape_at true).rules (names_at true) (walk_from nothing_held) (codes "replay") [] rest))
-    ∙ after_replay rest ∙ behind_is rest
-
-help_is : (name : Text) (rest : List Text) → fault_of program_app (name ∷ codes "help" ∷ rest) ≡ told (codes "help" ∷ rest)
-unfolding clap_on_literals
-help_is name rest = refl
-
-dashes_are : (name : Text) (rest : List Text) → fault_of program_app (name ∷ codes "--" ∷ rest) ≡ told (codes "--" ∷ rest)
-unfolding clap_on_literals
-dashes_are name [] = refl
-dashes_are name (word ∷ rest) = refl
-
-none_met : (is_replay is_help : Bool) → is_replay ≡ false → is_help ≡ false
-    → option_map {T = Text × List Text} (λ s. s.0) (cond (is_replay || false) (Some (codes "replay", [])) (cond (is_help || false) (Some (codes "help", [])) None)) ≡ None
-none_met true is_help isnt not_help = absurd (true≢false isnt)
-none_met false true isnt not_help = absurd (true≢false not_help)
-none_met false false isnt not_help = refl
-
-word_is : (name word : Text) (rest : List Text) → bytes_eq (codes "replay") word ≡ false → bytes_eq (codes "help") word ≡ false → bytes_eq word (codes "--") ≡ false
-    → fault_of program_app (name ∷ word ∷ rest) ≡ told (word ∷ rest)
-unfolding walk_fault
-word_is name word rest no_replay no_help no_dashes =
-    turn_is word _ _ true (none_met (bytes_eq (codes "replay") word) (bytes_eq (codes "help") word) no_replay no_help) no_dashes
-    ∙ otherwise (bytes_eq word (codes "--")) (after_dashes usage_told true rest) (word_told true word) no_dashes
-    ∙ otherwise (bytes_eq (codes "help") word) (kind.DisplayHelp ∷ kind.InvalidSubcommand ∷ []) _ no_help
-    ∙ otherwise (bytes_eq (codes "replay") word) (behind_told rest) _ no_replay
-
-words_by : (name word : Text) (rest : List Text) (is_replay is_help is_dashes : Bool) → bytes_eq (codes "replay") word ≡ is_replay → bytes_eq (codes "help") word ≡ is_help
-    → bytes_eq word (codes "--") ≡ is_dashes → fault_of program_app (name ∷ word ∷ rest) ≡ told (word ∷ rest)
-words_by name word rest true is_help is_dashes replay h d =
-    subst (λ w. fault_of program_app (name ∷ w ∷ rest) ≡ told (w ∷ rest)) ((bytes_eq-Decides (codes "replay") word).0 replay) (replay_is name rest)
-words_by name word rest false true is_dashes replay h d =
-    subst (λ w. fault_of program_app (name ∷ w ∷ rest) ≡ told (w ∷ rest)) ((bytes_eq-Decides (codes "help") word).0 h) (help_is name rest)
-words_by name word rest false false true replay h d =
-    subst (λ w. fault_of program_app (name ∷ w ∷ rest) ≡ told (w ∷ rest)) (sym ((bytes_eq-Decides word (codes "--")).0 d)) (dashes_are name rest)
-words_by name word rest false false false replay h d = word_is name word rest replay h d
-
-pub told_is : (words : List Text) → fault_of program_app words ≡ told (drop 1 words)
-unfolding clap_on_literals
-told_is [] = refl
-told_is (name ∷ []) = refl
-told_is (name ∷ word ∷ rest) = words_by name word rest (bytes_eq (codes "replay") word) (bytes_eq (codes "help") word) (bytes_eq word (codes "--")) refl refl refl
+pub refused : (r : Result Action Error) (error : Error) (words : List Text) → IsErrAnd r (λ e. e ≡ error) → HasKind (fault_of program_app words) error → ParsesAs words r
+refused (Ok action) error words is kind = absurd is
+refused (Err e) error words is kind = subst (λ (x : Error). ParsesAs words (Err x)) (sym is) (inl kind)

@@ -1,88 +1,106 @@
--- What a command line is answered, by the words behind the program's name: the kinds that clap's error may have, and none where
--- the words ask for a replay. (Own rule: `replay` is the one subcommand. Flags, `help` and `--` are clap's own.)
-use Rattle.std.specs.Prelude.{◌≡◌, ◌⊎◌, ℕ, codes, List, [], ◌∷◌, Bool, true, false, ◌&&◌, ◌==◌, if◌then◌else◌, Option, Some, None, is_some, slice_get}
-use Rattle.std.specs.Option.{option_map_or}
-use Rattle.std.specs.Str.{bytes_eq, chars}
-use Rattle.clap.specs.Lexer.{long_of, short_of}
-use Rattle.clap.specs.Words.{App, Kinds, Text, new_app, with_subcommand}
+-- The commands of the program with their arguments, and the action that a command line requests. (Own rule. How words
+-- are matched with commands, and which errors they have, are definitions of the library clap.)
+use Rattle.std.specs.Prelude.{⊤, true, false, ◌≡◌, ◌⊎◌, ℕ, codes, List, [], ◌∷◌, pos, Option, Some, None, Result, Ok, Err, fold}
+use Rattle.std.specs.Str.Parse.{ParsesUnsigned}
+use Rattle.clap.specs.Words.{App, HasKind, Row, Rule, Text, app_of, fault_of, first_of, kind_of, new_app, new_rule, one_of, rule_of, subcommand_of, with_rule, with_subcommand}
+use Rattle.clap.specs.declared.builder.arg.Arg.{Arg}
+use Rattle.clap.specs.declared.builder.command.Command.{Command}
+use Rattle.clap.specs.declared.builder.command.Command.TheViews.{out-Command}
+use Rattle.clap.specs.declared.builder.value_parser.ValueParser.{ValueParser}
+use Rattle.clap.specs.declared.builder.value_parser.ValueParser.TheVariants.{Signed, Unsigned}
+use Rattle.clap.specs.declared.error.Error.{Error}
 use Rattle.clap.specs.declared.error.kind.ErrorKind.{ErrorKind}
 use Rattle.clap.specs.declared.error.kind.ErrorKind.TheVariants as kind
+use Rattle.ts_reply.specs.Told.{handed_in}
+use Rattle.tsdb.specs.declared.command_line.Action.{Action}
+use Rattle.tsdb.specs.declared.command_line.Action.TheVariants.{Replay, Faults, Serve}
+use Rattle.tsdb.specs.declared.command_line.Service.{Service}
 use Rattle.tsdb.specs.declared.command_line.Told.{Told}
 use Rattle.tsdb.specs.declared.command_line.Told.TheVariants.{Done, Device, Wrong, OutOfMemory}
 
--- `tsdb` with its one subcommand
-abbrev pub program_app : App
-program_app = with_subcommand (record (new_app (codes "tsdb")) {
+-- ---- commands and arguments
+
+abbrev pub required_rule : Text → Option ValueParser → Rule
+required_rule id parser = record (new_rule id) { required = true; parser = parser }
+
+-- `tsdb replay`
+abbrev pub replay_app : App
+replay_app = new_app (codes "replay")
+
+-- `tsdb faults [N]`
+abbrev pub faults_app : App
+faults_app = with_rule (new_app (codes "faults")) (new_rule (codes "N"))
+
+abbrev pub settings_rule : Rule
+settings_rule = required_rule (codes "SETTINGS") None
+
+abbrev pub image_rule : Rule
+image_rule = required_rule (codes "IMAGE") None
+
+-- a port from 1 on
+abbrev pub port_rule : Rule
+port_rule = required_rule (codes "PORT") (Some (Signed (pos 1) (pos 65535)))
+
+-- a number of 64 bits
+abbrev pub requests_rule : Rule
+requests_rule = required_rule (codes "REQUESTS") (Some (Unsigned 0 18446744073709551615))
+
+-- `tsdb serve SETTINGS IMAGE PORT REQUESTS`
+abbrev pub serve_app : App
+serve_app = fold with_rule (new_app (codes "serve")) (settings_rule ∷ image_rule ∷ port_rule ∷ requests_rule ∷ [])
+
+-- `tsdb`, which requires a subcommand and knows its version
+abbrev pub tsdb_app : App
+tsdb_app = record (new_app (codes "tsdb")) {
   top = record (new_app (codes "tsdb")).top { has_version = true; subcommand_required = true; arg_required_else_help = true };
-}) (new_app (codes "replay")).top
+}
 
--- nothing is asked for
-abbrev pub usage_told : Kinds
-usage_told = kind.DisplayHelpOnMissingArgumentOrSubcommand ∷ []
+abbrev pub program_app : App
+program_app = fold (λ a sub. with_subcommand a sub.top) tsdb_app (replay_app ∷ faults_app ∷ serve_app ∷ [])
 
--- The word is nothing that may stand there. `in_front` says, here and below, that it stands in front of `replay`, where it may
--- have been meant for a subcommand; else it stands behind.
-abbrev pub stray_told : Bool → Kinds
-stray_told true = kind.UnknownArgument ∷ kind.InvalidSubcommand ∷ []
-stray_told false = kind.UnknownArgument ∷ []
+-- an argument as clap sees it; no subcommand takes it too
+abbrev pub IsArgument : Rule → Arg → Type 0
+IsArgument rule arg = (rule_of arg ≡ rule) × (arg.global ≡ false)
 
--- a flag takes no value
-abbrev pub flag_told : ErrorKind → Option Text → Kinds
-flag_told asked value = if is_some value then kind.TooManyValues ∷ [] else asked ∷ []
+-- a command as clap sees it; its arguments are its own
+abbrev pub IsCommand : App → Command → Type 0
+IsCommand app c = (app_of c ≡ app) × ((out-Command c).has_globals ≡ false)
 
--- `--help`, and in front of `replay` also `--version`
-abbrev pub long_told : Bool → Text → Option Text → Kinds
-long_told in_front name value =
-    if bytes_eq (codes "help") name then flag_told kind.DisplayHelp value
-    else if in_front && bytes_eq (codes "version") name then flag_told kind.DisplayVersion value
-    else kind.UnknownArgument ∷ []
+-- ---- actions
 
--- `-h` (104), and in front of `replay` also `-V` (86); of several letters the first one is answered, and bytes that spell none are stray
-abbrev pub letter_told : Bool → Option ℕ → Kinds
-letter_told in_front None = stray_told in_front
-letter_told in_front (Some letter) =
-    if 104 == letter then kind.DisplayHelp ∷ []
-    else if in_front && 86 == letter then kind.DisplayVersion ∷ []
-    else kind.UnknownArgument ∷ []
+-- the value of an argument is a number of this many bits
+abbrev pub IsNumberIn : ℕ → Option Text → ℕ → Type 0
+IsNumberIn bits None n = ⊥
+IsNumberIn bits (Some text) n = ParsesUnsigned {E = ⊤} bits 10 text (Ok n)
 
-abbrev pub letters_told : Bool → Option Text → Kinds
-letters_told in_front letters =
-    option_map_or (λ t. letter_told in_front (slice_get (chars t) 0)) letters (stray_told in_front)
+abbrev pub IsServiceOf : List Row → Service → Type 0
+IsServiceOf rows service = (first_of (codes "SETTINGS") rows ≡ Some service.settings.now) × (first_of (codes "IMAGE") rows ≡ Some service.image.now)
+    × IsNumberIn 16 (one_of (codes "PORT") rows) service.port × IsNumberIn 64 (one_of (codes "REQUESTS") rows) service.requests
 
--- a word that is neither a subcommand nor `--`
-abbrev pub word_told : Bool → Text → Kinds
-word_told in_front word =
-    option_map_or (λ p. long_told in_front p.0 p.1) (long_of word) (letters_told in_front (short_of word))
+-- the action that a subcommand requests with the values of its arguments
+abbrev pub IsActionOf : Option (Text × List Row) → Action → Type 0
+IsActionOf None action = ⊥
+IsActionOf (Some (name, rows)) Replay = name ≡ codes "replay"
+IsActionOf (Some (name, rows)) (Faults number) = (name ≡ codes "faults") × (handed_in number ≡ first_of (codes "N") rows)
+IsActionOf (Some (name, rows)) (Serve service) = (name ≡ codes "serve") × IsServiceOf rows service
 
--- behind `--` no word is taken; `alone` is answered where there is none
-abbrev pub after_dashes : Kinds → Bool → List Text → Kinds
-after_dashes alone in_front [] = alone
-after_dashes alone in_front (word ∷ rest) = stray_told in_front
+-- The words, of which the first is the program's name, request an action if clap takes them. Otherwise the error is
+-- one of clap's, or there is no memory, or clap takes the words but no action fits what it reads.
+abbrev pub ParsesAs : List Text → Result Action Error → Type 0
+ParsesAs words (Ok action) = (fault_of program_app words ≡ []) × IsActionOf (subcommand_of program_app words) action
+ParsesAs words (Err error) = HasKind (fault_of program_app words) error
+    ⊎ ((kind_of error ≡ kind.MissingSubcommand) × ((action : Action) → IsActionOf (subcommand_of program_app words) action → ⊥))
 
--- the words behind `replay`: none, or `--` alone
-abbrev pub behind_told : List Text → Kinds
-behind_told [] = []
-behind_told (word ∷ rest) =
-    if bytes_eq word (codes "--") then after_dashes [] false rest
-    else word_told false word
+-- ---- clap's answers
 
--- The words behind the program's name. Of `help` it is left open whether a command's name stands behind it: where none does, it may be answered as no command.
-abbrev pub told : List Text → Kinds
-told [] = usage_told
-told (word ∷ rest) =
-    if bytes_eq (codes "replay") word then behind_told rest
-    else if bytes_eq (codes "help") word then kind.DisplayHelp ∷ kind.InvalidSubcommand ∷ []
-    else if bytes_eq word (codes "--") then after_dashes usage_told true rest
-    else word_told true word
-
--- what becomes of an error of this kind whose text was printed
+-- how an answer with an error of this kind ends if its text is printed
 abbrev pub told_of_kind : ErrorKind → Told
 told_of_kind kind.OutOfMemory = OutOfMemory
 told_of_kind kind.DisplayHelp = Done
 told_of_kind kind.DisplayVersion = Done
 told_of_kind _ = Wrong
 
--- where an error's text is still to be printed, its device may fail; without memory none is printed
+-- the device may fail that the text is printed to; without memory none is printed
 abbrev pub IsToldAs : Told → Told → Type 0
 IsToldAs OutOfMemory told = told ≡ OutOfMemory
 IsToldAs said told = (told ≡ said) ⊎ (told ≡ Device)

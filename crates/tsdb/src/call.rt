@@ -1,5 +1,5 @@
-//! What a call of the program does, by the words of its command line.
-ghost use Rattle.std.specs.Prelude.{◌≡◌, ◌⊎◌, IfErr, map, drop};
+//! A call of the program, by the words of its command line.
+ghost use Rattle.std.specs.Prelude.{◌≡◌, ◌⊎◌, IfErr, map};
 ghost use Rattle.clap.specs.Words.{kind_of};
 ghost use Rattle.ts_reply.specs.Told.{handed_in};
 ghost use Rattle.tsdb.specs.CommandLines.{IsToldAs, told_of_kind};
@@ -8,8 +8,8 @@ ghost use Rattle.tsdb.specs.Calls.{IsReplayed, TellsFaults, IsCall};
 ghost use Rattle.tsdb.specs.declared.command_line.Told.TheVariants.{OutOfMemory};
 ghost use Rattle.tsdb.specs.declared.outcome.Outcome.TheVariants.{NoScript, NoText};
 
-use crate::command_line::{Told, parse, told_by};
-use crate::fault_table::{fault_table, faults_asked};
+use crate::command_line::{Action, Service, Told, parse, told_by};
+use crate::fault_table::fault_table;
 use crate::outcome::Outcome;
 use clap::Error;
 use std::alloc::Global;
@@ -37,30 +37,38 @@ pub fn read_words(rt: &(impl Env + AllocGlobal)) -> Result<Vec<String>, Outcome>
     }
 }
 
-/// Does what the words of a command line ask for; the first is the program's name. A script comes from the source, and answers go to
-/// the sink, but for what clap has to say, which `rt` prints.
-pub fn answer_words<S: AsStr, R: Read, W: Write>(
+/// Answer to a command line.
+#[derive(Clone, Copy, Drop)]
+pub enum Answer<'a> {
+    /// Its action was carried out, or there was none.
+    Outcome(Outcome),
+    /// It requests `serve`, which is left to the caller.
+    Service(Service<'a>),
+}
+
+/// Carries out the action that the words of a command line request; the first is the program's name. Reads a script
+/// from the source and prints answers to the sink. `rt` prints clap's texts.
+pub fn answer_words<'a, S: AsStr, R: Read, W: Write>(
     rt: &(impl AllocGlobal + Print + Eprint),
-    words: &[S],
+    words: &'a [S],
     source: &mut Source<R>,
     sink: &mut Sink<W>,
-) -> Outcome
-    ensures { IsCall (drop 1 (map S.text words.now)) source.old sink.old result source.new sink.new }
+) -> Answer<'a>
+    ensures { IsCall (map S.text words.entry.now) source.old sink.old result source.new sink.new }
 {
-    if let Some(asked) = faults_asked(words) {
-        return tell_faults(rt.alloc(), asked, sink);
-    }
     match parse(rt.alloc(), words) {
-        Ok(()) => replay(rt.alloc(), source, sink),
-        Err(error) => Outcome::NoScript(tell_error(rt, &error)),
+        Ok(Action::Replay) => Answer::Outcome(replay(rt.alloc(), source, sink)),
+        Ok(Action::Faults(number)) => Answer::Outcome(tell_faults(rt.alloc(), number, sink)),
+        Ok(Action::Serve(service)) => Answer::Service(service),
+        Err(error) => Answer::Outcome(Outcome::NoScript(tell_error(rt, &error))),
     }
 }
 
-/// Prints the faults that are asked for: all, or the one of a number.
-fn tell_faults<W: Write>(alloc: Global, asked: Option<&str>, sink: &mut Sink<W>) -> Outcome
-    ensures { TellsFaults (fault_table (handed_in asked.entry)) sink.old result sink.new }
+/// Prints the table of faults, or the row of one number.
+fn tell_faults<W: Write>(alloc: Global, number: Option<&str>, sink: &mut Sink<W>) -> Outcome
+    ensures { TellsFaults (fault_table (handed_in number.entry)) sink.old result sink.new }
 {
-    let table = match fault_table(alloc, asked) {
+    let table = match fault_table(alloc, number) {
         Ok(table) => table,
         Err(_) => return Outcome::NoScript(Told::OutOfMemory),
     };
@@ -73,7 +81,7 @@ fn tell_faults<W: Write>(alloc: Global, asked: Option<&str>, sink: &mut Sink<W>)
     }
 }
 
-/// Answers a script.
+/// Runs a script.
 fn replay<R: Read, W: Write>(alloc: Global, source: &mut Source<R>, sink: &mut Sink<W>) -> Outcome
     ensures { IsReplayed source.old sink.old result source.new sink.new }
 {
@@ -83,8 +91,8 @@ fn replay<R: Read, W: Write>(alloc: Global, source: &mut Source<R>, sink: &mut S
     }
 }
 
-/// Prints what clap has to say of the command line.
-pub fn tell_error(rt: &(impl Print + Eprint), error: &Error) -> Told
+/// Prints the text of clap's error.
+fn tell_error(rt: &(impl Print + Eprint), error: &Error) -> Told
     ensures { IsToldAs (told_of_kind (kind_of error.now)) result }
 {
     match told_by(error) {

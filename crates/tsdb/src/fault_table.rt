@@ -1,25 +1,12 @@
 //! Table of all faults, as `tsdb faults` prints it.
-ghost use Rattle.std.specs.Prelude.{◌≡◌, ◌++◌, map, drop, IfOk, OnOk, MatchOption, None, Some, option_map, string_bytes};
+ghost use Rattle.std.specs.Prelude.{◌≡◌, ◌++◌, IfOk, OnOk, string_bytes};
 ghost use Rattle.ts_reply.specs.Told.{handed_in};
-ghost use Rattle.tsdb.specs.FaultTables.{faults_asked, is_wanted, is_listed, fault_table};
+ghost use Rattle.tsdb.specs.FaultTables.{is_wanted, is_listed, fault_table};
 ghost use Rattle.tsdb.specs.FaultNumbers.{row_where, asked_row};
 
 use itoa::Buffer;
 use std::alloc::{AllocError, Global};
-use std::convert::AsStr;
 use ts_core::{FaultCode, append_words};
-
-/// Parses the words of a command line, of which the first is the program's name. Returns `Some(None)` for `faults`,
-/// `Some(Some(number))` for `faults N`, and else `None`.
-pub fn faults_asked<'a, S: AsStr>(words: &'a [S]) -> Option<Option<&'a str>>
-    ensures { option_map handed_in result ≡ faults_asked (drop 1 (map S.text words.entry.now)) }
-{
-    match words {
-        [_, word] if word.as_str() == "faults" => Some(None),
-        [_, word, number] if word.as_str() == "faults" => Some(Some(number.as_str())),
-        _ => None,
-    }
-}
 
 /// Returns true if these are the requested digits, or if all faults are requested.
 fn is_wanted(asked: Option<&str>, digits: &str) -> bool

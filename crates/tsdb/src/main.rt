@@ -1,8 +1,8 @@
-//! The program `tsdb`: it runs scripts from standard input (`tsdb replay`), serves HTTP requests (`tsdb serve`) and prints
-//! what faults mean (`tsdb faults`). Depends on ts_script, ts_http and ts_store.
+//! The program `tsdb`: it runs scripts from standard input (`tsdb replay`), serves HTTP requests (`tsdb serve`) and
+//! prints what faults mean (`tsdb faults`). Depends on ts_script, ts_http and ts_store.
 //!
-//! Proved: a call does what specs/Calls says of its words and of standard input (`call::answer_words`), and a store goes
-//! by requests as ts_http defines them (`requests::serve_on`). Sockets, the clock and files have no contract.
+//! Proved: a call does what specs/Calls says of its words and of standard input (`call::answer_words`), and a store
+//! goes by requests as ts_http defines them (`requests::serve_on`). Sockets, the clock and files have no contract.
 //!
 //! ```text
 //! printf 'write cpu v=5i 1\ncount cpu v 0 10\n' | tsdb replay     prints ok and 1
@@ -12,15 +12,16 @@
 mod call;
 mod command_line;
 mod fault_table;
+mod image_file;
 mod outcome;
+mod program;
 mod requests;
-mod serve_line;
 mod service;
 mod timed;
 
-use call::{answer_words, read_words};
-use serve_line::is_serve;
-use service::{end, serve};
+use call::{Answer, answer_words, read_words};
+use outcome::end;
+use service::serve;
 use std::io;
 use std::process::ExitCode;
 use ts_core::{Sink, Source};
@@ -30,11 +31,10 @@ fn main(rt: HostRuntime) -> ExitCode {
         Ok(words) => words,
         Err(outcome) => return end(&rt, outcome),
     };
-    if is_serve(words.as_slice()) {
-        return serve(&rt, &words[1..]);
-    }
     let mut source = Source::new(rt.reader());
     let mut sink = Sink::new(io::writer(&rt));
-    let outcome = answer_words(&rt, words.as_slice(), &mut source, &mut sink);
-    end(&rt, outcome)
+    match answer_words(&rt, words.as_slice(), &mut source, &mut sink) {
+        Answer::Outcome(outcome) => end(&rt, outcome),
+        Answer::Service(service) => serve(&rt, &service),
+    }
 }

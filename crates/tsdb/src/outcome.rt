@@ -65,6 +65,16 @@ impl Outcome {
     }
 }
 
+/// Prints the line for standard error, if there is one, and returns the exit status.
+pub fn end(rt: &impl Eprint, outcome: Outcome) -> ExitCode
+    ensures { exit_status result ≡ status_of outcome }
+{
+    if let Some(line) = outcome.error_line() {
+        let _ = eprintln!(rt; "{line}");
+    }
+    outcome.exit_code()
+}
+
 /// Returns the message of a fault with its meaning.
 fn stopped_line(fault: RunFault) -> &'static str
     ensures { result.now ≡ stopped_line fault }

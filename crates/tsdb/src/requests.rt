@@ -1,15 +1,17 @@
-//! The loop of `tsdb serve`: serves the connections of a listener one after another.
+//! The loop of `tsdb serve`: serves the connections of a listener one after another, and saves the store's image.
 ghost use Rattle.std.specs.Prelude.{◌≤◌};
 ghost use Rattle.tsdb.specs.Requests.{WentBy};
 
+use crate::image_file::{save_image, save_or_report};
 use crate::timed::Timed;
 use std::alloc::Global;
 use std::io::Read;
 use std::net::{Shutdown, TcpListener, TcpStream};
-use std::rt::Clock;
+use std::rt::{Clock, Files};
 use std::time::{SystemTime, UNIX_EPOCH};
 use ts_core::{Sink, Source, Time};
-use ts_http::{Served, Status, serve_one};
+use ts_http::{Route, Served, Status, serve_one};
+use ts_image::SaveFault;
 use ts_store::Store;
 
 /// How many seconds a client has to send its request, and as many to take the reply.
@@ -63,35 +65,45 @@ fn finish(stream: &TcpStream, clock: &impl Clock, served: Served) {
     }
 }
 
-/// Serves the request of a connection at a moment.
+/// Returns true if a request that was served so is a reason to save the image: a retention run that was taken on.
+fn is_saved_after(served: Served) -> bool {
+    match served {
+        Served::Reply { status, route } => {
+            matches!(status, Status::Success) && matches!(route, Route::Maintain)
+        }
+        Served::Nothing => false,
+    }
+}
+
+/// Serves the request of a connection at a moment. Returns true if the image is to be saved after it.
 fn serve_stream(
     alloc: Global,
     store: &mut Store<Global>,
     now: Time,
     stream: &TcpStream,
     clock: &impl Clock,
-)
+) -> bool
     ensures { WentBy store.old store.new }
 {
     let _ = stream.set_nodelay(true);
     let mut source = Source::new(Timed::new(stream, clock, PATIENCE));
     let mut sink = Sink::new(Timed::new(stream, clock, PATIENCE));
     match serve_one(alloc, store, now, &mut source, &mut sink) {
-        Ok(served) => finish(stream, clock, served),
-        Err(_) => {}
+        Ok(served) => {
+            finish(stream, clock, served);
+            is_saved_after(served)
+        }
+        Err(_) => false,
     }
 }
 
 /// Serves `count` connections of a listener, one request each, at the moments of a clock. A connection that fails is
-/// closed, and the next one is served.
+/// closed, and the next one is served. Saves the image after each `/maintain` that was answered with 200; a failed save
+/// is reported on standard error, and the next connection is served.
 #[tactic(auto, using(crate::proofs::RequestLemmas::stayed))]
-pub fn serve_on(
-    alloc: Global,
-    store: &mut Store<Global>,
-    listener: &TcpListener,
-    clock: &impl Clock,
-    count: u64,
-)
+fn serve_all<R>(rt: &R, store: &mut Store<Global>, listener: &TcpListener, image: &str, count: u64)
+where
+    R: Clock + Files + AllocGlobal + Eprint,
     requires { 1 ≤ count }
     ensures { WentBy store.old store.new }
 {
@@ -100,10 +112,30 @@ pub fn serve_on(
         let Ok(stream) = stream else {
             continue;
         };
-        serve_stream(alloc, store, moment(clock), &stream, clock);
+        let changed = serve_stream(rt.alloc(), store, moment(rt), &stream, rt);
         left -= 1;
         if left == 0 {
             return;
         }
+        if changed {
+            save_or_report(rt, store, image);
+        }
     }
+}
+
+/// Serves `count` connections of a listener as `serve_all` does, and saves the image at the end.
+pub fn serve_on<R>(
+    rt: &R,
+    store: &mut Store<Global>,
+    listener: &TcpListener,
+    image: &str,
+    count: u64,
+) -> Result<(), SaveFault>
+where
+    R: Clock + Files + AllocGlobal + Eprint,
+    requires { 1 ≤ count }
+    ensures { WentBy store.old store.new }
+{
+    serve_all(rt, store, listener, image, count);
+    save_image(rt, store, image)
 }

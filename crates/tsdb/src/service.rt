@@ -1,28 +1,30 @@
-//! `tsdb serve`: a store with the settings of a file, and the requests of a port.
-use crate::call::tell_error;
-use crate::command_line::Told;
-use crate::outcome::Outcome;
+//! `tsdb serve`: a store that is loaded from its image or has the settings of a file, and the requests of a port.
+use crate::command_line::Service;
+use crate::image_file::load_image;
 use crate::requests::serve_on;
-use crate::serve_line::{Service, parse_serve};
 use std::alloc::{AllocError, Global};
-use std::convert::AsStr;
 use std::net::{Net, TcpListener, TcpStream};
 use std::process::ExitCode;
 use std::rt::{Clock, Files};
 use std::{fs, io};
-use ts_core::{Settings, SettingsError, SettingsFault};
+use ts_core::{Settings, SettingsError, SettingsFault, append_words};
+use ts_image::{LoadFault, SaveFault};
 use ts_store::Store;
 
-/// Why no request was served.
+/// Error of a service: before its first request, or of the save at its end.
 #[derive(Clone, Copy, Drop)]
 enum ServiceFault {
-    /// The file of settings could not be read.
+    /// The settings file could not be read.
     NoSettings,
-    /// The settings are at fault.
+    /// The settings have an error.
     Settings(SettingsFault),
+    /// The image could not be loaded.
+    Image(LoadFault),
     /// The port could not be listened on.
     NoPort,
-    /// There is no memory.
+    /// The image could not be saved at the end.
+    NotSaved(SaveFault),
+    /// Out of memory.
     OutOfMemory,
 }
 
@@ -42,7 +44,21 @@ impl ServiceFault {
         }
     }
 
-    /// The exit status: 3 where there is no memory, else 1.
+    fn of_image(fault: LoadFault) -> ServiceFault {
+        match fault {
+            LoadFault::OutOfMemory => ServiceFault::OutOfMemory,
+            fault => ServiceFault::Image(fault),
+        }
+    }
+
+    fn of_save(fault: SaveFault) -> ServiceFault {
+        match fault {
+            SaveFault::OutOfMemory => ServiceFault::OutOfMemory,
+            fault => ServiceFault::NotSaved(fault),
+        }
+    }
+
+    /// Returns the exit status: 3 when out of memory, else 1.
     fn status(self) -> u8 {
         match self {
             ServiceFault::OutOfMemory => 3,
@@ -50,14 +66,34 @@ impl ServiceFault {
         }
     }
 
-    /// Its line for standard error.
-    fn text(self, alloc: Global) -> Result<String, AllocError> {
+    /// Returns the line for standard error. It names the file that is at fault.
+    fn text(self, alloc: Global, service: &Service<'_>) -> Result<String, AllocError> {
         let mut text = String::new(alloc);
         match self {
-            ServiceFault::NoSettings => text.push_str("tsdb: the settings could not be read")?,
-            ServiceFault::Settings(fault) => fault.text_to(&mut text)?,
+            ServiceFault::NoSettings => {
+                append_words(
+                    &mut text,
+                    &[
+                        "tsdb: ",
+                        service.settings,
+                        ": the settings could not be read",
+                    ],
+                )?;
+            }
+            ServiceFault::Settings(fault) => {
+                append_words(&mut text, &["tsdb: ", service.settings, ": "])?;
+                fault.text_to(&mut text)?;
+            }
+            ServiceFault::Image(fault) => {
+                append_words(&mut text, &["tsdb: ", service.image, ": "])?;
+                fault.text_to(&mut text)?;
+            }
             ServiceFault::NoPort => text.push_str("tsdb: the port could not be listened on")?,
-            ServiceFault::OutOfMemory => text.push_str("tsdb: there is no memory")?,
+            ServiceFault::NotSaved(fault) => {
+                append_words(&mut text, &["tsdb: ", service.image, ": "])?;
+                fault.text_to(&mut text)?;
+            }
+            ServiceFault::OutOfMemory => text.push_str("tsdb: out of memory")?,
         }
         Ok(text)
     }
@@ -72,62 +108,58 @@ fn store_with(alloc: Global, text: &str) -> Result<Store<Global>, SettingsError>
     }
 }
 
-/// Serves the requests that are asked for.
-fn run_service<R>(rt: &R, asked: &Service<'_>) -> Result<(), ServiceFault>
-where
-    R: Files + Clock + AllocGlobal + Net<Listener = TcpListener, Stream = TcpStream>,
-{
-    let alloc = rt.alloc();
-    let text = match fs::read_to_string(rt, asked.settings) {
+/// Returns the store of the image, or, if there is no image, an empty one with the settings of the file.
+fn open_store<R: Files + AllocGlobal>(
+    rt: &R,
+    service: &Service<'_>,
+) -> Result<Store<Global>, ServiceFault> {
+    match load_image(rt, service.image) {
+        Ok(Some(store)) => return Ok(store),
+        Ok(None) => {}
+        Err(fault) => return Err(ServiceFault::of_image(fault)),
+    }
+    let text = match fs::read_to_string(rt, service.settings) {
         Ok(text) => text,
         Err(error) => return Err(ServiceFault::of_file(&error)),
     };
-    let mut store = match store_with(alloc, text.as_str()) {
-        Ok(store) => store,
-        Err(error) => return Err(ServiceFault::of_settings(&error)),
-    };
-    let Ok(listener) = TcpListener::bind(rt, ("127.0.0.1", asked.port)) else {
-        return Err(ServiceFault::NoPort);
-    };
-    let count = if asked.requests == 0 {
-        u64::MAX
-    } else {
-        asked.requests
-    };
-    serve_on(alloc, &mut store, &listener, rt, count);
-    Ok(())
+    match store_with(rt.alloc(), text.as_str()) {
+        Ok(store) => Ok(store),
+        Err(error) => Err(ServiceFault::of_settings(&error)),
+    }
 }
 
-/// Does what the words of `serve` ask for, itself the first of them.
-pub fn serve<R, S: AsStr>(rt: &R, words: &[S]) -> ExitCode
+/// Serves the requested number of connections, and saves the image.
+fn run_service<R>(rt: &R, service: &Service<'_>) -> Result<(), ServiceFault>
 where
-    R: Files
-        + Clock
-        + AllocGlobal
-        + Print
-        + Eprint
-        + Net<Listener = TcpListener, Stream = TcpStream>,
+    R: Files + Clock + AllocGlobal + Eprint + Net<Listener = TcpListener, Stream = TcpStream>,
 {
-    let asked = match parse_serve(rt.alloc(), words) {
-        Ok(Some(asked)) => asked,
-        Ok(None) => return ExitCode::from(2),
-        Err(error) => return end(rt, Outcome::NoScript(tell_error(rt, &error))),
+    let mut store = open_store(rt, service)?;
+    let Ok(listener) = TcpListener::bind(rt, ("127.0.0.1", service.port)) else {
+        return Err(ServiceFault::NoPort);
     };
-    match run_service(rt, &asked) {
+    let count = if service.requests == 0 {
+        u64::MAX
+    } else {
+        service.requests
+    };
+    match serve_on(rt, &mut store, &listener, service.image, count) {
+        Ok(()) => Ok(()),
+        Err(fault) => Err(ServiceFault::of_save(fault)),
+    }
+}
+
+/// Serves the requests, and returns the exit status. A fault is printed on standard error.
+pub fn serve<R>(rt: &R, service: &Service<'_>) -> ExitCode
+where
+    R: Files + Clock + AllocGlobal + Eprint + Net<Listener = TcpListener, Stream = TcpStream>,
+{
+    match run_service(rt, service) {
         Ok(()) => ExitCode::from(0),
         Err(fault) => {
-            if let Ok(line) = fault.text(rt.alloc()) {
+            if let Ok(line) = fault.text(rt.alloc(), service) {
                 let _ = eprintln!(rt; "{line}");
             }
             ExitCode::from(fault.status())
         }
     }
-}
-
-/// Ends the program: its line on standard error, if any, and its exit status.
-pub fn end(rt: &impl Eprint, outcome: Outcome) -> ExitCode {
-    if let Some(line) = outcome.error_line() {
-        let _ = eprintln!(rt; "{line}");
-    }
-    outcome.exit_code()
 }

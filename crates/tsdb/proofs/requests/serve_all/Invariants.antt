@@ -1,6 +1,6 @@
 use Rattle.std.proofs.Common.{◌≤◌}
 use Rattle.tsdb.specs.Requests.{WentBy}
-use Rattle.tsdb.proofs.requests.serve_on.Given as goal
+use Rattle.tsdb.proofs.requests.serve_all.Given as goal
 
 abbrev pub invariant-loop-stream : goal.invariant-loop-stream
 invariant-loop-stream g l = record {
