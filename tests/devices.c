@@ -5,10 +5,11 @@
 //   FAIL_READ=N, FAIL_WRITE=N   the Nth read or write fails
 //   ZERO_WRITE=N                the Nth write takes no byte
 //   SHORT_READ=N, SHORT_WRITE=N each read or write takes at most N bytes
+//   FAIL_FILE_READ=N ..         the same of files: FAIL_FILE_WRITE, ZERO_FILE_WRITE, SHORT_FILE_READ, SHORT_FILE_WRITE
 //   MOMENT=FILE                 the clock shows the number in the file, in nanoseconds of the Unix epoch
 //   REPORT=FILE                 gets the number of allocations, reads and writes at the end of the program, the size of the refused
 //                               allocation, and the number of reads before it
-// Reads are those of standard input and of connections, writes those to standard output and to connections.
+// Reads are those of standard input and of connections, writes those to standard output and to connections. Files are counted by themselves.
 #define _GNU_SOURCE
 #include <errno.h>
 #include <fcntl.h>
@@ -27,7 +28,7 @@ extern void *__libc_realloc(void *, size_t);
 extern void *__libc_memalign(size_t, size_t);
 extern void __libc_free(void *);
 
-static long allocations, bytes, reads, writes, refused_size, reads_before;
+static long allocations, bytes, reads, writes, file_reads, file_writes, refused_size, reads_before;
 
 // Returns the number in a variable of the environment, -1 if it isn't there.
 static long number(const char *name) {
@@ -81,43 +82,50 @@ int posix_memalign(void **place, size_t align, size_t size) {
   return block ? 0 : ENOMEM;
 }
 
-// Returns how many bytes the next read takes of a size, -1 if it fails.
-static ssize_t read_size(size_t size) {
-  long most = number("SHORT_READ");
-  if (++reads == number("FAIL_READ")) {
+// Returns how many bytes the next read takes of a size, -1 if it fails. These are the variables of its kind, and how many came before.
+static ssize_t read_size(size_t size, const char *fails, const char *is_short, long *before) {
+  long most = number(is_short);
+  if (++*before == number(fails)) {
     errno = EIO;
     return -1;
   }
   return most > 0 && (size_t)most < size ? most : (ssize_t)size;
 }
 
-static ssize_t write_size(size_t size) {
-  long most = number("SHORT_WRITE");
-  if (++writes == number("FAIL_WRITE")) {
+static ssize_t write_size(size_t size, const char *fails, const char *is_zero, const char *is_short, long *before) {
+  long most = number(is_short);
+  if (++*before == number(fails)) {
     errno = EIO;
     return -1;
   }
-  if (writes == number("ZERO_WRITE")) return 0;
+  if (*before == number(is_zero)) return 0;
   return most > 0 && (size_t)most < size ? most : (ssize_t)size;
+}
+
+static ssize_t stream_read_size(size_t size) { return read_size(size, "FAIL_READ", "SHORT_READ", &reads); }
+static ssize_t stream_write_size(size_t size) { return write_size(size, "FAIL_WRITE", "ZERO_WRITE", "SHORT_WRITE", &writes); }
+static ssize_t file_read_size(size_t size) { return read_size(size, "FAIL_FILE_READ", "SHORT_FILE_READ", &file_reads); }
+static ssize_t file_write_size(size_t size) {
+  return write_size(size, "FAIL_FILE_WRITE", "ZERO_FILE_WRITE", "SHORT_FILE_WRITE", &file_writes);
 }
 
 ssize_t read(int file, void *room, size_t size) {
-  ssize_t taken = file == 0 ? read_size(size) : (ssize_t)size;
+  ssize_t taken = file == 0 ? stream_read_size(size) : file_read_size(size);
   return taken < 0 ? -1 : syscall(SYS_read, file, room, taken);
 }
 
 ssize_t recv(int file, void *room, size_t size, int flags) {
-  ssize_t taken = read_size(size);
+  ssize_t taken = stream_read_size(size);
   return taken < 0 ? -1 : syscall(SYS_recvfrom, file, room, taken, flags, NULL, NULL);
 }
 
 ssize_t write(int file, const void *bytes, size_t size) {
-  ssize_t taken = file == 1 ? write_size(size) : (ssize_t)size;
+  ssize_t taken = file == 1 ? stream_write_size(size) : file == 2 ? (ssize_t)size : file_write_size(size);
   return taken <= 0 && size > 0 ? taken : syscall(SYS_write, file, bytes, taken);
 }
 
 ssize_t send(int file, const void *bytes, size_t size, int flags) {
-  ssize_t taken = write_size(size);
+  ssize_t taken = stream_write_size(size);
   return taken <= 0 && size > 0 ? taken : syscall(SYS_sendto, file, bytes, taken, flags, NULL, 0);
 }
 

@@ -27,21 +27,29 @@ def free_port():
 
 
 class Server:
-    """A running `tsdb serve` that ends after a number of connections, 0 for no end. A moment sets its clock (devices.c)."""
+    """A running `tsdb serve` that ends after a number of connections, 0 for no end. A moment sets its clock (devices.c).
 
-    def __init__(self, program, requests=0, settings=OPEN_SETTINGS, moment=None, **variables):
+    Its image is a new file, or the one with this name."""
+
+    def __init__(self, program, requests=0, settings=OPEN_SETTINGS, moment=None, image=None, restore_signals=True, **variables):
         self.folder = tempfile.TemporaryDirectory()
         self.port = free_port()
         self.moment = self.path('moment')
+        self.image = image or self.path('image')
         self.errors = open(self.path('errors'), 'w+b')
         with open(self.path('settings'), 'w', encoding='utf8') as file:
             file.write(settings)
         if moment is not None:
             self.set_moment(moment)
             variables.update(MOMENT=self.moment, LD_PRELOAD=os.environ['DEVICES'])
-        call = [program, 'serve', self.path('settings'), self.path('image'), str(self.port), str(requests)]
+        call = [program, 'serve', self.path('settings'), self.image, str(self.port), str(requests)]
         self.process = subprocess.Popen(
-            call, env=dict(os.environ, **variables), stdin=subprocess.DEVNULL, stdout=subprocess.DEVNULL, stderr=self.errors
+            call,
+            env=dict(os.environ, **variables),
+            stdin=subprocess.DEVNULL,
+            stdout=subprocess.DEVNULL,
+            stderr=self.errors,
+            restore_signals=restore_signals,
         )
 
     def path(self, name):
