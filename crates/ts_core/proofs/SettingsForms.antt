@@ -8,7 +8,7 @@ use Rattle.ts_core.specs.Facts.{Text}
 use Rattle.ts_core.specs.Settings.{Rule, Settings}
 use Rattle.ts_core.specs.SettingsFaults.{settings_fault}
 use Rattle.ts_core.specs.Durations.{span_of, offset_of, keeping_of}
-use Rattle.ts_core.specs.SettingsTexts.{has_keys, text_at, if_not_empty, filled_text, each, rule_with, rule_parsed, settings_with, settings_parsed, settings_or_fault, unless_fault, settings_read, IsRefusal}
+use Rattle.ts_core.specs.SettingsTexts.{has_keys, text_at, if_not_empty, filled_text, each, rule_with, rule_parsed, settings_with, settings_parsed, rule_read, settings_or_fault, unless_fault, settings_read, IsRefusal}
 use Rattle.ts_core.specs.declared.settings_fault.SettingsError.{SettingsError}
 use Rattle.ts_core.specs.declared.settings_fault.SettingsError.TheVariants.{Fault, OutOfMemory}
 use Rattle.ts_core.specs.declared.settings_fault.SettingsFault.{SettingsFault}
@@ -121,12 +121,12 @@ all_there : {b : Bool} {n m : Option Text} {i o : Option ℤ} {t : Option (List 
     → rule_with b n m i o t l ≡ Some (record { name = name; measurement = measurement; interval = interval; offset = offset; kept_tags = tags; duration = unsigned_abs duration })
 all_there name measurement interval offset tags duration eb en em ei eo et el = rw (eb, en, em, ei, eo, et, el) refl
 
-pub rule_read : (d : Data) (values : Items) (name measurement : Text) (interval offset : ℤ) (tags : List Text) (duration : ℤ)
+pub rule_parts_read : (d : Data) (values : Items) (name measurement : Text) (interval offset : ℤ) (tags : List Text) (duration : ℤ)
     → has_keys 6 d ≡ true → name_in d ≡ Some name → measurement_in d ≡ Some measurement → interval_in d ≡ Some interval → offset_in d ≡ Some offset
     → values_in (codes "keep") d ≡ Some values → each filled_text values ≡ Some tags → duration_in d ≡ Some duration
     → rule_parsed d ≡ Some (record { name = name; measurement = measurement; interval = interval; offset = offset; kept_tags = tags; duration = unsigned_abs duration })
 unfolding rule_parsed
-rule_read d values name measurement interval offset tags duration keys en em ei eo ev et el =
+rule_parts_read d values name measurement interval offset tags duration keys en em ei eo ev et el =
     all_there name measurement interval offset tags duration keys en em ei eo (ap (option_and_then (each filled_text)) ev ∙ et) el
 
 pub same_rule : {n n' m m' : Text} {i i' o o' : ℤ} {l l' : ℕ} (tags : List Text) → n ≡ n' → m ≡ m' → i ≡ i' → o ≡ o' → l ≡ l' → rule_of_parts n m i o tags l ≡ rule_of_parts n' m' i' o' tags l'
@@ -183,6 +183,15 @@ parts_read d values raw rules keys er ev es = both_there raw rules keys er (ap (
 pub refused_by : {X Y : Type 0} (e : SettingsError) (part : Option X) (whole : Option Y) → (part ≡ None → whole ≡ None) → IsRefusal e part → IsRefusal e whole
 refused_by OutOfMemory part whole lacks r = tt
 refused_by (Fault fault) part whole lacks r = (r.0, lacks r.1)
+
+-- a rule by itself is that of the text's value
+pub no_rule_data : (text : Text) → read text ≡ None → rule_read text ≡ None
+unfolding rule_read
+no_rule_data text none = ap (option_and_then rule_parsed) none
+
+pub rule_data : (text : Text) (d : Data) → read text ≡ Some d → rule_parsed d ≡ rule_read text
+unfolding rule_read
+rule_data text d is = ap (option_and_then rule_parsed) (sym is)
 
 form_told : (o : Option Settings) (e : SettingsError) (f : SettingsFault) → IsRefusal e o → e ≡ Fault f → settings_or_fault o ≡ Err f
 form_told o OutOfMemory f r is = absurd (cc)

@@ -2,7 +2,7 @@
 use Rattle.std.specs.Prelude.{ℕ, nat_eq, List, [], ◌∷◌, Option, Some, None, codes, if◌then◌else◌}
 use Rattle.ts_core.specs.Facts.{Text}
 use Rattle.ts_core.specs.declared.fault_code.FaultCode.{FaultCode}
-use Rattle.ts_core.specs.declared.fault_code.FaultCode.TheVariants.{IntervalRange, KeptTooShortly, RepeatedRuleName, BadRuleName, TooManyRules, BadKeptTags, BadSettingsText, NoMeasurement, BadTag, RepeatedTagKey, NoField, BadField, FieldType, IntegerRange, BadTimestamp, TimestampRange, OverLimit, ReservedKey, BlockTooShort, BlockLongNumber, BlockTimeRange, BlockTooLong, TooManySeries, BelowRawMark, TooManyFacts, RunInProgress, NotAnImage, ImageVersion, BrokenImage, ContradictoryImage, ImageDevice, EndlessImage, Syntax, OutOfProfile, NoLowerBound, OutOfRange, RepeatedColumn, TooManyStatements, TooManyBuckets, BucketBeforeLeastTime, BadCertificate, Gap, BelowMark, NoSuchRule, OtherMeasurement, OffBoundary, BelowLow, Straddles, TagNotKept, NoPlan, TooManyRuleBuckets, StalePlan, SeveralStatements, UnknownCommand, ReaderFailed, WriterFailed, EndlessScript, ConnectionReaderFailed, ConnectionWriterFailed}
+use Rattle.ts_core.specs.declared.fault_code.FaultCode.TheVariants.{IntervalRange, KeptTooShortly, RepeatedRuleName, BadRuleName, TooManyRules, BadKeptTags, BadSettingsText, UnknownRule, NoMeasurement, BadTag, RepeatedTagKey, NoField, BadField, FieldType, IntegerRange, BadTimestamp, TimestampRange, OverLimit, ReservedKey, BlockTooShort, BlockLongNumber, BlockTimeRange, BlockTooLong, TooManySeries, BelowRawMark, TooManyFacts, RunInProgress, NotAnImage, ImageVersion, BrokenImage, ContradictoryImage, ImageDevice, EndlessImage, Syntax, OutOfProfile, NoLowerBound, OutOfRange, RepeatedColumn, TooManyStatements, TooManyBuckets, BucketBeforeLeastTime, BadCertificate, Gap, BelowMark, NoSuchRule, OtherMeasurement, OffBoundary, BelowLow, Straddles, TagNotKept, NoPlan, TooManyRuleBuckets, StalePlan, SeveralStatements, UnknownCommand, ReaderFailed, WriterFailed, EndlessScript, ConnectionReaderFailed, ConnectionWriterFailed}
 
 abbrev pub code_number : FaultCode → ℕ
 code_number IntervalRange = 1
@@ -12,6 +12,7 @@ code_number BadRuleName = 4
 code_number TooManyRules = 5
 code_number BadKeptTags = 6
 code_number BadSettingsText = 7
+code_number UnknownRule = 8
 code_number NoMeasurement = 11
 code_number BadTag = 12
 code_number RepeatedTagKey = 13
@@ -73,6 +74,7 @@ code_words BadRuleName = codes "a rule's name isn't 1 to 32 of a to z, 0 to 9 an
 code_words TooManyRules = codes "there are more than 32 rules"
 code_words BadKeptTags = codes "a rule keeps more than 16 tags, or one of them twice"
 code_words BadSettingsText = codes "the text isn't of the form of settings"
+code_words UnknownRule = codes "no rule of the settings has this name"
 code_words NoMeasurement = codes "the measurement is empty"
 code_words BadTag = codes "a tag isn't a key, an equals sign and a value"
 code_words RepeatedTagKey = codes "a tag key stands twice in the line"
@@ -129,7 +131,7 @@ code_words ConnectionWriterFailed = codes "writing the reply failed"
 -- ordered by number
 abbrev pub all_codes : List FaultCode
 all_codes =
-    IntervalRange ∷ KeptTooShortly ∷ RepeatedRuleName ∷ BadRuleName ∷ TooManyRules ∷ BadKeptTags ∷ BadSettingsText ∷ NoMeasurement ∷
+    IntervalRange ∷ KeptTooShortly ∷ RepeatedRuleName ∷ BadRuleName ∷ TooManyRules ∷ BadKeptTags ∷ BadSettingsText ∷ UnknownRule ∷ NoMeasurement ∷
     BadTag ∷ RepeatedTagKey ∷ NoField ∷ BadField ∷ FieldType ∷ IntegerRange ∷ BadTimestamp ∷ TimestampRange ∷ OverLimit ∷ ReservedKey ∷
     BlockTooShort ∷ BlockLongNumber ∷ BlockTimeRange ∷ BlockTooLong ∷ TooManySeries ∷ BelowRawMark ∷ TooManyFacts ∷ RunInProgress ∷
     NotAnImage ∷ ImageVersion ∷ BrokenImage ∷ ContradictoryImage ∷ ImageDevice ∷ EndlessImage ∷ Syntax ∷ OutOfProfile ∷ NoLowerBound ∷

@@ -60,6 +60,10 @@ rule_parsed d = rule_with (has_keys 6 d)
     (each_at (codes "keep") filled_text d)
     (option_and_then keeping_of (text_at (codes "duration") d))
 
+-- parses a rule by itself
+unfoldable pub rule_read : Text → Option Rule
+rule_read text = option_and_then rule_parsed (read text)
+
 abbrev pub settings_with : Bool → Option ℤ → Option (List Rule) → Option Settings
 settings_with true (Some raw) (Some rules) = Some (record { raw_duration = unsigned_abs raw; rules = rules })
 settings_with _ _ _ = None
@@ -83,7 +87,7 @@ settings_or_fault (Some s) = unless_fault s (settings_fault s)
 unfoldable pub settings_read : Text → Result Settings SettingsFault
 settings_read text = settings_or_fault (option_and_then settings_parsed (read text))
 
--- ---- for private clauses
+-- ---- refusals
 
 -- out of memory, or the text can't be parsed and the error is `Form`
 abbrev pub IsRefusal : {X : Type 0} → SettingsError → Option X → Type 0

@@ -19,6 +19,8 @@ pub enum FaultCode {
     BadKeptTags,
     /// Text without the form of settings (number 7).
     BadSettingsText,
+    /// Name that no rule of the settings has (number 8).
+    UnknownRule,
     /// Empty measurement (number 11).
     NoMeasurement,
     /// Tag that isn't a key, an equals sign and a value (number 12).
@@ -126,7 +128,7 @@ pub enum FaultCode {
 }
 
 /// All faults, ordered by number.
-const ALL: [FaultCode; 59] = [
+const ALL: [FaultCode; 60] = [
     FaultCode::IntervalRange,
     FaultCode::KeptTooShortly,
     FaultCode::RepeatedRuleName,
@@ -134,6 +136,7 @@ const ALL: [FaultCode; 59] = [
     FaultCode::TooManyRules,
     FaultCode::BadKeptTags,
     FaultCode::BadSettingsText,
+    FaultCode::UnknownRule,
     FaultCode::NoMeasurement,
     FaultCode::BadTag,
     FaultCode::RepeatedTagKey,
@@ -227,6 +230,7 @@ impl FaultCode {
             FaultCode::TooManyRules => 5,
             FaultCode::BadKeptTags => 6,
             FaultCode::BadSettingsText => 7,
+            FaultCode::UnknownRule => 8,
             FaultCode::NoMeasurement => 11,
             FaultCode::BadTag => 12,
             FaultCode::RepeatedTagKey => 13,
@@ -295,6 +299,7 @@ impl FaultCode {
             FaultCode::TooManyRules => "there are more than 32 rules",
             FaultCode::BadKeptTags => "a rule keeps more than 16 tags, or one of them twice",
             FaultCode::BadSettingsText => "the text isn't of the form of settings",
+            FaultCode::UnknownRule => "no rule of the settings has this name",
             FaultCode::NoMeasurement => "the measurement is empty",
             FaultCode::BadTag => "a tag isn't a key, an equals sign and a value",
             FaultCode::RepeatedTagKey => "a tag key stands twice in the line",

@@ -4,7 +4,7 @@ ghost use Rattle.serde_json.specs.Find.{get, as_array};
 ghost use Rattle.serde_json.specs.Read.{read};
 ghost use Rattle.serde_json.specs.View.{view, items_view};
 ghost use Rattle.ts_core.specs.Durations.{span_of, offset_of, keeping_of};
-ghost use Rattle.ts_core.specs.SettingsTexts.{has_keys, text_at, if_not_empty, filled_text, each, rule_parsed, settings_parsed, settings_read, IsRefusal};
+ghost use Rattle.ts_core.specs.SettingsTexts.{has_keys, text_at, if_not_empty, filled_text, each, rule_parsed, rule_read, settings_parsed, settings_read, IsRefusal};
 ghost use Rattle.ts_core.specs.declared.settings_fault.SettingsError.TheVariants as errors;
 ghost use Rattle.ts_core.specs.declared.settings_fault.SettingsFault.{SettingsFault};
 
@@ -178,6 +178,18 @@ fn value_of(json: Global, text: &str) -> Result<Value, SettingsError>
                 Err(NO_FORM)
             }
         }
+    }
+}
+
+impl<A: Allocator + Copy> Rule<A> {
+    /// Parses a rule, which is a JSON object as in settings. Returns the error `Form` if the text isn't one. The JSON
+    /// parser allocates in `json`.
+    pub fn read(alloc: A, json: Global, text: &str) -> Result<Rule<A>, SettingsError>
+        ensures ok { IfOk result (λ r. rule_read text.now ≡ Some r) }
+        ensures err { IfErr result (λ e. IsRefusal e (rule_read text.now)) }
+    {
+        let value = value_of(json, text)?;
+        rule(alloc, &value)
     }
 }
 

@@ -5,7 +5,7 @@ use Rattle.ts_core.specs.Facts.{Text}
 use Rattle.serde_json.specs.View.{view, items_view}
 use Rattle.ts_core.specs.SettingsTexts.{has_keys, text_at, each, filled_text, rule_parsed, IsRefusal}
 use Rattle.ts_core.proofs.FilledTexts.{filled, all_filled}
-use Rattle.ts_core.proofs.SettingsForms.{name_in, measurement_in, interval_in, offset_in, values_in, duration_in, other_keys, no_name, no_measurement, no_interval, no_offset, no_tags, no_tag_values, no_duration, rule_read, same_rule, refused_by}
+use Rattle.ts_core.proofs.SettingsForms.{name_in, measurement_in, interval_in, offset_in, values_in, duration_in, other_keys, no_name, no_measurement, no_interval, no_offset, no_tags, no_tag_values, no_duration, rule_parts_read, same_rule, refused_by}
 use Rattle.ts_core.proofs.settings.reading.rule.Goals as goal
 
 pub returns-then-not-has_keys-clause-err : goal.returns-then-not-has_keys-clause-err
@@ -59,7 +59,7 @@ returns-clause-ok g c =
     let interval : c.in-Some-interval_at.interval ≡ to_z w64 (of_z w64 c.in-Some-interval_at.interval) = let fits : SFits w64 c.in-Some-interval_at.interval = search rules in sym (to_z-of_z fits) in
     let offset : c.in-Some-offset_at.offset ≡ to_z w64 (of_z w64 c.in-Some-offset_at.offset) = let fits : SFits w64 c.in-Some-offset_at.offset = search rules in sym (to_z-of_z fits) in
     let lasts : unsigned_abs c.in-Some-keeping_at.duration ≡ c.unsigned_abs.result = search rules in
-    rule_read d (items_view c.in-Some-values_at.tags.now) c.in-Some.name.now c.in-Some-filled_text_at.measurement.now c.in-Some-interval_at.interval c.in-Some-offset_at.offset
+    rule_parts_read d (items_view c.in-Some-values_at.tags.now) c.in-Some.name.now c.in-Some-filled_text_at.measurement.now c.in-Some-interval_at.interval c.in-Some-offset_at.offset
     (map string_bytes c.in_ok-kept_tags.kept_tags.items) c.in-Some-keeping_at.duration
     keys (sym c.in-Some.ensures) (sym c.in-Some-filled_text_at.ensures) (sym c.in-Some-interval_at.ensures) (sym c.in-Some-offset_at.ensures) (sym c.in-Some-values_at.ensures)
     c.in_ok-kept_tags.ensures.ok (sym c.in-Some-keeping_at.ensures.value)
