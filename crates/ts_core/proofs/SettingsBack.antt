@@ -25,7 +25,7 @@ use Rattle.ts_core.specs.Durations.{duration_of, span_of, offset_of, keeping_of,
 use Rattle.ts_core.specs.SettingsTexts.{if_not_empty, filled_text, each, rule_parsed, settings_parsed}
 use Rattle.ts_core.specs.SettingsWritten.{nanoseconds_text, keeping_text, rule_data, settings_data, settings_text, MayBeWritten, HaveText, SettingsReadBack}
 use Rattle.ts_core.proofs.DurationLaws.{digit_is, either, term_of, no_terms, spelled_read}
-use Rattle.ts_core.proofs.SettingsForms.{rule_read, parts_read, faultless}
+use Rattle.ts_core.proofs.SettingsForms.{rule_parts_read, parts_read, faultless}
 use Rattle.ts_core.proofs.SettingsLaws.{settings_are}
 
 -- ---- durations
@@ -123,7 +123,7 @@ tags_back (t ∷ ts) w = rw (filled_back t w.0) (ap (option_map (λ xs. t ∷ xs
 
 rule_back : (r : Rule) → pos 1 ≤ℤ r.interval → MayBeWritten r → rule_parsed (rule_data r) ≡ Some r
 rule_back r some w =
-    rule_read (rule_data r) (items_of (map string r.kept_tags)) r.name r.measurement r.interval r.offset r.kept_tags (pos r.duration)
+    rule_parts_read (rule_data r) (items_of (map string r.kept_tags)) r.name r.measurement r.interval r.offset r.kept_tags (pos r.duration)
     refl refl (filled_back r.measurement w.measured) (interval_back r.interval some w.interval) (offset_back r.offset w.offset)
     refl (tags_back r.kept_tags w.tagged) (keeping_back r.duration w.duration)
 
