@@ -1,11 +1,11 @@
 -- A rule is found by its name and dropped by its index.
-use Rattle.std.proofs.Common.{◌≡◌, ℕ, zero, suc, ◌+◌, ◌<◌, Bool, true, false, cond, not, ◌||◌, List, [], ◌∷◌, length, filter, map, refl, sym, ap, ◌∙◌, subst, arith, Option, Some, None, IfSome, IsNone, true≢false}
+use Rattle.std.proofs.Common.{◌≡◌, ℕ, zero, suc, ◌+◌, ◌<◌, Bool, true, false, cond, ◌||◌, List, [], ◌∷◌, length, filter, map, refl, sym, ap, ◌∙◌, subst, arith, Option, Some, None, IfSome, IsNone, true≢false}
 use Rattle.std.specs.List.{AllByRecursion, list_any, position_from, remove}
 use Rattle.std.proofs.lemmas.Option.{none-some}
 use Rattle.ts_core.specs.Members.{AllDistinct}
 use Rattle.ts_core.specs.Numbered.{IsAt}
 use Rattle.ts_core.specs.Facts.{Text, same_text}
-use Rattle.ts_core.specs.Settings.{Rule, Settings, IsPossibleRule, without_rule, is_unnamed}
+use Rattle.ts_core.specs.Settings.{Rule, Settings, is_unnamed}
 use Rattle.ts_core.specs.SettingsFaults.{settings_fault, is_named}
 use Rattle.ts_core.specs.RuleMoves.{IsRuleAt, kept_beside}
 use Rattle.ts_core.proofs.Ids.{same_text-eq}
@@ -75,7 +75,7 @@ if_missing name rs (Some n) e none = absurd (true≢false none)
 
 -- ---- a rule is removed
 
-item_at : {X : Type 0} (xs : List X) (n : ℕ) → n < length xs → (x : X) × IsAt xs n x
+pub item_at : {X : Type 0} (xs : List X) (n : ℕ) → n < length xs → (x : X) × IsAt xs n x
 item_at [] n l = absurd (let z : ⊥ = omega arith in z)
 item_at (x ∷ xs) zero l = (x, refl)
 item_at (x ∷ xs) (suc n) l = item_at xs n (omega arith)

@@ -1,5 +1,4 @@
-use Rattle.std.proofs.Common.{rules, tests, ◌≡◌, None, ◌∙◌, sym, subst}
-use Rattle.std.specs.List.{position_from}
+use Rattle.std.proofs.Common.{rules, tests, ◌≡◌, None, ◌∙◌, subst}
 use Rattle.std.proofs.lemmas.Iterator.{YieldsList-from_slice}
 use Rattle.std.proofs.lemmas.Iterator.Search.{position_from_yields_List}
 use Rattle.std.proofs.lemmas.Iterator.Adapters.{position_from-zero}
