@@ -6,6 +6,7 @@
 //   ZERO_WRITE=N                the Nth write takes no byte
 //   SHORT_READ=N, SHORT_WRITE=N each read or write takes at most N bytes
 //   FAIL_FILE_READ=N ..         the same of files: FAIL_FILE_WRITE, ZERO_FILE_WRITE, SHORT_FILE_READ, SHORT_FILE_WRITE
+//   FAIL_SYNC=N, FAIL_RENAME=N  the Nth flush of a file or folder fails, or the Nth change of a name
 //   MOMENT=FILE                 the clock shows the number in the file, in nanoseconds of the Unix epoch
 //   REPORT=FILE                 gets the number of allocations, reads and writes at the end of the program, the size of the refused
 //                               allocation, and the number of reads before it
@@ -127,6 +128,23 @@ ssize_t write(int file, const void *bytes, size_t size) {
 ssize_t send(int file, const void *bytes, size_t size, int flags) {
   ssize_t taken = stream_write_size(size);
   return taken <= 0 && size > 0 ? taken : syscall(SYS_sendto, file, bytes, taken, flags, NULL, 0);
+}
+
+// Returns whether the next call of a kind fails. These are its variable, and how many came before.
+static int is_failed(const char *fails, long *before) {
+  if (++*before != number(fails)) return 0;
+  errno = EIO;
+  return 1;
+}
+
+int fsync(int file) {
+  static long before;
+  return is_failed("FAIL_SYNC", &before) ? -1 : syscall(SYS_fsync, file);
+}
+
+int rename(const char *from, const char *to) {
+  static long before;
+  return is_failed("FAIL_RENAME", &before) ? -1 : syscall(SYS_rename, from, to);
 }
 
 int clock_gettime(clockid_t clock, struct timespec *now) {
