@@ -1,0 +1,63 @@
+//! An allocator that refuses one request.
+
+use std::alloc::{AllocError, Allocator};
+use std::cell::Cell;
+
+/// Passes requests on to another allocator, but refuses the one after this many.
+pub(crate) struct Refusing<B: Allocator> {
+    inner: B,
+    left: Cell<u64>,
+}
+
+/// Counts a request; returns true if it is the one to refuse.
+fn is_refused(left: &Cell<u64>) -> bool {
+    let before = left.get();
+    left.set(before.wrapping_sub(1));
+    before == 0
+}
+
+impl<B: Allocator> Refusing<B> {
+    /// Creates an allocator that refuses the request after this many.
+    pub(crate) fn new(inner: B, left: u64) -> Refusing<B> {
+        Refusing {
+            inner,
+            left: Cell::new(left),
+        }
+    }
+
+    /// Returns true if a request was refused.
+    pub(crate) fn has_refused(&self) -> bool {
+        self.left.get() > u64::MAX / 2
+    }
+}
+
+impl<B: Allocator> Drop for Refusing<B> {
+    fn drop(self) {
+        let Self { inner: _, left: _ } = self;
+    }
+}
+
+unsafe impl<B: Allocator> Allocator for Refusing<B> {
+    ghost dealloc_token = { λ heap ty ptr. B.dealloc_token heap.inner ty ptr };
+
+    fn allocate(&self, size: usize, align: usize) -> Result<*mut u8, AllocError> {
+        if is_refused(&self.left) {
+            return Err(AllocError);
+        }
+        self.inner.allocate(size, align)
+    }
+
+    unsafe fn deallocate(&self, ptr: *mut u8, size: usize, align: usize) {
+        self.inner.deallocate(ptr, size, align);
+    }
+}
+
+#[test]
+fn the_second_request_is_refused(rt: HostRuntime) {
+    let heap = Refusing::new(rt.alloc(), 1);
+    let first = Vec::<u8, _>::with_capacity(&heap, 4).is_ok();
+    let second = Vec::<u8, _>::with_capacity(&heap, 4).is_ok();
+    assert!(rt; first && !second && heap.has_refused());
+    let third = Vec::<u8, _>::with_capacity(&heap, 4).is_ok();
+    assert!(rt; third);
+}
