@@ -4,4 +4,6 @@
 #![tactic(auto)]
 
 #[cfg(test)]
+mod block_bytes;
+#[cfg(test)]
 mod refusing;
