@@ -7,3 +7,9 @@
 mod block_bytes;
 #[cfg(test)]
 mod refusing;
+#[cfg(test)]
+mod stale_plans;
+#[cfg(test)]
+mod stores;
+#[cfg(test)]
+mod views;

@@ -3,7 +3,10 @@
 use std::alloc::{AllocError, Allocator};
 use std::cell::Cell;
 
-/// Passes requests on to another allocator, but refuses the one after this many.
+/// More requests than there are.
+const NEVER: u64 = u64::MAX / 2;
+
+/// Passes requests on to another allocator, but refuses the one after `left` others.
 pub(crate) struct Refusing<B: Allocator> {
     inner: B,
     left: Cell<u64>,
@@ -17,17 +20,27 @@ fn is_refused(left: &Cell<u64>) -> bool {
 }
 
 impl<B: Allocator> Refusing<B> {
-    /// Creates an allocator that refuses the request after this many.
-    pub(crate) fn new(inner: B, left: u64) -> Refusing<B> {
+    /// Creates an allocator that refuses nothing yet.
+    pub(crate) fn new(inner: B) -> Refusing<B> {
         Refusing {
             inner,
-            left: Cell::new(left),
+            left: Cell::new(NEVER),
         }
+    }
+
+    /// From now on, refuses the request after `left` others.
+    pub(crate) fn refuse_after(&self, left: u64) {
+        self.left.set(left);
+    }
+
+    /// From now on, refuses nothing.
+    pub(crate) fn refuse_none(&self) {
+        self.left.set(NEVER);
     }
 
     /// Returns true if a request was refused.
     pub(crate) fn has_refused(&self) -> bool {
-        self.left.get() > u64::MAX / 2
+        self.left.get() > NEVER
     }
 }
 
@@ -54,7 +67,8 @@ unsafe impl<B: Allocator> Allocator for Refusing<B> {
 
 #[test]
 fn the_second_request_is_refused(rt: HostRuntime) {
-    let heap = Refusing::new(rt.alloc(), 1);
+    let heap = Refusing::new(rt.alloc());
+    heap.refuse_after(1);
     let first = Vec::<u8, _>::with_capacity(&heap, 4).is_ok();
     let second = Vec::<u8, _>::with_capacity(&heap, 4).is_ok();
     assert!(rt; first && !second && heap.has_refused());

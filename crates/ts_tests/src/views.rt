@@ -1,0 +1,154 @@
+//! Plans over a view that isn't a store: it shows a cell of its own beside a store's points, and so need not show a history.
+ghost use Rattle.std.specs.Prelude.{◌≡◌, ◌∷◌, [], map};
+ghost use Rattle.ts_core.specs.Facts.{is_within};
+ghost use Rattle.ts_core.specs.StoreData.{state_of};
+ghost use Rattle.ts_core.specs.Views.{seen_of};
+
+use crate::stores::{ONE_RULE, at_second, certified, store_of, write};
+use std::alloc::{Allocator, Global};
+use std::slice;
+use std::test::Fail;
+use ts_check::Checked;
+use ts_core::{Agg, MAX_COUNT, Marks, Partial, Settings, Time};
+use ts_exec::{Table, count_points, execute};
+use ts_raw::{ColumnId, Points};
+use ts_store::{CellSeen, CellWalk, Columns, Store, View};
+
+/// Raw points for the first minute, and the rule's cells for the second.
+const TWO_PIECES: &str = "plan 1\nraw 0 60000000000\nrollup m1 60000000000 120000000000\nend\n";
+
+/// Returns true if an index lies from one on and before another.
+fn is_within(from: &i128, to: &i128, index: &i128) -> bool
+    ensures { result ≡ is_within from.now to.now index.now }
+{
+    *from <= *index && *index < *to
+}
+
+/// The points of a store, with this cell alone under each of its rules.
+#[derive(Drop)]
+struct OneCell<'a, A: Allocator> {
+    store: &'a Store<A>,
+    cell: CellSeen<'a, A>,
+}
+
+impl<'a, A: Allocator + Copy> View<A> for OneCell<'a, A> {
+    ghost seen = { λ v. record {
+      settings = v.store.now.settings;
+      marks = v.store.now.marks;
+      columns = v.store.now.columns;
+      rules = map (λ r. record { rule = r.rule; low = r.low; cells = v.cell.cell ∷ []; total = λ k. v.cell.total }) (seen_of (state_of v.store.now)).rules;
+    } };
+
+    fn settings(&self) -> &Settings<A> {
+        self.store.settings()
+    }
+
+    fn marks(&self) -> &Marks<A> {
+        self.store.marks()
+    }
+
+    fn columns_of(&self, measurement: &str, field: &str) -> Columns<'_, A> {
+        self.store.columns_of(measurement, field)
+    }
+
+    fn raw_range(&self, column: ColumnId, from: i64, to: i64) -> Points<'_> {
+        self.store.raw_range(column, from, to)
+    }
+
+    fn cell_walk(&self, _rule: usize, from: &i128, to: &i128) -> CellWalk<'_, A> {
+        if is_within(from, to, &self.cell.index) {
+            CellWalk::lent(slice::from_ref(&self.cell))
+        } else {
+            CellWalk::lent(&[])
+        }
+    }
+}
+
+/// Returns the merged aggregate of both, if they have at most 2^62 points together.
+fn merged(a: Agg, b: Agg) -> Result<Agg, Fail> {
+    if a.count() + b.count() > MAX_COUNT {
+        return Err("a count")?;
+    }
+    Ok(a.merge(b))
+}
+
+/// Returns the aggregate of 2^62 - 1 points of value 1 at this time.
+fn all_but_one(time: Time) -> Result<Agg, Fail> {
+    let one = Agg::single(time, 1);
+    let mut total = Agg::empty();
+    for _ in 0..62 {
+        total = merged(merged(total, total)?, one)?;
+    }
+    Ok(total)
+}
+
+/// Returns count and sum of a table's first row.
+fn first_row<A: Allocator>(table: &Table<'_, A>) -> Option<(u64, i128)> {
+    let row = table.groups().first()?.rows().first()?;
+    Some((row.count(), row.sum()))
+}
+
+/// Returns count and sum of the first row that a plan gives. A count by the plan returns, too.
+fn answered<A: Allocator + Copy>(
+    alloc: A,
+    view: &OneCell<'_, A>,
+    plan: &Checked<A>,
+) -> Option<(u64, i128)> {
+    if count_points(view, plan).is_err() {
+        return None;
+    }
+    match execute(alloc, view, plan) {
+        Ok(table) => first_row(&table),
+        Err(_) => None,
+    }
+}
+
+/// Returns count and sum that a plan gives over a store's points in the first minute and a cell with this total in the second.
+fn with_cell<A: Allocator + Copy>(
+    alloc: A,
+    store: &Store<A>,
+    total: Agg,
+) -> Result<Option<(u64, i128)>, Fail> {
+    let plan = certified(alloc, store, 120, TWO_PIECES).ok_or("no plan")?;
+    let cell = CellSeen {
+        index: 1,
+        field: "v",
+        group: &[],
+        total,
+    };
+    Ok(answered(alloc, &OneCell { store, cell }, &plan))
+}
+
+/// The same, where the store has one point, of value 5.
+fn both<A: Allocator + Copy>(
+    alloc: A,
+    json: Global,
+    total: Agg,
+) -> Result<Option<(u64, i128)>, Fail> {
+    let mut store = store_of(alloc, json, ONE_RULE)?;
+    if !write(alloc, &mut store, "cpu v=5i 7")? {
+        Err("a refused line")?;
+    }
+    with_cell(alloc, &store, total)
+}
+
+#[test]
+fn a_cell_and_a_point_are_added(rt: HostRuntime) -> Result<(), Fail> {
+    let alloc = rt.alloc();
+    let time = at_second(60)?;
+    let total = merged(Agg::single(time, 7), Agg::single(time, -4))?;
+    assert_eq!(rt; both(alloc, alloc, total)?, Some((3, 8)));
+    Ok(())
+}
+
+#[test]
+fn a_cell_past_the_limit_is_left_out(rt: HostRuntime) -> Result<(), Fail> {
+    let alloc = rt.alloc();
+    let time = at_second(60)?;
+    let most = all_but_one(time)?;
+    let sum = i128::from(MAX_COUNT) + 4;
+    assert_eq!(rt; both(alloc, alloc, most)?, Some((MAX_COUNT, sum)));
+    let all = merged(most, Agg::single(time, 1))?;
+    assert_eq!(rt; both(alloc, alloc, all)?, Some((1, 5)));
+    Ok(())
+}
