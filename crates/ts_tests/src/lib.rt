@@ -1,6 +1,6 @@
-//! Tests of what only a call shows: requests for memory that are refused, failing devices, changed images, stale plans. It
-//! depends on the libraries, and nothing depends on it, so no other crate is proved once more for its tests. All its code
-//! is tests; it promises nothing.
+//! Tests of what only a call shows: bytes of coded blocks, stale plans, a view that shows no history, an allocator that
+//! refuses one request. It depends on libraries, and nothing depends on it, so no other crate is proved once more for its
+//! tests. All its code is tests; it promises nothing.
 #![tactic(auto)]
 
 #[cfg(test)]
