@@ -1,15 +1,15 @@
 -- It answers `Err` for the request to refuse, and else what the inner allocator answers. Assumes `Logic`.
-use Rattle.std.proofs.Common.{◌≡◌, ℕ, Bool, ◌+◌, ◌^◌, ◌<◌, true, false, List, [], ◌∷◌, Ok, Err, refl, w64, Bor}
+use Rattle.std.proofs.Common.{◌≡◌, ℕ, Bool, ◌+◌, ◌^◌, ◌<◌, true, false, List, [], ◌∷◌, Ok, Err, refl, ap, w64, Bor}
 use seplogic.Ra.Ura.{Ura}
 use mir.Syntax.{Ty, Args, Fn, a_type, dnil, dcons}
 use mir.Val.{Val, vbool, vint, vptr}
 use mir.MapTy.{inst_fn}
-use base.Logic.{SProp, ent, id⊢}
-use base.Fml.{Lft, Share, ftrue, flft}
+use base.Logic.{SProp, ent, ex, sep, guard, id⊢}
+use base.Fml.{Lft, Share, ftrue, fsep, flft}
 use prog.Memory.{Memory, size, align, capped, up}
 use prog.Routine.{Routine}
 use prog.Wp.{WpFn, Tables}
-use types.Logic.{Logic}
+use types.Logic.{Logic, sem}
 use contract.BorrowLft.{◌⊑◌, ⊑_trans}
 use contract.Monad.{Fun, fact}
 use contract.Running.{tables, tables_of}
@@ -17,26 +17,28 @@ use sound.WpLaws.{fm_of, WpFn-mono}
 use types.Part.{agg}
 use types.Run.{stop, fld, addr, lit, no_more, and_then, first, branches, skips, exec, returns, returns_within, enter}
 use denote.Exit.{yes}
-use denote.RattleType.{owns}
+use denote.RattleType.{RattleType, owns}
+use denote.Memory.{hidden_shr}
 use denote.Ref.{shr_vals}
 use denote.Opens.{unhide}
 use denote.Param.{bounded, param}
 use denote.Plain.{uint_vals, uint_Tells}
 use denote.Signature.{Slot, plain, types_at}
-use denote.Steps.{heard, nothing}
+use denote.Steps.{heard, nothing, only}
 use denote.Triple.Clauses.{Ended, Clauses}
 use denote.Triple.Spec.{triple_of}
-use denote.Triple.Statement.{Triple}
+use denote.Triple.Statement.{Triple, Contract}
 use denote.Triple.Table.{entered, cited}
 use denote.Triple.Walked.{Stays, stay_dropped, walk_of, ends_at, walked, Goes-dropped, walk_Meets}
-use types.Kit.{‵, raw, ◌⊛◌, some, later, given, at_ret, learn, pick, ◌$◌, ◌∵◌, !, qed, move, keep, use0, use1, use2, split, join, fsplit, fjoin, suffices, await, done}
+use types.Kit.{‵, raw, ◌⊛◌, some, later, given, at_ret, learn, pick, ◌$◌, ◌∵◌, !, qed, move, keep, use0, use1, use2, split, join, fsplit, fjoin, feq_i, feq_l, show, check, suffices, await, updating, now as at_once, done}
 use types.ByLocal.{env, alloc_all, pass_all, free_all, look_at, get, through, sets, lands_as}
 use denote.RawPtr.{block_ptr}
-use denote.Builtin.{usize, RefOf}
+use denote.Builtin.{u64, bool, usize, RefOf}
 use denote.Triple.Call.{calls_at}
 use Rattle.std.proofs.alloc.Shapes.{after}
 use Rattle.std.proofs.alloc.Calls.{Al, α, seen, Answer, answer_val, Answer-typed, Answer-Ok, Answer-err, takes_key, Takes, at_takes, Answered, Takes-goes, Takes-gives, answers}
-use Rattle.ts_tests.proofs.Refusals.{Refusal, at_refusal, Refusal-goes, Refusal-gives}
+use Rattle.std.specs.contracts.cell.Cell as CE
+use Rattle.ts_tests.specs.contracts.refusing.is_refused as TK
 use Rattle.ts_tests.proofs.refusing.is_refused.Symbol as c_sym
 use Rattle.ts_tests.proofs.refusing.is_refused.Met as c_met
 use Rattle.ts_tests.specs.contracts.refusing.Refusing as wrapper
@@ -45,6 +47,32 @@ use Rattle.ts_tests.specs.contracts.refusing.RefusingAllocator.allocate.Key as k
 use Rattle.ts_tests.proofs.refusing.RefusingAllocator.allocate.Statement as stated
 use Rattle.ts_tests.proofs.refusing.RefusingAllocator.allocate.Code as code
 
+-- `is_refused` at a call: its precondition from what the caller has, and its result
+abbrev Left : RattleType
+Left = CE.the_row u64
+
+module _ {M : Type 1} {𝓤 : Ura M} (𝓛 : Logic 𝓤) (at_mem : Memory → SProp 𝓤) (run : Routine → Fun 𝓤) where
+  abbrev Refusal : Contract 𝓤
+  Refusal = triple_of 𝓛 TK.signature (TK.spec 𝓛 at_mem run)
+
+  abbrev at_refusal : Lft → Share → ℕ × ℕ → Refusal.Ghost
+  at_refusal κ q c = (((κ, tt), (q, tt), tt, (record { ref_ptr = c; now = record { value = tt } }, tt), (vptr c.0 c.1 ∷ [], tt)), tt)
+
+module _ {M : Type 1} {𝓤 : Ura M} (𝓛 : Logic 𝓤) (at_mem : Memory → SProp 𝓤) (run : Routine → Fun 𝓤) (κ : Lft) (q : Share) (c : ℕ × ℕ) where
+  open 𝓛 use {H, A}
+
+  Refusal-goes : ent 𝓤 (sep 𝓤 (sem 𝓛 (hidden_shr Left κ (record { value = tt }) c.0 c.1)) (A.lft κ q)) ((Refusal 𝓛 at_mem run).pre (at_refusal 𝓛 at_mem run κ q c))
+  Refusal-goes =
+      qed 𝓛 (‵ (hidden_shr Left κ (record { value = tt }) c.0 c.1) ∷ ‵ (flft κ q) ∷ []) ∵ feq_i ! (List Val) (vptr c.0 c.1 ∷ []) (vptr c.0 c.1 ∷ []) refl $ fjoin ! $
+      nothing ! $ move ! (1 ∷ []) $ fjoin ! $ nothing ! $ move ! (2 ∷ []) $ join ! $ join ! $ nothing ! $ move ! (1 ∷ []) $ done !
+
+  Refusal-gives : (v : Val) → ent 𝓤 ((Refusal 𝓛 at_mem run).post (at_refusal 𝓛 at_mem run κ q c) v) (H.⇛ (ex 𝓤 (λ (b : Bool). guard 𝓤 (v ≡ vbool b) (A.lft κ q))))
+  Refusal-gives v =
+      qed 𝓛 (raw ((Refusal 𝓛 at_mem run).post (at_refusal 𝓛 at_mem run κ q c) v) ∷ []) ∵ updating ! $
+      use1 𝓛 (later (some (λ (b : Bool). ((‵ (flft κ q) ⊛ ‵ ftrue) ⊛ ‵ (bool.own_val b (v ∷ []))) ⊛ some (λ (ws : Unit {0} × Unit {0}). ‵ (fsep ftrue ftrue) ⊛ ‵ ftrue)))) (id⊢ 𝓤 _) $ await ! tt $ pick ! (λ b.
+      split ! $ split ! $ move ! (1 ∷ []) $ feq_l ! (λ e. split ! $ at_once ! $ show ! (λ (b : Bool). guard 𝓤 (v ≡ vbool b) (A.lft κ q)) b $ check ! (ap only e) $ keep ! (0 ∷ []) $ done !))
+
+-- the walk
 module _ (Z : Al) where
   abbrev args : Args
   args = bounded (a_type ∷ []) (Z.row, tt) (dcons Z.d (dcons Z.drops dnil))
