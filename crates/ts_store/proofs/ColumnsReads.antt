@@ -1,5 +1,6 @@
 -- How many facts columns have.
 use Rattle.std.proofs.Common.{◌≡◌, ◌+◌, List, [], ◌∷◌, length, refl, sym, ◌∙◌, ap, arith}
+use Rattle.std.specs.List.{AllByRecursion}
 use Rattle.std.specs.FinMap as finmap
 use Rattle.std.specs.FinMap.{entries, len-entries}
 use Rattle.std.proofs.lemmas.List.{length-append, length-map}
@@ -8,7 +9,8 @@ use Rattle.ts_core.specs.Facts.{Column}
 use Rattle.ts_core.specs.StoreStates.{column_of, fact_at}
 use Rattle.ts_raw.specs.Columns.{PointMap, ColumnState}
 use Rattle.ts_store.specs.ColumnsKept.{facts_in, with_points, facts_of_columns, point_maps}
-use Rattle.ts_store.specs.PointsRead.{number_of_points}
+use Rattle.ts_raw.proofs.ColumnLaws.{points-rising}
+use Rattle.ts_store.specs.PointsRead.{number_of_points, HasRisingPoints}
 use Rattle.ts_store.proofs.ColumnsLemmas.{names_of}
 
 -- ---- how many
@@ -27,3 +29,8 @@ facts-length (c ∷ cs) (s ∷ ss) l =
 
 pub with_points-length : (cs : List Column) (ms : List PointMap) → length ms ≡ length cs → length (with_points cs ms) ≡ length cs
 with_points-length cs ms l = sym (length-map (with_points cs ms) column_of) ∙ ap length (names_of cs ms l)
+
+pub with_points-rising : (cs : List Column) (ms : List PointMap) → AllByRecursion HasRisingPoints (with_points cs ms)
+with_points-rising [] ms = tt
+with_points-rising (c ∷ cs) [] = tt
+with_points-rising (c ∷ cs) (m ∷ ms) = (points-rising m, with_points-rising cs ms)

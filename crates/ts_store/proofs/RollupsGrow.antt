@@ -26,7 +26,7 @@ lane_kept : (r : Rule) (c : Column) (lanes lanes' : List Lane) (o : Option ℕ) 
 lane_kept r c lanes lanes' None e at = at
 lane_kept r c lanes lanes' (Some l) e at = (at.0, ap (λ (ls : List Lane). slice_get ls l) e.1 ∙ slice_get_left lanes e.0 l (lane_under r c) at.1)
 
-lanes_kept : (r : Rule) (lanes lanes' : List Lane) (cs : List Column) (os : List (Option ℕ)) → Extends lanes lanes' → HaveLanes r lanes cs os → HaveLanes r lanes' cs os
+pub lanes_kept : (r : Rule) (lanes lanes' : List Lane) (cs : List Column) (os : List (Option ℕ)) → Extends lanes lanes' → HaveLanes r lanes cs os → HaveLanes r lanes' cs os
 lanes_kept r lanes lanes' [] [] e h = tt
 lanes_kept r lanes lanes' [] (o ∷ os) e h = absurd h
 lanes_kept r lanes lanes' (c ∷ cs) [] e h = absurd h
@@ -76,7 +76,7 @@ numbers_inside [] cs (s ∷ ss) ns h a = absurd h
 numbers_inside (r ∷ rs) cs [] ns h a = absurd h
 numbers_inside (r ∷ rs) cs (s ∷ ss) ns h a = (subst (λ m. AllByRecursion (λ n. n < m) ns) (sym (lanes-length r s.grid.lanes cs s.lanes h.0)) a, numbers_inside rs cs ss ns h.1 a)
 
-lanes_push : (r : Rule) (lanes : List Lane) (cs : List Column) (os : List (Option ℕ)) (c : Column) (o : Option ℕ) → HaveLanes r lanes cs os → IsLaneOf r c lanes o → HaveLanes r lanes (cs ++ c ∷ []) (os ++ o ∷ [])
+pub lanes_push : (r : Rule) (lanes : List Lane) (cs : List Column) (os : List (Option ℕ)) (c : Column) (o : Option ℕ) → HaveLanes r lanes cs os → IsLaneOf r c lanes o → HaveLanes r lanes (cs ++ c ∷ []) (os ++ o ∷ [])
 lanes_push r lanes [] [] c o h at = (at, tt)
 lanes_push r lanes [] (p ∷ os) c o h at = absurd h
 lanes_push r lanes (d ∷ cs) [] c o h at = absurd h

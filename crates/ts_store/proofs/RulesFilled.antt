@@ -278,13 +278,19 @@ idle-made facts (r ∷ rs) (low ∷ lows) (m ∷ ms) (o ∷ os) l n h idle = (
 
 -- ---- the whole
 
+-- cells are made under these rules, and filled
+abbrev pub Makes : List Rule → List ℤ → List RollupState → List ColumnState → List RollupState → Type 0
+Makes rs lows vs ss us = (cs : List Column) → length ss ≡ length cs → AreRollups rs cs us → OfEachRule (MakesCells (facts_of (with_points cs (point_maps ss)))) rs lows (cells_of us) (cells_of vs)
+
+abbrev pub Adds : List Rule → List RollupState → List ColumnState → List RollupState → Type 0
+Adds rs ws ss vs = (cs : List Column) → length ss ≡ length cs → AreRollups rs cs vs → AreIdle (cells_of vs) → AreLive (with_points cs (point_maps ss)) rs (cells_of ws)
+
 module _ (rs : List Rule) (lows : List ℤ) (index : Indexed) (ss : List ColumnState) (us vs ws : List RollupState) (held : IsHeld index ss) (many : length lows ≡ length rs) (rollups : AreRollups rs (map column_of (columns_in index ss)) us) (idle : AreIdle (cells_of us)) where
   names : AreRollups rs index.columns us
   names = subst (λ (cs : List Column). AreRollups rs cs us) (names_held index ss held.each) rollups
 
-  pub all_fill : vs ≡ with_frozen_all (cells_of vs) us → ws ≡ with_frozen_all (cells_of ws) vs
-      → ((cs : List Column) → length ss ≡ length cs → AreRollups rs cs us → OfEachRule (MakesCells (facts_of (with_points cs (point_maps ss)))) rs lows (cells_of us) (cells_of vs)) → KeepFrozen (cells_of vs) (cells_of ws)
-      → ((cs : List Column) → length ss ≡ length cs → AreRollups rs cs vs → AreIdle (cells_of vs) → AreLive (with_points cs (point_maps ss)) rs (cells_of ws)) → FillsCells rs lows (held_of index ss us) (held_of index ss ws)
+  pub all_fill : vs ≡ with_frozen_all (cells_of vs) us → ws ≡ with_frozen_all (cells_of ws) vs → Makes rs lows vs ss us → KeepFrozen (cells_of vs) (cells_of ws) → Adds rs ws ss vs
+      → FillsCells rs lows (held_of index ss us) (held_of index ss ws)
   all_fill one two make frozen add =
       let facts : List Fact = facts_of (columns_in index ss) in
       let made : OfEachRule (MakesCells facts) rs lows (cells_of us) (cells_of vs) = make index.columns held.each names in

@@ -85,6 +85,13 @@ abbrev pub GrowsAfter : List Rule → List ℤ → List Fact → {E : Type 0} �
 GrowsAfter rules lows facts (Ok outcome) old new = GrowsBy rules lows facts outcome old new
 GrowsAfter rules lows facts (Err e) old new = GrowsInPart rules lows facts old new
 
+-- ---- the cells of a rule
+
+-- exactly the cells of facts, from the low index on
+pub record AreFilled (facts : List Fact) (r : Rule) (low : ℤ) (cells : List Cell) : Type 0 where
+  pub there : (k : Cell) → Among k cells ↔ ((low ≤ℤ k.index) × IsOfFacts facts r k)
+  pub once : AllDistinct cells
+
 -- ---- runs of retention, under these low indices
 
 -- each column waits

@@ -10,6 +10,8 @@ pub mod Inventories
 pub mod WholeRuns
 pub mod Saving
 pub mod Building
+pub mod RuleTexts
+pub mod RulesChanged
 -- used only by models and proofs of the code
 pub mod ColumnLists
 pub mod Rollups
@@ -28,3 +30,4 @@ pub mod CellsLeft
 pub mod FrozenLeft
 pub mod ColumnsListed
 pub mod BuildingParts
+pub mod RuleRollups

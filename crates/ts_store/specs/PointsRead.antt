@@ -8,12 +8,17 @@ use Rattle.ts_core.specs.Settings.{Settings}
 use Rattle.ts_core.specs.History.{History, raw_mark}
 use Rattle.ts_core.specs.Latest.{latest_of}
 use Rattle.ts_core.specs.RawFacts.{is_kept, kept_from, raw_of}
-use Rattle.ts_core.specs.StoreStates.{fact_at}
+use Rattle.ts_core.specs.StoreStates.{ColumnPoints, fact_at}
 use Rattle.ts_raw.specs.Columns.{ColumnState}
+use Rattle.ts_raw.specs.PlainColumns.{IsRising}
 
 -- the number of points of all columns
 abbrev pub number_of_points : List ColumnState → ℕ
 number_of_points states = sum_by (λ (s : ColumnState). finmap.len s.points) states
+
+-- a column's points are in the order of time, each time once
+abbrev pub HasRisingPoints : ColumnPoints → Type 0
+HasRisingPoints c = IsRising c.points
 
 -- the points of a list from a, inclusive, to b, exclusive
 abbrev pub points_between : ℤ → ℤ → List (ℤ × ℤ) → List (ℤ × ℤ)

@@ -82,7 +82,7 @@ fn make_under_all<A: Allocator + Copy>(
 }
 
 /// Creates the missing cells of all points.
-fn make_all_cells<A: Allocator + Copy>(
+pub(crate) fn make_all_cells<A: Allocator + Copy>(
     rules: &[Rule<A>],
     lows: &[i128],
     rollups: &mut [Rollup<A>],
@@ -154,7 +154,7 @@ fn add_under_all<A: Allocator + Copy>(
 }
 
 /// Adds all points to live parts, which must be empty.
-fn add_all_points<A: Allocator + Copy>(
+pub(crate) fn add_all_points<A: Allocator + Copy>(
     rules: &[Rule<A>],
     rollups: &mut [Rollup<A>],
     columns: &[PlainColumn<A>],

@@ -5,6 +5,7 @@ ghost use Rattle.std.specs.List.{AllByRecursion};
 ghost use Rattle.ts_core.specs.StoreStates.{ColumnPoints, column_of, facts_of};
 ghost use Rattle.ts_core.specs.StoreMoves.{points_below};
 ghost use Rattle.ts_core.specs.Numbered.{IsAt};
+ghost use Rattle.ts_store.specs.PointsRead.{HasRisingPoints};
 ghost use Rattle.ts_store.specs.Rollups.{AreRollups, cells_of};
 ghost use Rattle.ts_store.specs.RollupSteps.{with_frozen_all, held_with, FreezeFit, held_moved};
 ghost use Rattle.ts_store.specs.WholeRuns.{AreAbove, FirstLoses};
@@ -36,9 +37,10 @@ fn expire_first<A: Allocator + Copy>(rollups: &mut [Rollup<A>], lows: &[i128]) -
 }
 
 impl<A: Allocator + Copy> ColumnFacts<A> {
-    /// How many columns there are.
+    /// Returns the number of columns. Also states that the points of each column are in the order of time.
     pub(crate) fn column_count(&self) -> usize
-        ensures { result ≡ length self.now.columns }
+        ensures count { result ≡ length self.now.columns }
+        ensures rising { AllByRecursion HasRisingPoints self.now.columns }
     {
         self.columns.len()
     }

@@ -4,20 +4,18 @@ use Rattle.std.specs.Vec.{with_items}
 use Rattle.std.proofs.lemmas.List.{with_items_is}
 use Rattle.ts_core.specs.Facts.{Column}
 use Rattle.ts_core.specs.Settings.{Rule}
-use Rattle.ts_core.specs.StoreData.{AreLive}
 use Rattle.ts_core.specs.StoreStates.{column_of, facts_of}
 use Rattle.ts_raw.specs.Columns.{ColumnState}
 use Rattle.ts_raw.specs.Indexed.{Indexed}
-use Rattle.ts_store.specs.BuildingParts.{AreIdle, MakesCells, FillsCells, KeepFrozen}
-use Rattle.ts_store.specs.ColumnsKept.{Held, IsHeld, held_of, columns_in, with_points, point_maps}
-use Rattle.ts_store.specs.LinesPut.{OfEachRule}
+use Rattle.ts_store.specs.BuildingParts.{AreIdle, FillsCells, KeepFrozen}
+use Rattle.ts_store.specs.ColumnsKept.{Held, IsHeld, held_of, columns_in}
 use Rattle.ts_store.specs.PointsRead.{number_of_points}
 use Rattle.ts_store.specs.Rollups.{RollupState, AreRollups, cells_of}
 use Rattle.ts_store.specs.RollupSteps.{with_frozen_all}
 use Rattle.ts_store.proofs.ColumnsLemmas.{names_held}
 use Rattle.ts_store.proofs.ColumnsReads.{facts-length}
 use Rattle.ts_store.proofs.PointsPut.{wide_of, wide_still}
-use Rattle.ts_store.proofs.RulesFilled.{all_fill}
+use Rattle.ts_store.proofs.RulesFilled.{Makes, Adds, all_fill}
 use Rattle.ts_store.proofs.column_facts.ColumnFacts.fill_cells.Goals as goal
 
 -- each rollup has as many columns as there are
@@ -49,12 +47,6 @@ add_all_points-requires-clause-few g c =
     let all : length (facts_of c.args.self.now.columns) ≡ number_of_points ss = ap (λ (h : Held). length (facts_of h.columns)) (sym c.self.view_is) ∙ facts-length c.self.inside.index.columns ss c.self.invariant.each in
     let lent = ap number_of_points c.as_slice-columns.ensures.value in
     omega (arith, all, lent, c.requires.few)
-
-abbrev Makes : List Rule → List ℤ → List RollupState → List ColumnState → List RollupState → Type 0
-Makes rs lows vs ss us = (cs : List Column) → length ss ≡ length cs → AreRollups rs cs us → OfEachRule (MakesCells (facts_of (with_points cs (point_maps ss)))) rs lows (cells_of us) (cells_of vs)
-
-abbrev Adds : List Rule → List RollupState → List ColumnState → List RollupState → Type 0
-Adds rs ws ss vs = (cs : List Column) → length ss ≡ length cs → AreRollups rs cs vs → AreIdle (cells_of vs) → AreLive (with_points cs (point_maps ss)) rs (cells_of ws)
 
 pub returns : goal.returns
 returns g c =

@@ -1,0 +1,55 @@
+use Rattle.std.proofs.Common.{rules, ◌≡◌, ◌∙◌, ℤ, None, [], ◌∷◌, ◌++◌, to_z, of_z, ap, sym, subst}
+use Rattle.std.specs.Int.{w128}
+use Rattle.ts_core.specs.Marks.{Marks, first_from}
+use Rattle.ts_core.specs.Settings.{Rule, with_rule}
+use Rattle.ts_core.specs.SettingsFaults.{added_fault}
+use Rattle.ts_core.specs.StoreData.{StoreData}
+use Rattle.ts_core.specs.Times.{IsTime}
+use Rattle.ts_core.proofs.Results.{on_any_err}
+use Rattle.ts_store.specs.ColumnsKept.{Held}
+use Rattle.ts_store.specs.OpenRuns.{kept_data}
+use Rattle.ts_store.specs.RuleRollups.{IsRollupOf}
+use Rattle.ts_store.specs.RulesChanged.{RuleComes}
+use Rattle.ts_store.proofs.RulesAdded.{added_wide, rule_is_added}
+use Rattle.ts_store.proofs.store.Store.append_rule.Goals as goal
+
+pub rollup_of-requires-clause-interval : goal.rollup_of-requires-clause-interval
+rollup_of-requires-clause-interval g c =
+    let well : added_fault c.self.inside.settings c.args.rule ≡ None = ap (λ (k : StoreData). added_fault k.settings c.args.rule) c.self.view_is ∙ c.requires.rule in
+    added_wide c.self.inside.settings c.args.rule c.self.invariant.sized.settings well
+
+pub returns-in_err-add_rollup-clause-err : goal.returns-in_err-add_rollup-clause-err
+returns-in_err-add_rollup-clause-err g c =
+    let before = c.self.inside in
+    on_any_err c.from_residual-in_err-add_rollup.result (ap (λ (h : Held). kept_data before.settings before.marks before.accepted h before.run) c.in_err-add_rollup.ensures.err ∙ c.self.view_is)
+
+pub invariant_of-self-2 : goal.invariant_of-self-2
+invariant_of-self-2 g c =
+    let before = c.self.inside in
+    let r : Rule = c.args.rule in
+    let well : added_fault before.settings r ≡ None = ap (λ (k : StoreData). added_fault k.settings r) c.self.view_is ∙ c.requires.rule in
+    let mark : IsTime before.marks.raw = subst (λ (k : StoreData). IsTime k.marks.raw) (sym c.self.view_is) c.requires.mark in
+    let low : c.args.low ≡ first_from r before.marks.raw = c.requires.low ∙ ap (λ (k : StoreData). first_from r k.marks.raw) (sym c.self.view_is) in
+    let settings : c.add_rule.new.self ≡ with_rule r before.settings = c.in_ok-add_rule.ensures.ok ∙ ap (with_rule r) c.in_ok-settings.ensures in
+    let same : to_z w128 (of_z w128 c.args.low) ≡ c.args.low = search rules in
+    let marks : c.push.new.self ≡ record { raw = before.marks.raw; lows = before.marks.lows ++ c.args.low ∷ [] } =
+    c.in_ok-push.ensures.ok
+    ∙ ap (λ (z : ℤ). record { raw = c.in_ok-marks.marks.raw; lows = c.in_ok-marks.marks.lows ++ z ∷ [] }) same
+    ∙ ap (λ (m : Marks). record { raw = m.raw; lows = m.lows ++ c.args.low ∷ [] }) c.in_ok-marks.ensures in
+    (rule_is_added before.settings before.marks before.accepted before.facts before.run r c.args.low c.in_ok-rollup.rollup c.add_rule.new.self c.push.new.self c.add_rollup.new.self c.self.invariant well mark low (subst (λ (z : ℤ). IsRollupOf before.facts r z c.in_ok-rollup.rollup) same c.in_ok-rollup.ensures) settings marks c.in_ok-add_rollup.ensures.ok).0
+
+pub returns-clause-ok : goal.returns-clause-ok
+returns-clause-ok g c =
+    let before = c.self.inside in
+    let r : Rule = c.args.rule in
+    let well : added_fault before.settings r ≡ None = ap (λ (k : StoreData). added_fault k.settings r) c.self.view_is ∙ c.requires.rule in
+    let mark : IsTime before.marks.raw = subst (λ (k : StoreData). IsTime k.marks.raw) (sym c.self.view_is) c.requires.mark in
+    let low : c.args.low ≡ first_from r before.marks.raw = c.requires.low ∙ ap (λ (k : StoreData). first_from r k.marks.raw) (sym c.self.view_is) in
+    let settings : c.add_rule.new.self ≡ with_rule r before.settings = c.in_ok-add_rule.ensures.ok ∙ ap (with_rule r) c.in_ok-settings.ensures in
+    let same : to_z w128 (of_z w128 c.args.low) ≡ c.args.low = search rules in
+    let marks : c.push.new.self ≡ record { raw = before.marks.raw; lows = before.marks.lows ++ c.args.low ∷ [] } =
+    c.in_ok-push.ensures.ok
+    ∙ ap (λ (z : ℤ). record { raw = c.in_ok-marks.marks.raw; lows = c.in_ok-marks.marks.lows ++ z ∷ [] }) same
+    ∙ ap (λ (m : Marks). record { raw = m.raw; lows = m.lows ++ c.args.low ∷ [] }) c.in_ok-marks.ensures in
+    subst (λ (k : StoreData). RuleComes k (kept_data c.add_rule.new.self c.push.new.self before.accepted c.add_rollup.new.self before.run) r c.args.low) c.self.view_is
+    (rule_is_added before.settings before.marks before.accepted before.facts before.run r c.args.low c.in_ok-rollup.rollup c.add_rule.new.self c.push.new.self c.add_rollup.new.self c.self.invariant well mark low (subst (λ (z : ℤ). IsRollupOf before.facts r z c.in_ok-rollup.rollup) same c.in_ok-rollup.ensures) settings marks c.in_ok-add_rollup.ensures.ok).1

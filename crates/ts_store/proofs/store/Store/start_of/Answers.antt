@@ -1,0 +1,31 @@
+use Rattle.std.proofs.Common.{rules, ◌≡◌, ◌∙◌, ℤ, None, FitsSigned, SFits, to_z, of_z, to_z-of_z, ap, sym, subst}
+use Rattle.std.specs.Int.{w64, w128}
+use Rattle.ts_core.specs.Marks.{first_from}
+use Rattle.ts_core.specs.Settings.{Rule, Settings}
+use Rattle.ts_core.specs.SettingsFaults.{added_fault}
+use Rattle.ts_core.specs.StoreData.{StoreData}
+use Rattle.ts_core.specs.Times.{IsTime}
+use Rattle.ts_store.proofs.RulesAdded.{low_fits}
+use Rattle.ts_store.proofs.store.Store.start_of.Goals as goal
+
+pub overflow_cast-result : goal.overflow_cast-result
+overflow_cast-result g c =
+    let r : Rule = c.args.rule.now in
+    let settings : Settings = c.self.inside.settings in
+    let mark : ℤ = c.self.inside.marks.raw in
+    let well : added_fault settings r ≡ None = ap (λ (k : StoreData). added_fault k.settings r) c.self.view_is ∙ c.requires in
+    let time : IsTime mark = search rules in
+    let fits : FitsSigned w64 (first_from r mark) = low_fits settings r mark c.self.invariant.sized.settings well c.duration.ensures.possible time in
+    let s : to_z w128 (of_z w128 c.first_index.result) ≡ first_from r mark = search rules in
+    subst (SFits w64) (sym s) fits
+
+pub returns-clause-low : goal.returns-clause-low
+returns-clause-low g c =
+    let r : Rule = c.args.rule.now in
+    let settings : Settings = c.self.inside.settings in
+    let mark : ℤ = c.self.inside.marks.raw in
+    let well : added_fault settings r ≡ None = ap (λ (k : StoreData). added_fault k.settings r) c.self.view_is ∙ c.requires in
+    let time : IsTime mark = search rules in
+    let fits : FitsSigned w64 (first_from r mark) = low_fits settings r mark c.self.invariant.sized.settings well c.duration.ensures.possible time in
+    let s : to_z w128 (of_z w128 c.first_index.result) ≡ first_from r mark = search rules in
+    ap (λ x. to_z w64 (of_z w64 x)) s ∙ to_z-of_z fits ∙ ap (λ (k : StoreData). first_from r k.marks.raw) c.self.view_is
