@@ -4,17 +4,14 @@ ghost use Rattle.ts_core.specs.Aggregates.{empty_aggregate};
 ghost use Rattle.ts_exec.specs.RowParts.{added, with_part, with_point_parts};
 
 use crate::buckets::Buckets;
-use ts_core::{Agg, Partial, Time};
+use ts_core::{Agg, MAX_COUNT, Partial, Time};
 use ts_raw::Points;
-
-/// Limit on the points of an aggregate: 2^62.
-const POINT_LIMIT: u64 = 4_611_686_018_427_387_904;
 
 /// Merges both, or returns the row alone if they have more than 2^62 points together.
 fn added(row: Agg, part: Agg) -> Agg
     ensures { result ≡ added row part }
 {
-    if row.count() + part.count() <= POINT_LIMIT {
+    if row.count() + part.count() <= MAX_COUNT {
         row.merge(part)
     } else {
         row

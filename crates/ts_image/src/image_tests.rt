@@ -16,6 +16,7 @@ use crate::rule_tests::{are_all_cells, are_counted, are_lows};
 use crate::series_tests::{are_series, are_series_rising, is_time};
 use crate::version::Version;
 use std::alloc::Allocator;
+use ts_core::MAX_COUNT;
 
 fn is_small<A: Allocator>(parts: &ImageParts<A>) -> bool
     ensures { IsTrue result ↔ IsSmall (image_of parts.now) }
@@ -23,9 +24,7 @@ fn is_small<A: Allocator>(parts: &ImageParts<A>) -> bool
     if !is_time(&parts.marks.raw) {
         return false;
     }
-    parts.runs <= 1
-        && parts.series.len() <= 1_000_000
-        && parts.accepted <= 4_611_686_018_427_387_904
+    parts.runs <= 1 && parts.series.len() <= 1_000_000 && parts.accepted <= MAX_COUNT
 }
 
 fn are_series_possible<A: Allocator>(parts: &ImageParts<A>) -> bool
