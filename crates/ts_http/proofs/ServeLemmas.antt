@@ -22,13 +22,14 @@ use Rattle.ts_http.specs.ServeSteps.{ActedOn, IsSent}
 use Rattle.ts_http.specs.declared.refusal.Refusal.{Refusal}
 use Rattle.ts_http.specs.declared.refusal.Refusal.TheVariants as refusals
 use Rattle.ts_http.specs.declared.route.Method.{Method}
+use Rattle.ts_http.specs.declared.route.Method.TheVariants as by
 use Rattle.ts_http.specs.declared.serve.IoFault.{IoFault}
 use Rattle.ts_http.specs.declared.serve.IoFault.TheVariants.{Reader, Writer}
 use Rattle.ts_http.specs.declared.serve.Served.{Served}
 use Rattle.ts_http.specs.declared.serve.Served.TheVariants as served
 use Rattle.ts_store.specs.LineTexts.{State, IsIn}
 use Rattle.ts_http.specs.Maintaining.{left_in}
-use Rattle.ts_http.specs.Outcomes.{WritesAs, QueriesAs, MaintainsAs, ActsAs, reply_of}
+use Rattle.ts_http.specs.Outcomes.{WritesAs, QueriesAs, MaintainsAs, AddsAs, DropsAs, ActsAs, reply_of}
 use Rattle.ts_http.specs.declared.outcome.Outcome.{Outcome}
 use Rattle.ts_http.specs.declared.outcome.Outcome.TheVariants as outcomes
 use Rattle.ts_http.specs.declared.route.Route.{Route}
@@ -36,17 +37,28 @@ use Rattle.ts_http.specs.declared.route.Route.TheVariants as to
 
 -- ---- what a request does, by its path
 
-pub acted_write : (now : ℤ) (query body : Text) (old new : StoreData) (o : Outcome) → WritesAs now query body old o new → ActsAs now to.Write query body old o new
-acted_write now query body old new o w = λ s i. let d = w s i in (d.0, Acts.writes (reply_of false o) d.0 d.1, d.2)
+module _ (now : ℤ) (method : Method) (query body : Text) (old new : StoreData) (o : Outcome) where
+  pub acted_write : WritesAs now query body old o new → ActsAs now to.Write method query body old o new
+  acted_write w = λ s i. let d = w s i in (d.0, Acts.writes method (reply_of false o) d.0 d.1, d.2)
 
-pub acted_query : (now : ℤ) (query body : Text) (k : StoreData) (o : Outcome) → QueriesAs now query body k o → ActsAs now to.Query query body k o k
-acted_query now query body k o q = λ s i. (s, Acts.queries (reply_of false o) (q s i), i)
+  pub acted_maintain : MaintainsAs now query old o new → ActsAs now to.Maintain method query body old o new
+  acted_maintain m = λ s i. let d = m s i in (d.0, Acts.maintains method (reply_of false o) d.0 d.1, d.2)
 
-pub acted_maintain : (now : ℤ) (query body : Text) (old new : StoreData) (o : Outcome) → MaintainsAs now query old o new → ActsAs now to.Maintain query body old o new
-acted_maintain now query body old new o m = λ s i. let d = m s i in (d.0, Acts.maintains (reply_of false o) d.0 d.1, d.2)
+  pub acted_add : method ≡ by.Post → AddsAs body old o new → ActsAs now to.Rules method query body old o new
+  acted_add is a = λ s i.
+      let d = a s i in
+      (d.0, subst (λ (m : Method). Acts now (left_in now old) s query body to.Rules m (reply_of false o) d.0) (sym is) (Acts.adds (reply_of false o) d.0 d.1), d.2)
 
-pub acted_ping : (now : ℤ) (query body : Text) (k : StoreData) → ActsAs now to.Ping query body k outcomes.Done k
-acted_ping now query body k = λ s i. (s, Acts.pings, i)
+  pub acted_drop : method ≡ by.Delete → DropsAs query old o new → ActsAs now to.Rules method query body old o new
+  acted_drop is a = λ s i.
+      let d = a s i in
+      (d.0, subst (λ (m : Method). Acts now (left_in now old) s query body to.Rules m (reply_of false o) d.0) (sym is) (Acts.drops (reply_of false o) d.0 d.1), d.2)
+
+pub acted_query : (now : ℤ) (method : Method) (query body : Text) (k : StoreData) (o : Outcome) → QueriesAs now query body k o → ActsAs now to.Query method query body k o k
+acted_query now method query body k o q = λ s i. (s, Acts.queries method (reply_of false o) (q s i), i)
+
+pub acted_ping : (now : ℤ) (method : Method) (query body : Text) (k : StoreData) → ActsAs now to.Ping method query body k outcomes.Done k
+acted_ping now method query body k = λ s i. (s, Acts.pings method, i)
 
 -- ---- spans within what came
 
@@ -81,7 +93,7 @@ module _ (came : Text) (spans : List HeaderSpan) (found : RequestSpans) (head : 
   pub asks_taken : (bytes rest : Text) (now : ℤ) (route : Route) (method : Method) (query : Text) (len : ℕ) (old new : StoreData) (o : Outcome) (s : State) → IsWhole bytes head rest
       → route ≡ route_of (path_of (span_bytes came found.path)) → method ≡ method_of (span_bytes came found.method) → query ≡ query_of (span_bytes came found.path)
       → refused route method (map (header_bytes came) (take found.headers spans)) ≡ None → len ≡ body_length method (map (header_bytes came) (take found.headers spans))
-      → ActedOn now route query rest len old o new → IsIn s old
+      → ActedOn now route method query rest len old o new → IsIn s old
       → (s' : State) × Serves now (left_in now old) s bytes (served.Reply (reply_of false o).0 route) (reply_of false o).1 s' × IsIn s' new
   asks_taken bytes rest now route method query len old new o s whole er em eq e size acted i =
       let route_is : route ≡ route_in head = er ∙ ap (λ t. route_of (path_of t)) at.path in
@@ -92,8 +104,9 @@ module _ (came : Text) (spans : List HeaderSpan) (found : RequestSpans) (head : 
       ⊎_elim {C = (s' : State) × Serves now (left_in now old) s bytes (served.Reply (reply_of false o).0 route) (reply_of false o).1 s' × IsIn s' new}
       (λ w.
       let d = w.4 s i in
-      let asks : Asks bytes (Wants route query w.0) = subst (λ q. Asks bytes (Wants q query w.0)) (sym route_is) (subst (λ q. Asks bytes (Wants (route_in head) q w.0)) (sym query_is) (Asks.wants head rest w.0 w.1 whole taken w.2 (w.3 ∙ len_is))) in
-      (d.0, Serves.acts route query w.0 (reply_of false o) d.0 asks d.1, d.2))
+      let asks : Asks bytes (Wants route method query w.0) = subst (λ q. Asks bytes (Wants q method query w.0)) (sym route_is)
+      (subst (λ m. Asks bytes (Wants (route_in head) m query w.0)) (sym method_is) (subst (λ q. Asks bytes (Wants (route_in head) (method_in head) q w.0)) (sym query_is) (Asks.wants head rest w.0 w.1 whole taken w.2 (w.3 ∙ len_is)))) in
+      (d.0, Serves.acts route method query w.0 (reply_of false o) d.0 asks d.1, d.2))
       (λ w. ⊎_elim {C = (s' : State) × Serves now (left_in now old) s bytes (served.Reply (reply_of false o).0 route) (reply_of false o).1 s' × IsIn s' new}
       (λ cut.
       let asks : Asks bytes (Refuses refusals.BodyEndsEarly route false) = subst (λ q. Asks bytes (Refuses refusals.BodyEndsEarly q false)) (sym route_is) (Asks.cut head rest whole taken (omega (arith, cut.0, len_is))) in

@@ -1,9 +1,13 @@
--- The effect of a request, and its reply. (InfluxData 1.8, API reference: /ping, /query, /write. Own rules: /maintain;
+-- The effect of a request, and its reply. (InfluxData 1.8, API reference: /ping, /query, /write. Own rules: /maintain, /rules;
 -- parameters that aren't named here are ignored, and each path examines its own in this order.)
-use Rattle.std.specs.Prelude.{◌≡◌, ℕ, ℤ, Bool, true, false, List, [], ◌∷◌, ◌++◌, length, codes, if◌then◌else◌, Option, Some, None}
+use Rattle.std.specs.Prelude.{◌≡◌, ℕ, ℤ, Bool, true, false, IsTrue, List, [], ◌∷◌, ◌++◌, length, codes, if◌then◌else◌, Option, Some, None, Ok, Err}
+use Rattle.std.specs.Fmt.{signed_decimal}
 use Rattle.std.specs.Str.{IsUtf8}
 use Rattle.ts_core.specs.Facts.{Text, same_text}
 use Rattle.ts_core.specs.Marks.{marks_of}
+use Rattle.ts_core.specs.Settings.{Rule}
+use Rattle.ts_core.specs.SettingsFaults.{is_named, settings_fault_text, unknown_rule_text}
+use Rattle.ts_core.specs.declared.settings_fault.SettingsFault.{SettingsFault}
 use Rattle.ts_core.specs.TimeUnits.{precision_of}
 use Rattle.ts_core.specs.declared.time_unit.TimeUnit.{TimeUnit}
 use Rattle.ts_core.specs.declared.time_unit.TimeUnit.TheVariants.{Nanoseconds}
@@ -13,13 +17,16 @@ use Rattle.ts_reply.specs.Epochs.{epoch_of}
 use Rattle.ts_reply.specs.declared.epoch.Epoch.{Epoch}
 use Rattle.ts_reply.specs.declared.epoch.Epoch.TheVariants as epochs
 use Rattle.ts_store.specs.LineTexts.{State}
+use Rattle.ts_store.specs.RuleTexts.{rule_for, settings_in, low_in, with_rule_added, with_rule_dropped}
 use Rattle.ts_store.specs.declared.write_text.LineOutcome.{LineOutcome}
 use Rattle.ts_http.specs.Batches.{TakesLines, StopsAtLine, body_lines, refusals_of, partial_text}
 use Rattle.ts_http.specs.Maintaining.{steps_in, OpensRun, with_steps, run_text}
 use Rattle.ts_http.specs.HttpReplies.{reply_text, error_text, refusal_status, refusal_reply}
 use Rattle.ts_http.specs.Parameters.{parameters, first_named}
 use Rattle.ts_http.specs.declared.refusal.Refusal.{Refusal}
-use Rattle.ts_http.specs.declared.refusal.Refusal.TheVariants.{BodyNotText, BadPrecision, BadEpoch, BadExplain, BadSteps, MissingQuery, OutOfMemory}
+use Rattle.ts_http.specs.declared.refusal.Refusal.TheVariants.{BodyNotText, BadPrecision, BadEpoch, BadExplain, BadSteps, MissingQuery, MissingName, OutOfMemory}
+use Rattle.ts_http.specs.declared.route.Method.{Method}
+use Rattle.ts_http.specs.declared.route.Method.TheVariants as by
 use Rattle.ts_http.specs.declared.route.Route.{Route}
 use Rattle.ts_http.specs.declared.route.Route.TheVariants as to
 use Rattle.ts_http.specs.declared.status.Status.{Status}
@@ -109,9 +116,39 @@ pub data Maintains (now : ℤ) (left : ℕ) (old : State) (query : Text) : Repli
   steps : (n : ℕ) (opened : State) → steps_in query ≡ Some n → OpensRun now old opened
       → Maintains now left old query (answer_reply true (run_text n left (marks_of opened.opening opened.history).raw)) (with_steps n left opened)
 
+-- ---- /rules
+
+-- JSON with the low index and the name of a rule that was added
+abbrev pub added_text : Text → ℤ → Text
+added_text name low = codes "{\"low\":" ++ (signed_decimal low ++ (codes ",\"name\":\"" ++ (name ++ codes "\"}")))
+
+-- JSON with the name of a rule that was dropped
+abbrev pub dropped_text : Text → Text
+dropped_text name = codes "{\"dropped\":\"" ++ (name ++ codes "\"}")
+
+-- a POST: the body is a rule, which is added
+pub data AddsRule (old : State) (body : Text) : Replied → State → Type 0 where
+  not_text : (IsUtf8 body → ⊥) → AddsRule old body (refusing BodyNotText) old
+  wants_memory : IsUtf8 body → AddsRule old body (refusing OutOfMemory) old
+  refuses : (fault : SettingsFault) → IsUtf8 body → rule_for (settings_in old) body ≡ Err fault → AddsRule old body (bad_reply (error_text (settings_fault_text fault))) old
+  adds : (r : Rule) → IsUtf8 body → rule_for (settings_in old) body ≡ Ok r → AddsRule old body (answer_reply true (added_text r.name (low_in old r))) (with_rule_added r old)
+
+-- the name of a rule, as a parameter of the target
+abbrev pub name_in : Text → Option Text
+name_in query = first_named (codes "name") (parameters query)
+
+-- a DELETE: the rule with this name is dropped
+pub data DropsRule (old : State) (query : Text) : Replied → State → Type 0 where
+  missing : name_in query ≡ None → DropsRule old query (refusing MissingName) old
+  wants_memory : DropsRule old query (refusing OutOfMemory) old
+  refuses : (name : Text) → name_in query ≡ Some name → is_named (settings_in old).rules name ≡ false → DropsRule old query (bad_reply (error_text unknown_rule_text)) old
+  drops : (name : Text) → name_in query ≡ Some name → IsTrue (is_named (settings_in old).rules name) → DropsRule old query (answer_reply true (dropped_text name)) (with_rule_dropped name old)
+
 -- The effect of a request that isn't refused by its head, after its body was read.
-pub data Acts (now : ℤ) (left : ℕ) (old : State) (query body : Text) : Route → Replied → State → Type 0 where
-  pings : Acts now left old query body to.Ping done_reply old
-  writes : (reply : Replied) (new : State) → Writes now old query body reply new → Acts now left old query body to.Write reply new
-  queries : (reply : Replied) → Queries now old query body reply → Acts now left old query body to.Query reply old
-  maintains : (reply : Replied) (new : State) → Maintains now left old query reply new → Acts now left old query body to.Maintain reply new
+pub data Acts (now : ℤ) (left : ℕ) (old : State) (query body : Text) : Route → Method → Replied → State → Type 0 where
+  pings : (method : Method) → Acts now left old query body to.Ping method done_reply old
+  writes : (method : Method) (reply : Replied) (new : State) → Writes now old query body reply new → Acts now left old query body to.Write method reply new
+  queries : (method : Method) (reply : Replied) → Queries now old query body reply → Acts now left old query body to.Query method reply old
+  maintains : (method : Method) (reply : Replied) (new : State) → Maintains now left old query reply new → Acts now left old query body to.Maintain method reply new
+  adds : (reply : Replied) (new : State) → AddsRule old body reply new → Acts now left old query body to.Rules by.Post reply new
+  drops : (reply : Replied) (new : State) → DropsRule old query reply new → Acts now left old query body to.Rules by.Delete reply new

@@ -6,7 +6,7 @@ use Rattle.ts_core.specs.Facts.{Text}
 use Rattle.ts_http.specs.Requests.{allowed_methods}
 use Rattle.ts_http.specs.declared.head.HeadFault.TheVariants.{EndsEarly, TooLarge, Malformed}
 use Rattle.ts_http.specs.declared.refusal.Refusal.{Refusal}
-use Rattle.ts_http.specs.declared.refusal.Refusal.TheVariants.{Head, NotFound, MethodNotAllowed, LengthRequired, BadLength, BodyTooLarge, EncodingNotSupported, BodyEndsEarly, BodyNotText, BadPrecision, BadEpoch, BadExplain, BadSteps, MissingQuery, OutOfMemory}
+use Rattle.ts_http.specs.declared.refusal.Refusal.TheVariants.{Head, NotFound, MethodNotAllowed, LengthRequired, BadLength, BodyTooLarge, EncodingNotSupported, BodyEndsEarly, BodyNotText, BadPrecision, BadEpoch, BadExplain, BadSteps, MissingQuery, MissingName, OutOfMemory}
 use Rattle.ts_http.specs.declared.status.Status.{Status}
 use Rattle.ts_http.specs.declared.status.Status.TheVariants as status
 
@@ -69,6 +69,7 @@ refusal_status BadEpoch = status.BadRequest
 refusal_status BadExplain = status.BadRequest
 refusal_status BadSteps = status.BadRequest
 refusal_status MissingQuery = status.BadRequest
+refusal_status MissingName = status.BadRequest
 refusal_status OutOfMemory = status.ServerError
 
 abbrev pub refusal_words : Refusal → Text
@@ -88,6 +89,7 @@ refusal_words BadEpoch = codes "bad epoch"
 refusal_words BadExplain = codes "bad explain"
 refusal_words BadSteps = codes "bad steps"
 refusal_words MissingQuery = codes "missing q"
+refusal_words MissingName = codes "missing name"
 refusal_words OutOfMemory = codes "out of memory"
 
 abbrev pub refusal_allow : Refusal → Text

@@ -18,8 +18,8 @@ pub data Request : Type 0 where
   NoRequest : Request
   -- it is refused before anything is executed; whether its head was read whole, and was a HEAD
   Refuses : Refusal → Route → Bool → Request
-  -- a path, the parameters of the target, and a body
-  Wants : Route → Text → Text → Request
+  -- a path and its method, the parameters of the target, and a body
+  Wants : Route → Method → Text → Text → Request
 
 abbrev pub is_head : Method → Bool
 is_head by.Head = true
@@ -45,4 +45,4 @@ pub data Asks (bytes : Text) : Request → Type 0 where
   cut : (head : RequestHead) (rest : Text) → IsWhole bytes head rest → is_taken head → length rest < body_length (method_in head) (fields_of head) → Asks bytes (Refuses BodyEndsEarly (route_in head) false)
   -- out of memory for the body
   wants_memory : (head : RequestHead) (rest : Text) → IsWhole bytes head rest → is_taken head → Asks bytes (Refuses OutOfMemory (route_in head) false)
-  wants : (head : RequestHead) (rest body others : Text) → IsWhole bytes head rest → is_taken head → rest ≡ body ++ others → length body ≡ body_length (method_in head) (fields_of head) → Asks bytes (Wants (route_in head) (query_of head.target) body)
+  wants : (head : RequestHead) (rest body others : Text) → IsWhole bytes head rest → is_taken head → rest ≡ body ++ others → length body ≡ body_length (method_in head) (fields_of head) → Asks bytes (Wants (route_in head) (method_in head) (query_of head.target) body)

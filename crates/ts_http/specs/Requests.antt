@@ -1,6 +1,6 @@
 -- The parts of a request's head, and why it is refused before its body is read.
 -- (InfluxData 1.8, API reference: /ping, /query, /write. RFC 9110: methods, Content-Length, Content-Encoding; names of
--- fields ignore case. Own rules: /maintain, no chunked bodies, at most 1,048,576 bytes, and the order of refusals.)
+-- fields ignore case. Own rules: /maintain, /rules, no chunked bodies, at most 1,048,576 bytes, and the order of refusals.)
 use Rattle.std.specs.Prelude.{ℕ, nat_lt, nat_le, Bool, true, false, not, ◌&&◌, ◌||◌, ◌==◌, List, [], ◌∷◌, length, map, codes, if◌then◌else◌, Option, None}
 use Rattle.std.specs.List.{list_any, list_all, before_first, after_first}
 use Rattle.std.specs.Char.{is_ascii_digit, to_ascii_lowercase}
@@ -32,6 +32,7 @@ route_of path =
     if same_text path (codes "/write") then to.Write
     else if same_text path (codes "/query") then to.Query
     else if same_text path (codes "/maintain") then to.Maintain
+    else if same_text path (codes "/rules") then to.Rules
     else if same_text path (codes "/ping") then to.Ping
     else to.Other
 
@@ -40,6 +41,7 @@ method_of name =
     if same_text name (codes "GET") then by.Get
     else if same_text name (codes "HEAD") then by.Head
     else if same_text name (codes "POST") then by.Post
+    else if same_text name (codes "DELETE") then by.Delete
     else by.Other
 
 -- the methods of each path
@@ -48,6 +50,8 @@ is_allowed to.Write by.Post = true
 is_allowed to.Query by.Get = true
 is_allowed to.Query by.Post = true
 is_allowed to.Maintain by.Post = true
+is_allowed to.Rules by.Delete = true
+is_allowed to.Rules by.Post = true
 is_allowed to.Ping by.Get = true
 is_allowed to.Ping by.Head = true
 is_allowed route method = false
@@ -57,6 +61,7 @@ abbrev pub allowed_methods : Route → Text
 allowed_methods to.Write = codes "POST"
 allowed_methods to.Query = codes "GET, POST"
 allowed_methods to.Maintain = codes "POST"
+allowed_methods to.Rules = codes "DELETE, POST"
 allowed_methods to.Ping = codes "GET, HEAD"
 allowed_methods to.Other = []
 

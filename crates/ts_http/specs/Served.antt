@@ -11,6 +11,7 @@ use Rattle.ts_http.specs.Maintaining.{left_in}
 use Rattle.ts_http.specs.Reading.{request_of}
 use Rattle.ts_http.specs.Requested.{NoRequest, Refuses, Wants, Asks}
 use Rattle.ts_http.specs.declared.refusal.Refusal.{Refusal}
+use Rattle.ts_http.specs.declared.route.Method.{Method}
 use Rattle.ts_http.specs.declared.route.Route.{Route}
 use Rattle.ts_http.specs.declared.serve.IoFault.{IoFault}
 use Rattle.ts_http.specs.declared.serve.IoFault.TheVariants.{Reader, Writer}
@@ -26,7 +27,7 @@ request_turns = 1056769
 pub data Serves (now : ℤ) (left : ℕ) (old : State) (bytes : Text) : Served → Text → State → Type 0 where
   nothing : Asks bytes NoRequest → Serves now left old bytes served.Nothing [] old
   refuses : (r : Refusal) (route : Route) (to_head : Bool) → Asks bytes (Refuses r route to_head) → Serves now left old bytes (served.Reply (refusal_status r) route) (refusal_reply to_head r) old
-  acts : (route : Route) (query body : Text) (reply : Replied) (new : State) → Asks bytes (Wants route query body) → Acts now left old query body route reply new → Serves now left old bytes (served.Reply reply.0 route) reply.1 new
+  acts : (route : Route) (method : Method) (query body : Text) (reply : Replied) (new : State) → Asks bytes (Wants route method query body) → Acts now left old query body route method reply new → Serves now left old bytes (served.Reply reply.0 route) reply.1 new
 
 -- In each state that the store was in, the request was served so, and its whole reply or a beginning of it was sent.
 abbrev pub ServedAs : ℤ → Text → StoreData → Served → StoreData → (Text → Type 0) → Type 0

@@ -4,7 +4,7 @@ ghost use Rattle.std.specs.List.{AllByRecursion};
 ghost use Rattle.httparse.specs.Spans.{IsHeaderWithin, IsRequestWithin, header_bytes, span_bytes};
 ghost use Rattle.ts_core.specs.Devices.{one_if_err};
 ghost use Rattle.ts_http.specs.Heads.{head_limit};
-ghost use Rattle.ts_http.specs.Requests.{path_of, query_of, route_of, method_of, is_known, body_limit, refused, body_length};
+ghost use Rattle.ts_http.specs.Requests.{path_of, query_of, route_of, method_of, is_allowed, body_limit, refused, body_length};
 ghost use Rattle.ts_http.specs.Outcomes.{ActsAs, reply_of};
 ghost use Rattle.ts_http.specs.ServeSteps.{IsLengthAnswer, IsActedOn, IsSent};
 ghost use Rattle.ts_http.specs.Served.{IsServed};
@@ -18,6 +18,7 @@ use crate::querying::{Form, query};
 use crate::reading::ReadFailed;
 use crate::refusal::Refusal;
 use crate::route::{Method, Route};
+use crate::rules::{add_rule, drop_rule};
 use crate::status::Status;
 use crate::writing::write;
 use httparse::spans::{EMPTY_HEADER_SPAN, HeaderSpan, RequestSpans};
@@ -135,9 +136,9 @@ fn act(
     asked: &Asked<'_>,
     body: &[u8],
 ) -> Outcome
-    requires known { is_known asked.now.route ≡ true }
+    requires allowed { is_allowed asked.now.route asked.now.method ≡ true }
     requires body { length body.now ≤ body_limit }
-    ensures { ActsAs now asked.now.route asked.now.query.now body.now store.old result store.new }
+    ensures { ActsAs now asked.now.route asked.now.method asked.now.query.now body.now store.old result store.new }
 {
     match asked.route {
         Route::Write => write(alloc, store, now, asked.query, body),
@@ -151,6 +152,11 @@ fn act(
             },
         ),
         Route::Maintain => maintain(alloc, store, now, asked.query),
+        Route::Rules => match asked.method {
+            Method::Post => add_rule(alloc, store, body),
+            Method::Delete => drop_rule(alloc, store, asked.query),
+            _ => unreachable!(),
+        },
         Route::Ping => Outcome::Done,
         Route::Other => unreachable!(),
     }
@@ -165,9 +171,9 @@ fn act_on_body<R: Read>(
     len: usize,
     source: &mut Source<R>,
 ) -> Result<Outcome, ReadFailed>
-    requires known { is_known asked.now.route ≡ true }
+    requires allowed { is_allowed asked.now.route asked.now.method ≡ true }
     requires len { len ≤ body_limit }
-    ensures { IsActedOn now asked.now.route asked.now.query.now asked.now.behind.now len store.old source.old result store.new source.new }
+    ensures { IsActedOn now asked.now.route asked.now.method asked.now.query.now asked.now.behind.now len store.old source.old result store.new source.new }
 {
     match take_body(alloc, asked.behind, len, source)? {
         Body::Whole(body) => Ok(act(alloc, store, now, asked, &body)),

@@ -1,0 +1,107 @@
+//! `/rules`: adds a rollup rule, or drops one.
+ghost use Rattle.std.specs.Prelude.{◌≡◌, ◌⊎◌, ◌≤◌, IfOk, length, string_bytes, false};
+ghost use Rattle.ts_core.specs.SettingsFaults.{settings_fault_text};
+ghost use Rattle.ts_http.specs.Acts.{bad_reply, added_text, dropped_text};
+ghost use Rattle.ts_http.specs.HttpReplies.{error_text};
+ghost use Rattle.ts_http.specs.Outcomes.{AddsAs, DropsAs, DropsNamed, reply_of};
+
+use crate::outcome::Outcome;
+use crate::parameters::first_named;
+use crate::refusal::Refusal;
+use crate::reply::{Note, error_note};
+use crate::status::Status;
+use itoa::Buffer;
+use std::alloc::{AllocError, Global};
+use std::str;
+use ts_core::{SettingsError, SettingsFault};
+use ts_store::{AddedRule, Store, View};
+
+/// Returns JSON with the low index and the name of a rule that was added.
+fn added_note(added: &AddedRule) -> Note
+    ensures { result.bytes ≡ added_text added.now.name.bytes added.now.low }
+{
+    let mut note = Note::new();
+    note.push_str("{\"low\":");
+    note.push_str(Buffer::new().format(added.low));
+    note.push_str(",\"name\":\"");
+    note.push_str(added.name.as_str());
+    note.push_str("\"}");
+    note
+}
+
+/// Returns JSON with the name of a rule that was dropped.
+fn dropped_note(name: &str) -> Note
+    requires { length name.now ≤ 32 }
+    ensures { result.bytes ≡ dropped_text name.now }
+{
+    let mut note = Note::new();
+    note.push_str("{\"dropped\":\"");
+    note.push_str(name);
+    note.push_str("\"}");
+    note
+}
+
+/// Returns JSON with the fault of a rule.
+fn fault_body(alloc: Global, fault: SettingsFault) -> Result<String, AllocError>
+    ensures { IfOk result (λ body. string_bytes body ≡ error_text (settings_fault_text fault)) }
+{
+    let mut body = String::new(alloc);
+    body.push_str("{\"error\":\"")?;
+    fault.text_to(&mut body)?;
+    body.push_str("\"}")?;
+    Ok(body)
+}
+
+/// Returns the outcome for a rule with a fault, or out of memory.
+fn refused(alloc: Global, fault: SettingsFault) -> Outcome
+    ensures { (reply_of false result ≡ bad_reply (error_text (settings_fault_text fault))) ⊎ (result ≡ Outcome.Refused Refusal.OutOfMemory) }
+{
+    match fault_body(alloc, fault) {
+        Ok(body) => Outcome::Answered(Status::BadRequest, body),
+        Err(_) => Outcome::Refused(Refusal::OutOfMemory),
+    }
+}
+
+/// Adds the rule of a text.
+fn add_text(alloc: Global, store: &mut Store<Global>, text: &str) -> Outcome
+    ensures { AddsAs text.now store.old result store.new }
+{
+    match store.add_rule_text(alloc, alloc, text) {
+        Ok(added) => Outcome::Brief(Status::Success, added_note(&added)),
+        Err(SettingsError::Fault(fault)) => refused(alloc, fault),
+        Err(SettingsError::OutOfMemory) => Outcome::Refused(Refusal::OutOfMemory),
+    }
+}
+
+/// Adds the rule of a body.
+pub(crate) fn add_rule(alloc: Global, store: &mut Store<Global>, body: &[u8]) -> Outcome
+    ensures { AddsAs body.now store.old result store.new }
+{
+    match str::from_utf8(body) {
+        Ok(text) => add_text(alloc, store, text),
+        Err(_) => Outcome::Refused(Refusal::BodyNotText),
+    }
+}
+
+/// Drops the rule with a name.
+fn drop_named(store: &mut Store<Global>, name: &str) -> Outcome
+    ensures { DropsNamed name.now store.old result store.new }
+{
+    // states that settings have no fault, so their names have at most 32 bytes
+    let _ = store.settings().rules();
+    match store.drop_rule(name) {
+        Ok(()) => Outcome::Brief(Status::Success, dropped_note(name)),
+        Err(_) => Outcome::Brief(Status::BadRequest, error_note("fault 8")),
+    }
+}
+
+/// Drops the rule that the parameter `name` names.
+pub(crate) fn drop_rule(alloc: Global, store: &mut Store<Global>, query: &[u8]) -> Outcome
+    ensures { DropsAs query.now store.old result store.new }
+{
+    match first_named(alloc, query, "name") {
+        Ok(Some(name)) => drop_named(store, name.as_str()),
+        Ok(None) => Outcome::Refused(Refusal::MissingName),
+        Err(_) => Outcome::Refused(Refusal::OutOfMemory),
+    }
+}
