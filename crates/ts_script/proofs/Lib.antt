@@ -2,9 +2,11 @@
 pub mod Progress
 -- Machine: one step
 pub mod MachineLemmas
+pub mod RuleCommands
 pub mod ReloadLemmas
 pub mod ReloadedCells
 pub mod ReloadedStores
+pub mod ReloadFaults
 pub mod CommandLemmas
 pub mod NumberLemmas
 -- Counted: what a count prints

@@ -59,7 +59,7 @@ added_by s m text r k i g =
     (subst (λ (z : Settings). GrowsAfter z.rules m.kept.marks.lows (facts_of_text (parts_in m.precision m.moment text)) r (inventory_of m.kept) (inventory_of k)) i.store.stands.settings g))))
 
 -- a machine whose store is in this state
-storing : (s : State) (m : Serving) (new : StoreState) (k : StoreData) → IsIn s m → IsStoreIn new k → IsIn (with_store new (inventory_of k) s) (keeping k m)
+pub storing : (s : State) (m : Serving) (new : StoreState) (k : StoreData) → IsIn s m → IsStoreIn new k → IsIn (with_store new (inventory_of k) s) (keeping k m)
 storing s m new k i is = record { moment = i.moment; precision = i.precision; epoch = i.epoch; fresh = i.fresh; certificate = i.certificate; store = is; inventory = refl }
 
 pub wrote : {E : Type 0} (text : Text) (r : Result LineOutcome E) (s : State) (m : Serving) (k : StoreData) → IsIn s m → ((t : StoreState) → IsStoreIn t m.kept → WritesFrom m.precision m.moment t text r k)

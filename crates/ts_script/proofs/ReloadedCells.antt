@@ -21,7 +21,7 @@ use Rattle.ts_core.proofs.MembersLemmas.{Among-filter_was}
 use Rattle.ts_core.proofs.MovesStand.{key_not}
 use Rattle.ts_core.proofs.PieceCells.{same_cell-eq, same_cell-refl}
 use Rattle.ts_store.specs.LinesPut.{IsOfFacts, PutsCells}
-use Rattle.ts_store.specs.Inventories.{OfRules}
+use Rattle.ts_store.specs.Inventories.{AreFilled, OfRules}
 use Rattle.ts_store.specs.Saving.{SavedSeries}
 use Rattle.ts_image.specs.Images.{ImageCell}
 use Rattle.ts_image.specs.ImageTests.{settings_in}
@@ -32,7 +32,6 @@ use Rattle.ts_image.specs.StoresMade.{cells_in, IsStoreOf}
 use Rattle.ts_image.proofs.FrozenPictures.{frozen_some}
 use Rattle.ts_image.proofs.MadeCells.{from_image}
 use Rattle.ts_image.proofs.WrittenPictures.{written, written_each, entry_of}
-use Rattle.ts_script.specs.Reloads.{AreFilled}
 use Rattle.ts_script.proofs.ReloadLemmas.{at_back}
 
 -- the cells of an image, by the number of their rule

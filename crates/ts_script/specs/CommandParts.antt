@@ -1,5 +1,5 @@
 -- Parsed commands, by the values of their texts. (Own rule.)
-use Rattle.ts_script.specs.Commands.{Command, OpenWith, At, SetPrecision, SetEpoch, Write, Live, Retain, BeginRun, StepRun, Reload, SetCertificate, Query, Explain, Count, CountFault, Unknown}
+use Rattle.ts_script.specs.Commands.{Command, OpenWith, At, SetPrecision, SetEpoch, Write, Live, Retain, BeginRun, StepRun, Reload, AddRule, DropRule, SetCertificate, Query, Explain, Count, CountFault, Unknown}
 use Rattle.ts_script.specs.declared.command.Command.{Command as ReadCommand}
 use Rattle.ts_script.specs.declared.command.Command.TheVariants as read
 
@@ -14,6 +14,8 @@ command_view read.Retain = Retain
 command_view read.BeginRun = BeginRun
 command_view read.StepRun = StepRun
 command_view read.Reload = Reload
+command_view (read.AddRule text) = AddRule text.now
+command_view (read.DropRule name) = DropRule name.now
 command_view (read.SetCertificate text) = SetCertificate text.now
 command_view (read.Query text) = Query text.now
 command_view (read.Explain text) = Explain text.now

@@ -30,6 +30,10 @@ pub data Command : Type 0 where
   StepRun : Command
   -- saves the store to memory and loads it back
   Reload : Command
+  -- adds the rule of this text
+  AddRule : Text → Command
+  -- drops the rule with this name
+  DropRule : Text → Command
   -- sets the certificate of the next query
   SetCertificate : Text → Command
   -- prints the reply to queries
@@ -107,6 +111,8 @@ command_of line =
     else if same_text line (codes "begin") then BeginRun
     else if same_text line (codes "step") then StepRun
     else if same_text line (codes "reload") then Reload
+    else if starts_with nat_eq line (codes "rule ") then AddRule (drop 5 line)
+    else if starts_with nat_eq line (codes "drop ") then DropRule (drop 5 line)
     else if starts_with nat_eq line (codes "cert ") then SetCertificate (drop 5 line)
     else if starts_with nat_eq line (codes "query ") then Query (drop 6 line)
     else if starts_with nat_eq line (codes "explain ") then Explain (drop 8 line)

@@ -5,7 +5,7 @@ use Rattle.ts_core.specs.Devices.{Input}
 use Rattle.ts_core.specs.ReadingAhead.{Ahead, pending, EndIsEnd, bit, one_if_device, weight}
 use Rattle.ts_core.specs.declared.read_ahead.ReadFault.{ReadFault}
 use Rattle.ts_core.specs.declared.read_ahead.ReadFault.TheVariants.{Turns}
-use Rattle.ts_script.specs.ScriptLines.{lines_of, script_line_limit, turn_limit}
+use Rattle.ts_script.specs.ScriptLines.{lines_of, script_line_limit}
 use Rattle.ts_script.specs.declared.line_reader.Next.{Next}
 use Rattle.ts_script.specs.declared.line_reader.Next.TheVariants.{Line, TooLong, End}
 use Rattle.ts_script.specs.HeldLine.{HeldLine}
@@ -62,7 +62,8 @@ pub record IsTaken (old : HeldLine) (lf : Bool) (new : HeldLine) : Type 0 where
   pub buffered : new.ahead.buffered ≡ after_line old.ahead.buffered
   pub turns : new.ahead.turns ≡ old.ahead.turns
   pub ended : new.ahead.ended ≡ old.ahead.ended
-  pub within : new.ahead.turns ≤ turn_limit
+  pub limit : new.ahead.limit ≡ old.ahead.limit
+  pub within : new.ahead.turns ≤ new.ahead.limit
   pub less : weight new.ahead + bit lf ≤ weight old.ahead
 
 -- and these are the next bytes of the line
@@ -73,8 +74,9 @@ IsLonger old new = (before : List ℕ) → LineIs before old.line old.long → L
 pub record IsAsked {T : Type 0} (old : Ahead) (source : Input) (result : Result T ReadFault) (new : Ahead) (source' : Input) : Type 0 where
   pub end : EndIsEnd new source'
   pub stays : OnErr result (new.ended ≡ false)
-  pub within : new.turns ≤ turn_limit
-  pub limit : result ≡ Err Turns → new.turns ≡ turn_limit
+  pub allowed : new.limit ≡ old.limit
+  pub within : new.turns ≤ new.limit
+  pub limit : result ≡ Err Turns → new.turns ≡ new.limit
   pub failures : source'.failures ≡ source.failures + one_if_device result
   pub turns : source'.turns + old.turns ≡ source.turns + new.turns
   pub ends : source'.ends + bit old.ended ≡ source.ends + bit new.ended

@@ -3,14 +3,15 @@ use Rattle.std.specs.Prelude.{◌≡◌, ℕ, ℤ, pos, ◌-ℤ◌, ◌≤ℤ◌
 use Rattle.std.specs.Fmt.{decimal}
 use Rattle.std.specs.Str.{IsUtf8}
 use Rattle.ts_core.specs.Facts.{Text, Series, Fact}
-use Rattle.ts_core.specs.Settings.{Rule, Settings, open_settings}
-use Rattle.ts_core.specs.SettingsFaults.{settings_fault_text}
+use Rattle.ts_core.specs.Settings.{Rule, Settings, open_settings, is_unnamed}
+use Rattle.ts_core.specs.SettingsFaults.{is_named, settings_fault_text, unknown_rule_text}
 use Rattle.ts_core.specs.SettingsTexts.{settings_read}
 use Rattle.ts_core.specs.declared.settings_fault.SettingsFault.{SettingsFault}
 use Rattle.ts_core.specs.History.{History, Begin, Step as StepEvent, settings_of, IsRunOpen}
 use Rattle.ts_core.specs.Latest.{count_of}
 use Rattle.ts_core.specs.Marks.{marks_of}
 use Rattle.ts_core.specs.Pieces.{Piece}
+use Rattle.ts_core.specs.RuleMoves.{kept_beside}
 use Rattle.ts_core.specs.declared.time_unit.TimeUnit.{TimeUnit}
 use Rattle.ts_core.specs.declared.time_unit.TimeUnit.TheVariants.{Nanoseconds}
 use Rattle.ts_core.specs.FaultTexts.{memory_text}
@@ -27,6 +28,8 @@ use Rattle.ts_reply.specs.declared.epoch.Epoch.TheVariants as epochs
 use Rattle.ts_store.specs.LineTexts.{State as StoreState, opened as opened_store, parts_in, with_series, WritesText, RunsOutOfMemory}
 use Rattle.ts_store.specs.Inventories.{Inventory, new_inventory, all_waiting, facts_of_text, GrowsBy, GrowsInPart, steps_in, StepsTo, LeavesRecent}
 use Rattle.ts_store.specs.PointsRead.{all_raw}
+use Rattle.ts_store.specs.RulesChanged.{GainsRule}
+use Rattle.ts_store.specs.RuleTexts.{rule_for, settings_in, low_in, with_rule_added, with_rule_dropped}
 use Rattle.ts_store.specs.StoreFaultTexts.{run_in_progress_text}
 use Rattle.ts_store.specs.WholeRuns.{whole_run}
 use Rattle.ts_store.specs.declared.store.retention.StepAnswer.{StepAnswer}
@@ -35,9 +38,9 @@ use Rattle.ts_store.specs.declared.write_text.LineOutcome.{LineOutcome}
 use Rattle.ts_script.specs.Reloads.{Reloaded}
 use Rattle.ts_script.specs.ScriptLines.{script_line_limit}
 use Rattle.ts_script.specs.ScriptCertificates.{with_line_feeds}
-use Rattle.ts_script.specs.Commands.{Command, OpenWith, At, SetPrecision, SetEpoch, Write, Live, Retain, BeginRun, StepRun, Reload, SetCertificate, Query, Explain, Count, CountFault, Unknown, is_skipped, command_of}
-use Rattle.ts_script.specs.MarksTexts.{marks_text}
-use Rattle.ts_script.specs.ScriptReplies.{line, outcome_text, step_text, reloaded_text, unknown_text, bad_range_text}
+use Rattle.ts_script.specs.Commands.{Command, OpenWith, At, SetPrecision, SetEpoch, Write, Live, Retain, BeginRun, StepRun, Reload, AddRule, DropRule, SetCertificate, Query, Explain, Count, CountFault, Unknown, is_skipped, command_of}
+use Rattle.ts_script.specs.MarksTexts.{rule_text, marks_text}
+use Rattle.ts_script.specs.ScriptReplies.{line, outcome_text, step_text, reloaded_text, dropped_text, unknown_text, bad_range_text}
 
 pub record State : Type 0 where
   -- the script's time, in nanoseconds, the precision of its timestamps, and the format of times in replies
@@ -130,6 +133,14 @@ pub record RunsWhole (old : State) (steps : ℕ) (new : Inventory) : Type 0 wher
 abbrev pub IsReload : State → List Series → Inventory → Type 0
 IsReload old series new = Reloaded old.store.history (rules_in old) (lows_in old) old.store.series old.inventory series new
 
+-- a rule is added, and has the cells of raw facts from its low index on
+abbrev pub Gains : State → Rule → Inventory → Type 0
+Gains old r new = GainsRule (all_raw old.inventory.waiting old.store.opening old.store.history) r (low_in old.store r) old.inventory new
+
+-- a rule is dropped with its cells
+abbrev pub without_rule : Text → State → State
+without_rule name s = with_store (with_rule_dropped name s.store) (record s.inventory { cells = kept_beside (is_unnamed name) (rules_in s) s.inventory.cells }) s
+
 -- the marks of the state, as text
 abbrev pub marks_told : State → Text
 marks_told s = marks_text (settings_of s.store.opening s.store.history) (marks_of s.store.opening s.store.history)
@@ -177,6 +188,13 @@ pub data Does (old : State) : Command → Text → State → Type 0 where
   -- the store is saved to memory and loaded back: its history stays, and so does an open run
   reloads : (series : List Series) (inventory : Inventory) → IsReload old series inventory → Does old Reload reloaded_text (with_store (with_series series old.store) inventory old)
   reloads_no_memory : Does old Reload (line memory_text) old
+  -- a rule is added, and its name and low index are printed; with a fault, or out of memory, nothing changes
+  adds : (text : Text) (r : Rule) (inventory : Inventory) → rule_for (settings_in old.store) text ≡ Ok r → Gains old r inventory → Does old (AddRule text) (line (rule_text r.name (low_in old.store r))) (with_store (with_rule_added r old.store) inventory old)
+  refuses_rule : (text : Text) (fault : SettingsFault) → rule_for (settings_in old.store) text ≡ Err fault → Does old (AddRule text) (line (settings_fault_text fault)) old
+  adds_no_memory : (text : Text) → Does old (AddRule text) (line memory_text) old
+  -- the rule with the name is dropped, if there is one
+  drops : (name : Text) → is_named (rules_in old) name ≡ true → Does old (DropRule name) dropped_text (without_rule name old)
+  refuses_drop : (name : Text) → is_named (rules_in old) name ≡ false → Does old (DropRule name) (line unknown_rule_text) old
   -- the certificate is set for the next query, replacing an earlier one
   hands_in : (text : Text) → Does old (SetCertificate text) [] (with_certificate (Some (with_line_feeds text)) old)
   hands_in_no_memory : (text : Text) → Does old (SetCertificate text) (line memory_text) old

@@ -6,8 +6,12 @@ use Rattle.ts_core.specs.Marks.{Marks}
 use Rattle.ts_core.specs.Settings.{Rule, Settings}
 
 -- a rule's name and its low index
+abbrev pub rule_text : Text → ℤ → Text
+rule_text name low = name ++ (codes "=" ++ signed_decimal low)
+
+-- the same after a space
 abbrev pub low_text : Text → ℤ → Text
-low_text name low = codes " " ++ (name ++ (codes "=" ++ signed_decimal low))
+low_text name low = codes " " ++ rule_text name low
 
 abbrev pub lows_text : List Rule → List ℤ → Text
 lows_text [] lows = []

@@ -1,14 +1,11 @@
 -- A store that was saved and loaded back: what its series, columns and cells are then. (Own rules.)
-use Rattle.std.specs.Prelude.{◌≡◌, ◌↔◌, ℤ, ◌≤ℤ◌, List, [], ◌∷◌, ◌++◌, map, filter}
-use Rattle.ts_core.specs.Members.{Among, AllDistinct}
-use Rattle.ts_core.specs.Facts.{Series, Column, Fact}
+use Rattle.std.specs.Prelude.{◌≡◌, ℤ, List, [], ◌∷◌, ◌++◌, map, filter}
+use Rattle.ts_core.specs.Facts.{Series, Column}
 use Rattle.ts_core.specs.Settings.{Rule}
 use Rattle.ts_core.specs.History.{History}
 use Rattle.ts_core.specs.Latest.{latest_of}
 use Rattle.ts_core.specs.RawFacts.{is_waiting}
-use Rattle.ts_core.specs.Cells.{Cell}
-use Rattle.ts_store.specs.LinesPut.{IsOfFacts}
-use Rattle.ts_store.specs.Inventories.{Inventory, OfRules}
+use Rattle.ts_store.specs.Inventories.{Inventory, AreFilled, OfRules}
 use Rattle.ts_store.specs.Saving.{SavedColumn, SavedSeries, saved_key, SavesSeries}
 
 abbrev pub column_named : Series → SavedColumn → Column
@@ -18,11 +15,6 @@ column_named s x = record { series = s; field = x.field }
 abbrev pub columns_of : List SavedSeries → List Column
 columns_of [] = []
 columns_of (s ∷ ss) = map (column_named s.series) s.columns ++ columns_of ss
-
--- exactly the cells from the low index on that a fact lies in
-pub record AreFilled (facts : List Fact) (r : Rule) (low : ℤ) (cells : List Cell) : Type 0 where
-  pub there : (k : Cell) → Among k cells ↔ ((low ≤ℤ k.index) × IsOfFacts facts r k)
-  pub once : AllDistinct cells
 
 -- The same series are registered, now in the order of their keys. The columns are the same, in the order of series and
 -- field, and the same of them wait, in that order. Empty cells and cells below a low index are gone.

@@ -1,10 +1,10 @@
 -- The output of a script. (Own rule.)
-use Rattle.std.specs.Prelude.{◌≡◌, ◌+◌, ◌≤◌, List, ◌++◌, Option, IfSome, Result, Err, OnOk, OnErr}
+use Rattle.std.specs.Prelude.{◌≡◌, ℕ, ◌+◌, ◌≤◌, List, ◌++◌, Option, IfSome, Result, Err, OnOk, OnErr}
 use Rattle.std.specs.List.{concat}
 use Rattle.std.specs.Io.KnownBytes.{Appends}
 use Rattle.ts_core.specs.Facts.{Text}
 use Rattle.ts_core.specs.Devices.{Input, Output, AppendsFront}
-use Rattle.ts_script.specs.ScriptLines.{lines_of, turn_limit}
+use Rattle.ts_script.specs.ScriptLines.{lines_of}
 use Rattle.ts_script.specs.Machine.{State, start, Prints}
 use Rattle.ts_script.specs.RunFaults.{one_if_reader, one_if_writer}
 use Rattle.ts_script.specs.declared.run_fault.RunFault.{RunFault}
@@ -35,8 +35,8 @@ AnswersAll input old new = IfSome input (λ bytes. (output : Text) × IsScript b
 abbrev pub AnswersSome : Option Text → Option Text → Option Text → Type 0
 AnswersSome input old new = IfSome input (λ bytes. (output : Text) × IsScriptSoFar bytes output × AppendsFront old new output)
 
--- the effect of a replay on its devices, with this result
-pub record IsReplay {T : Type 0} (source : Input) (sink : Output) (result : Result T RunFault) (source' : Input) (sink' : Output) : Type 0 where
+-- the effect on its devices of a replay that reads at most `turns` times, with this result
+pub record IsReplay {T : Type 0} (turns : ℕ) (source : Input) (sink : Output) (result : Result T RunFault) (source' : Input) (sink' : Output) : Type 0 where
   -- all lines are answered, or a prefix of the answers was written
   pub answered : OnOk result (AnswersAll source.remaining sink.contents sink'.contents)
   pub begun : OnErr result (AnswersSome source.remaining sink.contents sink'.contents)
@@ -47,5 +47,5 @@ pub record IsReplay {T : Type 0} (source : Input) (sink : Output) (result : Resu
   pub writer : sink'.failures ≡ sink.failures + one_if_writer result
   -- the end was read, or the limit of reads was reached
   pub end : OnOk result (source'.ends ≡ source.ends + 1)
-  pub within : source'.turns ≤ source.turns + turn_limit
-  pub limit : result ≡ Err Turns → (source'.turns ≡ source.turns + turn_limit) × (source'.ends ≡ source.ends)
+  pub within : source'.turns ≤ source.turns + turns
+  pub limit : result ≡ Err Turns → (source'.turns ≡ source.turns + turns) × (source'.ends ≡ source.ends)

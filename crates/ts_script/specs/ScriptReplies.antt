@@ -3,6 +3,7 @@ use Rattle.std.specs.Prelude.{[], ◌∷◌, ◌++◌, codes, string_bytes, Resu
 use Rattle.std.specs.Fmt.{decimal}
 use Rattle.ts_core.specs.Facts.{Text}
 use Rattle.ts_core.specs.FaultTexts.{fault_text, memory_text}
+use Rattle.ts_core.specs.SettingsFaults.{unknown_rule_text}
 use Rattle.ts_core.specs.declared.fault_code.FaultCode.TheVariants as code
 use Rattle.ts_core.specs.declared.fault_text.FaultDetail.TheVariants as detail
 use Rattle.ts_plan.specs.PlanTexts.{plan_fault_text}
@@ -13,7 +14,7 @@ use Rattle.ts_store.specs.declared.store.retention.StepAnswer.TheVariants.{Moved
 use Rattle.ts_store.specs.declared.write_text.LineOutcome.{LineOutcome}
 use Rattle.ts_store.specs.declared.write_text.LineOutcome.TheVariants as outcome
 use Rattle.ts_script.specs.declared.reply.Reply.{Reply}
-use Rattle.ts_script.specs.declared.reply.Reply.TheVariants.{Nothing, Written, Stepped, Reloaded, Count, Body, NoPlan, Unknown, BadRange, RunInProgress, OutOfMemory}
+use Rattle.ts_script.specs.declared.reply.Reply.TheVariants.{Nothing, Written, Stepped, Reloaded, NotAccepted, Dropped, UnknownRule, Count, Body, NoPlan, Unknown, BadRange, RunInProgress, OutOfMemory}
 
 -- a text with the LF that ends its line
 abbrev pub line : Text → Text
@@ -47,11 +48,18 @@ step_text Done = line (codes "done")
 abbrev pub reloaded_text : Text
 reloaded_text = line (codes "ok")
 
+-- a rule was dropped
+abbrev pub dropped_text : Text
+dropped_text = line (codes "ok")
+
 abbrev pub text_of : Reply → Text
 text_of Nothing = []
 text_of (Written o) = outcome_text o
 text_of (Stepped answer) = step_text answer
 text_of Reloaded = reloaded_text
+text_of NotAccepted = line (fault_text code.ContradictoryImage detail.Alone)
+text_of Dropped = dropped_text
+text_of UnknownRule = line unknown_rule_text
 text_of (Count n) = line (decimal n)
 text_of (Body body) = string_bytes body
 text_of (NoPlan fault) = line (plan_fault_text fault)

@@ -35,6 +35,10 @@ pub enum Command<'a> {
     StepRun,
     /// Saves the store to memory and loads it back.
     Reload,
+    /// Adds the rule of this text.
+    AddRule(&'a str),
+    /// Drops the rule with this name.
+    DropRule(&'a str),
     /// Sets the certificate of the next query. The text has `;` instead of LF.
     SetCertificate(&'a str),
     /// Prints the reply to these queries.
@@ -191,6 +195,12 @@ impl<'a> Command<'a> {
         }
         if line == "reload" {
             return Command::Reload;
+        }
+        if let Some(rest) = rest_behind(line, "rule ") {
+            return Command::AddRule(rest);
+        }
+        if let Some(rest) = rest_behind(line, "drop ") {
+            return Command::DropRule(rest);
         }
         if let Some(rest) = rest_behind(line, "cert ") {
             return Command::SetCertificate(rest);

@@ -22,6 +22,9 @@ use ts_core::{OutputBuffer, Refused, Sink, Source};
 /// Size of the buffer of answers, in bytes.
 const BUFFER_SIZE: usize = 8_192;
 
+/// Limit of the number of reads.
+const TURN_LIMIT: u64 = 4_294_967_296;
+
 /// Answers the line that was read.
 fn answer(machine: &mut Machine, next: Next, line: &[u8]) -> Reply
     requires { length line.now ≤ script_line_limit }
@@ -60,10 +63,10 @@ fn answer_all<R: Read, W: Write>(
     sink: &mut Sink<W>,
 ) -> Result<(), RunFault>
     requires machine { IsIn start machine.old }
-    requires lines { lines.old.ahead ≡ nothing_ahead turn_limit }
+    requires lines { lines.old.ahead ≡ nothing_ahead lines.old.ahead.limit }
     requires text { TEXT_ROOM ≤ string_capacity text.old }
     requires answers { answers.old ≡ [] }
-    ensures { IsReplay source.old sink.old result source.new sink.new }
+    ensures { IsReplay lines.old.ahead.limit source.old sink.old result source.new sink.new }
 {
     loop {
         send_before_wait(lines, answers, sink)?;
@@ -77,16 +80,17 @@ fn answer_all<R: Read, W: Write>(
     }
 }
 
-/// Answers each line of a script on the sink, beginning with an empty store and the time 0. Allocates all buffers
-/// before the first line.
-pub fn run<R: Read, W: Write>(
+/// Answers each line of a script on the sink, beginning with an empty store and the time 0. Reads at most `turns` times.
+/// Allocates all buffers before the first line.
+pub fn run_within<R: Read, W: Write>(
     alloc: Global,
     source: &mut Source<R>,
     sink: &mut Sink<W>,
+    turns: u64,
 ) -> Result<(), RunFault>
-    ensures { IsReplay source.old sink.old result source.new sink.new }
+    ensures { IsReplay turns source.old sink.old result source.new sink.new }
 {
-    let mut lines = LineReader::new(alloc)?;
+    let mut lines = LineReader::new(alloc, turns)?;
     let mut text = String::with_capacity(alloc, TEXT_ROOM)?;
     let mut answers = OutputBuffer::new(alloc, BUFFER_SIZE)?;
     let mut machine = Machine::new(alloc)?;
@@ -98,4 +102,15 @@ pub fn run<R: Read, W: Write>(
         source,
         sink,
     )
+}
+
+/// Answers each line of a script on the sink like `run_within`, with at most 2^32 reads.
+pub fn run<R: Read, W: Write>(
+    alloc: Global,
+    source: &mut Source<R>,
+    sink: &mut Sink<W>,
+) -> Result<(), RunFault>
+    ensures { IsReplay turn_limit source.old sink.old result source.new sink.new }
+{
+    run_within(alloc, source, sink, TURN_LIMIT)
 }

@@ -29,5 +29,5 @@ mod reply;
 mod run_fault;
 
 pub use command::Command;
-pub use engine::run;
+pub use engine::{run, run_within};
 pub use run_fault::RunFault;

@@ -2,7 +2,7 @@
 ghost use Rattle.std.specs.Prelude.{◌≡◌, ◌≤◌, [], length, IfOk, true, false};
 ghost use Rattle.std.specs.Bool.{OnFalse, OnTrue};
 ghost use Rattle.ts_core.specs.ReadingAhead.{EndIsEnd, nothing_ahead};
-ghost use Rattle.ts_script.specs.ScriptLines.{script_line_limit, turn_limit};
+ghost use Rattle.ts_script.specs.ScriptLines.{script_line_limit};
 ghost use Rattle.ts_script.specs.LineReading.{LineIs, IsTaken, IsLonger, IsAsked, IsReadOn, IsNext, UsesUp, has_lf, next_of, last_of};
 
 use crate::chunk::{LINE_LIMIT, extend_line, keep_lent, line_end};
@@ -10,9 +10,6 @@ use std::alloc::{AllocError, Global};
 use std::io::Read;
 use std::marker::Model;
 use ts_core::{ReadAhead, ReadFault, Source};
-
-/// Limit of the number of reads.
-const TURN_LIMIT: u64 = 4_294_967_296;
 
 /// Result of reading the next line.
 #[derive(Clone, Copy, Drop)]
@@ -39,7 +36,7 @@ pub struct LineReader {
 
 impl Model for LineReader {
     ghost use Rattle.std.specs.Prelude.{◌≡◌, ◌≤◌, length, IfSome, vec_len, vec_capacity};
-    ghost use Rattle.ts_script.specs.ScriptLines.{script_line_limit, turn_limit};
+    ghost use Rattle.ts_script.specs.ScriptLines.{script_line_limit};
     ghost use Rattle.ts_script.specs.LineReading.{IsLineEnd};
     ghost use Rattle.ts_script.specs.HeldLine.{HeldLine, line_held};
 
@@ -47,16 +44,16 @@ impl Model for LineReader {
 
     ghost view = { λ r. record { ahead = r.ahead; line = line_held r.ahead.used r.lent r.line.items; long = r.long } };
 
-    ghost invariant = { λ r. (r.ahead.limit ≡ turn_limit) × (r.ahead.turns ≤ turn_limit) × (script_line_limit ≤ vec_capacity r.line) × (vec_len r.line ≤ script_line_limit) × IsLineEnd r.ahead.buffered r.end × IfSome r.lent (λ lent. (lent.0 ≤ lent.1) × (lent.1 ≤ length r.ahead.used)) × (length (line_held r.ahead.used r.lent r.line.items) ≤ script_line_limit) };
+    ghost invariant = { λ r. (r.ahead.turns ≤ r.ahead.limit) × (script_line_limit ≤ vec_capacity r.line) × (vec_len r.line ≤ script_line_limit) × IsLineEnd r.ahead.buffered r.end × IfSome r.lent (λ lent. (lent.0 ≤ lent.1) × (lent.1 ≤ length r.ahead.used)) × (length (line_held r.ahead.used r.lent r.line.items) ≤ script_line_limit) };
 }
 
 impl LineReader {
-    /// Allocates all buffers.
-    pub fn new(alloc: Global) -> Result<LineReader, AllocError>
-        ensures { IfOk result (λ r. r.ahead ≡ nothing_ahead turn_limit) }
+    /// Allocates all buffers of a reader that reads at most `turns` times.
+    pub fn new(alloc: Global, turns: u64) -> Result<LineReader, AllocError>
+        ensures { IfOk result (λ r. r.ahead ≡ nothing_ahead turns) }
     {
         Ok(LineReader {
-            ahead: ReadAhead::new(alloc, TURN_LIMIT)?,
+            ahead: ReadAhead::new(alloc, turns)?,
             end: 0,
             lent: None,
             line: Vec::with_capacity(alloc, LINE_LIMIT)?,

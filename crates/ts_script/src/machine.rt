@@ -5,16 +5,16 @@ ghost use Rattle.ts_script.specs.CommandParts.{command_view};
 ghost use Rattle.ts_script.specs.ScriptLines.{script_line_limit};
 ghost use Rattle.ts_script.specs.Machine.{State, start};
 ghost use Rattle.ts_script.specs.MarksTexts.{marks_text};
-ghost use Rattle.ts_script.specs.Commands.{OpenWith as OpenWithCommand, Write as WriteCommand, Retain as RetainCommand, BeginRun as BeginCommand, StepRun as StepCommand, Reload as ReloadCommand, SetCertificate as CertificateCommand, Query as QueryCommand, Explain as ExplainCommand, Count as CountCommand};
+ghost use Rattle.ts_script.specs.Commands.{OpenWith as OpenWithCommand, Write as WriteCommand, Retain as RetainCommand, BeginRun as BeginCommand, StepRun as StepCommand, Reload as ReloadCommand, AddRule as AddRuleCommand, DropRule as DropRuleCommand, SetCertificate as CertificateCommand, Query as QueryCommand, Explain as ExplainCommand, Count as CountCommand};
 ghost use Rattle.ts_script.specs.ScriptReplies.{line, text_of, written_text};
 ghost use Rattle.ts_script.specs.Serving.{IsIn, Replied, HasExplanation, Did, Refused, Stepped};
 
 use crate::certificate_text::with_line_feeds;
 use crate::command::{Command, is_skipped};
 use crate::count::count;
-use crate::marks_text::{MARKS_ROOM, marks_line};
+use crate::marks_text::{MARKS_ROOM, RULE_ROOM, marks_line, rule_line};
 use crate::opening::{bad_settings, store_with};
-use crate::reloading::reloaded;
+use crate::reloading::{ReloadFault, reloaded};
 use crate::reply::Reply;
 use bumpalo::Bump;
 use std::alloc::{AllocError, Global};
@@ -115,6 +115,8 @@ impl Machine {
             Command::BeginRun => self.begin(),
             Command::StepRun => self.step(),
             Command::Reload => self.reload(),
+            Command::AddRule(text) => self.add_rule(text),
+            Command::DropRule(name) => self.drop_rule(name),
             Command::SetCertificate(text) => self.hand_in(text),
             Command::Query(text) => self.query(text),
             Command::Explain(text) => self.explain(text),
@@ -204,11 +206,48 @@ impl Machine {
     fn reload(&mut self) -> Reply
         ensures { (s : State) → IsIn s self.old → Did ReloadCommand s (text_of result) self.new }
     {
-        let Ok(store) = reloaded(self.alloc, &self.store) else {
-            return Reply::OutOfMemory;
-        };
-        self.store = store;
-        Reply::Reloaded
+        match reloaded(self.alloc, &self.store) {
+            Ok(store) => {
+                self.store = store;
+                Reply::Reloaded
+            }
+            Err(ReloadFault::OutOfMemory) => Reply::OutOfMemory,
+            Err(ReloadFault::NotAccepted) => Reply::NotAccepted,
+        }
+    }
+
+    /// Adds the rule of a text, and replies with its name and low index. Allocates the text of these before the rule is
+    /// added.
+    fn add_rule(&mut self, text: &str) -> Reply
+        ensures { (s : State) → IsIn s self.old → Did (AddRuleCommand text.now) s (text_of result) self.new }
+    {
+        match String::with_capacity(self.alloc, RULE_ROOM) {
+            Ok(reply) => self.add_and_tell(text, reply),
+            Err(_) => Reply::OutOfMemory,
+        }
+    }
+
+    /// Adds the rule of a text, and replies with its name and low index in an empty text that has the capacity.
+    fn add_and_tell(&mut self, text: &str, reply: String) -> Reply
+        requires empty { string_len reply ≡ 0 }
+        requires room { RULE_ROOM ≤ string_capacity reply }
+        ensures { (s : State) → IsIn s self.old → Did (AddRuleCommand text.now) s (text_of result) self.new }
+    {
+        match self.store.add_rule_text(self.alloc, self.alloc, text) {
+            Ok(added) => Reply::Body(rule_line(reply, added.name.as_str(), added.low)),
+            Err(SettingsError::Fault(fault)) => bad_settings(self.alloc, fault),
+            Err(SettingsError::OutOfMemory) => Reply::OutOfMemory,
+        }
+    }
+
+    /// Drops the rule with a name.
+    fn drop_rule(&mut self, name: &str) -> Reply
+        ensures { (s : State) → IsIn s self.old → Did (DropRuleCommand name.now) s (text_of result) self.new }
+    {
+        if self.store.drop_rule(name).is_err() {
+            return Reply::UnknownRule;
+        }
+        Reply::Dropped
     }
 
     /// Replies with the marks in an empty text that has the capacity.

@@ -2,7 +2,7 @@
 ghost use Rattle.std.specs.Prelude.{◌≡◌, ◌+◌, ◌*◌, ◌≤◌, length, string_bytes, string_len, string_capacity};
 ghost use Rattle.std.specs.List.{AllByRecursion};
 ghost use Rattle.ts_core.specs.Settings.{Rule as RuleValue};
-ghost use Rattle.ts_script.specs.MarksTexts.{low_text, lows_text, raw_text, marks_text, IsAppendedWithin};
+ghost use Rattle.ts_script.specs.MarksTexts.{rule_text, low_text, lows_text, raw_text, marks_text, IsAppendedWithin};
 ghost use Rattle.ts_script.specs.ScriptReplies.{line};
 
 use itoa::Buffer;
@@ -12,7 +12,10 @@ use ts_core::{Marks, Rule, Settings, append_words};
 /// Upper bound on the text of marks with its LF, in bytes: 32 rules with names of 32 bytes, and 40 bytes per number.
 pub(crate) const MARKS_ROOM: usize = 2_415;
 
-/// Appends a rule's name and its low index. Does not allocate if `text` has the capacity.
+/// Upper bound on the text of an added rule with its LF, in bytes: a name of 32 bytes, and 40 bytes for the number.
+pub(crate) const RULE_ROOM: usize = 74;
+
+/// Appends a space, a rule's name and its low index. Does not allocate if `text` has the capacity.
 fn low_to(text: &mut String, name: &str, low: i128) -> Result<(), AllocError>
     ensures { IsAppendedWithin (length name.now + 42) (low_text name.now low) text.old text.new result }
 {
@@ -30,6 +33,30 @@ fn lows_to(text: &mut String, rules: &[Rule<Global>], lows: &[i128]) -> Result<(
             lows_to(text, rules, lows)
         }
         _ => Ok(()),
+    }
+}
+
+/// Appends the name and the low index of an added rule. Does not allocate if `text` has the capacity.
+fn rule_to(text: &mut String, name: &str, low: i64) -> Result<(), AllocError>
+    ensures { IsAppendedWithin (length name.now + 41) (rule_text name.now low) text.old text.new result }
+{
+    append_words(text, &[name, "=", Buffer::new().format(low)])
+}
+
+/// Appends a rule's name, its low index and an LF to an empty text that has the capacity; returns it. Does not allocate.
+pub(crate) fn rule_line(mut text: String, name: &str, low: i64) -> String
+    requires short { length name.now ≤ 32 }
+    requires empty { string_len text ≡ 0 }
+    requires room { RULE_ROOM ≤ string_capacity text }
+    ensures { string_bytes result ≡ line (rule_text name.now low) }
+{
+    match rule_to(&mut text, name, low) {
+        Ok(()) => {}
+        Err(_) => unreachable!(),
+    }
+    match text.push_str("\n") {
+        Ok(()) => text,
+        Err(_) => unreachable!(),
     }
 }
 

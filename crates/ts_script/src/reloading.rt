@@ -1,34 +1,76 @@
 //! A store that is saved to memory and loaded back.
-ghost use Rattle.std.specs.Prelude.{IfOk};
-ghost use Rattle.ts_script.specs.Reloading.{IsImageIn, IsReloadOf};
+ghost use Rattle.std.specs.Prelude.{◌≡◌, IfOk, IfErr, Result};
+ghost use Rattle.ts_core.specs.StoreData.{OfEachHistory};
+ghost use Rattle.ts_script.specs.Reloading.{IsImageIn, DoesNotFit, IsReloadOf, save_failed, load_failed};
 
-use std::alloc::{AllocError, Global};
+use std::alloc::Global;
 use ts_core::{Sink, Source};
-use ts_image::{SaveFault, load, save};
+use ts_image::{LoadFault, SaveFault, load, save};
 use ts_store::Store;
+
+/// Error of saving a store to memory and loading it back.
+#[derive(Clone, Copy, Debug, PartialEq, Eq)]
+pub enum ReloadFault {
+    /// Out of memory.
+    OutOfMemory,
+    /// The image was not accepted. That of a store that stands for a history is.
+    NotAccepted,
+}
+
+impl ReloadFault {
+    /// Returns the error for a save to a vector, which fails a write only when out of memory.
+    fn of_save(fault: SaveFault) -> ReloadFault
+        ensures { result ≡ save_failed fault }
+    {
+        match fault {
+            SaveFault::Device | SaveFault::OutOfMemory => ReloadFault::OutOfMemory,
+            SaveFault::Unfit => ReloadFault::NotAccepted,
+        }
+    }
+
+    /// Returns the error for a load from a slice, which fails no read, and ends long before the limit of reads.
+    fn of_load(fault: LoadFault) -> ReloadFault
+        ensures { result ≡ load_failed fault }
+    {
+        match fault {
+            LoadFault::Device | LoadFault::Turns | LoadFault::OutOfMemory => {
+                ReloadFault::OutOfMemory
+            }
+            LoadFault::NotAnImage
+            | LoadFault::OtherVersion
+            | LoadFault::Misshapen(_)
+            | LoadFault::Contradiction => ReloadFault::NotAccepted,
+        }
+    }
+}
 
 /// Returns the image of a store.
 fn saved(alloc: Global, store: &Store<Global>) -> Result<Vec<u8>, SaveFault>
-    ensures { IfOk result (λ bytes. IsImageIn store.now bytes.items) }
+    ensures image { IfOk result (λ bytes. IsImageIn store.now bytes.items) }
+    ensures unfit { result ≡ Result.Err SaveFault.Unfit → DoesNotFit store.now }
 {
     let mut sink = Sink::new(Vec::new(alloc));
-    save(alloc, store, &mut sink)?;
-    Ok(sink.into_inner())
+    match save(alloc, store, &mut sink) {
+        Ok(()) => Ok(sink.into_inner()),
+        Err(fault) => Err(fault),
+    }
 }
 
-/// Returns a store that is loaded from the image of this one. Where either fails, memory was missing: a vector and a
-/// slice have no other faults, and the image of a store has no contradiction.
-pub fn reloaded(alloc: Global, store: &Store<Global>) -> Result<Store<Global>, AllocError>
-    ensures { IfOk result (IsReloadOf store.now) }
+/// Returns a store that is loaded from the image of this one. For a store that stands for a history, it fails only when
+/// out of memory.
+pub fn reloaded(alloc: Global, store: &Store<Global>) -> Result<Store<Global>, ReloadFault>
+    ensures reloaded { IfOk result (IsReloadOf store.now) }
+    ensures memory { OfEachHistory store.now (λ opening h. IfErr result (λ e. e ≡ ReloadFault.OutOfMemory)) }
 {
-    // states that counts fit
+    // states that the store is well formed
     let _ = store.accepted();
-    let Ok(bytes) = saved(alloc, store) else {
-        return Err(AllocError);
+    let bytes = match saved(alloc, store) {
+        Ok(bytes) => bytes,
+        Err(fault) => return Err(ReloadFault::of_save(fault)),
     };
     let mut source = Source::new(bytes.as_slice());
     match load(alloc, &mut source) {
         Ok(store) => Ok(store),
-        Err(_) => Err(AllocError),
+        Err(fault) => Err(ReloadFault::of_load(fault)),
     }
 }

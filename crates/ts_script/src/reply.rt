@@ -23,9 +23,15 @@ pub enum Reply {
     Stepped(StepAnswer),
     /// The store was saved and loaded back.
     Reloaded,
+    /// The image of the store was not accepted. That of a store that stands for a history is.
+    NotAccepted,
+    /// A rule was dropped.
+    Dropped,
+    /// No rule has the name.
+    UnknownRule,
     /// A number of values.
     Count(u64),
-    /// Any other text, with its LF: the reply to queries, marks, or an error of settings.
+    /// Any other text, with its LF: the reply to queries, marks, an added rule, or an error of settings.
     Body(String),
     /// Count without a plan.
     NoPlan(PlanFault),
@@ -59,7 +65,9 @@ impl Reply {
             Reply::Nothing => answers.put(b"", sink),
             Reply::Written(outcome) => send_outcome(outcome, text, answers, sink),
             Reply::Stepped(answer) => answers.put(step_line(answer), sink),
-            Reply::Reloaded => answers.put(b"ok\n", sink),
+            Reply::Reloaded | Reply::Dropped => answers.put(b"ok\n", sink),
+            Reply::NotAccepted => answers.put(b"fault 64\n", sink),
+            Reply::UnknownRule => answers.put(b"fault 8\n", sink),
             Reply::Count(count) => send_count(answers, sink, count),
             Reply::Body(body) => answers.put(body.as_bytes(), sink),
             Reply::NoPlan(fault) => answers.put(plan_fault_line(fault), sink),

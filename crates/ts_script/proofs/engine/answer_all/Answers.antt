@@ -16,6 +16,7 @@ loop-lines-init g c =
       progress = begins c.args.source.now.remaining c.args.sink.now.contents c.args.lines.now.ahead.buffered c.args.machine.now (ap (λ (a : Ahead). a.buffered) e) c.requires.machine c.args.answers.now c.requires.answers;
       end = λ h. let x : c.args.lines.now.ahead.ended ≡ false = ap (λ (a : Ahead). a.ended) e in cc;
       turns = omega (arith, turns);
+      allowed = refl;
       within = omega (arith, turns);
       ends = omega (arith, ap (λ (a : Ahead). bit a.ended) e);
       reader = refl;
@@ -35,7 +36,7 @@ returns-in_err-send_before_wait g c =
       reader = omega (arith, i.reader);
       writer = omega (arith, i.writer, s.failures);
       end = tt;
-      within = omega (arith, i.turns, i.within);
+      within = omega (arith, i.turns, i.within, i.allowed);
       limit = λ e. absurd (writer_is_not_turns _ refl e);
     }
 
@@ -53,6 +54,7 @@ loop-lines-preserved g c =
           s.sent.ok;
       end = n.asked.end;
       turns = omega (arith, i.turns, n.asked.turns);
+      allowed = n.asked.allowed ∙ i.allowed;
       within = n.asked.within;
       ends = omega (arith, i.ends, n.asked.ends);
       reader = omega (arith, i.reader, n.asked.failures);
@@ -78,7 +80,7 @@ returns-in_err-send g c =
       reader = omega (arith, i.reader, n.asked.failures);
       writer = omega (arith, i.writer, b.failures, s.failures);
       end = tt;
-      within = omega (arith, i.turns, n.asked.turns, n.asked.within);
+      within = omega (arith, i.turns, i.allowed, n.asked.turns, n.asked.within, n.asked.allowed);
       limit = λ e. absurd (writer_is_not_turns _ refl e);
     }
 
@@ -98,10 +100,10 @@ returns-in_err-next g c =
       reader = omega (arith, i.reader, n.failures, reader_told fault result c.next.result told c.in_err-next.was);
       writer = omega (arith, i.writer, b.failures, writer_silent result fault told);
       end = rw told tt;
-      within = omega (arith, i.turns, n.turns, n.within);
+      within = omega (arith, i.turns, i.allowed, n.turns, n.within, n.allowed);
       limit = λ t.
           let at = n.limit (turns_told fault result c.next.result told c.in_err-next.was t) in
-          (omega (arith, i.turns, n.turns, at), omega (arith, i.ends, n.ends, ap bit c.in_err-next.ensures.asked.stays));
+          (omega (arith, i.turns, i.allowed, n.turns, n.allowed, at), omega (arith, i.ends, n.ends, ap bit c.in_err-next.ensures.asked.stays));
     }
 
 pub returns-in_err-flush : goal.returns-in_err-flush
@@ -118,7 +120,7 @@ returns-in_err-flush g c =
       reader = omega (arith, i.reader, n.asked.failures);
       writer = omega (arith, i.writer, b.failures, s.failures);
       end = tt;
-      within = omega (arith, i.turns, n.asked.turns, n.asked.within);
+      within = omega (arith, i.turns, i.allowed, n.asked.turns, n.asked.within, n.asked.allowed);
       limit = λ e. absurd (writer_is_not_turns _ refl e);
     }
 
@@ -138,7 +140,7 @@ returns-in-End g c =
       reader = omega (arith, i.reader, n.asked.failures);
       writer = omega (arith, i.writer, b.failures, s.buffered.failures);
       end = omega (arith, i.ends, n.asked.ends, ap bit (n.goes_on.over c.in-End.is));
-      within = omega (arith, i.turns, n.asked.turns, n.asked.within);
+      within = omega (arith, i.turns, i.allowed, n.asked.turns, n.asked.within, n.asked.allowed);
       limit = λ e. absurd (done_has_no_fault _ _ _ refl e);
     }
 

@@ -1,7 +1,6 @@
 use Rattle.std.proofs.Common.{◌≡◌, ◌+◌, ◌≤◌, string_capacity}
 use Rattle.ts_script.specs.declared.reply.TheConstants.{TEXT_ROOM}
 use Rattle.ts_core.specs.ReadingAhead.{EndIsEnd, bit, weight}
-use Rattle.ts_script.specs.ScriptLines.{turn_limit}
 use Rattle.ts_script.specs.LineReading.{to_come}
 use Rattle.ts_script.proofs.Progress.{Progress}
 use Rattle.ts_script.proofs.engine.answer_all.Given as goal
@@ -11,7 +10,8 @@ invariant-loop-lines g l = record {
   progress : Progress l.initial.source.remaining (to_come l.lines l.source) l.initial.sink.contents l.sink.contents l.answers l.machine;
   end : EndIsEnd l.lines.ahead l.source;
   turns : l.source.turns ≡ l.initial.source.turns + l.lines.ahead.turns;
-  within : l.lines.ahead.turns ≤ turn_limit;
+  allowed : l.lines.ahead.limit ≡ l.initial.lines.ahead.limit;
+  within : l.lines.ahead.turns ≤ l.lines.ahead.limit;
   ends : l.source.ends ≡ l.initial.source.ends + bit l.lines.ahead.ended;
   reader : l.source.failures ≡ l.initial.source.failures;
   writer : l.sink.failures ≡ l.initial.sink.failures;

@@ -29,6 +29,7 @@ returns-then-take_chunk-clause-asked g c =
     record {
       end = λ e. cc;
       stays = tt;
+      allowed = t.limit ∙ i.allowed;
       within = t.within;
       limit = λ e. cc;
       failures = omega (arith, i.failures);
@@ -48,6 +49,7 @@ returns-in_err-read_on-clause-asked g c =
     rw (p.1, p.2) record {
       end = s.end;
       stays = s.stays;
+      allowed = s.allowed ∙ t.limit ∙ i.allowed;
       within = s.within;
       limit = λ e. s.limit cc;
       failures = omega (arith, s.failures, i.failures);
@@ -83,6 +85,7 @@ returns-then-not-branch-clause-asked g c =
     record {
       end = s.end;
       stays = tt;
+      allowed = s.allowed ∙ t.limit ∙ i.allowed;
       within = s.within;
       limit = λ e. cc;
       failures = omega (arith, s.failures, i.failures);
@@ -92,7 +95,9 @@ returns-then-not-branch-clause-asked g c =
 
 pub loop-self-smaller : goal.loop-self-smaller
 loop-self-smaller g c =
-    omega (arith, c.in_ok-read_on.ensures.read.turn, c.take_chunk.ensures.taken.turns, c.in_ok-read_on.ensures.asked.within)
+    let s = c.in_ok-read_on.ensures.asked in
+    let t = c.take_chunk.ensures.taken in
+    omega (arith, c.in_ok-read_on.ensures.read.turn, t.turns, s.within, s.allowed, t.limit, c.loop-self.invariant.allowed)
 
 pub loop-self-preserved : goal.loop-self-preserved
 loop-self-preserved g c =
@@ -104,6 +109,7 @@ loop-self-preserved g c =
     record {
       so_far = more_told (to_come c.args.self.now c.args.source.now) c.loop-self.self c.take_chunk.new.self c.read_on.new.self c.loop-self.source c.read_on.new.source i.so_far.0 i.so_far.1 (sym t.found ∙ c.if-take_chunk.false) c.take_chunk.ensures.line t.buffered f.bytes f.line f.long;
       going = going;
+      allowed = s.allowed ∙ t.limit ∙ i.allowed;
       less = omega (arith, t.less, f.less, i.less);
       failures = omega (arith, s.failures, i.failures);
       turns = omega (arith, s.turns, i.turns, t.turns);

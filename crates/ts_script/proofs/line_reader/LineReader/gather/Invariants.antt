@@ -1,6 +1,5 @@
 use Rattle.std.proofs.Common.{◌≡◌, ℕ, ◌+◌, ◌-◌, ◌≤◌, List, false}
 use Rattle.ts_core.specs.ReadingAhead.{weight}
-use Rattle.ts_script.specs.ScriptLines.{turn_limit}
 use Rattle.ts_script.specs.LineReading.{to_come}
 use Rattle.ts_script.proofs.LineScan.{SoFar}
 use Rattle.ts_script.proofs.line_reader.LineReader.gather.Given as goal
@@ -9,6 +8,7 @@ abbrev pub invariant-loop-self : goal.invariant-loop-self
 invariant-loop-self g l = record {
   so_far : (bytes : List ℕ) × SoFar (to_come l.initial.self l.initial.source) (to_come l.self l.source) bytes l.self.line l.self.long;
   going : l.self.ahead.ended ≡ false;
+  allowed : l.self.ahead.limit ≡ l.initial.self.ahead.limit;
   less : weight l.self.ahead ≤ weight l.initial.self.ahead;
   failures : l.source.failures ≡ l.initial.source.failures;
   turns : l.source.turns + l.initial.self.ahead.turns ≡ l.initial.source.turns + l.self.ahead.turns;
@@ -16,4 +16,4 @@ invariant-loop-self g l = record {
 }
 
 abbrev pub decreases-loop-self : goal.decreases-loop-self
-decreases-loop-self g l = turn_limit - l.self.ahead.turns
+decreases-loop-self g l = l.initial.self.ahead.limit - l.self.ahead.turns

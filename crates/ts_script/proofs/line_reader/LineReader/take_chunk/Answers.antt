@@ -7,7 +7,7 @@ pub returns-clause-line : goal.returns-clause-line
 returns-clause-line c = λ before h.
     let Kept = λ (r : HeldLine). LineIs before r.line r.long in
     let s = c.self.inside in
-    let ends : IsLineEnd s.ahead.buffered s.end = c.self.invariant.4 in
+    let ends : IsLineEnd s.ahead.buffered s.end = c.self.invariant.3 in
     let first = ap (take s.end) c.buffered-rest.ensures.value ∙ ends.line ∙ ap (λ (r : HeldLine). first_line r.ahead.buffered) c.self.view_is in
     let held =
     c.keep_lent.ensures.line ∙ ap (λ (lent : Option (ℕ × ℕ)). line_held c.used.result.now lent s.line.items) c.take.ensures.value

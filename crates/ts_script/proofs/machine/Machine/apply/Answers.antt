@@ -60,3 +60,9 @@ returns-in-Explain c = λ s i. rw c.in-Explain.is (c.explain.ensures s i)
 
 pub returns-in-Count : goal.returns-in-Count
 returns-in-Count c = λ s i. rw c.in-Count.is (c.count.ensures s i)
+
+pub returns-in-AddRule : goal.returns-in-AddRule
+returns-in-AddRule c = λ s i. rw c.in-AddRule.is (c.add_rule.ensures s i)
+
+pub returns-in-DropRule : goal.returns-in-DropRule
+returns-in-DropRule c = λ s i. rw c.in-DropRule.is (c.drop_rule.ensures s i)

@@ -16,3 +16,11 @@ returns-in-RunInProgress-clause-sent g c = rw c.in-RunInProgress.is c.put-in-Run
 pub returns-in-OutOfMemory-clause-sent : goal.returns-in-OutOfMemory-clause-sent
 unfolding digits
 returns-in-OutOfMemory-clause-sent g c = rw c.in-OutOfMemory.is c.put-in-OutOfMemory.ensures
+
+pub returns-in-NotAccepted-clause-sent : goal.returns-in-NotAccepted-clause-sent
+unfolding digits
+returns-in-NotAccepted-clause-sent g c = rw c.in-NotAccepted.is c.put-in-NotAccepted.ensures
+
+pub returns-in-UnknownRule-clause-sent : goal.returns-in-UnknownRule-clause-sent
+unfolding digits
+returns-in-UnknownRule-clause-sent g c = rw c.in-UnknownRule.is c.put-in-UnknownRule.ensures
