@@ -8,6 +8,7 @@ use Rattle.ts_core.specs.Devices.{Input, Output, AppendsFront}
 use Rattle.tsdb.specs.CommandLines.{ParsesAs, told_of_kind, IsToldAs}
 use Rattle.tsdb.specs.FaultTables.{fault_table}
 use Rattle.ts_script.specs.Script.{IsReplay}
+use Rattle.ts_script.specs.ScriptLines.{turn_limit}
 use Rattle.ts_reply.specs.Told.{handed_in}
 use Rattle.tsdb.specs.declared.call.Answer.{Answer}
 use Rattle.tsdb.specs.declared.call.Answer.TheVariants as answer
@@ -24,7 +25,7 @@ outcome_of (Ok x) = Answered
 outcome_of (Err fault) = Stopped fault
 
 abbrev pub IsReplayed : Input → Output → Outcome → Input → Output → Type 0
-IsReplayed source sink outcome source' sink' = (result : Result ⊤ RunFault) × (outcome ≡ outcome_of result) × IsReplay source sink result source' sink'
+IsReplayed source sink outcome source' sink' = (result : Result ⊤ RunFault) × (outcome ≡ outcome_of result) × IsReplay turn_limit source sink result source' sink'
 
 -- The rows are printed, or a beginning of them if the device fails. There may be none, or no memory for them.
 abbrev pub TellsFaults : Text → Output → Outcome → Output → Type 0

@@ -29,6 +29,9 @@ Scripts have one command a line; blank lines and lines that begin with # are ski
   begin          begins to do so in steps, and prints the same; fault 53 if that was begun and not ended.
   step           takes the next step: prints moved, or done with the last one, or if none is left.
   reload         saves the store to memory, loads it back, and prints ok; every later answer is as without.
+  rule JSON      adds a rule, in the form of `settings`, and prints NAME=BUCKET: from that bucket on, the first at or
+                 above the mark, it has cells. Those of the points that are there are made at once.
+  drop NAME      drops the rule with its cells, and prints ok; fault 8 if there is none. Both may come during a run.
   live           prints how many raw points are kept, each field of a line counted: of a point that was
                  written again only the newer values.
   query TEXT     prints the JSON reply to up to 16 statements of InfluxQL, parted by `;`:
@@ -53,12 +56,13 @@ prints ok, ok and 1.
 `tsdb serve SETTINGS IMAGE PORT REQUESTS` answers HTTP requests; `tsdb serve --help` says more.";
 
 const NOTES: &str = "\
-A connection has one request: POST /write, GET or POST /query, or /ping, as InfluxDB 1.x has them, or POST /maintain,
-which runs retention. The moment is that of the machine's clock. A client that takes longer than 10 seconds is left.
+A connection has one request: POST /write, GET or POST /query, or /ping, as InfluxDB 1.x has them, POST /maintain,
+which runs retention, or POST or DELETE /rules, which adds or drops a rule. The moment is that of the machine's
+clock. A client that takes longer than 10 seconds is left.
 
 If the file IMAGE exists, the store is loaded from it with the settings that it was saved with, and SETTINGS isn't
-read. The image is saved after each /maintain that is answered with 200, and at the end: into IMAGE.new, which then
-replaces IMAGE. Lines written since the last save are lost if the program is killed.";
+read. The image is saved after each /maintain and /rules that is answered with 200, and at the end: into IMAGE.new,
+which then replaces IMAGE. Lines written since the last save are lost if the program is killed.";
 
 /// Creates the program's command, with its subcommands.
 pub fn program<'a>(alloc: Global) -> Result<Command<'a>, AllocError>

@@ -1,6 +1,6 @@
 //! The loop of `tsdb serve`: serves the connections of a listener one after another, and saves the store's image.
-ghost use Rattle.std.specs.Prelude.{◌≤◌};
-ghost use Rattle.tsdb.specs.Requests.{WentBy};
+ghost use Rattle.std.specs.Prelude.{◌≡◌, ◌≤◌};
+ghost use Rattle.tsdb.specs.Requests.{WentBy, is_saved_after};
 
 use crate::image_file::{save_image, save_or_report};
 use crate::timed::Timed;
@@ -65,11 +65,14 @@ fn finish(stream: &TcpStream, clock: &impl Clock, served: Served) {
     }
 }
 
-/// Returns true if a request that was served so is a reason to save the image: a retention run that was taken on.
-fn is_saved_after(served: Served) -> bool {
+/// Returns true if a request that was served so is a reason to save the image: a retention run that was taken on, or a
+/// rule that was added or dropped.
+fn is_saved_after(served: Served) -> bool
+    ensures { result ≡ is_saved_after served }
+{
     match served {
         Served::Reply { status, route } => {
-            matches!(status, Status::Success) && matches!(route, Route::Maintain)
+            matches!(status, Status::Success) && matches!(route, Route::Maintain | Route::Rules)
         }
         Served::Nothing => false,
     }
@@ -98,8 +101,8 @@ fn serve_stream(
 }
 
 /// Serves `count` connections of a listener, one request each, at the moments of a clock. A connection that fails is
-/// closed, and the next one is served. Saves the image after each `/maintain` that was answered with 200; a failed save
-/// is reported on standard error, and the next connection is served.
+/// closed, and the next one is served. Saves the image after each `/maintain` and each `/rules` that was answered with
+/// 200; a failed save is reported on standard error, and the next connection is served.
 #[tactic(auto, using(crate::proofs::RequestLemmas::stayed))]
 fn serve_all<R>(rt: &R, store: &mut Store<Global>, listener: &TcpListener, image: &str, count: u64)
 where
