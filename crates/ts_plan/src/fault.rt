@@ -12,7 +12,7 @@ use ts_core::{FaultCode, FaultDetail, append_words};
 #[derive(Clone, Copy, Debug, PartialEq, Eq, Error)]
 pub enum PlanFault {
     /// No pieces cover all points that the query asks for.
-    #[error("no plan: the query needs points that are dropped, and no cells fit it")]
+    #[error("no plan: the query needs dropped points, and no cells fit it")]
     NoPlan,
     /// More than 1,000,000 buckets of rules to search.
     #[error("too many buckets to search for a plan")]
