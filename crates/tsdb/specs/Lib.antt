@@ -4,5 +4,6 @@ pub mod CommandLines
 pub mod RunOutcomes
 pub mod Calls
 pub mod Requests
+pub mod Services
 -- used only by proofs of the code
 pub mod FaultNumbers

@@ -1,5 +1,8 @@
 //! The file of a store's image: loaded before the first request, and saved so that a crash leaves the old image or the
 //! new one.
+ghost use Rattle.std.specs.Prelude.{◌≡◌, IfOk, IfSome};
+ghost use Rattle.tsdb.specs.Services.{IsLoaded};
+
 use std::alloc::{AllocError, Global};
 use std::fs::OpenFile;
 use std::path::Path;
@@ -13,7 +16,9 @@ use ts_store::Store;
 pub fn load_image<R: Files + AllocGlobal>(
     rt: &R,
     image: &str,
-) -> Result<Option<Store<Global>>, LoadFault> {
+) -> Result<Option<Store<Global>>, LoadFault>
+    ensures { IfOk result (λ found. IfSome found IsLoaded) }
+{
     match fs::open(rt, image) {
         Ok(file) => {
             let mut source = Source::new(file);

@@ -8,43 +8,47 @@ use std::alloc::{AllocError, Global};
 
 const VERSION: &str = "0.1.0";
 
-const ABOUT: &str = "A time series database of integers, run by scripts and over HTTP";
+const ABOUT: &str = "A time series database of integers, for scripts and over HTTP";
 
 const SCRIPTS: &str = "\
-Scripts have one command a line; blank lines and lines that begin with # are skipped.
+A script has one command per line. Blank lines and lines that begin with # are skipped.
 
-  settings JSON  opens the script, as its first command: {\"raw\":\"2m\",\"rules\":[{\"name\":\"m1\",\"measurement\":\"M\",
-                 \"interval\":\"1m\",\"offset\":\"0s\",\"keep\":[\"TAG\"],\"duration\":\"INF\"}]}. Raw points are kept for
-                 2 minutes, and of M a cell for each minute and value of TAG for ever.
-  at N[UNIT]     sets the moment, at first 0. UNIT is ns, u, µ, ms, s, m, h, d or w; without
-                 one N is in nanoseconds of the Unix epoch.
-  precision P    sets the unit of timestamps, at first ns: ns, n, u, ms, s, m or h.
-  epoch U        sets how replies write times: text (at first) is RFC 3339 in UTC; ns, n, u, µ, ms, s, m
-                 or h counts whole units of the Unix epoch.
-  write LINE     accepts a line of line protocol, `M[,TAG=VALUE..] F=Vi[,F=Vi..] [T]`: measurement M,
-                 fields F with integers V, time T. Without T it has the moment. Prints ok; none
-                 for a comment or a blank line; a fault with its place, and then nothing is kept.
-  retain         drops raw points and cells that are older at the moment than settings keep them, and
-                 prints from where on there are raw points (marks NANOSECONDS) and cells (NAME=BUCKET).
-  begin          begins to do so in steps, and prints the same; fault 53 if that was begun and not ended.
-  step           takes the next step: prints moved, or done with the last one, or if none is left.
-  reload         saves the store to memory, loads it back, and prints ok; every later answer is as without.
-  rule JSON      adds a rule, in the form of `settings`, and prints NAME=BUCKET: from that bucket on, the first at or
-                 above the mark, it has cells. Those of the points that are there are made at once.
-  drop NAME      drops the rule with its cells, and prints ok; fault 8 if there is none. Both may come during a run.
-  live           prints how many raw points are kept, each field of a line counted: of a point that was
-                 written again only the newer values.
-  query TEXT     prints the JSON reply to up to 16 statements of InfluxQL, parted by `;`:
+  settings JSON  sets durations and rollup rules; only as the first command:
+                 {\"raw\":\"2m\",\"rules\":[{\"name\":\"m1\",\"measurement\":\"M\",\"interval\":\"1m\",\"offset\":\"0s\",
+                 \"keep\":[\"TAG\"],\"duration\":\"INF\"}]} keeps raw points for 2 minutes, and one cell of M per
+                 minute and value of TAG forever.
+  at N[UNIT]     sets the moment, which stands for the current time, initially 0. UNIT is ns, u, µ, ms, s,
+                 m, h, d or w; without one, N is in nanoseconds since the Unix epoch.
+  precision P    sets the unit of timestamps, initially ns: ns, n, u, ms, s, m or h.
+  epoch U        sets the format of times in replies: text (initially) is RFC 3339 in UTC; ns, n, u, µ,
+                 ms, s, m or h is a number of whole units since the Unix epoch.
+  write LINE     writes a line of line protocol, `M[,TAG=VALUE..] F=Vi[,F=Vi..] [T]`: measurement M,
+                 fields F with integers V, time T or else the moment. Prints ok, or none for a
+                 comment or a blank line. After a fault, printed with its offset, nothing is written.
+  retain         drops raw points and cells that have expired at the moment, and prints from
+                 where on there are raw points (marks NANOSECONDS) and cells (NAME=BUCKET).
+  begin          begins such a retention run, to be taken in steps, and prints the same. Prints
+                 fault 53 if a run is in progress.
+  step           takes the next step of the run: prints moved, or done if no step is left after it.
+  reload         saves the store to memory, loads it back, and prints ok. No later answer changes.
+  rule JSON      adds a rollup rule, in the form that `settings` has, and prints NAME=BUCKET: its first
+                 bucket, the first that starts at or above the raw mark. Cells of points that are there
+                 are created at once. Also allowed during a run.
+  drop NAME      drops a rule with its cells, and prints ok, or fault 8 if no rule has this name. Also
+                 allowed during a run.
+  live           prints the number of raw points. Each field of a line counts; a replaced value counts
+                 once.
+  query TEXT     prints the JSON reply to up to 16 statements of InfluxQL, separated by `;`:
                  `SELECT FUNCTION(F)[ AS NAME][,..] FROM M WHERE time >= A [AND time < B] [AND TAG = 'V' ..]
                  GROUP BY time(DURATION[, OFFSET])[, TAG ..] [fill(null|none|previous|N)]`, of one field F.
                  The functions are COUNT, SUM, MIN, MAX, FIRST, LAST and MEAN.
-  explain TEXT   prints the plans of the statements instead: what they read of raw points and of cells.
-  cert TEXT      takes a plan, with `;` for each line end, for the next query in place of its own.
-  count M F A B  prints how many points field F of measurement M has from time A on and before
+  explain TEXT   prints the plans of the statements instead: which raw points and cells they read.
+  cert TEXT      gives the plan for the next query, instead of its own; `;` stands for each line end.
+  count M F A B  prints the number of points of field F of measurement M from time A on and before
                  time B, in nanoseconds. A point that was written again counts once.
 
-What is wrong is printed as `fault` with its number, running out of memory as `fault memory`, and the
-script goes on with its next line.
+Errors are printed as `fault` and a number, out of memory as `fault memory`; the script continues with
+its next line.
 
 Example:
 
@@ -52,16 +56,16 @@ Example:
 
 prints ok, ok and 1.
 
-`tsdb faults` prints what the number of each fault means, `tsdb faults N` that of N.
-`tsdb serve SETTINGS IMAGE PORT REQUESTS` answers HTTP requests; `tsdb serve --help` says more.";
+`tsdb faults` prints what each fault means, `tsdb faults N` only fault N.
+`tsdb serve SETTINGS IMAGE PORT REQUESTS` answers HTTP requests; see `tsdb serve --help`.";
 
 const NOTES: &str = "\
-A connection has one request: POST /write, GET or POST /query, or /ping, as InfluxDB 1.x has them, POST /maintain,
-which runs retention, or POST or DELETE /rules, which adds or drops a rule. The moment is that of the machine's
-clock. A client that takes longer than 10 seconds is left.
+A connection has one request: POST /write, GET or POST /query, or /ping, as in InfluxDB 1.x; POST /maintain, which
+runs retention; or POST or DELETE /rules, which adds or drops a rollup rule. The moment is the time of
+the machine's clock. A client that takes longer than 10 seconds is disconnected.
 
-If the file IMAGE exists, the store is loaded from it with the settings that it was saved with, and SETTINGS isn't
-read. The image is saved after each /maintain and /rules that is answered with 200, and at the end: into IMAGE.new,
+If the file IMAGE exists, the store is loaded from it, with the settings that it was saved with, and SETTINGS isn't
+read. The store is saved after each /maintain and /rules that is answered with 200, and at the end: to IMAGE.new,
 which then replaces IMAGE. Lines written since the last save are lost if the program is killed.";
 
 /// Creates the program's command, with its subcommands.
@@ -90,7 +94,7 @@ fn replay<'a>(alloc: Global) -> Command<'a>
 fn faults<'a>(alloc: Global) -> Result<Command<'a>, AllocError>
     ensures { IfOk result (IsCommand faults_app) }
 {
-    let number = Arg::new(alloc, "N").help("The number of the one fault to print");
+    let number = Arg::new(alloc, "N").help("The number of the fault to print");
     Command::new(alloc, "faults")
         .about("Prints what the number of each fault means")
         .arg(number)
@@ -112,7 +116,7 @@ fn settings<'a>(alloc: Global) -> Arg<'a>
     ensures { IsArgument settings_rule result }
 {
     Arg::new(alloc, "SETTINGS").required(true).help(
-        "A file with the settings, as the command settings of scripts has them",
+        "A file with the settings, in the form of the script command `settings`",
     )
 }
 
@@ -120,7 +124,7 @@ fn image<'a>(alloc: Global) -> Arg<'a>
     ensures { IsArgument image_rule result }
 {
     Arg::new(alloc, "IMAGE").required(true).help(
-        "The file of the store's image; it is created if it doesn't exist",
+        "The file that the store is saved in; created if it doesn't exist",
     )
 }
 
@@ -139,5 +143,5 @@ fn requests<'a>(alloc: Global) -> Arg<'a>
     Arg::new(alloc, "REQUESTS")
         .required(true)
         .value_parser(value_parser!(u64))
-        .help("How many connections are served before it ends; 0 for no end")
+        .help("The number of connections to serve before it ends, 0 for no end")
 }

@@ -1,4 +1,11 @@
 //! `tsdb serve`: a store that is loaded from its image or has the settings of a file, and the requests of a port.
+ghost use Rattle.std.specs.Prelude.{◌≡◌, ◌⊎◌, IfOk, IfErr, Err, string_bytes};
+ghost use Rattle.ts_core.specs.Facts.{Text};
+ghost use Rattle.ts_core.specs.SettingsTexts.{settings_read};
+ghost use Rattle.ts_core.specs.declared.settings_fault.SettingsError.TheVariants as errors;
+ghost use Rattle.ts_core.specs.declared.settings_fault.SettingsFault.{SettingsFault};
+ghost use Rattle.tsdb.specs.Services.{IsLoaded, IsNew, service_status, service_line};
+
 use crate::command_line::Service;
 use crate::image_file::load_image;
 use crate::requests::serve_on;
@@ -59,7 +66,9 @@ impl ServiceFault {
     }
 
     /// Returns the exit status: 3 when out of memory, else 1.
-    fn status(self) -> u8 {
+    fn status(self) -> u8
+        ensures { result ≡ service_status self }
+    {
         match self {
             ServiceFault::OutOfMemory => 3,
             _ => 1,
@@ -67,7 +76,9 @@ impl ServiceFault {
     }
 
     /// Returns the line for standard error. It names the file that is at fault.
-    fn text(self, alloc: Global, service: &Service<'_>) -> Result<String, AllocError> {
+    fn text(self, alloc: Global, service: &Service<'_>) -> Result<String, AllocError>
+        ensures { IfOk result (λ text. string_bytes text ≡ service_line service.now self) }
+    {
         let mut text = String::new(alloc);
         match self {
             ServiceFault::NoSettings => {
@@ -100,7 +111,10 @@ impl ServiceFault {
 }
 
 /// Creates an empty store with the settings of a text, or returns their first error.
-fn store_with(alloc: Global, text: &str) -> Result<Store<Global>, SettingsError> {
+fn store_with(alloc: Global, text: &str) -> Result<Store<Global>, SettingsError>
+    ensures ok { IfOk result (IsNew text.now) }
+    ensures fault { IfErr result (λ e. (f : SettingsFault) → e ≡ errors.Fault f → settings_read text.now ≡ Err f) }
+{
     let settings = Settings::read(alloc, alloc, text)?;
     match Store::new(alloc, settings) {
         Ok(store) => Ok(store),
@@ -112,7 +126,9 @@ fn store_with(alloc: Global, text: &str) -> Result<Store<Global>, SettingsError>
 fn open_store<R: Files + AllocGlobal>(
     rt: &R,
     service: &Service<'_>,
-) -> Result<Store<Global>, ServiceFault> {
+) -> Result<Store<Global>, ServiceFault>
+    ensures { IfOk result (λ store. IsLoaded store ⊎ ((text : Text) × IsNew text store)) }
+{
     match load_image(rt, service.image) {
         Ok(Some(store)) => return Ok(store),
         Ok(None) => {}
