@@ -1,5 +1,6 @@
 //! `tsdb serve`: a store that is loaded from its image or has the settings of a file, and the requests of a port.
-ghost use Rattle.std.specs.Prelude.{◌≡◌, ◌⊎◌, IfOk, IfErr, Err, string_bytes};
+ghost use Rattle.std.specs.Prelude.{◌≡◌, ◌⊎◌, IfOk, IfErr, Err};
+ghost use Rattle.ts_core.specs.FaultTexts.{IsAppended};
 ghost use Rattle.ts_core.specs.Facts.{Text};
 ghost use Rattle.ts_core.specs.SettingsTexts.{settings_read};
 ghost use Rattle.ts_core.specs.declared.settings_fault.SettingsError.TheVariants as errors;
@@ -75,38 +76,34 @@ impl ServiceFault {
         }
     }
 
-    /// Returns the line for standard error. It names the file that is at fault.
-    fn text(self, alloc: Global, service: &Service<'_>) -> Result<String, AllocError>
-        ensures { IfOk result (λ text. string_bytes text ≡ service_line service.now self) }
+    /// Appends the line for standard error to `text`. It names the file that is at fault.
+    fn text_to(self, service: &Service<'_>, text: &mut String) -> Result<(), AllocError>
+        ensures { IsAppended (service_line service.now self) text.old text.new result }
     {
-        let mut text = String::new(alloc);
         match self {
-            ServiceFault::NoSettings => {
-                append_words(
-                    &mut text,
-                    &[
-                        "tsdb: ",
-                        service.settings,
-                        ": the settings could not be read",
-                    ],
-                )?;
-            }
+            ServiceFault::NoSettings => append_words(
+                text,
+                &[
+                    "tsdb: ",
+                    service.settings,
+                    ": the settings could not be read",
+                ],
+            ),
             ServiceFault::Settings(fault) => {
-                append_words(&mut text, &["tsdb: ", service.settings, ": "])?;
-                fault.text_to(&mut text)?;
+                append_words(text, &["tsdb: ", service.settings, ": "])?;
+                fault.text_to(text)
             }
             ServiceFault::Image(fault) => {
-                append_words(&mut text, &["tsdb: ", service.image, ": "])?;
-                fault.text_to(&mut text)?;
+                append_words(text, &["tsdb: ", service.image, ": "])?;
+                fault.text_to(text)
             }
-            ServiceFault::NoPort => text.push_str("tsdb: the port could not be listened on")?,
+            ServiceFault::NoPort => text.push_str("tsdb: the port could not be listened on"),
             ServiceFault::NotSaved(fault) => {
-                append_words(&mut text, &["tsdb: ", service.image, ": "])?;
-                fault.text_to(&mut text)?;
+                append_words(text, &["tsdb: ", service.image, ": "])?;
+                fault.text_to(text)
             }
-            ServiceFault::OutOfMemory => text.push_str("tsdb: out of memory")?,
+            ServiceFault::OutOfMemory => text.push_str("tsdb: out of memory"),
         }
-        Ok(text)
     }
 }
 
@@ -172,7 +169,8 @@ where
     match run_service(rt, service) {
         Ok(()) => ExitCode::from(0),
         Err(fault) => {
-            if let Ok(line) = fault.text(rt.alloc(), service) {
+            let mut line = String::new(rt.alloc());
+            if fault.text_to(service, &mut line).is_ok() {
                 let _ = eprintln!(rt; "{line}");
             }
             ExitCode::from(fault.status())
