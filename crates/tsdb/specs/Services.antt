@@ -1,5 +1,5 @@
 -- What a service begins with, and what it reports if it can't begin or isn't saved. (Own rule.)
-use Rattle.std.specs.Prelude.{◌≡◌, ◌+◌, ◌^◌, ◌++◌, ◌⊎◌, ℕ, codes, Result, Ok, Err}
+use Rattle.std.specs.Prelude.{◌≡◌, ◌^◌, ◌++◌, ℕ, codes, Ok}
 use Rattle.ts_core.specs.Facts.{Text}
 use Rattle.ts_core.specs.Devices.{Input}
 use Rattle.ts_core.specs.Settings.{Settings}

@@ -1,6 +1,5 @@
 //! `tsdb serve`: a store that is loaded from its image or has the settings of a file, and the requests of a port.
-ghost use Rattle.std.specs.Prelude.{◌≡◌, ◌⊎◌, IfOk, IfErr, Err};
-ghost use Rattle.ts_core.specs.FaultTexts.{IsAppended};
+ghost use Rattle.std.specs.Prelude.{◌≡◌, ◌++◌, ◌⊎◌, IfOk, IfErr, OnOk, Err, string_bytes};
 ghost use Rattle.ts_core.specs.Facts.{Text};
 ghost use Rattle.ts_core.specs.SettingsTexts.{settings_read};
 ghost use Rattle.ts_core.specs.declared.settings_fault.SettingsError.TheVariants as errors;
@@ -78,7 +77,7 @@ impl ServiceFault {
 
     /// Appends the line for standard error to `text`. It names the file that is at fault.
     fn text_to(self, service: &Service<'_>, text: &mut String) -> Result<(), AllocError>
-        ensures { IsAppended (service_line service.now self) text.old text.new result }
+        ensures { OnOk result (string_bytes text.new ≡ string_bytes text.old ++ service_line service.now self) }
     {
         match self {
             ServiceFault::NoSettings => append_words(
