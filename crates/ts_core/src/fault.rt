@@ -6,9 +6,11 @@ ghost use Rattle.ts_core.specs.FaultTexts.{IsAppended};
 use crate::fault_code::FaultCode;
 use crate::fault_text::FaultDetail;
 use std::alloc::{AllocError, Allocator};
+use thiserror::Error;
 
 /// Error of a list of pieces that doesn't cover all points of a query.
-#[derive(Clone, Copy, Debug, PartialEq, Eq)]
+#[derive(Clone, Copy, Debug, PartialEq, Eq, Error)]
+#[error("{}", self.code().words())]
 pub enum Fault {
     /// Gap: the pieces don't follow one another from the start of the range to its end.
     Gap,

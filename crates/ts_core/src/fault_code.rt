@@ -2,8 +2,11 @@
 ghost use Rattle.std.specs.Prelude.{◌≡◌};
 ghost use Rattle.ts_core.specs.FaultCodes.{code_number, code_words, all_codes, first_numbered, code_of_number};
 
+use thiserror::Error;
+
 /// A fault. Replies, scripts and pages refer to it by its number.
-#[derive(Clone, Copy, Debug, PartialEq, Eq)]
+#[derive(Clone, Copy, Debug, PartialEq, Eq, Error)]
+#[error("{}", self.words())]
 pub enum FaultCode {
     /// Rule interval below a second or above 366 days (number 1).
     IntervalRange,
