@@ -1,10 +1,10 @@
 //! Names of rules, which are short enough to be stored inline.
 ghost use Rattle.std.specs.Prelude.{◌≡◌, ◌≤◌, length, true, false, MatchOption};
-ghost use Rattle.std.specs.List.{list_all};
-ghost use Rattle.ts_core.specs.SettingsFaults.{is_name_byte, is_rule_name};
+ghost use Rattle.ts_core.specs.SettingsFaults.{is_rule_name};
 
 use arrayvec::ArrayString;
 use std::marker::Model;
+use ts_core::is_rule_name;
 
 /// Name of a rule: 1 to 32 of `a` to `z`, `0` to `9` and `_`. Does not allocate.
 #[derive(Drop)]
@@ -24,24 +24,6 @@ impl Model for RuleName {
     ghost invariant = { λ n. is_rule_name n.text.bytes ≡ true };
 }
 
-fn is_name_byte(byte: u8) -> bool
-    ensures { result ≡ is_name_byte byte }
-{
-    matches!(byte, b'a'..=b'z' | b'0'..=b'9' | b'_')
-}
-
-fn are_name_bytes(bytes: &[u8]) -> bool
-    ensures { result ≡ list_all is_name_byte bytes.now }
-{
-    bytes.iter().all(|byte| is_name_byte(*byte))
-}
-
-fn is_name(name: &str) -> bool
-    ensures { result ≡ is_rule_name name.now }
-{
-    (1 <= name.len() && name.len() <= 32) && are_name_bytes(name.as_bytes())
-}
-
 /// Copies a text of at most 32 bytes.
 fn inline(text: &str) -> ArrayString<32>
     requires { length text.now ≤ 32 }
@@ -57,7 +39,7 @@ impl RuleName {
     pub fn new(name: &str) -> Option<RuleName>
         ensures { MatchOption result (is_rule_name name.now ≡ false) (λ n. (n ≡ name.now) × (is_rule_name n ≡ true)) }
     {
-        if is_name(name) {
+        if is_rule_name(name) {
             Some(RuleName { text: inline(name) })
         } else {
             None
