@@ -7,7 +7,7 @@ ghost use Rattle.ts_core.specs.Faults.{is_boundary, divides, is_in_one_bucket, k
 ghost use Rattle.ts_core.specs.Pieces.{tags_of};
 
 use std::alloc::Allocator;
-use ts_core::{Rule, bucket_index, index_of, is_among};
+use ts_core::{Rule, index_of, is_among};
 use ts_ql::{Condition, Query};
 
 /// Returns true if a bucket of the rule starts at this time, in nanoseconds.
@@ -42,9 +42,9 @@ pub fn divides<A: Allocator>(rule: &Rule<A>, query: &Query<A>) -> bool
 fn is_in_one_bucket<A: Allocator>(query: &Query<A>, from: i64, to: i64) -> bool
     ensures { result ≡ is_in_one_bucket query.now.query from to }
 {
-    let interval = query.interval();
-    let first = bucket_index(i128::from(from), interval, query.offset());
-    let last = bucket_index(i128::from(to) - 1, interval, query.offset());
+    let buckets = query.buckets();
+    let first = buckets.index(i128::from(from));
+    let last = buckets.index(i128::from(to) - 1);
     first == last
 }
 

@@ -1,7 +1,6 @@
 -- The cells of a walk stand at indices of its range, and their buckets start near it.
-use Rattle.std.proofs.Common.{◌≡◌, ℤ, pos, negsuc, ◌+ℤ◌, ◌*ℤ◌, ◌≤ℤ◌, true, false, not, ◌&&◌, ◌==◌, cond, refl, List, [], ◌∷◌, map, filter, arith, SFits, w64}
-use Rattle.std.specs.Int.{w128}
-use Rattle.std.proofs.lemmas.Int.{ints, fits_signed_from_abs}
+use Rattle.std.proofs.Common.{◌≡◌, ℤ, pos, negsuc, ◌+ℤ◌, ◌≤ℤ◌, ◌≤◌, ◌^◌, unsigned_abs, true, false, not, ◌&&◌, ◌==◌, cond, refl, List, [], ◌∷◌, map, filter, arith, SFits, w64}
+use Rattle.std.proofs.lemmas.Int.{ints}
 use Rattle.std.specs.List.{AllByRecursion}
 use Rattle.std.proofs.lemmas.Bool.{and_parts}
 use Rattle.ts_core.specs.Facts.{Fact, is_within}
@@ -29,13 +28,9 @@ all_within total a b (k ∷ ks) =
 pub cells-within : (r : RuleTotals) (a b : ℤ) → AllByRecursion (λ (c : CellTotal). is_within a b c.cell.index ≡ true) (cells_within r a b)
 cells-within r a b = all_within r.total a b r.cells
 
--- what is computed of a cell's start fits 128 bits
-pub record StartFits (r : Rule) (k : ℤ) : Type 0 where
-  pub product : SFits w128 (k *ℤ r.interval)
-  pub start : SFits w128 (start_of r k)
-
-pub start_fits : (r : Rule) (a b k : ℤ) → pos 1 ≤ℤ r.interval → SFits w64 r.interval → SFits w64 r.offset → SFits w64 a → SFits w64 b → is_within (index_of r a) (index_of r b) k ≡ true → StartFits r k
-start_fits r a b k h i o fa fb w =
+-- a cell's bucket starts near the bounds of the range
+pub start_near : (r : Rule) (a b k : ℤ) → pos 1 ≤ℤ r.interval → SFits w64 r.interval → SFits w64 a → SFits w64 b → is_within (index_of r a) (index_of r b) k ≡ true → unsigned_abs (start_of r k) ≤ 2 ^ 126
+start_near r a b k h i fa fb w =
     let within = within_parts (index_of r a) (index_of r b) k w in
     let first = bucket_is a r.interval r.offset h in
     let end = bucket_is b r.interval r.offset h in
@@ -46,10 +41,7 @@ start_fits r a b k h i o fa fb w =
     let high = times_le (k +ℤ pos 1) (index_of r b) r.interval h below in
     let one = one_more (index_of r a) r.interval in
     let more = one_more k r.interval in
-    record {
-      product = fits_signed_from_abs w128 (k *ℤ r.interval) (omega (arith, ints));
-      start = fits_signed_from_abs w128 ((k *ℤ r.interval) +ℤ r.offset) (omega (arith, ints));
-    }
+    omega (arith, ints)
 
 -- a moment between two that fit 64 bits fits them
 pub within_fits : (a b t : ℤ) → SFits w64 a → SFits w64 b → is_within a b t ≡ true → SFits w64 t

@@ -13,7 +13,7 @@ use crate::fault::ExecFault;
 use crate::pieces::{are_met, bucket_start, is_taken, rule_from};
 use std::alloc::Allocator;
 use ts_check::{Checked, Piece, PieceSource};
-use ts_core::{Partial, Rule, bucket_index};
+use ts_core::{Partial, Rule, index_of};
 use ts_ql::Query;
 use ts_store::{CellSeen, View};
 
@@ -69,8 +69,8 @@ fn rollup_points<A: Allocator + Copy, V: View<A>>(
     requires interval { pos 1 ≤ℤ rule.now.interval }
     ensures { result ≡ min (points_of_shares (map (cell_share query.now.query rule.now) (filter (is_cell_taken query.now.query rule.now from to) (cells_at (V.seen view.now).rules number (index_of rule.now from) (index_of rule.now to))))) 18446744073709551615 }
 {
-    let first = bucket_index(i128::from(from), rule.interval(), rule.offset());
-    let end = bucket_index(i128::from(to), rule.interval(), rule.offset());
+    let first = index_of(rule, i128::from(from));
+    let end = index_of(rule, i128::from(to));
     let mut count: u64 = 0;
     for cell in view.cell_walk(number, &first, &end) {
         count = count.saturating_add(cell_points(rule, query, from, to, &cell));

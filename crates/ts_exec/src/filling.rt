@@ -9,7 +9,7 @@ use crate::groups::GroupRows;
 use crate::table::Table;
 use std::alloc::Allocator;
 use std::marker::Model;
-use ts_core::{Fill, bucket_index};
+use ts_core::{Buckets, Fill};
 use ts_ql::{Projection, Query};
 
 /// Answer with buckets filled, and its query.
@@ -40,8 +40,8 @@ fn bucket_begin(time: i64, interval: i64, offset: i64) -> i128
     ensures value { result ≡ bucket_start (bucket_of time interval offset) interval offset }
     ensures near { AreNear result interval }
 {
-    let index = bucket_index(i128::from(time), interval, offset);
-    index * i128::from(interval) + i128::from(offset)
+    let buckets = Buckets { interval, offset };
+    buckets.bucket(i128::from(time)).start
 }
 
 impl<'a, A: Allocator> Rows<'a, A> {

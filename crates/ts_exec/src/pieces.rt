@@ -18,7 +18,7 @@ use crate::groups::Groups;
 use std::alloc::{AllocError, Allocator};
 use std::marker::Model;
 use ts_check::{Piece, PieceSource};
-use ts_core::{Key, Partial, Rule, bucket_index};
+use ts_core::{Key, Partial, Rule, index_of};
 use ts_ql::{Condition, Query};
 use ts_store::{CellSeen, View};
 
@@ -257,9 +257,7 @@ pub(crate) fn bucket_start<A: Allocator>(rule: &Rule<A>, from: i64, to: i64, ind
     requires within { is_within (index_of rule.now from) (index_of rule.now to) index.now ≡ true }
     ensures { result ≡ start_of rule.now index.now }
 {
-    let interval = i128::from(rule.interval());
-    let offset = i128::from(rule.offset());
-    *index * interval + offset
+    rule.buckets().start(*index)
 }
 
 /// Adds a cell, if the query matches it.
@@ -306,8 +304,8 @@ fn add_cells<'a, A: Allocator + Copy + 'a, V: View<A> + 'a>(
     ensures value { OnOk result (groups.new ≡ with_cell_parts scan.old rule.now from to (cells_at (V.seen view.now).rules number (index_of rule.now from) (index_of rule.now to)) groups.old) }
     ensures same { scan.new ≡ scan.old }
 {
-    let first = bucket_index(i128::from(from), rule.interval(), rule.offset());
-    let end = bucket_index(i128::from(to), rule.interval(), rule.offset());
+    let first = index_of(rule, i128::from(from));
+    let end = index_of(rule, i128::from(to));
     for cell in view.cell_walk(number, &first, &end) {
         add_cell(groups, scan, rule, from, to, cell)?;
     }

@@ -8,7 +8,6 @@ ghost use Rattle.ts_exec.specs.GroupTables.{group_with, width};
 use crate::groups::GroupRows;
 use std::alloc::Allocator;
 use std::marker::Model;
-use ts_core::bucket_index;
 use ts_ql::Query;
 
 /// Answer to a query, with the query: groups in byte order, each with one row per bucket that intersects the range.
@@ -59,10 +58,6 @@ impl<'a, A: Allocator> Table<'a, A> {
     pub fn first_bucket(&self) -> i128
         ensures { result ≡ bucket_in self.now.select.query self.now.select.query.from }
     {
-        bucket_index(
-            i128::from(self.query.from()),
-            self.query.interval(),
-            self.query.offset(),
-        )
+        self.query.buckets().index(i128::from(self.query.from()))
     }
 }

@@ -1,17 +1,18 @@
 -- The length of a body, as `parse` reads it.
-use Rattle.std.proofs.Common.{◌≡◌, ℕ, ◌<◌, ◌≤◌, true, [], ◌∷◌, length, ◌&&◌, refl, arith}
-use Rattle.std.proofs.lemmas.Bool.{and_parts, ltb-true, leb-true}
+use Rattle.std.proofs.Common.{◌≡◌, ℕ, ◌<◌, ◌≤◌, true, not, ◌==◌, [], ◌∷◌, length, refl, arith}
+use Rattle.std.proofs.lemmas.Bool.{and_parts, leb-true}
 use Rattle.std.proofs.lemmas.Str.Ascii.{IsAscii-nil, IsAscii-cons}
 use Rattle.std.proofs.lemmas.Str.Parse.{digits_value_short, numerals_by_value, tells_digits}
 use Rattle.std.proofs.lemmas.Bool.Decides.{nat_tests}
 use Rattle.std.proofs.lemmas.Str.{IsUtf8-from_ascii}
-use Rattle.std.specs.Prelude.{IsAscii, nat_lt, nat_le}
+use Rattle.std.specs.Prelude.{IsAscii, nat_le}
 use Rattle.std.specs.Str.{IsUtf8}
 use Rattle.std.specs.Char.{is_ascii_digit}
 use Rattle.std.specs.List.{list_all}
 use Rattle.std.specs.Str.Parse.{IsNumeral, AllDigits, without_leading_plus, digits_value}
 use Rattle.ts_core.specs.Facts.{Text}
-use Rattle.ts_line.proofs.NumberLemmas.{all_digits, digit_not_plus}
+use Rattle.ts_core.specs.Numbers.{are_digits}
+use Rattle.ts_core.proofs.NumberLemmas.{all_digits, digit_not_plus}
 use Rattle.ts_http.specs.Requests.{is_number}
 
 record Digits (value : Text) : Type 0 where
@@ -19,11 +20,14 @@ record Digits (value : Text) : Type 0 where
   few : length value ≤ 18
   digits : list_all is_ascii_digit value ≡ true
 
+not_empty : (value : Text) → not (length value == 0) ≡ true → 0 < length value
+not_empty value e = grind (arith, nat_tests)
+
 digits_of : (value : Text) → is_number value ≡ true → Digits value
 digits_of value e =
-    let a = and_parts (nat_lt 0 (length value)) (nat_le (length value) 18 && list_all is_ascii_digit value) e in
-    let b = and_parts (nat_le (length value) 18) (list_all is_ascii_digit value) a.1 in
-    record { some = ltb-true 0 (length value) a.0; few = leb-true (length value) 18 b.0; digits = b.1 }
+    let a = and_parts (are_digits value) (nat_le (length value) 18) e in
+    let b = and_parts (not (length value == 0)) (list_all is_ascii_digit value) a.0 in
+    record { some = not_empty value b.0; few = leb-true (length value) 18 a.1; digits = b.1 }
 
 no_plus : (value : Text) → list_all is_ascii_digit value ≡ true → without_leading_plus value ≡ value
 no_plus [] e = refl

@@ -1,13 +1,14 @@
 -- The parts of a request's head, and why it is refused before its body is read.
 -- (InfluxData 1.8, API reference: /ping, /query, /write. RFC 9110: methods, Content-Length, Content-Encoding; names of
 -- fields ignore case. Own rules: /maintain, /rules, no chunked bodies, at most 1,048,576 bytes, and the order of refusals.)
-use Rattle.std.specs.Prelude.{ℕ, nat_lt, nat_le, Bool, true, false, not, ◌&&◌, ◌||◌, ◌==◌, List, [], ◌∷◌, length, map, codes, if◌then◌else◌, Option, None}
-use Rattle.std.specs.List.{list_any, list_all, before_first, after_first}
-use Rattle.std.specs.Char.{is_ascii_digit, to_ascii_lowercase}
+use Rattle.std.specs.Prelude.{ℕ, nat_le, Bool, true, false, not, ◌&&◌, ◌||◌, ◌==◌, List, [], ◌∷◌, length, map, codes, if◌then◌else◌, Option, None}
+use Rattle.std.specs.List.{list_any, before_first, after_first}
+use Rattle.std.specs.Char.{to_ascii_lowercase}
 use Rattle.std.specs.Str.Parse.{digits_value}
 use Rattle.httparse.specs.Grammar.{RequestHead}
 use Rattle.httparse.specs.Spans.{name_and_value}
 use Rattle.ts_core.specs.Facts.{Text, same_text}
+use Rattle.ts_core.specs.Numbers.{are_digits}
 use Rattle.ts_core.specs.SettingsFaults.{unless}
 use Rattle.ts_http.specs.declared.route.Route.{Route}
 use Rattle.ts_http.specs.declared.route.Route.TheVariants as to
@@ -103,7 +104,7 @@ body_limit = 1048576
 
 -- 1 to 18 digits
 abbrev pub is_number : Text → Bool
-is_number value = nat_lt 0 (length value) && (nat_le (length value) 18 && list_all is_ascii_digit value)
+is_number value = are_digits value && nat_le (length value) 18
 
 -- there is at most one length, and it has this form
 abbrev pub is_good_length : List Text → Bool

@@ -1,7 +1,6 @@
 //! Header fields, as spans of the bytes that came.
 ghost use Rattle.std.specs.Prelude.{◌≡◌, length, map, false, IsTrue};
-ghost use Rattle.std.specs.List.{AllByRecursion, list_any, list_all};
-ghost use Rattle.std.specs.Char.{is_ascii_digit};
+ghost use Rattle.std.specs.List.{AllByRecursion, list_any};
 ghost use Rattle.std.specs.Str.Parse.{digits_value};
 ghost use Rattle.httparse.specs.Spans.{IsHeaderWithin, IsWithin, header_bytes, span_bytes};
 ghost use Rattle.ts_http.specs.Requests.{same_ignoring_case, is_named, has_field, is_coded, is_number, lengths_of, body_refused, refused, body_length};
@@ -11,6 +10,7 @@ use crate::refusal::Refusal;
 use crate::route::{Method, Route};
 use httparse::spans::{HeaderSpan, Span};
 use std::str;
+use ts_core::are_digits;
 
 /// The most bytes that a body may have.
 pub(crate) const BODY_LIMIT: usize = 1_048_576;
@@ -95,13 +95,7 @@ fn lengths<'a>(came: &'a [u8], spans: &[HeaderSpan]) -> ContentLengths<'a>
 pub(crate) fn is_number(value: &[u8]) -> bool
     ensures { result ≡ is_number value.now }
 {
-    !value.is_empty() && value.len() <= 18 && has_digits_alone(value)
-}
-
-fn has_digits_alone(bytes: &[u8]) -> bool
-    ensures { result ≡ list_all is_ascii_digit bytes.now }
-{
-    bytes.iter().all(|byte| byte.is_ascii_digit())
+    are_digits(value) && value.len() <= 18
 }
 
 /// Parses 1 to 18 digits.

@@ -14,7 +14,6 @@ use crate::rule_reading::RuleParts;
 use crate::series_tests::{is_name, is_time};
 use std::alloc::Allocator;
 use std::cmp::Ordering;
-use ts_core::bucket_index;
 
 fn times(count: u64, value: &i64) -> i128
     ensures { result ≡ pos count *ℤ value.now }
@@ -48,7 +47,7 @@ fn is_frozen_time<A: Allocator>(mark: &i64, rule: &RuleParts<A>, index: &i64, ti
     if *time >= *mark {
         return false;
     }
-    bucket_index(i128::from(*time), rule.interval, rule.offset) == i128::from(*index)
+    rule.buckets().index(i128::from(*time)) == i128::from(*index)
 }
 
 fn are_extremes(extremes: &ExtremesParts) -> bool

@@ -11,7 +11,7 @@ use crate::field_fault::FieldFault;
 use crate::field_reader::FieldReader;
 use std::alloc::Allocator;
 use std::io::Read;
-use ts_core::Source;
+use ts_core::{Buckets, Source};
 
 /// A rule in an image, untested.
 #[derive(Drop)]
@@ -22,6 +22,19 @@ pub struct RuleParts<A: Allocator> {
     pub offset: i64,
     pub duration: i64,
     pub kept_tags: Vec<String<A>, A>,
+}
+
+impl<A: Allocator> RuleParts<A> {
+    /// Returns its buckets.
+    pub(crate) fn buckets(&self) -> Buckets
+        ensures interval { result.interval ≡ self.now.interval }
+        ensures offset { result.offset ≡ self.now.offset }
+    {
+        Buckets {
+            interval: self.interval,
+            offset: self.offset,
+        }
+    }
 }
 
 /// Reads `count` texts.

@@ -16,7 +16,6 @@ use crate::rule_reading::RuleParts;
 use crate::series_reading::SeriesParts;
 use crate::version::Version;
 use std::alloc::Allocator;
-use ts_core::bucket_index;
 
 /// Returns how far a low index may lie above the index of the raw mark.
 fn ahead_of_mark(version: Version) -> i128
@@ -34,7 +33,7 @@ fn index_at<A: Allocator>(rule: &RuleParts<A>, time: &i64) -> i128
     ensures index { result ≡ index_of (rule_in (rule_of rule.now)) time.now }
     ensures near { unsigned_abs result ≤ 2 ^ 65 }
 {
-    bucket_index(i128::from(*time), rule.interval, rule.offset)
+    rule.buckets().index(i128::from(*time))
 }
 
 /// Returns the greatest low index that a rule may have.

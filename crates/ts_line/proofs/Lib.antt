@@ -24,8 +24,8 @@ pub mod StepsPutLemmas
 -- Scan, PartTexts: byte by byte
 pub mod ScanLemmas
 pub mod PieceLemmas
--- Numbers, Values
-pub mod NumberLemmas
+-- Lines, Values
+pub mod MomentLemmas
 pub mod ShortLemmas
 pub mod ValueLemmas
 -- Sorting

@@ -18,7 +18,7 @@ use Rattle.ts_line.specs.Scan.{end_of, spaces_end}
 use Rattle.ts_line.specs.TagParts.{tags_at}
 use Rattle.ts_line.specs.Fields.{fields_at}
 use Rattle.ts_line.specs.Lines.{is_bare_space, trimmed, content, measurement_at, time_at, time_by, time_of, parts_at, line_of}
-use Rattle.ts_line.specs.Numbers.{is_number}
+use Rattle.ts_core.specs.Numbers.{is_number}
 use Rattle.ts_line.specs.ReadSteps.{◌>>=◌}
 use Rattle.ts_line.specs.Readings.{NeedsMemory, IfOutOfMemory}
 use Rattle.ts_line.specs.declared.fault.ReadLineError.{ReadLineError}

@@ -8,13 +8,13 @@ use Rattle.std.proofs.lemmas.List.{drop_at}
 use Rattle.ts_core.specs.Facts.{Text}
 use Rattle.ts_core.specs.Times.{IsTime, least_time, greatest_time}
 use Rattle.ts_line.specs.declared.scan.Stops.TheVariants.{Space, Comma, Equals}
-use Rattle.ts_line.specs.Numbers.{is_number, is_from_to}
+use Rattle.ts_core.specs.Numbers.{is_number, is_from_to}
 use Rattle.ts_line.specs.Scan.{is_backslash, ends, end_of, spaces_end}
 use Rattle.ts_line.specs.Fields.{fields_at}
 use Rattle.ts_line.specs.Lines.{content, measurement_at, time_of, time_at, line_of}
 use Rattle.ts_line.specs.Parts.{Parts}
 use Rattle.ts_line.specs.Spelling.{is_closed, IsWrittenPart, written_piece, tags_text, tags_from, AreTags, field_spelling, more_fields_text, field_from, with_fields, SaysTime, IsSpelling}
-use Rattle.ts_line.proofs.NumberLemmas.{time_within}
+use Rattle.ts_line.proofs.MomentLemmas.{time_within}
 use Rattle.ts_line.proofs.LineLemmas.{parts_read, line_read}
 use Rattle.ts_line.proofs.Suffixes.{At, at_next, at_byte, at_slice, is_end, at_end, is_no_space, at_spaces}
 use Rattle.ts_line.proofs.TagsSpelled.{not_eqb, tags_read}

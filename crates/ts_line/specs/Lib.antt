@@ -2,7 +2,6 @@
 pub mod Names
 pub mod Parts
 pub mod FaultText
-pub mod Numbers
 pub mod Scan
 pub mod PartTexts
 pub mod ReadSteps

@@ -9,7 +9,7 @@ use Rattle.ts_line.specs.declared.fault.LineFaultKind.TheVariants.{NoMeasurement
 use Rattle.ts_line.specs.FaultText.{fault_at}
 use Rattle.ts_line.specs.declared.scan.Stops.TheVariants.{Space, Comma}
 use Rattle.ts_line.specs.Parts.{LinePart, Parts}
-use Rattle.ts_line.specs.Numbers.{is_number, is_from_to}
+use Rattle.ts_core.specs.Numbers.{is_number, is_from_to}
 use Rattle.ts_line.specs.Scan.{is_backslash, end_of, spaces_end}
 use Rattle.ts_line.specs.PartTexts.{piece_at}
 use Rattle.ts_line.specs.ReadSteps.{◌>>=◌}

@@ -9,7 +9,7 @@ use Rattle.ts_core.specs.Members.{AllDistinct}
 use Rattle.ts_core.specs.Times.{IsTime}
 use Rattle.ts_line.specs.declared.scan.Stops.{Stops}
 use Rattle.ts_line.specs.declared.scan.Stops.TheVariants.{Comma, Equals}
-use Rattle.ts_line.specs.Numbers.{is_number}
+use Rattle.ts_core.specs.Numbers.{is_number}
 use Rattle.ts_line.specs.Parts.{LinePart, Parts}
 use Rattle.ts_line.specs.Scan.{is_escaped, ends}
 use Rattle.ts_line.specs.PartTexts.{unescaped}

@@ -18,18 +18,18 @@ mod fault;
 mod field;
 mod line;
 mod mark;
-mod number;
 mod part;
 mod read;
 mod scan;
 mod short;
 mod tag;
+mod timestamp;
 mod value;
 
 pub use fault::{LineFault, LineFaultKind, ReadLineError};
 pub use line::{Field, Line, Part, Tag};
-pub use number::{is_number, moment};
 pub use read::read_line;
+pub use timestamp::moment;
 
 /// Unit of a line's timestamp; `TimeUnit::of_precision` parses its name. (InfluxData 1.8, HTTP API, `precision`.)
 pub use ts_core::TimeUnit as Precision;

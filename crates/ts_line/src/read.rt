@@ -11,13 +11,13 @@ ghost use Rattle.ts_line.specs.Lines.{is_bare_space, trimmed, without_return, co
 use crate::fault::{LineFault, LineFaultKind, ReadLineError};
 use crate::field::fields;
 use crate::line::{Line, Part};
-use crate::number::{is_number, moment, time_of};
 use crate::part::part_at;
 use crate::scan::{Stops, after_spaces, end_at};
 use crate::short::short_number;
 use crate::tag::tags;
+use crate::timestamp::{moment, time_of};
 use std::alloc::Allocator;
-use ts_core::{Time, TimeUnit, byte_at};
+use ts_core::{Time, TimeUnit, byte_at, is_number};
 
 /// Limit on the bytes of a line.
 const LINE_LIMIT: usize = 65_536;

@@ -3,13 +3,12 @@ ghost use Rattle.std.specs.Prelude.{◌≡◌, IfOk, option_map, if◌then◌els
 ghost use Rattle.std.specs.Str.{IsCharBoundary};
 ghost use Rattle.ts_core.specs.Cursors.{IsPlaceFrom};
 ghost use Rattle.ts_line.specs.FaultText.{fault_at};
-ghost use Rattle.ts_line.specs.Numbers.{are_digits};
+ghost use Rattle.ts_core.specs.Numbers.{are_digits};
 ghost use Rattle.ts_line.specs.Values.{is_unsigned, is_boolean, is_float, behind_digits, behind_fraction, is_exponent, without_sign, behind_quotes, is_value_end, then_is, value_said, value_begun_at};
 
 use crate::fault::{LineFault, LineFaultKind};
-use crate::number::{after_minus, are_digits, is_number, whole};
 use crate::scan::{Stops, end_at};
-use ts_core::byte_at;
+use ts_core::{after_minus, are_digits, byte_at, is_number, whole};
 
 fn is_unsigned(text: &[u8]) -> bool
     ensures { result ≡ is_unsigned text.now }

@@ -8,7 +8,7 @@ use crate::place::Place;
 use std::alloc::Allocator;
 use std::marker::Model;
 use ts_check::{Asked, MarkedRule};
-use ts_core::{Marks, Settings, bucket_index};
+use ts_core::{Marks, Settings};
 use ts_ql::Query;
 
 /// A query to be planned, with the settings and marks it is planned under.
@@ -93,10 +93,9 @@ impl<'a, A: Allocator> Task<'a, A> {
     pub(crate) fn is_in_one_bucket(&self, from: Place, to: Place) -> bool
         ensures { result ≡ is_in_one_bucket self.now.query from to }
     {
-        let interval = self.query.interval();
-        let offset = self.query.offset();
-        let first = bucket_index(i128::from(from.nanos()), interval, offset);
-        let last = bucket_index(i128::from(to.nanos()) - 1, interval, offset);
+        let buckets = self.query.buckets();
+        let first = buckets.index(i128::from(from.nanos()));
+        let last = buckets.index(i128::from(to.nanos()) - 1);
         first == last
     }
 }

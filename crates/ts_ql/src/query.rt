@@ -3,7 +3,7 @@ ghost use Rattle.std.specs.Prelude.{◌≡◌, string_bytes};
 
 use std::alloc::Allocator;
 use std::marker::Model;
-use ts_core::{Fill, Function};
+use ts_core::{Buckets, Fill, Function};
 
 mod copies;
 mod count;
@@ -251,6 +251,18 @@ impl<A: Allocator> Query<A> {
         ensures { result ≡ self.now.query.offset }
     {
         self.parts.offset
+    }
+
+    /// Returns the time buckets.
+    pub fn buckets(&self) -> Buckets
+        ensures interval { result.interval ≡ self.now.query.interval }
+        ensures offset { result.offset ≡ self.now.query.offset }
+        ensures some { pos 1 ≤ℤ self.now.query.interval }
+    {
+        Buckets {
+            interval: self.parts.interval,
+            offset: self.parts.offset,
+        }
     }
 
     /// Returns the tags to group by, in byte order and without duplicates.

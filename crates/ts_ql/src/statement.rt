@@ -22,7 +22,7 @@ use crate::selection::Selection;
 use crate::token::{Kind, Token};
 use std::alloc::{AllocError, Allocator};
 use std::collections::BTreeSet;
-use ts_core::{Time, bucket_index};
+use ts_core::{Bucket, Time};
 
 /// Builder of a statement.
 #[derive(Drop)]
@@ -68,13 +68,6 @@ fn span_of(range: &Range, now: Time) -> Option<Span>
     })
 }
 
-/// A time bucket: its index, and its start in nanoseconds of the Unix epoch.
-#[derive(Clone, Copy, Debug)]
-struct Bucket {
-    index: i128,
-    start: i128,
-}
-
 /// Returns the bucket that contains a nanosecond.
 fn bucket_at(at: i128, buckets: Buckets) -> Bucket
     requires { unsigned_abs at ≤ 2 ^ 64 }
@@ -82,9 +75,11 @@ fn bucket_at(at: i128, buckets: Buckets) -> Bucket
     ensures start { result.start ≡ first_start at buckets }
     ensures bound { unsigned_abs result.index ≤ 2 ^ 66 }
 {
-    let index = bucket_index(at, buckets.interval(), buckets.offset());
-    let start = index * i128::from(buckets.interval()) + i128::from(buckets.offset());
-    Bucket { index, start }
+    let buckets = ts_core::Buckets {
+        interval: buckets.interval(),
+        offset: buckets.offset(),
+    };
+    buckets.bucket(at)
 }
 
 /// Returns true if the first bucket of a range starts before the least time.

@@ -1,22 +1,21 @@
 //! A column stored as a sorted vector.
-ghost use Rattle.std.specs.Prelude.{◌≡◌, ◌<◌, ◌≤◌, ◌≤ℤ◌, pos, ℤ, length, filter, vec_len, vec_capacity, drop};
+ghost use Rattle.std.specs.Prelude.{◌≡◌, ◌<◌, ◌≤◌, ◌≤ℤ◌, pos, ℤ, length, filter, vec_len, vec_capacity, drop, int_lt};
 ghost use Rattle.std.specs.Ordering.{int_cmp, int_eq};
 ghost use Rattle.std.specs.FinMap as map;
 ghost use Rattle.std.specs.FinMap.{put, find};
 ghost use Rattle.std.specs.List.Sorted.{IsSearchInRange};
 ghost use Rattle.ts_core.specs.Buckets.{bucket_of};
+ghost use Rattle.ts_core.specs.Edges.{IsEdgeAt};
 ghost use Rattle.ts_core.specs.Facts.{is_within};
 ghost use Rattle.ts_core.specs.StoreMoves.{points_below};
 ghost use Rattle.ts_raw.specs.Columns.{AreTimed};
-ghost use Rattle.ts_raw.specs.Edges.{IsEdgeAt};
 ghost use Rattle.ts_raw.specs.PlainColumns.{IsRising, IsPlaceOf, IsStartOf};
 
-use crate::bucket_edges::{bucket_edges, is_before};
 use crate::column::Column;
 use crate::points::Points;
 use std::alloc::{AllocError, Allocator};
 use std::marker::Model;
-use ts_core::Time;
+use ts_core::{Buckets, Time};
 
 /// Points in a vector sorted by time. A point after all others is appended; any other insertion moves those after it.
 #[derive(Drop)]
@@ -105,6 +104,13 @@ fn before(points: &[(Time, i64)], time: i64) -> &[(Time, i64)]
     &points[..count_before(points, time)]
 }
 
+/// Returns true if a time is before a bound.
+fn is_before(time: Time, edge: &i128) -> bool
+    ensures { (moment : ℤ) → IsEdgeAt moment edge.now → result ≡ int_lt time moment }
+{
+    i128::from(time.nanos()) < *edge
+}
+
 /// Returns the number of points before a bucket's bound, by binary search.
 fn count_before_edge(points: &[(Time, i64)], edge: &i128) -> usize
     requires { IsRising points.now }
@@ -125,7 +131,7 @@ fn inside<'a>(
     requires interval { pos 1 ≤ℤ interval }
     ensures { result.now ≡ filter (λ p. int_eq (bucket_of p.0 interval offset) index.now) points.now }
 {
-    let (first, next) = bucket_edges(index, interval, offset);
+    let (first, next) = Buckets { interval, offset }.edges(*index);
     let start = count_before_edge(points, &first);
     let end = count_before_edge(points, &next);
     if start < end {

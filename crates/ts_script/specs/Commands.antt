@@ -2,7 +2,7 @@
 use Rattle.std.specs.Prelude.{ℕ, ℤ, pos, length, drop, Bool, not, ◌&&◌, ◌||◌, ◌==◌, nat_eq, if◌then◌else◌, Option, Some, None, codes}
 use Rattle.std.specs.List.{list_all, starts_with, before_first, after_first}
 use Rattle.ts_core.specs.Facts.{Text, same_text}
-use Rattle.ts_line.specs.Numbers.{is_number}
+use Rattle.ts_core.specs.Numbers.{is_number}
 use Rattle.ts_core.specs.TimeUnits.{precision_of}
 use Rattle.ts_core.specs.declared.time_unit.TimeUnit.{TimeUnit}
 use Rattle.ts_reply.specs.Epochs.{epoch_of}

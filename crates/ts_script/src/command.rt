@@ -8,8 +8,7 @@ ghost use Rattle.ts_script.specs.Moments.{moment_of};
 ghost use Rattle.ts_script.specs.CommandParts.{command_view};
 
 use crate::moment::{moment_in, moment_of};
-use ts_core::{Time, TimeUnit};
-use ts_line::is_number;
+use ts_core::{Time, TimeUnit, is_number};
 use ts_reply::Epoch;
 
 /// Command of a script.

@@ -5,8 +5,8 @@ ghost use Rattle.std.specs.Str.{IsCharBoundary};
 ghost use Rattle.ts_core.specs.TimeUnits.{nanoseconds_of};
 ghost use Rattle.ts_script.specs.Moments.{moment_in, moment_of, number_len};
 
-use ts_core::{Time, TimeUnit};
-use ts_line::{is_number, moment};
+use ts_core::{Time, TimeUnit, is_number};
+use ts_line::moment;
 
 /// Parses a number of units; returns the time, or `None` if the number is malformed or the time isn't valid.
 #[tactic(auto, unfolding(crate::specs::Moments::moment_in))]

@@ -7,8 +7,8 @@ use Rattle.ts_check.proofs.serves.is_in_one_bucket.Goals as goal
 
 pub returns : goal.returns
 returns g c =
-    let f : SFits w128 c.bucket_index-first.result = search rules in
-    let g : SFits w128 c.bucket_index-last.result = search rules in
-    let a : c.bucket_index-first.result ≡ bucket_of c.args.from c.args.query.now.query.interval c.args.query.now.query.offset = search rules in
-    let b : c.bucket_index-last.result ≡ bucket_of (c.args.to -ℤ pos 1) c.args.query.now.query.interval c.args.query.now.query.offset = search rules in
+    let f : SFits w128 c.index-first.result = search rules in
+    let g : SFits w128 c.index-last.result = search rules in
+    let a : c.index-first.result ≡ bucket_of c.args.from c.args.query.now.query.interval c.args.query.now.query.offset = search rules in
+    let b : c.index-last.result ≡ bucket_of (c.args.to -ℤ pos 1) c.args.query.now.query.interval c.args.query.now.query.offset = search rules in
     same_bits w128 _ _ f g ∙ ap₂ int_eq a b

@@ -1,23 +1,16 @@
-use Rattle.std.proofs.Common.{rules, ◌≡◌, SFits, w64}
+use Rattle.std.proofs.Common.{rules, ◌≡◌, ℤ, sym, subst, SFits, w64, to_z, of_z}
 use Rattle.std.specs.Int.{w128}
-use Rattle.ts_core.specs.Buckets.{bucket_of}
-use Rattle.ts_exec.proofs.Spans.{BeginFits, begin-fits}
+use Rattle.ts_core.specs.Buckets.{bucket_of, bucket_start}
+use Rattle.ts_exec.specs.Fillings.{AreNear}
+use Rattle.ts_exec.proofs.Spans.{start-near}
 use Rattle.ts_exec.proofs.filling.bucket_begin.Goals as goal
 
-fits : (c : goal.After-from-3) → BeginFits c.args.time c.args.interval c.args.offset c.bucket_index-index.result c.from-2.result c.from-3.result
-fits c =
-    let t : SFits w64 c.args.time = search rules in
-    let i : SFits w64 c.args.interval = search rules in
-    let o : SFits w64 c.args.offset = search rules in
-    let k : SFits w128 c.bucket_index-index.result = search rules in
-    let is : c.bucket_index-index.result ≡ bucket_of c.args.time c.args.interval c.args.offset = search rules in
-    begin-fits c.args.time c.args.interval c.args.offset c.bucket_index-index.result c.from-2.result c.from-3.result c.requires t i o k is (search rules) (search rules)
-
-pub overflow_add-result : goal.overflow_add-result
-overflow_add-result c = (fits c).begin
-
-pub returns-clause-value : goal.returns-clause-value
-returns-clause-value c = (fits c).is
-
 pub returns-clause-near : goal.returns-clause-near
-returns-clause-near c = (fits c).near
+returns-clause-near c =
+    let t : ℤ = c.args.time in
+    let i : ℤ = c.args.interval in
+    let o : ℤ = c.args.offset in
+    let start : to_z w128 (of_z w128 c.bucket.result.start) ≡ bucket_start (bucket_of t i o) i o = search rules in
+    let ft : SFits w64 t = search rules in
+    let fi : SFits w64 i = search rules in
+    subst (λ x. AreNear x i) (sym start) (start-near t i o c.requires ft fi)

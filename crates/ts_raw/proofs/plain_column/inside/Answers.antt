@@ -1,7 +1,7 @@
 use Rattle.std.proofs.Common.{rules, arith, ℤ, pos, ◌+ℤ◌, SFits, w64, to_z-of_z, ◌∙◌, subst, sym}
 use Rattle.std.specs.Int.{w128}
 use Rattle.ts_core.specs.Buckets.{bucket_start}
-use Rattle.ts_raw.specs.Edges.{IsEdgeAt}
+use Rattle.ts_core.specs.Edges.{IsEdgeAt}
 use Rattle.ts_raw.specs.PlainColumns.{IsStartOf}
 use Rattle.ts_core.proofs.Windows.{filter-within, filter-nothing_within}
 use Rattle.ts_raw.proofs.EdgesLemmas.{filter-inside}
@@ -16,10 +16,11 @@ starts c =
     let o : ℤ = c.args.offset in
     let i_fits : SFits w64 i = search rules in
     let o_fits : SFits w64 o = search rules in
-    let first_fits : SFits w128 c.bucket_edges-first.result.0 = search rules in
-    let next_fits : SFits w128 c.bucket_edges-first.result.1 = search rules in
-    let first = rw (to_z-of_z i_fits, to_z-of_z o_fits) at c.bucket_edges-first.ensures.start in
-    let next = rw (to_z-of_z i_fits, to_z-of_z o_fits) at c.bucket_edges-first.ensures.end in (
+    let k_fits : SFits w128 k = search rules in
+    let first_fits : SFits w128 c.edges-first.result.0 = search rules in
+    let next_fits : SFits w128 c.edges-first.result.1 = search rules in
+    let first = rw (to_z-of_z i_fits, to_z-of_z o_fits, to_z-of_z k_fits) at c.edges-first.ensures.start in
+    let next = rw (to_z-of_z i_fits, to_z-of_z o_fits, to_z-of_z k_fits) at c.edges-first.ensures.end in (
       c.count_before_edge-start.ensures.start (bucket_start k i o) (subst (IsEdgeAt (bucket_start k i o)) (sym (to_z-of_z first_fits)) first),
       c.count_before_edge-end.ensures.start (bucket_start (k +ℤ pos 1) i o) (subst (IsEdgeAt (bucket_start (k +ℤ pos 1) i o)) (sym (to_z-of_z next_fits)) next),
     )
