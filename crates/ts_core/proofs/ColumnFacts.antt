@@ -14,7 +14,7 @@ use Rattle.ts_core.proofs.Latests.{latest-distinct}
 use Rattle.ts_core.proofs.StateLemmas.{same_column-eq, is_raw_of}
 
 -- a column's facts are of that column
-facts_at-column : (c : Column) (ps : List (ℤ × ℤ)) (f : Fact) → Among f (facts_at c ps) → f.column ≡ c
+pub facts_at-column : (c : Column) (ps : List (ℤ × ℤ)) (f : Fact) → Among f (facts_at c ps) → f.column ≡ c
 facts_at-column c [] f a = absurd a
 facts_at-column c (p ∷ ps) f a = ⊎_elim {C = f.column ≡ c} (λ e. ap (λ (g : Fact). g.column) e) (λ k. facts_at-column c ps f k) a
 
@@ -48,11 +48,11 @@ facts_of-here (b ∷ bs) c f d m e a =
     (λ k. facts_of-here bs c f d.1 later e k) split)
     m
 
-distinct_parts : {X : Type 0} (xs ys : List X) → AllDistinct (xs ++ ys) → AllDistinct xs × AllDistinct ys
+pub distinct_parts : {X : Type 0} (xs ys : List X) → AllDistinct (xs ++ ys) → AllDistinct xs × AllDistinct ys
 distinct_parts [] ys d = (tt, d)
 distinct_parts (x ∷ xs) ys d = let r = distinct_parts xs ys d.1 in ((λ a. d.0 (Among-left x xs ys a), r.0), r.1)
 
-facts_at-distinct : (cs : List ColumnPoints) (c : ColumnPoints) → AllDistinct (facts_of cs) → Among c cs → AllDistinct (facts_at c.column c.points)
+pub facts_at-distinct : (cs : List ColumnPoints) (c : ColumnPoints) → AllDistinct (facts_of cs) → Among c cs → AllDistinct (facts_at c.column c.points)
 facts_at-distinct [] c d m = absurd m
 facts_at-distinct (b ∷ bs) c d m =
     let parts = distinct_parts (facts_at b.column b.points) (facts_of bs) d in

@@ -10,7 +10,7 @@ owned_push : {A : Type 0} (xs : List (String A × String A)) (t : String A × St
 owned_push [] t = refl
 owned_push (x ∷ xs) t = ap (λ zs. (string_bytes x.0, string_bytes x.1) ∷ zs) (owned_push xs t)
 
-lent_push : (xs : List (Bor Text × Bor Text)) (t : Bor Text × Bor Text) → lent_pairs (xs ++ t ∷ []) ≡ lent_pairs xs ++ (t.0.now, t.1.now) ∷ []
+pub lent_push : (xs : List (Bor Text × Bor Text)) (t : Bor Text × Bor Text) → lent_pairs (xs ++ t ∷ []) ≡ lent_pairs xs ++ (t.0.now, t.1.now) ∷ []
 lent_push [] t = refl
 lent_push (x ∷ xs) t = ap (λ zs. (x.0.now, x.1.now) ∷ zs) (lent_push xs t)
 

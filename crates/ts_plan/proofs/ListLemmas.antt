@@ -6,10 +6,6 @@ use Rattle.std.proofs.lemmas.List.Sorted.{All-permutation, IsPermutation-sym}
 use Rattle.std.proofs.lemmas.List.Elements.{All-nil, All-cons, All-head, All-tail}
 use Rattle.ts_core.specs.Members.{Among}
 
-pub all_push : {X : Type 0} (P : X → Type 0) (xs : List X) (y : X) → AllByRecursion P xs → P y → AllByRecursion P (xs ++ y ∷ [])
-all_push P [] y a p = (p, tt)
-all_push P (x ∷ xs) y a p = (a.0, all_push P xs y a.1 p)
-
 pub among_push : {X : Type 0} (xs : List X) (y x : X) → Among x xs → Among x (xs ++ y ∷ [])
 among_push [] y x h = absurd h
 among_push (z ∷ xs) y x (inl e) = inl e

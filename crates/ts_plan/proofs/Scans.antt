@@ -11,7 +11,8 @@ use Rattle.ts_core.proofs.GoodPlaces.{rule_wide, to_next, next_boundary}
 use Rattle.ts_plan.specs.declared.steps.Step.{Step}
 use Rattle.ts_plan.specs.Steps.{IsPlannable, IsStep, Upto, Ascends, has_columns, bucket_serves, IsFirstStart, IsNextPlace, step_of, with_step, Adds}
 use Rattle.ts_plan.proofs.WalkSteps.{in_range}
-use Rattle.ts_plan.proofs.ListLemmas.{all_push, among_push, among_last}
+use Rattle.ts_core.proofs.ListSteps.{all_push}
+use Rattle.ts_plan.proofs.ListLemmas.{among_push, among_last}
 use Rattle.ts_plan.proofs.RuleNumbers.{same_rule}
 use Rattle.ts_plan.proofs.BucketsAsked.{test_serves, serves_test, serves_columns}
 

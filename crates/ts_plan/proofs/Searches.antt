@@ -1,5 +1,5 @@
 -- What a search by place finds among steps that ascend.
-use Rattle.std.proofs.Common.{◌≡◌, ℕ, zero, suc, ◌<◌, ◌≤◌, ℤ, ◌≤ℤ◌, ◌<ℤ◌, Bool, true, false, ◌||◌, List, [], ◌∷◌, length, get_or, drop, pos, refl, sym, Result, Ok, Err, Less, Equal, Greater, arith, true≢false}
+use Rattle.std.proofs.Common.{◌≡◌, ℕ, zero, suc, ◌<◌, ◌≤◌, ℤ, ◌≤ℤ◌, ◌<ℤ◌, Bool, true, false, List, [], ◌∷◌, length, get_or, drop, pos, refl, sym, Result, Ok, Err, Less, Equal, Greater, arith}
 use Rattle.std.specs.Ordering.{ordering_index, int_cmp, int_eq}
 use Rattle.std.specs.List.{AllByRecursion}
 use Rattle.std.specs.List.Sorted.{IsNonDecreasingBy, IsBinarySearchResult, IsSearchInRange}
@@ -9,7 +9,7 @@ use Rattle.std.proofs.lemmas.Int.{ints, by_lt_z}
 use Rattle.std.proofs.lemmas.Bool.Decides.{Decides-int_eq}
 use Rattle.ts_plan.specs.declared.steps.Step.{Step}
 use Rattle.ts_plan.specs.Steps.{Ascends, Upto, starts_at, kept_if, kept_steps}
-use Rattle.std.proofs.lemmas.Bool.{or_left, or_right}
+use Rattle.std.proofs.lemmas.Bool.{or_from, or_left, or_right}
 
 cmp_up : (a b e : ℤ) → a ≤ℤ b → ordering_index (int_cmp a e) ≤ ordering_index (int_cmp b e)
 cmp_up a b e h = grind (arith, ints)
@@ -43,13 +43,9 @@ found e (s ∷ ss) (suc i) l h = or_right (int_eq s.from e) _ (found e ss i (ome
 pub apart : (a e : ℤ) → (a ≡ e → ⊥) → int_eq a e ≡ false
 apart a e n = elim (int_eq a e) as (λ b. int_eq a e ≡ b → b ≡ false) [ true ↦ λ q. absurd (n ((Decides-int_eq a e).0 q)) | false ↦ λ q. refl ] refl
 
-both_false : (x y : Bool) → x ≡ false → y ≡ false → (x || y) ≡ false
-both_false false y h k = k
-both_false true y h k = absurd (true≢false h)
-
 missing : (e : ℤ) (ss : List Step) → ((k : ℕ) (d : Step) → k < length ss → (get_or ss k d).from ≡ e → ⊥) → starts_at e ss ≡ false
 missing e [] h = refl
-missing e (s ∷ ss) h = both_false _ _ (apart s.from e (h 0 s (omega arith))) (missing e ss (λ k d l. h (suc k) d (omega arith)))
+missing e (s ∷ ss) h = or_from _ _ (apart s.from e (h 0 s (omega arith))) (missing e ss (λ k d l. h (suc k) d (omega arith)))
 
 by_le : {P : Type 0} (m n : ℕ) → (m < n → P) → (n ≤ m → P) → P
 by_le m n f g = by_lt_z (pos m) (pos n) (λ l. f (omega (arith, ints))) (λ l. g (omega (arith, ints)))
