@@ -42,7 +42,7 @@ impl Model for LaneId {
     ghost inverse = { λ n. record { number = n } };
 }
 
-/// A field with a group, which has the values of a rule's kept tags.
+/// A field with a group: the values of a rule's kept tags.
 #[derive(Drop)]
 pub(crate) struct Lane<A: Allocator> {
     field: String<A>,

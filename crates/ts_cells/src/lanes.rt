@@ -53,7 +53,7 @@ fn compare_at<A: Allocator + Copy>(
     }
 }
 
-/// Binary search for the slot in `order` at which to insert a new lane.
+/// Finds the index in `order` at which to insert a new lane, by binary search.
 fn place_in_order<A: Allocator + Copy>(
     lanes: &[Lane<A>],
     order: &[u32],

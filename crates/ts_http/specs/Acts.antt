@@ -1,5 +1,5 @@
--- The effect of a request, and its reply. (InfluxData 1.8, API reference: /ping, /query, /write. Own rules: /maintain, /rules;
--- parameters that aren't named here are ignored, and each path examines its own in this order.)
+-- The effect of a request, and its reply. (InfluxData 1.8, API reference: /ping, /query, /write. Own rules: /maintain,
+-- /rules; parameters that aren't named here are ignored, and each path examines its own in this order.)
 use Rattle.std.specs.Prelude.{◌≡◌, ℕ, ℤ, Bool, true, false, IsTrue, List, [], ◌∷◌, ◌++◌, length, codes, if◌then◌else◌, Option, Some, None, Ok, Err}
 use Rattle.std.specs.Fmt.{signed_decimal}
 use Rattle.std.specs.Str.{IsUtf8}
@@ -81,7 +81,7 @@ explain_asked (Some value) =
     else if same_text value (codes "1") then Some true
     else None
 
--- the first value with a name; the parameters of the target stand before those of the body
+-- the first value with a name; the parameters of the target come before those of the body
 abbrev pub value_in : Text → Text → Text → Option Text
 value_in name query body = first_named name (parameters query ++ parameters body)
 

@@ -1,6 +1,6 @@
--- A batch of lines: what each line does, and what is told of them all.
--- (InfluxData 1.8, API reference: /write, partial writes; line protocol reference. Own rules: the lines are written one by one; the first that is
--- refused is told, with the number of those that are.)
+-- A batch of lines: the effect of each line, and the report on all of them.
+-- (InfluxData 1.8, API reference: /write, partial writes; line protocol reference. Own rules: the lines are
+-- written one by one; the report has the first refused line and the number of refused lines.)
 use Rattle.std.specs.Prelude.{◌≡◌, ℕ, ◌+◌, ℤ, ◌==◌, List, [], ◌∷◌, ◌++◌, map, codes, if◌then◌else◌, Option, Some, None, decimal}
 use Rattle.ts_core.specs.Facts.{Text}
 use Rattle.ts_core.specs.declared.time_unit.TimeUnit.{TimeUnit}
@@ -17,7 +17,7 @@ module _ (precision : TimeUnit) (now : ℤ) where
   TakesLines old [] (o ∷ os) new = ⊥
   TakesLines old (text ∷ texts) [] new = ⊥
 
-  -- Of these lines there was no memory for one; those before it were taken, and those behind it were not.
+  -- One of these lines ran out of memory; the lines before it were taken, and those after it were not.
   pub record StopsAtLine (old : State) (texts : List Text) (new : State) : Type 0 where
     pub done : List Text
     pub line : Text
@@ -35,12 +35,12 @@ abbrev pub onto_first : ℕ → List Text → List Text
 onto_first b [] = (b ∷ []) ∷ []
 onto_first b (line ∷ lines) = (b ∷ line) ∷ lines
 
--- the lines of a body, between its LFs; behind the last LF stands a line too, which may be blank
+-- the lines of a body, between its LFs; after the last LF comes another line, which may be blank
 abbrev pub body_lines : Text → List Text
 body_lines [] = [] ∷ []
 body_lines (b ∷ bs) = if b == 10 then [] ∷ body_lines bs else onto_first b (body_lines bs)
 
--- ---- what is told
+-- ---- the report
 
 -- the lines that were refused, by their numbers, with the texts of their faults
 abbrev pub refusals_from : ℕ → List (Option Text) → List (ℕ × Text)
@@ -52,6 +52,6 @@ refusals_from n (Some text ∷ os) = (n, text) ∷ refusals_from (n + 1) os
 abbrev pub refusals_of : List LineOutcome → List (ℕ × Text)
 refusals_of outcomes = refusals_from 1 (map refusal_text outcomes)
 
--- the first of so many
+-- the first refused line, and the number of refused lines
 abbrev pub partial_text : ℕ × Text → ℕ → Text
 partial_text first n = codes "partial write: line " ++ (decimal first.0 ++ (codes ": " ++ (first.1 ++ (codes "; dropped=" ++ decimal n))))

@@ -1,5 +1,5 @@
--- The head of a request: whole, at fault, or absent. (RFC 9112, sections 2 to 5, by the grammar of the kit's `httparse`,
--- which also takes lines that end in LF alone. Own rules: at most 8,192 bytes and 64 fields.)
+-- The head of a request: whole, at fault, or absent. (RFC 9112, sections 2 to 5, by the grammar of the kit's
+-- `httparse`, which also takes lines that end in LF alone. Own rules: at most 8,192 bytes and 64 fields.)
 use Rattle.std.specs.Prelude.{◌≡◌, ◌≢◌, ◌≤◌, ◌<◌, ℕ, [], length, take}
 use Rattle.httparse.specs.Grammar.{RequestHead, ReadsRequest, print_request, HasNoRequest, NeverHasRequest, MayBecomeRequest}
 use Rattle.httparse.specs.Spans.{RequestOverflows, RequestExceeds}

@@ -22,8 +22,8 @@ use Rattle.ts_http.specs.declared.serve.Served.TheVariants as served
 abbrev pub request_turns : ℕ
 request_turns = 1056769
 
--- From `old`, at a moment, a request of these bytes may be served so, be answered with these, and leave that. A retention
--- run has this number of steps left once it is open.
+-- From `old`, at a moment, a request of these bytes may be served so, be answered with these, and leave that. A
+-- retention run has this number of steps left once it is open.
 pub data Serves (now : ℤ) (left : ℕ) (old : State) (bytes : Text) : Served → Text → State → Type 0 where
   nothing : Asks bytes NoRequest → Serves now left old bytes served.Nothing [] old
   refuses : (r : Refusal) (route : Route) (to_head : Bool) → Asks bytes (Refuses r route to_head) → Serves now left old bytes (served.Reply (refusal_status r) route) (refusal_reply to_head r) old

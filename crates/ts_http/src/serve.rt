@@ -200,8 +200,8 @@ fn reply<W: Write>(
     }
 }
 
-/// Serves one request at a moment: reads it whole, executes it, and sends the reply. Replies but the answer to a query do
-/// not allocate.
+/// Serves one request at a moment: reads it whole, executes it, and sends the reply. Replies but the answer to a query
+/// do not allocate.
 pub fn serve_one<R: Read, W: Write>(
     alloc: Global,
     store: &mut Store<Global>,

@@ -1,5 +1,5 @@
--- The names that a line can state. (InfluxData 1.8, line protocol reference, syntax; InfluxQL reference, keywords: `time`.
--- Own: no name is empty, a line has at most 64 tags and 256 fields.)
+-- The names that a line can state. (InfluxData 1.8, line protocol reference, syntax; InfluxQL reference, keywords:
+-- `time`. Own: no name is empty, a line has at most 64 tags and 256 fields.)
 use Rattle.std.specs.Prelude.{◌≡◌, ◌≤◌, List, length, codes}
 use Rattle.std.specs.List.{AllByRecursion}
 use Rattle.ts_core.specs.Facts.{Text, Series}

@@ -22,8 +22,8 @@ const FIELD_LIMIT: usize = 256;
 /// Initial capacity of the field list.
 const FIELDS_AT_FIRST: usize = 16;
 
-/// Fast path: parses the field at `start` if its name has no escape and its value is an integer of at most 19 digits.
-/// Returns the field and the offset after it, or `None` for anything else.
+/// Parses the field at `start` if its name has no escape and its value is an integer of at most 19 digits: the fast
+/// path. Returns the field and the offset after it, or `None` for anything else.
 #[tactic(auto, using(crate::proofs::PieceLemmas::plain_text), unfolding(crate::specs::Fields::next_field))]
 fn plain<'a, A: Allocator>(line: &'a str, start: usize) -> Option<(Field<'a, A>, usize)>
     requires { IsCharBoundary line.now start }
@@ -95,7 +95,7 @@ fn put<'a, A: Allocator>(
     Ok(())
 }
 
-/// Slow path of `put_next`: parses any field at `start`, inserts it and returns the offset after it.
+/// Parses any field at `start` and inserts it; returns the offset after it. This is the slow path of `put_next`.
 #[cold]
 fn put_any<'a, A: Allocator + Copy>(
     alloc: A,

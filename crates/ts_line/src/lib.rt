@@ -9,9 +9,9 @@
 //! read_line(alloc, "cpu v=5.0", Precision::Seconds, now)            // Err: FieldType at byte 4
 //! ```
 //!
-//! To accept another form of value: touch value.rt, and the value of a `Field`. To change where names end or what is
-//! escaped: scan.rt. To change a limit: read.rt. Each change also touches specs/Lines.antt, which parses a line, and
-//! specs/Spelling.antt, which writes it.
+//! To accept another form of value: touch value.rt, and the value of a `Field`. To change where names end or which
+//! bytes are escaped: scan.rt. To change a limit: read.rt. Each change also touches specs/Lines.antt, which parses a
+//! line, and specs/Spelling.antt, which writes it.
 #![tactic(auto)]
 
 mod fault;

@@ -211,8 +211,8 @@ impl<'a, A: Allocator> Line<'a, A> {
         self.tags.as_slice()
     }
 
-    /// Returns the fields, ordered by where their names first appear in the line: 1 to 256, with distinct names. No name
-    /// is empty or `time`.
+    /// Returns the fields, ordered by where their names first appear in the line: 1 to 256, with distinct names. No
+    /// name is empty or `time`.
     pub fn fields(&self) -> &[Field<'a, A>]
         ensures value { result.now ≡ self.now.fields }
         ensures some { 1 ≤ length result.now }

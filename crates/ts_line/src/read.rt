@@ -27,8 +27,8 @@ const KEY_LIMIT: usize = 4_096;
 
 /// Parses a line given without its line feed. Returns its parts, or `None` for a comment or a blank line.
 /// A timestamp counts units of `precision`; without one, the time is `now`.
-/// On an error in the text, returns the first one with its byte offset; on allocation failure, `OutOfMemory`. A text that
-/// is too long, blank or a comment needs no memory.
+/// On an error in the text, returns the first one with its byte offset; on allocation failure, `OutOfMemory`. Does not
+/// allocate for a text that is too long, blank or a comment.
 pub fn read_line<A: Allocator + Copy>(
     alloc: A,
     text: &str,

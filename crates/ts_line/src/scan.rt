@@ -43,7 +43,7 @@ pub fn is_stop(stops: Stops, byte: u8) -> bool
 /// Bit set of the backslash, space, comma and equals sign, indexed by the byte modulo 64.
 const MARKS: u64 = 1 << 28 | 1 << 32 | 1 << 44 | 1 << 61;
 
-/// Cheap pre-test: never false for a backslash or a delimiter, but true for a few other bytes.
+/// Tests a byte cheaply: never false for a backslash or a delimiter, but true for a few other bytes.
 fn may_be_mark(byte: u8) -> bool
     ensures stops { (stops : Stops) → result ≡ false → is_stop stops byte ≡ false }
     ensures backslash { result ≡ false → is_backslash byte ≡ false }
@@ -65,7 +65,7 @@ fn is_end(stops: Stops, before: u8, byte: u8) -> bool
     is_stop(stops, byte) && (before != b'\\' || matches!(stops, Stops::Plain))
 }
 
-/// Slow path of `end_at`, for a part with a backslash.
+/// Returns the end of a part with a backslash: the slow path of `end_at`.
 #[tactic(auto, using(crate::proofs::ScanLemmas::part_len_step, crate::proofs::ScanLemmas::part_len_end, crate::proofs::ScanLemmas::ends_ascii), unfolding(crate::specs::Scan::end_of))]
 #[cold]
 fn escaped_end_at(line: &str, from: usize, stops: Stops) -> End

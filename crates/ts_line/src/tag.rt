@@ -25,7 +25,7 @@ fn has_key<A: Allocator>(tags: &[Tag<'_, A>], key: &str) -> bool
     tags.iter().any(|tag| tag.key().text() == key)
 }
 
-/// Fast path: parses the tag at `start` if it has no escape. Returns the tag and the offset after it, or `None` for
+/// Parses the tag at `start` if it has no escape: the fast path. Returns the tag and the offset after it, or `None` for
 /// anything else.
 #[tactic(auto, using(crate::proofs::PieceLemmas::plain_text), unfolding(crate::specs::TagParts::pair_at))]
 fn plain<'a, A: Allocator>(line: &'a str, start: usize) -> Option<(Tag<'a, A>, usize)>
@@ -89,7 +89,7 @@ fn next<'a, A: Allocator + Copy>(
     Ok((Tag::new(key, value), value_end.at))
 }
 
-/// Slow path of `push_next`: parses any tag at `start`, appends it and returns the offset after it.
+/// Parses any tag at `start` and appends it; returns the offset after it. This is the slow path of `push_next`.
 #[cold]
 fn push_any<'a, A: Allocator + Copy>(
     alloc: A,

@@ -1,5 +1,5 @@
 -- The grammar: the trees of a text, and the tokens that each spells from left to right.
--- (InfluxData 1.8, InfluxQL reference: notation, queries, statements, clauses. Own rule: what is unsupported.)
+-- (InfluxData 1.8, InfluxQL reference: notation, queries, statements, clauses. Own rule: the unsupported parts.)
 --
 --   text      = statement ending
 --   ending    = [ ";" ] | ";" statement ending

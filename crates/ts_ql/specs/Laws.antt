@@ -99,7 +99,7 @@ Tells view now text (Err e) = Explained now text e
 
 -- ---- the laws
 
--- a call returned, seen through `view`, what the text means, unless it ran out of memory
+-- a call returned, seen through `view`, the meaning of the text, unless it ran out of memory
 pub record ReadsText {X : Type 0} (view : X → List Select) (now : ℤ) (text : Text) (result : Result X ParseError) : Type 0 where
   pub tells : Tells view now text result
   -- a text that means queries is parsed as these

@@ -123,8 +123,8 @@ lows_in s = (marks_of s.store.opening s.store.history).lows
 abbrev pub facts_in : State → Text → List Fact
 facts_in s text = facts_of_text (parts_in s.precision s.moment text)
 
--- A whole run takes this number of steps before the last one, and leaves this inventory: of each rule the cells from its
--- new low index on.
+-- A whole run takes this number of steps before the last one, and leaves this inventory: of each rule the cells from
+-- its new low index on.
 pub record RunsWhole (old : State) (steps : ℕ) (new : Inventory) : Type 0 where
   pub count : steps + 1 ≡ steps_in (lows_in (with_begin old)) (all_waiting old.inventory)
   pub left : LeavesRecent (rules_in old) (lows_in (with_begin old)) old.inventory new

@@ -25,7 +25,7 @@ pub record IsImageIn (k : StoreData) (bytes : List ℕ) : Type 0 where
 abbrev pub DoesNotFit : StoreData → Type 0
 DoesNotFit k = (order : List SavedSeries) × IsOrder k order × (FitsImage k order → ⊥)
 
--- the new store is made of the image of the old one
+-- the new store is loaded from an image of the old one
 pub record IsReloadOf (old new : StoreData) : Type 0 where
   pub order : List SavedSeries
   pub ordered : IsOrder old order

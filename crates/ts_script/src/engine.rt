@@ -80,8 +80,8 @@ fn answer_all<R: Read, W: Write>(
     }
 }
 
-/// Answers each line of a script on the sink, beginning with an empty store and the time 0. Reads at most `turns` times.
-/// Allocates all buffers before the first line.
+/// Answers each line of a script on the sink, beginning with an empty store and the time 0. Reads at most `turns`
+/// times. Allocates all buffers before the first line.
 pub fn run_within<R: Read, W: Write>(
     alloc: Global,
     source: &mut Source<R>,

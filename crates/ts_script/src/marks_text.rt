@@ -43,7 +43,8 @@ fn rule_to(text: &mut String, name: &str, low: i64) -> Result<(), AllocError>
     append_words(text, &[name, "=", Buffer::new().format(low)])
 }
 
-/// Appends a rule's name, its low index and an LF to an empty text that has the capacity; returns it. Does not allocate.
+/// Appends a rule's name, its low index and an LF to an empty text that has the capacity; returns it. Does not
+/// allocate.
 pub(crate) fn rule_line(mut text: String, name: &str, low: i64) -> String
     requires short { length name.now ≤ 32 }
     requires empty { string_len text ≡ 0 }

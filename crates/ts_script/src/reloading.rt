@@ -13,7 +13,7 @@ use ts_store::Store;
 pub enum ReloadFault {
     /// Out of memory.
     OutOfMemory,
-    /// The image was not accepted. That of a store that stands for a history is.
+    /// The image was not accepted. The image of a store with a history is always accepted.
     NotAccepted,
 }
 
@@ -56,8 +56,8 @@ fn saved(alloc: Global, store: &Store<Global>) -> Result<Vec<u8>, SaveFault>
     }
 }
 
-/// Returns a store that is loaded from the image of this one. For a store that stands for a history, it fails only when
-/// out of memory.
+/// Returns a store that is loaded from the image of this one. For a store with a history, fails only when out of
+/// memory.
 pub fn reloaded(alloc: Global, store: &Store<Global>) -> Result<Store<Global>, ReloadFault>
     ensures reloaded { IfOk result (IsReloadOf store.now) }
     ensures memory { OfEachHistory store.now (λ opening h. IfErr result (λ e. e ≡ ReloadFault.OutOfMemory)) }

@@ -23,7 +23,7 @@ pub enum Reply {
     Stepped(StepAnswer),
     /// The store was saved and loaded back.
     Reloaded,
-    /// The image of the store was not accepted. That of a store that stands for a history is.
+    /// The image of the store was not accepted. The image of a store with a history is always accepted.
     NotAccepted,
     /// A rule was dropped.
     Dropped,
@@ -79,8 +79,8 @@ impl Reply {
     }
 }
 
-/// Appends the outcome of a line with its LF to the buffered answers. The message of a refusal is built in `text`, which
-/// has the capacity, so nothing is allocated.
+/// Appends the outcome of a line with its LF to the buffered answers. The message of a refusal is built in `text`,
+/// which has the capacity, so nothing is allocated.
 fn send_outcome<W: Write>(
     outcome: LineOutcome,
     text: &mut String,

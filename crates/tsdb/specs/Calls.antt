@@ -27,7 +27,7 @@ outcome_of (Err fault) = Stopped fault
 abbrev pub IsReplayed : Input → Output → Outcome → Input → Output → Type 0
 IsReplayed source sink outcome source' sink' = (result : Result ⊤ RunFault) × (outcome ≡ outcome_of result) × IsReplay turn_limit source sink result source' sink'
 
--- The rows are printed, or a beginning of them if the device fails. There may be none, or no memory for them.
+-- The rows are printed, or a beginning of them if the device fails. There may be none, or the call runs out of memory.
 abbrev pub TellsFaults : Text → Output → Outcome → Output → Type 0
 TellsFaults table old (NoScript said.Done) new = (table ≢ []) × Appends old.contents new.contents table × (new.failures ≡ old.failures)
 TellsFaults table old (NoScript said.Device) new = (table ≢ []) × AppendsFront old.contents new.contents table × (new.failures ≡ old.failures + 1)

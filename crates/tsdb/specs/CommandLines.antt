@@ -85,7 +85,7 @@ IsActionOf (Some (name, rows)) (Faults number) = (name ≡ codes "faults") × (h
 IsActionOf (Some (name, rows)) (Serve service) = (name ≡ codes "serve") × IsServiceOf rows service
 
 -- The words, of which the first is the program's name, request an action if clap takes them. Otherwise the error is
--- one of clap's, or there is no memory, or clap takes the words but no action fits what it reads.
+-- one of clap's, or out of memory, or clap takes the words but no action fits them.
 abbrev pub ParsesAs : List Text → Result Action Error → Type 0
 ParsesAs words (Ok action) = (fault_of program_app words ≡ []) × IsActionOf (subcommand_of program_app words) action
 ParsesAs words (Err error) = HasKind (fault_of program_app words) error

@@ -1,4 +1,4 @@
--- what a command line asks for, and how the program ends
+-- the actions of command lines, and how the program ends
 pub mod FaultTables
 pub mod CommandLines
 pub mod RunOutcomes

@@ -85,7 +85,7 @@ pub enum Told {
     Device,
     /// The command line is wrong or empty, which was printed on standard error.
     Wrong,
-    /// There is no memory.
+    /// Out of memory.
     OutOfMemory,
 }
 

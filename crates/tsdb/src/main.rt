@@ -1,8 +1,9 @@
 //! The program `tsdb`: it runs scripts from standard input (`tsdb replay`), serves HTTP requests (`tsdb serve`) and
 //! prints what faults mean (`tsdb faults`). Depends on ts_script, ts_http and ts_store.
 //!
-//! Proved: a call does what specs/Calls says of its words and of standard input (`call::answer_words`), and a store
-//! goes by requests as ts_http defines them (`requests::serve_on`). Sockets, the clock and files have no contract.
+//! Proved: a call has the effect that specs/Calls defines for its words and standard input (`call::answer_words`), and
+//! requests change a store as ts_http defines them (`requests::serve_on`). Sockets, the clock and files have no
+//! contract.
 //!
 //! ```text
 //! printf 'write cpu v=5i 1\ncount cpu v 0 10\n' | tsdb replay     prints ok and 1

@@ -65,8 +65,8 @@ fn finish(stream: &TcpStream, clock: &impl Clock, served: Served) {
     }
 }
 
-/// Returns true if a request that was served so is a reason to save the image: a retention run that was taken on, or a
-/// rule that was added or dropped.
+/// Returns true if the image is to be saved after a request that was served this way: steps of a retention run were
+/// taken, or a rule was added or dropped.
 fn is_saved_after(served: Served) -> bool
     ensures { result ≡ is_saved_after served }
 {

@@ -5,8 +5,8 @@ use std::net::TcpStream;
 use std::rt::Clock;
 use std::time::{Duration, Instant};
 
-/// A connection whose reads or writes fail with `TimedOut` after a number of seconds since the first of them began. Reads
-/// and writes each take one of their own, so that the time that a query takes counts for neither.
+/// A connection whose reads or writes fail with `TimedOut` after a number of seconds since the first of them began.
+/// Reads and writes each take one of their own, so that the time that a query takes counts for neither.
 #[derive(Drop)]
 pub struct Timed<'a, C: Clock> {
     stream: &'a TcpStream,
