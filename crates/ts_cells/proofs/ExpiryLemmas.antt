@@ -80,7 +80,7 @@ module _ {P : Type 0} where
   pub no_front : (rows : List (RowOf P)) → HasEmptyFront 0 rows
   no_front rows = record { bound = omega arith; empty = λ k d a b. absurd (omega arith) }
 
-  -- the row behind the empty ones changes
+  -- the row after the empty ones changes
   pub front_stays : (n : ℕ) (rows : List (RowOf P)) (r : RowOf P) → HasEmptyFront n rows → HasEmptyFront n (set rows n r)
   front_stays n rows r f = record {
     bound = let l = f.bound in omega (arith, length-set rows n r);
@@ -107,7 +107,7 @@ module _ {P : Type 0} where
   least_of_rows low [] d h s e i j n = absurd (omega arith)
   least_of_rows low (r ∷ rs) d h s e i j n = above low r rs (both_of _ _ s).0 e i j n
 
-  -- all cells are above the index where the row behind the empty ones isn't below it
+  -- all cells are above the index where the row after the empty ones isn't below it
   pub all_above : (low : ℤ) (n : ℕ) (rows : List (RowOf P)) (d : RowOf P) → HasEmptyFront n rows → n < length rows → RowsRise rows → int_lt (get_or rows n d).0 low ≡ false → (i : ℤ) (j : ℕ) → held (cells_of_bucket rows i) j ≢ None → low ≤ℤ i
   all_above low n rows d f h s e i j some =
       let first = first_of n rows d h in

@@ -10,7 +10,7 @@ front_from first more places h =
     ∙ ap (λ ps. ps ++ places) (replicate-append-replicate (first - more) more no_place)
     ∙ ap (λ n. replicate n no_place ++ places) (omega arith)
 
--- places with more behind them, turned to the front; count and size are their lengths
+-- places with more after them, turned to the front; count and size are their lengths
 pub moved_front : (places longer turned : List ℕ) (len count size more : ℕ) → len ≡ length places → count ≡ length places → size ≡ length longer → longer ≡ take (len + more) places ++ replicate (len + more - count) no_place
     → turned ≡ drop (size - more) longer ++ take (size - more) longer → turned ≡ replicate more no_place ++ places
 moved_front places longer turned len count size more is_len is_count is_size grown t =

@@ -53,7 +53,7 @@ module _ {P : Type 0} where
   no_part (x ∷ xs) zero h e = let f : Some x ≡ None = e in cc
   no_part (x ∷ xs) (suc q) h e = no_part xs q (omega arith) e
 
-  -- what is kept of a lane stands at its place
+  -- what is kept of a lane is at its place
   pub held_at : (parts : List P) (places : List ℕ) (j : ℕ) → length parts ≤ no_place → held (by_lane parts places) j ≡ slice_get parts (place_of places j)
   held_at parts [] j h = sym (slice_get_past parts no_place h)
   held_at parts (p ∷ ps) zero h = refl

@@ -1,4 +1,4 @@
--- What a search in entries that stand in order finds.
+-- What a search in entries that are in order finds.
 use Rattle.std.proofs.Common.{◌≡◌, ℕ, zero, suc, ◌<◌, ◌≤◌, cond, T, List, [], ◌∷◌, length, get_or, ap, ◌∙◌, refl, Some, None, Result, Ok, Err, MatchResult, HoldsAt, is_eq, arith, Ordering, Less, Equal, Greater}
 use Rattle.std.specs.Ordering.{ordering_index, ordering_reverse}
 use Rattle.std.specs.FinMap.Entries.{below_all}

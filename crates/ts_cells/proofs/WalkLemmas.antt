@@ -30,7 +30,7 @@ together : (a b : Bool) → T a → T b → T (a && b)
 together true b p q = q
 together false b p q = p
 
--- cells of one bucket stand in the order of their lanes
+-- cells of one bucket are in the order of their lanes
 same_bucket : (i : ℤ) (a b : Lane) → cell_cmp (cell_at i a) (cell_at i b) ≡ lane_cmp a b
 same_bucket i a b = ap (λ o. ordering_then o (lane_cmp a b)) (tied_itself int_cmp_total i)
 

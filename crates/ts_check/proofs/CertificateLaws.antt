@@ -14,7 +14,7 @@ use Rattle.ts_check.proofs.CertificateTokens.{lacks_test, not_cut, cut_same, pie
 abbrev lines : List Piece → Text
 lines ps = flat_map piece_line ps
 
--- ---- lines behind lines
+-- ---- lines after lines
 
 not_end_by : (s : Source) (more rest : Text) → source_text s ++ more ≡ codes "end\n" ++ rest → ⊥
 not_end_by Raw more rest e = let bad : ◌≡◌ {A = ℕ} 114 101 = cc in omega (arith, bad)
@@ -35,7 +35,7 @@ lines_within (p ∷ ps) (q ∷ qs) rest more f g e none =
     let tails = same_piece p q (lines ps ++ rest) (lines qs ++ more) f.0 g.0 (sym (append_assoc (piece_line p) (lines ps) rest) ∙ (e ∙ append_assoc (piece_line q) (lines qs) more)) in
     lines_within ps qs rest more f.1 g.1 tails.1 none
 
--- where the last line stands behind lines of pieces, these are the pieces
+-- where the last line follows lines of pieces, these are the pieces
 pub lines_ended : (ps qs : List Piece) (rest more : Text) → EachHasSpelling ps → EachHasSpelling qs → lines ps ++ rest ≡ lines qs ++ (codes "end\n" ++ more) → ((p : Piece) (m : Text) → HasPiece rest p m → ⊥)
     → (ps ≡ qs) × (rest ≡ codes "end\n" ++ more)
 lines_ended [] [] rest more f g e none = (refl, e)
@@ -49,7 +49,7 @@ lines_ended (p ∷ ps) (q ∷ qs) rest more f g e none =
 
 -- ---- whole texts
 
--- text behind the first line and the lines of pieces
+-- text after the first line and the lines of pieces
 abbrev pub behind : List Piece → Text → Text
 behind ps rest = codes "plan 1\n" ++ (lines ps ++ rest)
 
@@ -128,7 +128,7 @@ none_by text rest at front qs f e s w =
     let last = stop_last rest at [] s told.1 in
     omega (arith, ap length last.0, last.1)
 
--- a reading that stops behind the lines of some pieces stops at the first fault
+-- a reading that stops after the lines of some pieces stops at the first fault
 pub stops_first : (text rest at : Text) (front : List Piece) (n : ℕ) → EachHasSpelling front → text ≡ behind front rest → Stops rest at → n + length at ≡ length text → IsFirstBadLine text n
 stops_first text rest at front n f e s len = record {
   before = before_by text rest at front n f e s len;
@@ -160,7 +160,7 @@ uncut_first text l = no_first text (λ more e. not_cut 10 text (codes "plan 1") 
 pub other_first : (text line rest : Text) → text ≡ line ++ (10 ∷ rest) → Lacks 10 line → (line ≡ codes "plan 1" → ⊥) → IsFirstBadLine text 0
 other_first text line rest e l other = no_first text (λ more f. other (cut_same 10 line (codes "plan 1") rest more l (lacks_test 10 (codes "plan 1") refl) (sym e ∙ f)).0)
 
--- the line of a piece is cut behind its text
+-- the line of a piece is cut after its text
 line_cut : (text more : Text) (p : Piece) → HasPiece text p more → text ≡ piece_text p ++ (10 ∷ more)
 line_cut text more p h = h.spelled ∙ append_assoc (piece_text p) (10 ∷ []) more
 
@@ -189,7 +189,7 @@ lines_more [] p rest more e = e ∙ ap (λ (t : Text). t ++ more) (sym (append-n
 lines_more (q ∷ front) p rest more e =
     append_assoc (piece_line q) (lines front) rest ∙ (ap (λ (t : Text). piece_line q ++ t) (lines_more front p rest more e) ∙ sym (append_assoc (piece_line q) (lines (front ++ (p ∷ []))) more))
 
--- where a reading stands: behind the first line and the lines of pieces
+-- where a reading stands: after the first line and the lines of pieces
 pub record IsBehind (text : Text) (front : List Piece) (rest : Text) : Type 0 where
   pub each : EachHasSpelling front
   pub spelled : text ≡ behind front rest

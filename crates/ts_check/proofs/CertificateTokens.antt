@@ -37,7 +37,7 @@ lacks_test c (b ∷ bs) e =
     let p = and_parts (not (eqb b c)) (list_all (λ x. not (eqb x c)) bs) e in
     lacks_cons c b bs (not_it b c p.0) (lacks_test c bs p.1)
 
--- it doesn't stand behind the front of one
+-- it doesn't follow the front of one
 pub lacks_not : (c : ℕ) (xs ys : Text) → Lacks c (xs ++ (c ∷ ys)) → ⊥
 lacks_not c [] ys l = l 0 (omega arith) refl
 lacks_not c (x ∷ xs) ys l = lacks_not c xs ys (λ i h. l (suc i) (omega arith))

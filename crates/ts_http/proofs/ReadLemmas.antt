@@ -1,4 +1,4 @@
--- Bytes that are read into a buffer, behind those that it holds.
+-- Bytes that are read into a buffer, after those that it holds.
 use Rattle.std.proofs.Common.{◌≡◌, ℕ, ◌+◌, ◌-◌, ◌≤◌, ◌++◌, length, take, Option, refl, sym, ap, ◌∙◌, subst, arith, add-zero}
 use Rattle.std.proofs.KnownBytes.{Consumes-trans}
 use Rattle.std.specs.Io.KnownBytes.{Consumes}
@@ -9,7 +9,7 @@ use Rattle.std.proofs.lemmas.Grind.{common_steps}
 use borrow.Rule.Slice.PartMut.{put_mid}
 use Rattle.ts_core.specs.Facts.{Text}
 
--- the bytes that a read gave stand behind those that were there
+-- the bytes that a read gave follow those that were there
 pub stands_behind : (room buf : Text) (count n : ℕ) → count ≤ length room → length buf ≡ length room - count → n ≤ length buf
     → take (count + n) (put_mid count (length room - count) room buf) ≡ take count room ++ take n buf
 stands_behind room buf count n there size some =

@@ -1,4 +1,4 @@
--- Texts that are put one behind another.
+-- Texts that are put one after another.
 use Rattle.std.proofs.Common.{◌≡◌, [], ◌++◌, ap, ◌∙◌, append_assoc}
 use Rattle.ts_core.specs.Facts.{Text}
 

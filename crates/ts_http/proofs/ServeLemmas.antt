@@ -89,7 +89,7 @@ module _ (came : Text) (spans : List HeaderSpan) (found : RequestSpans) (head : 
       let why : refused_in head r = sym (λ i. refused (route_is i) (method_is i) (at.fields i)) ∙ e in
       subst (λ q. Asks bytes (Refuses r q (is_head method))) (sym route_is) (subst (λ m. Asks bytes (Refuses r (route_in head) (is_head m))) (sym method_is) (Asks.refuses head rest r whole why))
 
-  -- a head that is taken, and what became of what is behind it
+  -- a head that is taken, and what became of what is after it
   pub asks_taken : (bytes rest : Text) (now : ℤ) (route : Route) (method : Method) (query : Text) (len : ℕ) (old new : StoreData) (o : Outcome) (s : State) → IsWhole bytes head rest
       → route ≡ route_of (path_of (span_bytes came found.path)) → method ≡ method_of (span_bytes came found.method) → query ≡ query_of (span_bytes came found.path)
       → refused route method (map (header_bytes came) (take found.headers spans)) ≡ None → len ≡ body_length method (map (header_bytes came) (take found.headers spans))

@@ -70,7 +70,7 @@ set_in : (f : LinePart × ℤ) (fields : List (LinePart × ℤ)) (at i : ℕ) (d
 set_in f [] at i d found = absurd cc
 set_in f (g ∷ gs) at i d found = set_by (bytes_eq g.0.text f.0.text) g f gs at i d refl (set_in f gs (at + 1) i d) found
 
--- a name that stands there gets the value
+-- a name that is there gets the value
 pub field_set : (f : LinePart × ℤ) (fields : List (LinePart × ℤ)) (i : ℕ) (d : LinePart × ℤ) → Some i ≡ place_from 0 f.0.text fields → set fields i ((get_or fields i d).0, f.1) ≡ with_field fields f
 field_set f fields i d found =
     let p = set_in f fields 0 i d (sym found) in
@@ -89,7 +89,7 @@ push_in : (f : LinePart × ℤ) (fields : List (LinePart × ℤ)) (at : ℕ) →
 push_in f [] at found = refl
 push_in f (g ∷ gs) at found = push_by (bytes_eq g.0.text f.0.text) f g gs at refl (push_in f gs (at + 1)) found
 
--- a new name stands last
+-- a new name comes last
 pub field_pushed : (f : LinePart × ℤ) (fields : List (LinePart × ℤ)) → None ≡ place_from 0 f.0.text fields → fields ++ f ∷ [] ≡ with_field fields f
 field_pushed f fields found = push_in f fields 0 (sym found)
 

@@ -16,6 +16,6 @@ told_of unit now source (Ok None) e = tt
 told_of unit now source (Ok (Some p)) e = spelling_told unit now source p e
 told_of unit now source (Err f) e = tt
 
--- what is spelled was read
+-- each spelling was read
 pub read_of : (unit now : ℤ) (source : Text) (r : Result (Option Parts) ReadLineError) → GivesIfRoom (λ o. o) r (line_of unit now source) → (p : Parts) → IsSpelling unit now source p → GivesIfRoom (λ o. o) r (Ok (Some p))
 read_of unit now source r e p s = subst (λ (x : Result (Option Parts) LineFault). GivesIfRoom (λ o. o) r x) (spelling_read unit now source p s) e

@@ -10,7 +10,7 @@ pub mod FieldsTold
 pub mod TagsTold
 pub mod PartsTold
 pub mod Suffixes
--- Spans: the parts stand in the line
+-- Spans: the parts are in the line
 pub mod SpansLemmas
 -- Names: what a line that was read names
 pub mod NamesTold

@@ -77,7 +77,7 @@ memory_by (Ok x) Fact h = tt
 memory_by (Err (errors.Fault f)) Fact h = tt
 memory_by (Err errors.OutOfMemory) Fact h = h
 
--- a number behind the fields is told as a time
+-- a number after the fields is read as a time
 pub timed : (unit now : ℤ) (line : Text) (at start : ℕ) → spaces_end line at ≡ start → (start ≡ length line → ⊥) → is_number (slice_range line start (length line)) ≡ true
     → time_at unit now line at ≡ time_by start (time_of unit (slice_range line start (length line)))
 unfolding time_at

@@ -23,7 +23,7 @@ space_at [] rest k e lt = absurd (omega arith)
 space_at (b ∷ bs) rest zero e lt = let p = and_parts (eqb b 32) (are_spaces bs) e in grind (arith, nat_tests)
 space_at (b ∷ bs) rest (suc k) e lt = let p = and_parts (eqb b 32) (are_spaces bs) e in space_at bs rest k p.1 (omega arith)
 
--- behind a byte stand spaces, and then anything
+-- spaces after a byte, and then anything
 abbrev tail_of : Text → ℕ → Text → Text → Text
 tail_of front b after rest = front ++ (b ∷ (after ++ rest))
 

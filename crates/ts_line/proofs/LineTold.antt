@@ -1,4 +1,4 @@
--- What stands around the parts that were read.
+-- The bytes around the parts that were read.
 use Rattle.std.proofs.Common.{◌≡◌, ℕ, ℤ, zero, suc, ◌+◌, ◌-◌, ◌*ℤ◌, ◌<◌, ◌≤◌, Bool, true, false, not, cond, ◌&&◌, eqb, [], ◌∷◌, ◌++◌, length, take, drop, slice_range, slice_index, Option, Some, None, Ok, Err, refl, sym, ap, ◌∙◌, arith, append-nil, inl, inr, ◌⊎◌}
 use Rattle.std.specs.Str.Parse.{signed_digits_value}
 use Rattle.std.proofs.lemmas.Bool.{and_parts, and_from, eqb-true}
@@ -93,7 +93,7 @@ time_by_end unit now line n time false more le space e =
 pub time_told : (unit now : ℤ) (line : Text) (n : ℕ) (time : ℤ) → n ≤ length line → (n < length line → slice_index line n ≡ 32) → time_at unit now line n ≡ Ok time → IsTimeAt unit now line n time
 time_told unit now line n time le space e = time_by_end unit now line n time (eqb (spaces_end line n) (length line)) refl le space e
 
--- ---- what is passed over at the end
+-- ---- the bytes that are passed over at the end
 
 pub record IsContent (source line : Text) : Type 0 where
   pub after : Text

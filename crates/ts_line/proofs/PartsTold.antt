@@ -1,4 +1,4 @@
--- What a step of the reader tells of the bytes that it passed.
+-- Facts about the bytes that a step of the reader passed.
 use Rattle.std.proofs.Common.{◌≡◌, ℕ, suc, ◌+◌, ◌-◌, ◌<◌, ◌≤◌, Bool, true, false, not, cond, eqb, [], ◌∷◌, ◌++◌, length, get_or, take, drop, slice_range, slice_index, Result, Ok, Err, refl, sym, ap, ◌∙◌, arith, length-drop, inl, inr, ◌⊎◌}
 use Rattle.std.proofs.lemmas.Bool.{and_parts, and_from, cases_lt}
 use Rattle.std.proofs.lemmas.List.{take-append-drop, drop-drop, at_drop_more, at_drop_all, get_or_past, get_or-drop, length-take-le}
@@ -45,7 +45,7 @@ past_by line n b (inr le) e some = absurd (omega (arith, e, some, past_zero line
 side : (m n : ℕ) → (m < n) ⊎ (n ≤ m)
 side m n = cases_lt m n
 
--- a byte that isn't 0 stands in the line
+-- a byte that isn't 0 is in the line
 pub within : (line : Text) (n b : ℕ) → slice_index line n ≡ b → 1 ≤ b → n < length line
 within line n b e some = past_by line n b (side n (length line)) e some
 
@@ -82,7 +82,7 @@ closes : (stops : Stops) (before : ℕ) (bs : Text) → part_len stops before bs
 closes stops before [] lt = absurd (omega arith)
 closes stops before (b ∷ bs) lt = closes_by stops before b bs (ends stops before b) refl (closes stops b bs) lt
 
--- where a part ends inside of the line, it is closed, and a byte that ends it stands there
+-- where a part ends inside of the line, it is closed, and a byte that ends it is there
 pub part_closes : (stops : Stops) (line : Text) (n : ℕ) → n ≤ length line → end_of stops line n < length line
     → (is_closed stops 0 (slice_range line n (end_of stops line n)) ≡ true) × (is_stop stops (slice_index line (end_of stops line n)) ≡ true)
 unfolding end_of

@@ -51,7 +51,7 @@ pub value_ends : (rest : Text) → is_value_end rest ≡ true → is_end Plain r
 value_ends [] e = refl
 value_ends (b ∷ bs) e = grind (arith, nat_tests)
 
--- what stands from a place on
+-- the suffix from an offset on
 pub stands : (line : Text) (from end : ℕ) → from ≤ end → end < length line → At line from (slice_range line from end ++ (get_or line end 0 ∷ drop (end + 1) line))
 stands line from end le lt =
     let back : from + (end - from) ≡ end = omega arith in
@@ -61,7 +61,7 @@ stands line from end le lt =
 digit_not_minus : (c : ℕ) → is_ascii_digit c ≡ true → eqb c 45 ≡ false
 digit_not_minus c e = grind (arith, nat_tests)
 
--- digits are a number, alone and behind a minus
+-- digits are a number, alone and after a minus
 digits_some : (ds : Text) → 0 < length ds → list_all is_ascii_digit ds ≡ true → are_digits ds ≡ true
 digits_some ds some e = rw e (grind (arith, nat_tests))
 
@@ -109,7 +109,7 @@ plain_value line start at end some within digits short last ends =
     value_read line ds rest start at here (digits_number ds (omega (arith, len)) digits) fits (value_ends rest ends)
     ∙ ap (λ n. Ok (n, at + length ds + 1)) signed ∙ ap (λ k. Ok (pos (digits_value 10 ds), k + 1)) len
 
--- and behind a minus its negative
+-- and after a minus its negative
 pub minus_value : (line : Text) (start at end : ℕ) → slice_index line at ≡ 45 → at + 1 < end → end < length line → list_all is_ascii_digit (slice_range line (at + 1) end) ≡ true
     → digits_value 10 (slice_range line (at + 1) end) < 9223372036854775808 → slice_index line end ≡ 105 → is_value_end (drop (end + 1) line) ≡ true
     → value_begun_at start line at ≡ Ok (neg_ℤ (pos (digits_value 10 (slice_range line (at + 1) end))), end + 1)

@@ -90,7 +90,7 @@ no_length : (es : List (Text × Text)) → length es ≡ 0 → es ≡ []
 no_length [] e = refl
 no_length (x ∷ es) e = absurd (omega arith)
 
--- what a finite map has that is made of them
+-- the entries of a finite map that is built from them
 pub entries_put_all : (ts : List (Text × Text)) → finmap.entries (finmap.from_entries {R = text_cmp} ts) ≡ put_all ts []
 entries_put_all [] = no_length (finmap.entries (finmap.empty {X = Text} {R = text_cmp})) (sym (len-entries (finmap.empty {X = Text} {R = text_cmp})) ∙ len-empty text_cmp Text)
 entries_put_all (t ∷ ts) = entries-insert nat_list_cmp_total (finmap.from_entries ts) t.0 t.1 ∙ ap (put text_cmp t.0 t.1) (entries_put_all ts)
@@ -115,7 +115,7 @@ rise_by t u ts Less e up ih = ap (put text_cmp t.0 t.1) ih ∙ rw e refl
 rise_by t u ts Equal e up ih = absurd cc
 rise_by t u ts Greater e up ih = absurd cc
 
--- tags in order stand as they are
+-- tags in order stay as they are
 pub rising_stand : (ts : List (Text × Text)) → rise ts ≡ true → put_all ts [] ≡ ts
 rising_stand [] up = refl
 rising_stand (t ∷ []) up = refl

@@ -1,4 +1,4 @@
--- The parts that are spelled stand in the line, one behind the other.
+-- The parts that are spelled are in the line, one after the other.
 use Rattle.std.proofs.Common.{◌≡◌, ℕ, ℤ, ◌+◌, ◌≤◌, Bool, true, false, List, [], ◌∷◌, ◌++◌, length, map, drop, bytes_eq, refl, sym, ap, subst, ◌∙◌, arith, append_assoc, length-append, inl, inr, ◌⊎◌, ⊎_elim, Option, Some, None, IfSome, Result, Ok, Err, IfOk}
 use Rattle.ts_core.specs.Facts.{Text}
 use Rattle.ts_line.specs.declared.fault.ReadLineError.{ReadLineError}
@@ -46,7 +46,7 @@ names_by true g f gs e ih = inl (rw e refl)
 names_by false g f gs e ih =
     ⊎_elim (λ same. inl (rw e (ap (λ (ps : List LinePart). g.0 ∷ ps) same))) (λ more. inr (rw e (ap (λ (ps : List LinePart). g.0 ∷ ps) more))) ih
 
--- the names of fields stay, and a new one stands last
+-- the names of fields stay, and a new one comes last
 names_with : (fields : List (LinePart × ℤ)) (f : LinePart × ℤ) → (map field_piece (with_field fields f) ≡ map field_piece fields) ⊎ (map field_piece (with_field fields f) ≡ map field_piece fields ++ f.0 ∷ [])
 names_with [] f = inr refl
 names_with (g ∷ gs) f = names_by (bytes_eq g.0.text f.0.text) g f gs refl (names_with gs f)

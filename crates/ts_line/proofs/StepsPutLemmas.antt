@@ -6,7 +6,7 @@ use Rattle.ts_line.specs.declared.fault.ReadLineError.TheVariants as errors
 use Rattle.ts_line.specs.ReadSteps.{FailsIfRoom}
 use Rattle.ts_line.specs.StepsPut.{put_by}
 
--- what was put was read
+-- each inserted part was read
 pub was_read : {X Y : Type 0} (put : X → Y) (q : Result (X × ℕ) LineFault) (y : Y) (end : ℕ) → put_by put q ≡ Ok (y, end) → (x : X) × (q ≡ Ok (x, end)) × (y ≡ put x)
 was_read {X} {Y} put (Ok read) y end e =
     let is : (put read.0, read.1) ≡ (y, end) = cc in

@@ -1,4 +1,4 @@
--- What stands in a line from a place on.
+-- The suffix of a line from an offset on.
 use Rattle.std.proofs.Common.{◌≡◌, ℕ, ◌+◌, ◌-◌, Bool, true, not, eqb, [], ◌∷◌, ◌++◌, length, get_or, take, drop, slice_range, slice_index, refl, sym, ap, ◌∙◌, arith}
 use Rattle.std.proofs.lemmas.Bool.{not-true, and_parts}
 use Rattle.std.proofs.lemmas.List.{take_at, drop_at, drop-drop, get_or-drop}

@@ -16,7 +16,7 @@ use Rattle.ts_line.proofs.Suffixes.{At, at_next, at_byte, at_after, at_slice, is
 abbrev Tags : Type 0
 Tags = List (LinePart × LinePart)
 
--- a part that is read where it stands
+-- a part that is read where it is
 pub at_piece : (line raw rest : Text) (n end : ℕ) → At line n (raw ++ rest) → end ≡ n + length raw → piece_at Equals line n end ≡ written_piece Equals n raw
 at_piece line raw rest n end at e = ap (λ (t : Text). record { start = n; raw = t; text = unescaped Equals t }) (at_slice line raw rest n end at e)
 
@@ -71,7 +71,7 @@ map_snoc (b ∷ before) t keys = ap (λ (ks : List Text). piece_key b ∷ ks) (m
 pub flat : (k v more rest : Text) → (k ++ (61 ∷ (v ++ more))) ++ rest ≡ k ++ (61 ∷ (v ++ (more ++ rest)))
 flat k v more rest = simp append_assoc
 
--- behind the tags stands a space
+-- a space follows the tags
 tags_end : (ts : List (Text × Text)) (rest : Text) → is_end Equals (tags_text ts ++ (32 ∷ rest)) ≡ true
 tags_end [] rest = refl
 tags_end (t ∷ ts) rest = refl

@@ -108,7 +108,7 @@ key_missing (t ∷ ts) key e a =
     let p = or_parts (bytes_eq t.0.text key) (has_key ts key) e in
     ⊎_elim (λ is. both_ways (bytes_eq t.0.text key) p.0 ((bytes_eq-Decides t.0.text key).1 (sym is))) (λ later. key_missing ts key p.1 later) a
 
--- what a tag that was taken tells
+-- facts about a tag that was taken
 pub record IsTag (before : Tags) (line : Text) (n : ℕ) (tag : LinePart × LinePart) (next : ℕ) : Type 0 where
   pub pair : IsPair line n tag next
   pub room : length before < 64

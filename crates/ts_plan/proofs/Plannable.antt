@@ -1,4 +1,4 @@
--- What is asked of a store can be planned: no interval is empty, and the names of rules differ and have the form of names.
+-- A query of a store can be planned: no interval is empty, and the names of rules differ and have the form of names.
 use Rattle.std.proofs.Common.{◌≡◌, None, length, sym, subst}
 use Rattle.ts_core.specs.Members.{AllDistinct}
 use Rattle.ts_core.specs.Settings.{Settings, AreSettings}

@@ -5,7 +5,7 @@ use Rattle.ts_core.specs.Members.{Among, AllDistinct}
 use Rattle.ts_core.specs.Pieces.{MarkedRule}
 use Rattle.ts_core.proofs.RuleNames.{name_of, name_there}
 
--- the first name stands at number 0 alone
+-- the first name is at number 0 alone
 first_alone : (x : MarkedRule) (rs : List MarkedRule) (n : ℕ) (r u : MarkedRule) → AllDistinct (map name_of (x ∷ rs)) → Some x ≡ Some r → slice_get rs n ≡ Some u → name_of r ≡ name_of u → ⊥
 first_alone x rs n r u d e f same =
     let k : x ≡ r = cc in

@@ -1,4 +1,4 @@
--- The sweep in place: the kept steps stand at the back.
+-- The sweep in place: the kept steps are at the back.
 use Rattle.std.proofs.Common.{◌≡◌, ℕ, ◌≤◌, List, length, take, drop}
 use Rattle.ts_plan.specs.declared.steps.Step.{Step}
 use Rattle.ts_core.specs.Pieces.{Asked}

@@ -27,11 +27,11 @@ fault-not_valid t p f e v = let q : Some f ≡ None = sym e ∙ source_none t p.
 pub le_not : (x y : ℤ) → int_le x y ≡ false → y <ℤ x
 le_not x y h = grind (arith, ints)
 
--- not behind the end and not at it is before it
+-- not after the end and not at it is before it
 pub before_end : (p to q e : ℤ) → q ≡ p → e ≡ to → int_lt e q ≡ false → (p ≡ to → ⊥) → p <ℤ to
 before_end p to q e f g h n = let k = lt_not e q h in by_lt_z p to (λ l. l) (λ m. absurd (n (omega (arith, ints))))
 
--- less is left of the range behind a bucket
+-- less is left of the range after a bucket
 pub falls_on : (to p e i : ℤ) → e ≡ p +ℤ i → pos 1 ≤ℤ i → e ≤ℤ to → 2 * unsigned_abs (to -ℤ e) + 1 < 2 * unsigned_abs (to -ℤ p)
 falls_on to p e i h k l = omega (arith, ints)
 

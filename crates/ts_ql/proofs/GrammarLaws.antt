@@ -26,7 +26,7 @@ use Rattle.ts_ql.proofs.Steps.{at, Answer, Faulty, Leads, IsPending, IsPendingAt
 
 -- ---- from trees to the machine
 
--- where the tokens end, the machine stands at a rest, or at the fault
+-- where the tokens end, the machine is at a rest, or at the fault
 abbrev Met : ℤ → Reach → List (Result Select Fault) → Advance → Type 0
 Met now reach said r =
     ((n : Progress) × (q : Rest n.place) × (r ≡ Ok n) × Stands reach n × (said ≡ all_said now n q)) ⊎ ((f : Fault) × (reach ≡ At f) × (r ≡ Err f))
@@ -161,7 +161,7 @@ minus_taken now s t e =
 not_refused : (r : Advance) (n : Progress) (f g : Fault) → r ≡ Ok n → r ≡ Err f → f ≡ g
 not_refused r n f g fine refused = cc
 
--- a moment that isn't a valid time is told before the token that ends it
+-- a moment that isn't a valid time is reported before the token that ends it
 late_told : (now : ℤ) (s : Progress) (t : Lexeme) (f g : Fault) → moment_time s.draft.moment ≡ Err g
     → after_settling now t (at places.AfterMoment s) (settled_in s.draft (settled s.draft.moment s.draft.range)) ≡ Err f → f ≡ g
 unfolding settled
@@ -184,7 +184,7 @@ unfolding step settle_step
 pending_at places.AfterMoment now s t f g late refused = pending_kind now s t.kind t f g refl late refused
 pending_at p now s t f g late refused = absurd late
 
--- what is examined at a token that the machine refuses is what it tells
+-- the check that fails at a token that the machine refuses is the fault that it reports
 examined_by : (now : ℤ) (said : List (Result Select Fault)) (s : Progress) (t : Lexeme) (f other : Fault) (r : Advance) → r ≡ Ok s → step now t s ≡ Err f → Met now (At other) said r → f ≡ other
 examined_by now said s t f other r runs refused (inl m) =
     let same : m.0 ≡ s = cc in
@@ -243,7 +243,7 @@ first_fault now ts f e =
       known = known now w.before w.front w.token f w.runs w.refused;
     }
 
--- a first fault is what the machine tells
+-- a first fault is the one that the machine reports
 same_fault : (now : ℤ) (ts : List Lexeme) (f : Fault) (w : IsFirstFault now ts f) (s : Progress) → run now start_progress w.before ≡ Ok s → (g : Fault) → step now w.token s ≡ Err g
     → HasFault now w.before w.token f ⊎ (f ≡ unexpected w.token) → HasFault now w.before w.token g ⊎ (g ≡ unexpected w.token) → f ≡ g
 same_fault now ts f w s runs g e (inl has) other = sym (examined now s w.before w.token g f runs e has)

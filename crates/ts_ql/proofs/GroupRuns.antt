@@ -25,14 +25,14 @@ use Rattle.ts_ql.proofs.WhereRuns.{time_is_name}
 abbrev pub grouping : Progress → Place → Grouping → Advance
 grouping s p step = with_draft (at p s) (in_groups s.draft step)
 
--- what is left behind an interval that makes these buckets, and what is said with it
+-- what is left after an interval that makes these buckets, and what is said with it
 abbrev pub every_left : ℤ → Progress → Option Signed × DimensionTail → Option Buckets → List Item
 every_left now s r b = spell_offset r.0 (Any (Of kinds.Close) ∷ left_dimensions now s (with_buckets (meaning s.draft) (offset_by b r.0)) r.1)
 
 abbrev pub every_said : ℤ → Progress → Option Signed × DimensionTail → Option Buckets → List (Result Select Fault)
 every_said now s r b = map Ok s.queries ++ said_dimensions now s (with_buckets (meaning s.draft) (offset_by b r.0)) r.1
 
--- what is left behind an offset, and what is said with it
+-- what is left after an offset, and what is said with it
 abbrev pub moved_left : ℤ → Progress → DimensionTail → ℤ → List Item
 moved_left now s r n = Any (Of kinds.Close) ∷ left_dimensions now s (with_buckets (meaning s.draft) (moved n s.draft.groups.buckets)) r
 
@@ -341,7 +341,7 @@ pub offset_end_leads : (now : ℤ) (s : Progress) (q : DimensionTail) (t : Lexem
 offset_end_leads now s q t ts reach w =
     subst (λ (k : Kind). Leads now (at places.OffsetEnd s) q ts reach (group_steps s places.OffsetEnd t k)) (sym w.0) (q, tt, w.1, refl)
 
--- behind a tag: its type, or a comma
+-- after a tag: its type, or a comma
 pub tag_cast_leads : (now : ℤ) (s : Progress) (r : DimensionTail) (t : Lexeme) (ts : List Lexeme) (reach : Reach)
     → Reads (left_at places.AfterTag now (at places.AfterTag s) (true, r)) (t ∷ ts) reach → Leads now (at places.AfterTag s) (true, r) ts reach (group_steps s places.AfterTag t t.kind)
 tag_cast_leads now s r t ts reach w =

@@ -35,7 +35,7 @@ least_by : (b : Bool) (n x y : ℕ) → n ≤ x → n ≤ y → n ≤ cond b x y
 least_by true n x y h k = h
 least_by false n x y h k = k
 
--- what is added up never falls
+-- a sum never falls
 pub at_least : (total number : ℕ) (text : Text) → total + number ≤ units_added_up total number text
 at_least total number [] = omega arith
 at_least total number (b ∷ bs) =

@@ -122,7 +122,7 @@ closing_ends now s p (Outside [] tail) t ts reach v = group_ends now s p tail.0 
 closing_ends now s p (Inside (c ∷ cs) closing) t ts reach v = subst (EndsMoment s) (sym v.0.0) refl
 closing_ends now s p (Inside [] closing) t ts reach v = subst (EndsMoment s) (sym v.0) refl
 
--- what follows the moment's end follows the moment
+-- whatever follows the moment's end follows the moment
 unsettle_leads : (now : ℤ) (s : Progress) (q : Closing) (ts : List Lexeme) (reach : Reach) (b : Bool) (r : Advance) (w : (c : Closing) → Rest (behind_term b))
     → Leads now (at (behind_term b) (settled_state s)) (w q) ts reach r → all_said now (at (behind_term b) (settled_state s)) (w q) ≡ all_said now (at places.AfterMoment s) ([], q)
     → Leads now (at places.AfterMoment s) ([], q) ts reach r

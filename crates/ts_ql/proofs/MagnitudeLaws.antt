@@ -33,7 +33,7 @@ no_s_first : (ts : List Term) → AreTerms ts → (slice_index (spelled ts) 0 ==
 no_s_first [] w = refl
 no_s_first (t ∷ ts) w = first_not_s t.digits (t.name ++ spelled ts) w.0.number
 
--- ---- units: where no s stands behind a name, its unit is counted
+-- ---- units: where no s follows a name, its unit is counted
 
 abbrev Counts : Text → TimeUnit → Type 0
 Counts name unit =

@@ -35,7 +35,7 @@ moment_steps now s p t k = timing s p (moment_at now p k t s.draft.moment)
 
 -- ---- parentheses
 
--- so many parentheses are closed, and the text ends
+-- n parentheses are closed, and the text ends
 pub closings : (n : ℕ) → (closing : Closing) × (n ≡ levels closing)
 closings n = (closing_of n, closing_levels n)
 
@@ -343,7 +343,7 @@ pub change_leads : (now : ℤ) (s : Progress) (c : Change) (cs : List Change) (c
     → Leads now (at places.AfterMoment s) (c ∷ cs, closing) ts reach (timing s places.AfterMoment (moment_at now places.AfterMoment t.kind t s.draft.moment))
 change_leads now s c cs closing t ts reach suits w = change_leads_at now s c.less c.by cs closing t ts reach suits w
 
--- what is examined of a change, and what stands behind it
+-- what is examined of a change, and what follows it
 abbrev pub examined_change : ℤ → Progress → Bool → Lexeme → List Change × Closing → List Item
 examined_change now s less t r =
     Examine (change_fault (by_value less t)) ∷ left_changes now s s.draft.moment.first (total_after s.draft.moment.total (by_value less t)) r

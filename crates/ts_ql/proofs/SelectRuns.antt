@@ -45,7 +45,7 @@ with_alias s l = record s { draft = record s.draft { selection = steps.with_colu
 abbrev pub with_measurement : Progress → Lexeme → Progress
 with_measurement s l = record s { draft = record s.draft { selection = record s.draft.selection { measurement = named l } } }
 
--- some rest behind a fault
+-- some rest after a fault
 abbrev pub any_source : Lexeme → FromClause × FilterTail
 any_source t = (Measurement t, (None, (None, (None, Stop))))
 
@@ -54,11 +54,11 @@ any_closed t = (None, ([], any_source t))
 
 -- ---- from the machine
 
--- the aggregate of a function and the rest behind it
+-- the aggregate of a function and the rest after it
 abbrev pub aggregate_of : Lexeme → Rest places.FunctionOpen → Call
 aggregate_of t r = record { function = t; field = r.0; cast = r.1.0; alias = r.1.1.0 }
 
--- the rest behind the function of an aggregate
+-- the rest after the function of an aggregate
 abbrev pub opened : Call → SelectTail → Rest places.FunctionOpen
 opened a tail = (a.field, (a.cast, (a.alias, tail)))
 
@@ -125,7 +125,7 @@ from_answers : (now : ℤ) (s : Progress) (t : Lexeme) → t.kind ≡ kinds.Keyw
 from_answers now s t e z true is = (z, λ r suits. ((None, ([], r)), tt, (λ ts reach w. ((e, is), w)), refl))
 from_answers now s t e z false is = as_answers now s t e z (is_word (codes "as") t.text) refl
 
--- FROM behind a name
+-- FROM after a name
 from_alone : (now : ℤ) (s : Progress) (t : Lexeme) → t.kind ≡ kinds.Keyword → s.draft.filter.depth ≡ 0 → (b : Bool) → is_word (codes "from") t.text ≡ b
     → Answer now (at places.AfterAlias s) t (selecting s places.AfterAlias (if b then Ok (places.Measurement, s.draft.selection) else Err (unexpected t)))
 from_alone now s t e z true is = (z, λ r suits. (([], r), tt, (λ ts reach w. ((e, is), w)), refl))
@@ -155,7 +155,7 @@ select_answers now s p k t e z = inr refl
 
 -- ---- from trees
 
--- a name is a word or stands in quotes
+-- a name is a word or is in quotes
 by_name : (P : Kind → Type 0) → P kinds.Word → P kinds.QuotedName → (k : Kind) → is_name k ≡ true → P k
 by_name P word quoted kinds.Word i = word
 by_name P word quoted kinds.QuotedName i = quoted
@@ -269,7 +269,7 @@ pub FieldClose_leads : (now : ℤ) (s : Progress) (q : Rest places.FieldClose) (
 FieldClose_leads now s q t ts reach w =
     subst (λ (k : Kind). Leads now (at places.FieldClose s) q ts reach (select_steps s places.FieldClose t k)) (sym w.0) (q, tt, w.1, refl)
 
--- the step with a keyword behind a column
+-- the step with a keyword after a column
 abbrev pub behind_column : Progress → Lexeme → Bool → Bool → Advance
 behind_column s t from named_as = selecting s places.AfterColumn (if from then Ok (places.Measurement, with_default s.draft.selection)
     else if named_as then Ok (places.Alias, s.draft.selection) else Err (unexpected t))

@@ -1,5 +1,5 @@
--- What is to be shown of each step of the machine: where a token leads on, the rest behind it is a rest here; where it doesn't, what has been
--- read is at fault, or the token can't stand there; and a token that a rest spells leads on to what is left of the rest.
+-- To be shown of each step of the machine: where a token leads on, the rest after it is a rest here. Where it does not,
+-- the tokens so far are at fault, or the token cannot come there. A token that a rest spells leads on to the remaining rest.
 use Rattle.std.proofs.Common.{◌≡◌, ◌⊎◌, ℤ, List, [], ◌∷◌, true, Option, Some, None, Ok, Err, refl, ap, ◌∙◌, subst}
 use Rattle.std.specs.Prelude.{⊤}
 use Rattle.ts_ql.specs.Grammar.{Item, Examine}
@@ -18,7 +18,7 @@ at p s = record s { place = p }
 
 -- ---- from the machine to trees
 
--- each rest behind the token is a rest here
+-- each rest after the token is a rest here
 abbrev pub Back : ℤ → Progress → Progress → Lexeme → Type 0
 Back now s n t =
     (r : Rest n.place) → Suits n r → (q : Rest s.place) × Suits s q
@@ -36,7 +36,7 @@ Answer now s t (Err f) = Faulty now s t f ⊎ (f ≡ unexpected t)
 
 -- ---- from trees to the machine
 
--- the rest here leads to one behind the token, or to a fault of the last token
+-- the rest here leads to one after the token, or to a fault of the last token
 abbrev pub Leads : ℤ → (s : Progress) → Rest s.place → List Lexeme → Reach → Advance → Type 0
 Leads now s q ts reach (Ok n) =
     (r : Rest n.place) × Suits n r × Reads (left now n r) ts reach × (all_said now s q ≡ all_said now n r)

@@ -24,7 +24,7 @@ use Rattle.ts_ql.specs.Tokens.{Lexeme}
 use Rattle.ts_ql.specs.WhereSteps.{Filtering, where_step}
 use Rattle.ts_ql.proofs.DateBounds.{Holds, IsNear, moment_told_near, literal_near}
 
--- where the moment and the sum before a token have a bound, the sum behind it has one that is little more
+-- where the moment and the sum before a token have a bound, the sum after it has one that is little more
 abbrev pub Follows : ℤ → ℤ → ℤ → Type 0
 Follows now old new = (bound : ℕ) → unsigned_abs now ≤ bound → unsigned_abs old ≤ bound → unsigned_abs new ≤ bound + 2 ^ 102
 
@@ -201,7 +201,7 @@ step_follows now t s = settling_follows now t s (settle_at s.place t.kind s.draf
 
 -- ---- token by token
 
--- the sum after so many tokens
+-- the sum after n tokens
 abbrev pub IsAfter : ℤ → ℕ → Progress → Type 0
 IsAfter now turn s = unsigned_abs s.draft.moment.total ≤ turn * 2 ^ 102 + unsigned_abs now
 

@@ -43,7 +43,7 @@ end_some class text from lt e = rw (drop-cons text from 0 lt) (run_some class fr
 
 -- ---- texts in quotes
 
--- a quote that closes stands in the text
+-- a quote that closes is in the text
 abbrev Closes : ℕ → ℕ → Option ℕ → Type 0
 Closes at past None = Unit {0}
 Closes at past (Some close) = (at ≤ close) × (close < past)

@@ -121,7 +121,7 @@ type_answers : (now : ℤ) (s : Progress) (t : Lexeme) → t.kind ≡ kinds.Word
 type_answers now s t e true is = (tt, λ r suits. (r, suits, (λ ts reach w. ((e, is), w)), refl))
 type_answers now s t e false is = inr refl
 
--- AND behind a term outside of all parentheses, and inside of some
+-- AND after a term outside of all parentheses, and inside of some
 and_back : (now : ℤ) (s : Progress) (t : Lexeme) → t.kind ≡ kinds.Keyword → is_word (codes "and") t.text ≡ true → s.draft.filter.depth ≡ 0
     → (c : Cond) (closing : Closing) → s.draft.filter.depth ≡ levels closing
     → Behind now (at places.AfterTerm s) t (spell_cond now (levels closing) c (left_closing now s (after_cond now (meaning s.draft) c) closing))
@@ -322,7 +322,7 @@ tag_value_leads now s q t ts reach suits w =
     (subst (λ (x : Lexeme). Reads (left_closing now s (matched_parts s x) q.1) ts reach) (sym w.0) w.2)
     (ap (λ (x : Lexeme). map Ok s.queries ++ said_closing now s (matched_parts s x) q.1) (sym w.0)))
 
--- ---- behind a term
+-- ---- after a term
 
 abbrev and_steps : Progress → Place → Lexeme → Bool → Advance
 and_steps s p t b = filtering s p (if b then Ok (places.Term, s.draft.filter) else Err (unexpected t))

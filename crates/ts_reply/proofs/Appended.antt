@@ -24,7 +24,7 @@ if_pushed (Err x) new pushed old e = tt
 
 -- ---- items
 
--- each behind a comma
+-- each after a comma
 abbrev pub behind_commas : List Data → Text
 behind_commas ds = flat_map (λ (d : Data). 44 ∷ compact_text d) ds
 

@@ -1,4 +1,4 @@
--- What is told of columns and tags has no float: it is made of texts.
+-- The JSON of columns and tags has no float: it consists of strings.
 use Rattle.std.proofs.Common.{◌≡◌, Bool, true, false, ◌||◌, List, [], ◌∷◌, map, refl, Ordering, Less, Equal, Greater, nat_cmp, true≢false}
 use Rattle.std.specs.Ordering.{match_ordering}
 use Rattle.std.specs.Cmp.Lexicographic.{slice_cmp}

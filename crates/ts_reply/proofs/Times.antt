@@ -1,4 +1,4 @@
--- How a time is told.
+-- The text of a time.
 use Rattle.std.proofs.Common.{◌≡◌, ℤ, Bool, true, false, ◌++◌, subst, sym, refl, true≢false}
 use Rattle.json.specs.Print.{quoted}
 use Rattle.serde_json.specs.Data.{Data, string}

@@ -16,7 +16,7 @@ pub none_there : (text : Text) → HasNone text → with_line_feeds text ≡ tex
 none_there [] none = refl
 none_there (b ∷ bs) none = ap₂ (λ (x : ℕ) (xs : Text). x ∷ xs) (other_byte b (none 0 (omega arith))) (none_there bs (λ i h. none (suc i) (omega arith)))
 
--- the first one is behind a text without one
+-- the first one is after a text without one
 pub first_there : (text first others : Text) → text ≡ first ++ (59 ∷ others) → HasNone first → with_line_feeds text ≡ first ++ (10 ∷ with_line_feeds others)
 first_there text first others e none =
     ap with_line_feeds e ∙ map-append (λ b. cond (b == 59) 10 b) first (59 ∷ others) ∙ ap (λ (t : Text). t ++ (10 ∷ with_line_feeds others)) (none_there first none)

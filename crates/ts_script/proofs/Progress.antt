@@ -22,7 +22,7 @@ use Rattle.ts_script.specs.declared.run_fault.RunFault.TheVariants.{OutOfMemory,
 use Rattle.ts_script.specs.declared.line_reader.Next.{Next}
 use Rattle.ts_script.specs.declared.line_reader.Next.TheVariants.{End}
 
--- the first lines of the input are answered, and left is what stands behind them; of their answers the last bytes are kept
+-- the first lines of the input are answered, and left is what follows them; of their answers the last bytes are kept
 pub record Done (input : Text) (left old new : Option Text) (kept : Text) (m : Serving) : Type 0 where
   pub rest : Text
   pub left_is : left ≡ Some rest

@@ -1,4 +1,4 @@
--- What a store that is made of the image of another has.
+-- The contents of a store that is loaded from the image of another.
 use Rattle.std.proofs.Common.{◌≡◌, ◌↔◌, ℕ, zero, suc, ◌+◌, ◌==◌, ℤ, pos, ◌≤ℤ◌, Bool, true, false, cond, List, [], ◌∷◌, ◌++◌, length, map, filter, drop, refl, sym, ◌∙◌, ap, subst, Some, None, Option, inl, inr, arith}
 use Rattle.std.specs.FinMap as finmap
 use Rattle.std.specs.List.{AllByRecursion}

@@ -1,4 +1,4 @@
--- The cells of a store that is made of the image of another.
+-- The cells of a store that is loaded from the image of another.
 use Rattle.std.proofs.Common.{◌≡◌, ℕ, zero, suc, ◌+◌, ℤ, pos, ◌≤ℤ◌, ◌&&◌, true, List, [], ◌∷◌, length, map, refl, sym, ◌∙◌, ap, subst, Some, None, ⊎_elim, arith}
 use Rattle.std.specs.Prelude.{slice_index_or}
 use Rattle.std.specs.FinMap as finmap

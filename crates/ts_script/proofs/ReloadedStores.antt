@@ -1,4 +1,4 @@
--- A store that is made of the image of another stands for its history, and the machine's state is the reloaded one.
+-- A store that is loaded from the image of another stands for its history, and the machine's state is the reloaded one.
 use Rattle.std.proofs.Common.{◌≡◌, List, [], ◌∷◌, ℕ, map, filter, Option, Some, IfSome, refl, sym, ◌∙◌, ap, subst}
 use Rattle.ts_core.specs.Facts.{Text, Series, Column}
 use Rattle.ts_core.specs.Settings.{Settings}
@@ -81,7 +81,7 @@ was_reloaded s m k i r =
 pub reloaded_no_memory : (s : State) (m : Serving) → IsIn s m → Did Reload s (line memory_text) m
 reloaded_no_memory s m i = (s, reloads_no_memory, i)
 
--- a store that was loaded from the image of another is made of it
+-- a store that was loaded from the image of another has its contents
 pub loaded_back : (k n : StoreData) (bytes : List ℕ) (source : Input) → source.remaining ≡ Some bytes → IsImageIn k bytes → IsSized k → IsLoadedStore source n → IsReloadOf k n
 loaded_back k n bytes source known is sized l =
     let d : ImageData = image_of k is.order in

@@ -10,7 +10,7 @@ use Rattle.ts_core.specs.declared.fault_code.FaultCode.{FaultCode}
 use Rattle.tsdb.specs.FaultNumbers.{row_where, asked_row}
 use Rattle.tsdb.specs.FaultTables.{fault_row}
 
--- a row that is asked for is put behind the others
+-- a requested row is appended
 pub row_put : {T E : Type 0} (r : Result T E) (asked : FaultCode → Bool) (code : FaultCode) (old new digits words : Text) → asked code ≡ true → digits ≡ decimal (code_number code) → words ≡ code_words code
     → OnOk r (new ≡ old ++ (digits ++ (32 ∷ (words ++ (10 ∷ []))))) → OnOk r (new ≡ old ++ row_where asked code)
 row_put {T} {E} (Err x) asked code old new digits words a d w e = tt

@@ -15,7 +15,7 @@ pub returns-in-Some-clause-ok : goal.returns-in-Some-clause-ok
 returns-in-Some-clause-ok g c =
     let l : Lane = lane_named c.args.field.now c.args.group.now in inl (at_among c.args.self.now c.in-Some.number l c.in-Some.ensures.found, refl)
 
--- the lane stands behind the others
+-- the lane follows the others
 pushed : (g : Over) (c : goal.After-unwrap-2 g) → c.push-2.new.self.items ≡ c.self.inside.lanes.items ++ lane_named c.args.field.now c.args.group.now ∷ []
 pushed g c =
     let before : List Lane = c.self.inside.lanes.items in
@@ -30,7 +30,7 @@ counted g c = search rules
 unknown : (g : Over) (c : goal.After-unwrap-2 g) → Among (lane_named c.args.field.now c.args.group.now) c.self.inside.lanes.items → ⊥
 unknown g c = subst (λ (xs : List Lane). Among (lane_named c.args.field.now c.args.group.now) xs → ⊥) (sym c.self.view_is) c.in_default.ensures.absent
 
--- its number stands in the order
+-- its number is in the order
 ordered : (g : Over) (c : goal.After-unwrap-2 g) → c.insert.new.self.items ≡ insert c.self.inside.order.items c.place_in_order-at.result (length c.self.inside.lanes.items)
 ordered g c =
     let order : List ℕ = c.self.inside.order.items in
