@@ -1,4 +1,4 @@
--- What a finite map over rows and lanes has at a cell.
+-- The value of a finite map over rows and lanes at a cell.
 use Rattle.std.proofs.Common.{◌≡◌, ℕ, ℤ, zero, suc, ◌<◌, Bool, true, false, cond, T, List, [], ◌∷◌, ◌++◌, length, get_or, refl, sym, ◌∙◌, ap, ap₂, subst, Option, Some, None, inl, inr, ◌⊎◌, ⊎_elim, is_eq, arith, true≢false}
 use Rattle.std.specs.Ordering.{int_cmp, eq_by_cmp}
 use Rattle.std.specs.Cmp.{int_cmp_total}

@@ -1,4 +1,4 @@
--- What a change in one row does to the finite map.
+-- The effect of a change in one row on the finite map.
 use Rattle.std.proofs.Common.{◌≡◌, ℕ, ℤ, zero, suc, ◌<◌, ◌≤◌, ◌+◌, Bool, true, false, cond, List, [], ◌∷◌, length, get_or, set, insert, refl, sym, ◌∙◌, ap, ap₂, subst, Option, Some, None, is_eq, arith, Less, Equal, Greater, ◌==◌, ◌&&◌, option_map, max}
 use Rattle.std.specs.Ordering.{int_cmp, eq_by_cmp}
 use Rattle.std.specs.Cmp.{int_cmp_total}

@@ -70,7 +70,7 @@ length-numbered ls [] = refl
 length-numbered ls (n ∷ ns) = ap suc (length-numbered ls ns)
 
 module _ (ls : List Lane) (order : List ℕ) (is : IsOrdered ls order) (l : Lane) where
-  -- what the search compares at a place
+  -- the comparison of the search at a place
   compared : (i d : ℕ) (e : Lane × ℕ) → i < length order → found_cmp (slice_get ls (get_or order i d)) l ≡ lane_cmp (get_or (lanes_numbered ls order) i e).0 l
   compared i d e h =
       found_inside ls (get_or order i d) l (all_at (λ n. n < length ls) order i d h is.inside)
@@ -102,7 +102,7 @@ module _ (ls : List Lane) (order : List ℕ) (is : IsOrdered ls order) (l : Lane
     λ k d a b. greater_of (found_cmp (slice_get ls (get_or order k d)) l) (p.1 k d a b) (λ e. absent (equal_among k d b e)),
   )
 
-  -- where it would stand between others
+  -- where it would be between others
   between : (at : ℕ) → at ≤ length order → IsPartitionPoint (λ n. found_cmp (slice_get ls n) l ≡ Less) (λ n. found_cmp (slice_get ls n) l ≡ Greater) order at
       → IsPartitionPoint (λ (e : Lane × ℕ). lane_cmp e.0 l ≡ Less) (λ (e : Lane × ℕ). lane_cmp e.0 l ≡ Greater) (lanes_numbered ls order) at
   between at h p = (

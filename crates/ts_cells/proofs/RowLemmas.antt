@@ -53,7 +53,7 @@ module _ {P : Type 0} where
   no_part (x ∷ xs) zero h e = let f : Some x ≡ None = e in cc
   no_part (x ∷ xs) (suc q) h e = no_part xs q (omega arith) e
 
-  -- what is kept of a lane is at its place
+  -- the part of a lane is at its place
   pub held_at : (parts : List P) (places : List ℕ) (j : ℕ) → length parts ≤ no_place → held (by_lane parts places) j ≡ slice_get parts (place_of places j)
   held_at parts [] j h = sym (slice_get_past parts no_place h)
   held_at parts (p ∷ ps) zero h = refl
@@ -169,7 +169,7 @@ module _ (places lanes front : List ℕ) (lane count : ℕ) (is : IsPlaced place
           none = gone_none;
         })
 
--- ---- what is kept then
+-- ---- the parts afterwards
 
 module _ {P : Type 0} where
   -- a lane without a place has no cell

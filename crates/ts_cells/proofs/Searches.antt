@@ -1,4 +1,4 @@
--- What a search in entries that are in order finds.
+-- The result of a search in entries that are in order.
 use Rattle.std.proofs.Common.{◌≡◌, ℕ, zero, suc, ◌<◌, ◌≤◌, cond, T, List, [], ◌∷◌, length, get_or, ap, ◌∙◌, refl, Some, None, Result, Ok, Err, MatchResult, HoldsAt, is_eq, arith, Ordering, Less, Equal, Greater}
 use Rattle.std.specs.Ordering.{ordering_index, ordering_reverse}
 use Rattle.std.specs.FinMap.Entries.{below_all}
@@ -13,7 +13,7 @@ pub place_found : {X : Type 0} (ord : X → Ordering) (xs : List X) (r : Result 
 place_found ord xs (Ok i) up h = h
 place_found ord xs (Err i) up h = h up
 
--- nothing of what is below all is found
+-- nothing below all entries is found
 pub find_below : {K X : Type 0} (R : K → K → Ordering) (k : K) (es : List (K × X)) → T (below_all R k es) → find R k es ≡ None
 find_below R k [] h = refl
 find_below R k (e ∷ es) h = let p = both_of _ _ h in ap (λ o. cond (is_eq o) (Some e.1) (find R k es)) (less_of _ p.0) ∙ find_below R k es p.1
@@ -25,7 +25,7 @@ module _ {K X : Type 0} {R : K → K → Ordering} (o : IsTotalOrder R) where
       ap (λ r. cond (is_eq r) (Some e.1) (find R k es)) (o.antisymm k e.0 ∙ ap ordering_reverse (h 0 e (omega arith)))
       ∙ none_after es k (λ j d l. h (suc j) d (omega arith))
 
-  -- nothing is found where it would stand between others
+  -- nothing is found where it would be between others
   pub missing : (es : List (K × X)) (k : K) (at : ℕ) → at ≤ length es → IsPartitionPoint (λ (e : K × X). R e.0 k ≡ Less) (λ (e : K × X). R e.0 k ≡ Greater) es at → find R k es ≡ None
   missing es k zero h p = none_after es k (λ j d l. p.1 j d (omega arith) l)
   missing [] k (suc at) h p = refl

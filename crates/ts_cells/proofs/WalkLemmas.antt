@@ -47,7 +47,7 @@ absent_lane ls l (m ∷ ms) a n =
     ] refl
 
 module _ {P : Type 0} where
-  -- what is kept of a lane, where it has a number
+  -- the part of a lane, where it has a number
   abbrev then_held : Option ℕ → List (Option P) → Option P
   then_held None cs = None
   then_held (Some n) cs = held cs n
@@ -57,7 +57,7 @@ module _ {P : Type 0} where
   then_none (Some n) = refl
 
 module _ {P : Type 0} (ls : List Lane) where
-  -- ---- what is found
+  -- ---- the found cell
 
   row_find : (i : ℤ) (l : Lane) (cs : List (Option P)) (order : List ℕ) → T (is_sorted lane_cmp (lanes_numbered ls order))
       → find cell_cmp (cell_at i l) (map entry_of (row_left ls i cs order)) ≡ then_held (find lane_cmp l (lanes_numbered ls order)) cs

@@ -71,7 +71,7 @@ same_certificate text ps qs a b = (one_certificate ps qs [] a.each b.each (appen
 
 -- ---- the first fault
 
--- what stops a reading is no piece's line
+-- a text that stops a reading isn't a piece's line
 stopped : (rest at : Text) → Stops rest at → (p : Piece) (m : Text) → HasPiece rest p m → ⊥
 stopped rest at (inl off) p m h = off.0.no_piece p m h
 stopped rest at (inr end) p m h = not_end p m at (sym h.spelled ∙ end.0)
@@ -80,7 +80,7 @@ stop_within : (rest at : Text) → Stops rest at → length at ≤ length rest
 stop_within rest at (inl off) = omega (arith, ap length off.1)
 stop_within rest at (inr end) = omega (arith, ap length end.0)
 
--- what stops it isn't the last line
+-- nor is it the last line
 stop_last : (rest at more : Text) → Stops rest at → rest ≡ codes "end\n" ++ more → (more ≡ at) × (0 < length at)
 stop_last rest at more (inl off) e = absurd (off.0.no_end more e)
 stop_last rest at more (inr end) e = let one = end.0 in (cc, end.1)
@@ -189,7 +189,7 @@ lines_more [] p rest more e = e ∙ ap (λ (t : Text). t ++ more) (sym (append-n
 lines_more (q ∷ front) p rest more e =
     append_assoc (piece_line q) (lines front) rest ∙ (ap (λ (t : Text). piece_line q ++ t) (lines_more front p rest more e) ∙ sym (append_assoc (piece_line q) (lines (front ++ (p ∷ []))) more))
 
--- where a reading stands: after the first line and the lines of pieces
+-- where a reading is: after the first line and the lines of pieces
 pub record IsBehind (text : Text) (front : List Piece) (rest : Text) : Type 0 where
   pub each : EachHasSpelling front
   pub spelled : text ≡ behind front rest
@@ -227,7 +227,7 @@ read_as text (Ok qs) h ps w = same_certificate text qs ps h w
 read_as text (Err (errors.Fault fault)) h ps w = absurd (h.none ps w)
 read_as text (Err errors.OutOfMemory) h ps w = refl
 
--- what is read has a spelling
+-- each result has a spelling
 pub read_spelled : (text : Text) (r : Result (List Piece) ReadCertificateError) → IsReadingIfRoom text r → IfOk r EachHasSpelling
 read_spelled text (Ok ps) h = h.each
 read_spelled text (Err e) h = tt

@@ -80,15 +80,15 @@ number_lacks c (negsuc n) h s =
 pub same_number : (m n : ℤ) → FitsSigned w64 m → FitsSigned w64 n → signed_decimal m ≡ signed_decimal n → m ≡ n
 same_number m n f g e = signed_decimal_injective m n (mag_small m f) (mag_small n g) e
 
--- what `parse` reads of a text
+-- the result of `parse` for a text
 abbrev IsNumeralOf : Text → Type 0
 IsNumeralOf text = IsNumeral 10 (without_leading_sign text) × FitsSigned w64 (signed_digits_value 10 text)
 
--- what it refuses is no number
+-- a text that it refuses isn't a number
 pub unparsed : (text : Text) → (IsNumeralOf text → ⊥) → (n : ℤ) → IsNumber text n → ⊥
 unparsed text h n w = let told : Err tt ≡ Ok n = parse-signed_decimal {E = Unit {0}} w64 n text (Err tt) w.fits (mag_small n w.fits) w.spelled h in cc
 
--- what it reads is the number, where there is one
+-- it returns the number, if there is one
 pub misspelled : (text written : Text) (m : ℤ) → IsNumeralOf text × (m ≡ signed_digits_value 10 text) → written ≡ signed_decimal (to_z w64 (of_z w64 m)) → (written ≡ text → ⊥) → (n : ℤ) → IsNumber text n → ⊥
 misspelled text written m h e other n w =
     let told : Ok m ≡ Ok n = parse-signed_decimal {E = Unit {0}} w64 n text (Ok m) w.fits (mag_small n w.fits) w.spelled h in
@@ -111,7 +111,7 @@ bytes_lack c (b ∷ bs) e s =
 pub name_lacks : (c : ℕ) (name : Text) → is_rule_name name ≡ true → c < 48 → Lacks c name
 name_lacks c name e s = let p = and_parts (is_between 1 32 (length name)) (list_all is_name_byte name) e in bytes_lack c name p.1 s
 
--- ---- what a cut text is not
+-- ---- texts that a cut text can't be
 
 pub not_cut : (c : ℕ) (text xs ys : Text) → Lacks c text → text ≡ xs ++ (c ∷ ys) → ⊥
 not_cut c text xs ys l e = lacks_not c xs ys (subst (λ (t : Text). Lacks c t) e l)
@@ -133,7 +133,7 @@ range_to text from to e l none r w = none r.1 (range_cut text from to e l r w).1
 
 -- ---- sources
 
--- what the first word of a line of a source says
+-- the first word of a line of a source
 abbrev IsWord : Text → Text → Text → Type 0
 IsWord word rest more = (word ≡ codes "raw") ⊎ ((word ≡ codes "rollup") × (name : Text) × (is_rule_name name ≡ true) × (rest ≡ name ++ (32 ∷ more)))
 

@@ -102,7 +102,7 @@ next_line text first others e none = ap body_lines e ∙ first_line first others
 
 -- ---- the loop
 
--- how far a batch has come: these lines of a body were taken, and these stand before the rest of it
+-- how far a batch has come: these lines of a body were taken, and these come before the rest of it
 pub record SoFar (precision : TimeUnit) (now : ℤ) (s : State) (lines : List Text) (t : Tally) (left : List Text) (new : StoreData) : Type 0 where
   pub done : List Text
   pub outcomes : List LineOutcome

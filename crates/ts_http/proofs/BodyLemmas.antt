@@ -17,6 +17,6 @@ taken_whole len behind front got left body f b size =
     let is : body ≡ take len behind ++ got = b ∙ ap (λ (l : Text). l ++ got) f in
     (drop len behind ++ left, body_behind len behind got left (sym (ap length is) ∙ size) ∙ ap (λ (l : Text). l ++ (drop len behind ++ left)) (sym is), size)
 
--- what was written to all of a vector, is all of it
+-- bytes that were written to all of a vector are all of it
 pub written_back : (n : ℕ) (new items : Text) → n ≡ length new → take n (new ++ drop (length new) items) ≡ new
 written_back n new items e = ap (λ (k : ℕ). take k (new ++ drop (length new) items)) e ∙ take-append_seam new (drop (length new) items)

@@ -58,7 +58,7 @@ too_long_told came more spans long unfinished =
     let front : take head_limit (came ++ more) ≡ came = ap (λ (n : ℕ). take n (came ++ more)) (sym long) ∙ take-append_seam came more in
     ReadsHead.too_long (omega (arith, length-append came more, long)) (subst IsUnfinished (sym front) unfinished)
 
--- nothing is left after what came
+-- no bytes are left after those that came
 all_came : (came : Text) (left : Option Text) → IsAtEnd left → came ++ unwrap_or left [] ≡ came
 all_came came None end = append-nil came
 all_came came (Some xs) end = ap (λ (l : Text). came ++ l) end ∙ append-nil came
@@ -67,7 +67,7 @@ empty_is : (came : Text) → length came ≡ 0 → came ≡ []
 empty_is [] e = refl
 empty_is (b ∷ bs) e = absurd cc
 
--- the input has ended after what came
+-- the input has ended after the bytes that came
 pub end_told : (came : Text) (count : ℕ) (new : Input) (spans : List HeaderSpan) (head : HeadRead) → length came ≡ count → count < head_limit → (0 < count → IsUnfinished came) → IsAtEnd new.remaining
     → (count ≡ 0 → head ≡ read.Nothing) → (0 < count → head ≡ read.Fault EndsEarly) → TellsHead (request_of came new) came spans head
 end_told came zero new spans head size short unfinished end none some =

@@ -21,7 +21,7 @@ stands_behind room buf count n there size some =
 pub same_size : (room buf : Text) (count : ℕ) → count ≤ length room → length buf ≡ length room - count → length (put_mid count (length room - count) room buf) ≡ length room
 same_size room buf count there size = grind (arith, common_steps, overwrites, size, there)
 
--- what came before, and what a read gave
+-- the bytes so far, and those of a read
 pub more_came : (old mid new : Option Text) (count n : ℕ) (room room' : Text) → Consumes old mid (take count room)
     → ((got : Text) × (take (count + n) room' ≡ take count room ++ got) × (length got ≡ n) × Consumes mid new got) → Consumes old new (take (count + n) room')
 more_came old mid new count n room room' before came = subst (Consumes old new) (sym came.1) (Consumes-trans old mid new (take count room) came.0 before came.3)

@@ -1,4 +1,4 @@
--- What a request of /rules does, as the code comes to it.
+-- The effect of a request of /rules, case by case of the code.
 use Rattle.std.proofs.Common.{◌≡◌, ◌⊎◌, ⊎_elim, [], ◌++◌, true, false, IsTrue, ap, sym, ◌∙◌, subst, None, Ok, Err, arith, codes}
 use Rattle.std.specs.Str.{IsUtf8}
 use Rattle.std.proofs.lemmas.Fmt.{decimal_digit}

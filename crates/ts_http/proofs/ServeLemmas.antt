@@ -35,7 +35,7 @@ use Rattle.ts_http.specs.declared.outcome.Outcome.TheVariants as outcomes
 use Rattle.ts_http.specs.declared.route.Route.{Route}
 use Rattle.ts_http.specs.declared.route.Route.TheVariants as to
 
--- ---- what a request does, by its path
+-- ---- the effect of a request, by its path
 
 module _ (now : ℤ) (method : Method) (query body : Text) (old new : StoreData) (o : Outcome) where
   pub acted_write : WritesAs now query body old o new → ActsAs now to.Write method query body old o new
@@ -60,7 +60,7 @@ acted_query now method query body k o q = λ s i. (s, Acts.queries method (reply
 pub acted_ping : (now : ℤ) (method : Method) (query body : Text) (k : StoreData) → ActsAs now to.Ping method query body k outcomes.Done k
 acted_ping now method query body k = λ s i. (s, Acts.pings method, i)
 
--- ---- spans within what came
+-- ---- spans within the bytes that came
 
 header_within : (n m : ℕ) (h : HeaderSpan) → n ≤ m → IsHeaderWithin n h → IsHeaderWithin m h
 header_within n m h le w = ((w.0.0, omega (arith, w.0.1, le)), (w.1.0, omega (arith, w.1.1, le)))
@@ -72,7 +72,7 @@ spans_by_parts n m (h ∷ hs) le all = (header_within n m h le all.0, spans_by_p
 pub spans_within : (came : Text) (spans : List HeaderSpan) (found : RequestSpans) → IsRequestWithin came spans found → AllByRecursion (IsHeaderWithin (length came)) (take found.headers spans)
 spans_within came spans found w = spans_by_parts found.len (length came) (take found.headers spans) w.section.len_fits (recursion_from_All (IsHeaderWithin found.len) (take found.headers spans) w.section.headers_fit)
 
--- ---- what was asked
+-- ---- the parts of a head
 
 refusal_served : (now : ℤ) (s : State) (bytes : Text) (route : Route) (old new : StoreData) (o : Outcome) (r : Refusal) → IsIn s old → o ≡ outcomes.Refused r → new ≡ old → Asks bytes (Refuses r route false)
     → (s' : State) × Serves now (left_in now old) s bytes (served.Reply (reply_of false o).0 route) (reply_of false o).1 s' × IsIn s' new
@@ -89,7 +89,7 @@ module _ (came : Text) (spans : List HeaderSpan) (found : RequestSpans) (head : 
       let why : refused_in head r = sym (λ i. refused (route_is i) (method_is i) (at.fields i)) ∙ e in
       subst (λ q. Asks bytes (Refuses r q (is_head method))) (sym route_is) (subst (λ m. Asks bytes (Refuses r (route_in head) (is_head m))) (sym method_is) (Asks.refuses head rest r whole why))
 
-  -- a head that is taken, and what became of what is after it
+  -- a head that is accepted, and the outcome of the bytes after it
   pub asks_taken : (bytes rest : Text) (now : ℤ) (route : Route) (method : Method) (query : Text) (len : ℕ) (old new : StoreData) (o : Outcome) (s : State) → IsWhole bytes head rest
       → route ≡ route_of (path_of (span_bytes came found.path)) → method ≡ method_of (span_bytes came found.method) → query ≡ query_of (span_bytes came found.path)
       → refused route method (map (header_bytes came) (take found.headers spans)) ≡ None → len ≡ body_length method (map (header_bytes came) (take found.headers spans))
@@ -117,12 +117,12 @@ module _ (came : Text) (spans : List HeaderSpan) (found : RequestSpans) (head : 
       w)
       acted
 
--- ---- a head, whatever follows what came
+-- ---- a head, whatever bytes follow
 
 pub whole_more : (came more bytes rest : Text) (spans : List HeaderSpan) (found : RequestSpans) (h : RequestHead) → IsRequestAt came spans found h → IsWhole bytes h rest → IsWhole (came ++ more) h (drop found.len came ++ more)
 whole_more came more bytes rest spans found h at w = record { reads = ReadsRequest-append came h (drop found.len came) more at.reads; short = w.short; few = w.few }
 
--- ---- what a call promises
+-- ---- the promises of a call
 
 nothing_sent : (old : Option Text) → Appends old old []
 nothing_sent None = tt

@@ -1,4 +1,4 @@
--- The laws of what a call returned.
+-- The laws of a call's result.
 use Rattle.std.proofs.Common.{ℤ, Option, Some, None, IfSome, Result, Ok, Err, IfOk, subst}
 use Rattle.ts_core.specs.Facts.{Text}
 use Rattle.ts_line.specs.declared.fault.LineFault.{LineFault}
@@ -10,7 +10,7 @@ use Rattle.ts_line.specs.Spelling.{IsSpelling}
 use Rattle.ts_line.proofs.SpellingRead.{spelling_read}
 use Rattle.ts_line.proofs.SpellingTold.{spelling_told}
 
--- what was read is spelled so
+-- the parts that were read spell the line
 pub told_of : (unit now : ℤ) (source : Text) (r : Result (Option Parts) ReadLineError) → GivesIfRoom (λ o. o) r (line_of unit now source) → IfOk r (λ o. IfSome o (IsSpelling unit now source))
 told_of unit now source (Ok None) e = tt
 told_of unit now source (Ok (Some p)) e = spelling_told unit now source p e

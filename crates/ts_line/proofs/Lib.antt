@@ -1,4 +1,4 @@
--- Spelling, EscapeLaws: what is spelled is read, and what is read is spelled so
+-- Spelling, EscapeLaws: each spelling is read as its parts, and the parts that are read spell the line
 pub mod Laws
 pub mod SpellingRead
 pub mod LineSpelled
@@ -12,7 +12,7 @@ pub mod PartsTold
 pub mod Suffixes
 -- Spans: the parts are in the line
 pub mod SpansLemmas
--- Names: what a line that was read names
+-- Names: the names in a line that was read
 pub mod NamesTold
 -- Lines: its parts in turn
 pub mod LineLemmas

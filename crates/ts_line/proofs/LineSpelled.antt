@@ -10,7 +10,7 @@ use Rattle.ts_line.specs.Spelling.{are_spaces}
 use Rattle.ts_line.proofs.LineLemmas.{trimmed_step}
 use Rattle.ts_line.proofs.TagsSpelled.{not_eqb}
 
--- ---- what is read of a text with spaces and a carriage return at its end
+-- ---- reading a text with spaces and a carriage return at its end
 
 -- a byte that is no space, no backslash and no carriage return
 pub record IsPlainByte (b : ℕ) : Type 0 where

@@ -41,7 +41,7 @@ plain_text stops (b ∷ bs) e =
     let p = or_parts (is_stop stops b) (list_any (is_stop stops) bs) e in
     rw (no_escape stops bs p.1, and-false (is_backslash b)) (ap (λ (xs : Text). b ∷ xs) (plain_text stops bs p.1))
 
--- ---- the text so far, what is passed and not yet in it, and what is left
+-- ---- the text so far, the bytes that are passed and not yet in it, and the rest
 
 pub text_kept : (stops : Stops) (raw : Text) (from i : ℕ) (before total : Text) → from ≤ i → i < length raw → is_escape_at stops raw i ≡ false
     → before ++ slice_range raw from i ++ unescaped stops (drop i raw) ≡ total → before ++ slice_range raw from (i + 1) ++ unescaped stops (drop (i + 1) raw) ≡ total

@@ -1,4 +1,4 @@
--- What is spelled is read.
+-- Each spelling is read as its parts.
 use Rattle.std.proofs.Common.{◌≡◌, ℕ, ℤ, ◌+◌, ◌*ℤ◌, ◌≤◌, Bool, true, false, not, ◌&&◌, ◌||◌, eqb, ltb, List, [], ◌∷◌, ◌++◌, length, drop, slice_range, slice_index, codes, Ok, Some, None, refl, sym, ap, subst, ◌∙◌, arith, append_assoc, append-nil, length-append, zero-add, inl, inr}
 use Rattle.std.specs.List.{list_all}
 use Rattle.std.specs.Str.Parse.{signed_digits_value}
@@ -180,7 +180,7 @@ nested b m t g f x s a r = simp append_assoc
 outer : (b m t g front tail : Text) → b ++ (m ++ (t ++ (32 ∷ (g ++ (front ++ tail))))) ≡ (b ++ (m ++ (t ++ (32 ∷ (g ++ front))))) ++ tail
 outer b m t g front tail = simp append_assoc
 
--- the body of a line: its bytes without what is passed over at its end
+-- the body of a line: its bytes without those that are passed over at its end
 abbrev body_of : {unit now : ℤ} {source : Text} {parts : Parts} → IsSpelling unit now source parts → Text
 body_of p = p.before ++ (p.measurement ++ (tags_text p.tags ++ (32 ∷ (p.gap ++ (field_spelling p.first ++ (more_fields_text p.more ++ p.stamp))))))
 

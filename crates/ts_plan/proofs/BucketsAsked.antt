@@ -1,4 +1,4 @@
--- What is left to ask of a bucket where its rule and its ends are known to be right.
+-- The remaining tests of a bucket whose rule and ends are known to be right.
 use Rattle.std.proofs.Common.{◌≡◌, ℕ, ℤ, int_le, refl, sym, ap, ◌∙◌, subst, Some, None, Bool, true, false, ◌&&◌, ◌||◌, nat_eq, true≢false, arith}
 use Rattle.std.specs.Prelude.{slice_get}
 use Rattle.std.specs.List.{list_all}
@@ -105,7 +105,7 @@ join_is t h s k held i =
       | false ↦ λ e. other_join t h s k held i e
     ] refl
 
--- what a piece and a bucket make that join is held
+-- a pending piece and a bucket that join are a pending piece
 pub join_held : (t : Asked) (h d : Held) (s : Step) → IsPlannable t → IsHeldPiece t h → d ≡ record { rule = h.rule; nests = h.nests; from = h.from; to = s.to } → joins t (held_piece t h) (bucket_piece t s) ≡ true → IsHeldPiece t d
 join_held t h d s k held e j =
     let none = faultless_none (piece_fault t (drawn (held_piece t h) (bucket_piece t s))) (and_parts (is_same_rule (held_piece t h).source (bucket_piece t s).source) _ j).1 in

@@ -1,4 +1,4 @@
--- Planning: what a planner answers
+-- Planning: the planner's result
 pub mod Planned
 pub mod Plannable
 pub mod Spellings

@@ -1,4 +1,4 @@
--- What is in a list that grows at its end, and in one that is sorted.
+-- The members of a list that grows at its end, and of a sorted one.
 use Rattle.std.proofs.Common.{◌≡◌, refl, sym, subst, List, [], ◌∷◌, ◌++◌, inl, inr}
 use Rattle.std.specs.List.{AllByRecursion, All}
 use Rattle.std.specs.List.Sorted.{IsPermutation}
@@ -15,7 +15,7 @@ pub among_last : {X : Type 0} (xs : List X) (y x : X) → x ≡ y → Among x (x
 among_last [] y x e = inl e
 among_last (z ∷ xs) y x e = inr (among_last xs y x e)
 
--- ---- what is moved
+-- ---- moved items
 
 all_at : {X : Type 0} (P : X → Type 0) (xs : List X) → AllByRecursion P xs → All P xs
 all_at P [] a = All-nil P

@@ -12,7 +12,7 @@ use Rattle.ts_plan.specs.Steps.{IsPlannable}
 use Rattle.ts_plan.proofs.Spellings.{settings_named}
 use Rattle.ts_check.specs.Checks.{HasPositiveIntervals}
 
--- what a query and rules always have
+-- facts about all queries and rules
 pub are_wide : (t : Asked) → HasPositiveIntervals t → IsWide t
 are_wide t has = record { query = has.query; rules = has.rules }
 

@@ -1,4 +1,4 @@
--- What a planner answers, from the walk that it found.
+-- The planner's result, from the walk that it found.
 use Rattle.std.proofs.Common.{◌≡◌, List, sym, subst, ◌∙◌, false, true≢false}
 use Rattle.std.specs.Bool.{IsTrue}
 use Rattle.std.specs.Prelude.{◌↔◌, Bool}
@@ -20,7 +20,7 @@ planned s m q bs ps wide few w e =
     let plan : IsPlan s m q ps = (bs, w, e) in
     record { searched = few; determined = plan; valid = plan_valid (asked s m q) ps wide plan }
 
--- the same from what a planner knows
+-- the same from the planner's own facts
 pub planned_of : (s : Settings) (m : Marks) (q : Query) (t : Asked) (ps : List Piece) → t ≡ asked s m q → IsWide t → (IsTooMany s m q → ⊥) → IsPlanOf t ps → IsPlanned s m q ps
 planned_of s m q t ps same wide few made =
     let plan : IsPlan s m q ps = subst (λ x. IsPlanOf x ps) same made in

@@ -1,10 +1,10 @@
--- The sweep in place: the kept steps are at the back.
+-- Pruning in place: the remaining steps are at the back.
 use Rattle.std.proofs.Common.{◌≡◌, ℕ, ◌≤◌, List, length, take, drop}
 use Rattle.ts_plan.specs.declared.steps.Step.{Step}
 use Rattle.ts_core.specs.Pieces.{Asked}
 use Rattle.ts_plan.specs.Steps.{kept_steps}
 
--- from begin on stand the steps kept of those from index on, and below index nothing has moved
+-- from begin on there are the steps that remain of those from index on; below index nothing has moved
 pub record Moved (t : Asked) (index begin : ℕ) (now old : List Step) : Type 0 where
   pub before : index ≤ begin
   pub within : begin ≤ length now

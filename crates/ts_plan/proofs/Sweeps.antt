@@ -15,7 +15,7 @@ use Rattle.ts_core.proofs.Comparisons.{le_from, le_true}
 use Rattle.ts_plan.specs.declared.steps.Step.{Step}
 use Rattle.ts_plan.specs.Steps.{IsPlannable, IsStep, Upto, Ascends, starts_first, starts_at, leads_on, kept_if, kept_steps}
 
--- ---- what is good
+-- ---- steps that reach the end
 
 good_end : (t : Asked) → IsGood t t.query.to
 good_end t = ([], record { covers = refl; each = tt })
@@ -34,7 +34,7 @@ step_on t s k g =
     let i = g.step in
     record { rule = i.rule; there = i.there; one = i.one; valid = (i.rule, rule_named-at t.rules s.rule i.rule k.named i.there, i.serves); good = g.good }
 
--- and what leads on is such a step
+-- and a step that leads on is such a step
 pub on_step : (t : Asked) (s : Step) → IsPlannable t → t.query.from ≤ℤ s.from → s.from <ℤ t.mark → LeadsOn t s.rule s.from s.to → IsGoodStep t s
 on_step t s k f m l =
     let v = l.valid in
@@ -54,7 +54,7 @@ pub first_starts : (e : ℤ) (gs : List Step) → starts_first e gs ≡ true →
 first_starts e [] h = absurd (true≢false (sym h))
 first_starts e (g ∷ gs) h = or_left (int_eq g.from e) (starts_at e gs) h
 
--- ---- what the sweep keeps is good
+-- ---- the remaining steps reach the end
 
 starts_good : (t : Asked) (gs : List Step) (e : ℤ) → IsPlannable t → AllByRecursion (IsGoodStep t) gs → starts_at e gs ≡ true → IsGood t e
 starts_good t [] e k a h = absurd (true≢false (sym h))

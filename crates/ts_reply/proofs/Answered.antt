@@ -1,4 +1,4 @@
--- What becomes of a query, by what a plan gives of a store.
+-- The outcome of a query, by the rows that a plan gives of a store.
 use Rattle.std.proofs.Common.{◌≡◌, List, Result, Ok, Err, Some, refl, sym, ap, ◌∙◌, subst}
 use Rattle.ts_core.specs.Facts.{Text}
 use Rattle.ts_core.specs.Faults.{first_fault}
@@ -41,7 +41,7 @@ rows_shown k s fill plan table r shows e f a is opening h stands =
     let groups : table.groups ≡ answer_of (latest_of h) s.query = a.answer opening h (shows opening h stands) ∙ ap (λ (x : Select). answer_of (latest_of h) x.query) e in
     ap rows_outcome is ∙ rw (f, select, groups) refl
 
--- what is said of a store's settings and marks is said of those of each history that it stands for
+-- a fact about a store's settings and marks is one about those of each history that it stands for
 carried : (Says : Settings → Marks → Type 0) (k : StoreData) (settings : Settings) (marks : Marks) (opening : Settings) (h : History)
     → ShowsEach k → StandsFor opening h (state_of k) → settings ≡ k.settings → marks ≡ k.marks → Says settings marks → Says (settings_of opening h) (marks_of opening h)
 carried Says k settings marks opening h shows stands st mt said =

@@ -1,4 +1,4 @@
--- Answering, Explaining: what becomes of a query
+-- Answering, Explaining: the outcome of a query
 pub mod Answered
 pub mod Each
 -- Replies, Appending: texts part by part
@@ -8,6 +8,6 @@ pub mod Floats
 pub mod SeriesParts
 pub mod RowTexts
 pub mod PlainTexts
--- TimeTexts: how a time is told
+-- TimeTexts: the text of a time
 pub mod OneText
 pub mod Times

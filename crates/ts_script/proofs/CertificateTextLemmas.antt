@@ -21,7 +21,7 @@ pub first_there : (text first others : Text) → text ≡ first ++ (59 ∷ other
 first_there text first others e none =
     ap with_line_feeds e ∙ map-append (λ b. cond (b == 59) 10 b) first (59 ∷ others) ∙ ap (λ (t : Text). t ++ (10 ∷ with_line_feeds others)) (none_there first none)
 
--- a turn of the loop: what is before the first one is put there, and an LF
+-- a turn of the loop: the text before the first one is appended, and an LF
 pub one_more : (lines first put ended others rest whole : Text) → put ≡ lines ++ first → ended ≡ put ++ (10 ∷ []) → rest ≡ first ++ (10 ∷ others) → lines ++ rest ≡ whole → ended ++ others ≡ whole
 one_more lines first put ended others rest whole p n r w =
     ap (λ (t : Text). t ++ others) (n ∙ ap (λ (t : Text). t ++ (10 ∷ [])) p) ∙ append_assoc (lines ++ first) (10 ∷ []) others ∙ append_assoc lines first (10 ∷ others) ∙ ap (λ (t : Text). lines ++ t) (sym r) ∙ w

@@ -1,4 +1,4 @@
--- What is counted, and what the machine prints of it.
+-- The count, and its output.
 use Rattle.std.proofs.Common.{◌≡◌, ◌∙◌, ℕ, ℤ, ◌-ℤ◌, List, length, filter, sym, ap, subst, Result, Ok, Err}
 use Rattle.std.specs.Fmt.{decimal}
 use Rattle.ts_core.specs.Facts.{Text}
@@ -28,7 +28,7 @@ use Rattle.ts_script.specs.Machine.{Counts, counted, has_no_plan, is_too_long, c
 use Rattle.ts_script.specs.ScriptReplies.{line, bad_range_text}
 use Rattle.ts_script.proofs.CountAnswers.{matching_asked}
 
--- ---- what is printed
+-- ---- the output
 
 pub count_printed : (opening : Settings) (h : History) (m f : Text) (a b : ℤ) (n : ℕ) → IsInterval (b -ℤ a) → IsCounted opening h (count_select m f a b).query (Ok n) → Counts opening h m f a b (line (decimal n))
 count_printed opening h m f a b n fits c =
@@ -66,7 +66,7 @@ told_late_no_memory opening h m f a b s is = counts_no_memory is.1
 
 -- ---- plans of a store
 
--- what holds of the settings and the marks of a store, holds of those of each history that it stands for
+-- a fact about the settings and marks of a store is one about those of each history that it stands for
 pub of_history : (k : StoreData) (P : Settings → Marks → Type 0) → ShowsEach k → P k.settings k.marks → OfEachHistory k (λ opening h. P (settings_of opening h) (marks_of opening h))
 of_history k P shows p = λ opening h stands.
     let s = shows opening h stands in
@@ -74,14 +74,14 @@ of_history k P shows p = λ opening h stands.
 
 -- ---- a count
 
--- what is counted by a valid plan are the facts that match, of all ever accepted
+-- a valid plan counts the facts that match, of all ever accepted
 pub count_shown : (k : StoreData) (s : Select) (plan : Plan) (n : ℕ)
     → ShowsEach k → plan.select ≡ s → IsPointCount (seen_of (state_of k)) plan n
     → OfEachHistory k (λ opening h. n ≡ length (filter (matches s.query) (latest_of h)))
 count_shown k s plan n shows e is opening h stands =
     is.answer opening h (shows opening h stands) ∙ ap (λ (x : Select). length (filter (matches x.query) (latest_of h))) e
 
--- what a planner answers for a store, it answers for each history
+-- a planner's result for a store is its result for each history
 planned : (k : StoreData) (settings : Settings) (marks : Marks) (q : Query) (r : Result (List Piece) PlanError)
     → ShowsEach k → settings ≡ k.settings → marks ≡ k.marks → IsPlanFor settings marks q r → OfEachHistory k (λ opening h. IsPlanFor (settings_of opening h) (marks_of opening h) q r)
 planned k settings marks q r shows st mt p =

@@ -9,7 +9,7 @@ pub mod ReloadedStores
 pub mod ReloadFaults
 pub mod CommandLemmas
 pub mod NumberLemmas
--- Counted: what a count prints
+-- Counted: the output of a count
 pub mod CountLemmas
 pub mod CountAnswers
 -- ScriptLines, HeldLine, LineReading: how lines are cut

@@ -76,9 +76,9 @@ pub after-whole : (t : List ℕ) → has_lf t ≡ false → after_line t ≡ []
 after-whole [] h = refl
 after-whole (b ∷ bs) h = grind (arith, nat_tests, after-whole bs)
 
--- ---- the bytes of a line, of what is still to come
+-- ---- the bytes of a line among those still to come
 
--- the bytes so far have no LF, and stand before what is still to come
+-- the bytes so far have no LF, and come before those still to come
 pub record SoFar (all : Option (List ℕ)) (now : Option (List ℕ)) (bytes line : List ℕ) (long : Bool) : Type 0 where
   pub no_lf : has_lf bytes ≡ false
   pub before : Consumes all now bytes
@@ -166,7 +166,7 @@ last_next (Some xs) (Some left) bytes (b ∷ line) false so end =
     let some : xs ≢ [] = λ n. let k = so.kept.0 in cc in
     rw (last_of-cons b line) (told xs (b ∷ line) bytes false _ some (sym (ap first_line e ∙ first-whole bytes so.no_lf)) so.kept (ap Some (end ∙ sym (ap after_line e ∙ after-whole bytes so.no_lf))))
 
--- ---- what was used of what was read ahead
+-- ---- the bytes that were used of the read buffer
 
 -- ---- the turns of the loop, where start is the reader with its line forgotten, and now is the reader at the loop's head
 

@@ -1,4 +1,4 @@
--- What the machine does with a command, in whatever state it is.
+-- The machine's effect for a command, in each state.
 use Rattle.std.proofs.Common.{◌≡◌, ◌⊎◌, ⊎_elim, List, ℕ, ℤ, ◌<ℤ◌, ◌≤ℤ◌, ◌≤◌, [], length, codes, sym, ap, ◌∙◌, subst, Bool, true, false, IsTrue, Option, Some, None, Result, Ok, Err, OnOk, OnErr, IsErr, ◌↔◌, IfOk, is_err, zero, suc, ◌∷◌, true≢false, IfSome, IsNone, inl, inr, refl}
 use Rattle.std.specs.Fmt.{decimal}
 use Rattle.std.specs.Str.{IsUtf8}

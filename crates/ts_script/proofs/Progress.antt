@@ -22,7 +22,7 @@ use Rattle.ts_script.specs.declared.run_fault.RunFault.TheVariants.{OutOfMemory,
 use Rattle.ts_script.specs.declared.line_reader.Next.{Next}
 use Rattle.ts_script.specs.declared.line_reader.Next.TheVariants.{End}
 
--- the first lines of the input are answered, and left is what follows them; of their answers the last bytes are kept
+-- the first lines of the input are answered, and the bytes after them are left; the last bytes of their answers are buffered
 pub record Done (input : Text) (left old new : Option Text) (kept : Text) (m : Serving) : Type 0 where
   pub rest : Text
   pub left_is : left ≡ Some rest
@@ -87,7 +87,7 @@ goes_on (Some input) left left' old mid new kept kept' m m' answer p a w =
       written = rw (concat_more p.answers answer) (two_puts old mid new (concat p.answers) kept answer kept' p.written w);
     }
 
--- answers that were kept go out
+-- buffered answers go out
 pub sends : (input left old mid new : Option Text) (kept kept' : Text) (m : Serving) → Progress input left old mid kept m → AreWrittenBut mid new (kept ++ []) kept' → Progress input left old new kept' m
 sends None left old mid new kept kept' m p w = tt
 sends (Some input) left old mid new kept kept' m p w = record {
@@ -119,7 +119,7 @@ some_answered (Some input) left old new kept m p = (
   (p.written.sent, kept, p.written.bytes_are, p.written.written),
 )
 
--- the writer refused what was kept
+-- the writer refused the buffered answers
 pub cut_off : (input left old mid new : Option Text) (kept : Text) (m : Serving) → Progress input left old mid kept m → AppendsFront mid new (kept ++ []) → AnswersSome input old new
 cut_off None left old mid new kept m p w = tt
 cut_off (Some input) left old mid new kept m p w = (
@@ -137,7 +137,7 @@ none_answered (Some input) contents = (
   ([], [], refl, Appends-nil contents),
 )
 
--- the writer refused in an answer, or in what was kept before it
+-- the writer refused in an answer, or in the buffered answers before it
 pub cut_short : (input left left' old mid new : Option Text) (kept : Text) (m m' : Serving) (answer : Text) → Progress input left old mid kept m → Answers left left' m m' answer → AppendsFront mid new (kept ++ answer) → AnswersSome input old new
 cut_short None left left' old mid new kept m m' answer p a w = tt
 cut_short (Some input) left left' old mid new kept m m' answer p a w =
@@ -155,7 +155,7 @@ cut_short (Some input) left left' old mid new kept m m' answer p a w =
       rw (concat_more p.answers answer) (second_refused old mid new (concat p.answers) kept answer p.written w),
     )
 
--- what the reader of lines and the answer to its line say together
+-- the contracts of the line reader and of the answer to its line, together
 pub answers_next : (left left' : Option Text) (next : Next) (line text : Text) (m m' : Serving) (answer : Text) → text ≡ line → next ≢ End
     → IfSome left (λ bytes. NextOf bytes next line left')
     → ((bytes : Text) (after : Option Text) (s : State) → next ≢ End → NextOf bytes next text after → IsIn s m → IsAnswered bytes after s m' answer)
@@ -176,7 +176,7 @@ reader_told read.Turns r q e d = rw (e, d) refl
 device_is_other : {T : Type 0} (r : Result T RunFault) → r ≡ Err (fault_of_read read.Device) → r ≡ Err (fault_of_read read.Turns) → ⊥
 device_is_other r d t = cc
 
--- turns are told only where the reader told them
+-- too many reads are reported only if the line reader reports them
 pub turns_told : {T S : Type 0} (f : ReadFault) (r : Result T RunFault) (q : Result S ReadFault) → r ≡ Err (fault_of_read f) → q ≡ Err f → r ≡ Err (fault_of_read read.Turns) → q ≡ Err read.Turns
 turns_told read.Device r q e d t = absurd (device_is_other r e t)
 turns_told read.Turns r q e d t = d

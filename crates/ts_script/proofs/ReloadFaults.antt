@@ -1,4 +1,4 @@
--- A store that stands for a history is reloaded, unless memory is missing.
+-- A store that stands for a history is reloaded, unless out of memory.
 use Rattle.std.proofs.Common.{◌≡◌, List, ℕ, Option, Some, IfSome, refl, sym, subst}
 use Rattle.ts_core.specs.Devices.{Input}
 use Rattle.ts_core.specs.StoreData.{StoreData, OfEachHistory}
