@@ -70,10 +70,13 @@ fits t i o k h ft fi fo fk e =
     let high : to_z w128 (of_z w128 (high_of k i o i)) ≡ z +ℤ i = ap (λ y. to_z w128 (of_z w128 (z +ℤ y))) (to_z-of_z wi) ∙ to_z-of_z n in
     let all : (u : ℤ) → z ≤ℤ u → u <ℤ (z +ℤ i) → bucket_of u i o ≡ k = λ u l v.
     bucket_same u i o (bucket_of u i o) k h (bucket_is u i o h) (record { from_start = omega (arith, ints); before_end = omega (arith, ints) }) in
+    let m2 = one_more (k +ℤ pos 1) i in
+    let next : bucket_of (z +ℤ i) i o ≡ k +ℤ pos 1 =
+    bucket_same (z +ℤ i) i o (bucket_of (z +ℤ i) i o) (k +ℤ pos 1) h (bucket_is (z +ℤ i) i o h) (record { from_start = omega (arith, ints); before_end = omega (arith, ints) }) in
     record {
       low = start.begin;
       high = subst (λ y. SFits w128 (z +ℤ y)) (sym (to_z-of_z wi)) n;
-      span = subst (λ y. IsSpan t i o z y (to_z w128 (of_z w128 k))) (sym high) (subst (IsSpan t i o z (z +ℤ i)) (sym (to_z-of_z fk)) (record { is = e; from = omega (arith, ints); before = omega (arith, ints); all = all }));
+      span = subst (λ y. IsSpan t i o z y (to_z w128 (of_z w128 k))) (sym high) (subst (IsSpan t i o z (z +ℤ i)) (sym (to_z-of_z fk)) (record { is = e; from = omega (arith, ints); before = omega (arith, ints); all = all; next = next }));
     }
 
 pub span-fits : (t i o k i2 o2 i3 : ℤ) → pos 1 ≤ℤ i → SFits w64 t → SFits w64 i → SFits w64 o → SFits w128 k → k ≡ bucket_of t i o → i2 ≡ i → o2 ≡ o → i3 ≡ i → SpanFits t i o k i2 o2 i3
