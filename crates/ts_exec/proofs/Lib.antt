@@ -13,6 +13,7 @@ mod NamedRules
 mod Widths
 -- RowParts: buckets of a row
 mod Spans
+mod NextBuckets
 -- Slots, Searches: the groups in order
 mod Slotted
 -- Fillings

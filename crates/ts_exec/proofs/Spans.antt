@@ -3,7 +3,7 @@ use Rattle.std.proofs.Common.{◌≡◌, ℤ, pos, ◌+ℤ◌, ◌-ℤ◌, ◌�
 use Rattle.std.specs.Int.{w128}
 use Rattle.std.proofs.lemmas.Int.{ints, fits_signed_from_abs}
 use Rattle.ts_core.specs.Buckets.{bucket_of, bucket_start}
-use Rattle.ts_core.proofs.BucketsOrder.{bucket_is, bucket_same, one_more}
+use Rattle.ts_core.proofs.BucketsOrder.{bucket_is, bucket_same, bucket_of-start, one_more}
 use Rattle.ts_exec.specs.RowParts.{IsSpan}
 use Rattle.ts_exec.specs.Fillings.{AreNear}
 
@@ -15,6 +15,7 @@ span-is t i o h =
       from = b.from_start;
       before = b.before_end;
       all = λ u l v. bucket_same u i o (bucket_of u i o) (bucket_of t i o) h (bucket_is u i o h) (record { from_start = l; before_end = v });
+      next = bucket_of-start (bucket_of t i o +ℤ pos 1) i o h;
     }
 
 pub start-near : (t i o : ℤ) → pos 1 ≤ℤ i → SFits w64 t → SFits w64 i → AreNear (bucket_start (bucket_of t i o) i o) i

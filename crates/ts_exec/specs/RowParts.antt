@@ -1,5 +1,5 @@
 -- How parts are merged into rows, up to 2^62 points each. (Own rules.)
-use Rattle.std.specs.Prelude.{◌≡◌, ℕ, ◌+◌, ◌^◌, min, nat_le, ℤ, pos, ◌-ℤ◌, ◌≤ℤ◌, ◌<ℤ◌, List, [], ◌∷◌, set, get_or, if◌then◌else◌}
+use Rattle.std.specs.Prelude.{◌≡◌, ℕ, ◌+◌, ◌^◌, min, nat_le, ℤ, pos, ◌+ℤ◌, ◌-ℤ◌, ◌≤ℤ◌, ◌<ℤ◌, List, [], ◌∷◌, set, get_or, if◌then◌else◌}
 use Rattle.ts_core.specs.Aggregates.{Aggregate, empty_aggregate, aggregate_of_one, merged}
 use Rattle.ts_core.specs.Buckets.{bucket_of}
 use Rattle.ts_core.specs.Queries.{Query}
@@ -30,14 +30,22 @@ abbrev pub with_point_parts : BucketGrid → List (ℤ × ℤ) → List Aggregat
 with_point_parts g [] rows = rows
 with_point_parts g (p ∷ ps) rows = with_point_parts g ps (with_part (place_at g p.0) (aggregate_of_one p.0 p.1) rows)
 
--- all times from low, inclusive, to high, exclusive, are in the bucket with this number
+-- a bucket starts at `high`, and the one before it has this number
+pub record IsEnd (g : BucketGrid) (high : ℤ) (place : ℕ) : Type 0 where
+  pub start : bucket_of high g.interval g.offset ≡ bucket_of (high -ℤ pos 1) g.interval g.offset +ℤ pos 1
+  pub last : place ≡ min (place_at g (high -ℤ pos 1)) 18446744073709551615
+
+-- all times from low, inclusive, to high, exclusive, are in the bucket with this number. The next bucket starts at high,
+-- unless that is the greatest number of 64 bits.
 pub record IsGuess (g : BucketGrid) (low high : ℤ) (place : ℕ) : Type 0 where
   pub interval : pos 1 ≤ℤ g.interval
   pub guessed : (t : ℤ) → low ≤ℤ t → t <ℤ high → place ≡ min (place_at g t) 18446744073709551615
+  pub edge : high <ℤ pos 9223372036854775807 → IsEnd g high place
 
--- all times from low, inclusive, to high, exclusive, are in the bucket with this index, and t is one of them
+-- the times from low, inclusive, to high, exclusive, are those in the bucket with this index, and t is one of them
 pub record IsSpan (t interval offset low high index : ℤ) : Type 0 where
   pub is : index ≡ bucket_of t interval offset
   pub from : low ≤ℤ t
   pub before : t <ℤ high
   pub all : (u : ℤ) → low ≤ℤ u → u <ℤ high → bucket_of u interval offset ≡ index
+  pub next : bucket_of high interval offset ≡ index +ℤ pos 1

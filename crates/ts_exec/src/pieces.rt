@@ -99,7 +99,7 @@ fn first_bytes(text: &str) -> u128 {
 }
 
 /// Inserts the groups of all selected columns up front, sorted, so that none is inserted in the middle later. Returns
-/// each column's slot.
+/// each column's slot, or an empty list if all columns are in one group, which has the first slot.
 fn expect_groups<'a, A: Allocator + Copy + 'a, V: View<A> + 'a>(
     groups: &mut Groups<'a, A>,
     alloc: A,
@@ -108,6 +108,9 @@ fn expect_groups<'a, A: Allocator + Copy + 'a, V: View<A> + 'a>(
 ) -> Result<Vec<usize, A>, AllocError>
     ensures { groups.new ≡ groups.old }
 {
+    if query.group_tags().is_empty() {
+        return Ok(Vec::new(alloc));
+    }
     // The sort key decides most comparisons without reading the texts.
     let mut expected: Vec<(u128, Vec<&'a str, A>, usize), A> = Vec::new(alloc);
     for column in view.columns_of(query.measurement(), query.field()) {
