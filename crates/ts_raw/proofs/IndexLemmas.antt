@@ -88,7 +88,7 @@ module _ (series : List Series) (fields : List FieldKey) (t : ColumnNumbers) (is
 
   -- ---- the columns of a measurement and a field
 
-  asked_key : (m field : Text) (x : ℕ × ℕ) → IsNamed series fields x → is_of m field (column_named series fields x) ≡ true → get_or fields x.1 no_field ≡ field_key m field
+  pub asked_key : (m field : Text) (x : ℕ × ℕ) → IsNamed series fields x → is_of m field (column_named series fields x) ≡ true → get_or fields x.1 no_field ≡ field_key m field
   asked_key m field x named h =
       let s = and_parts (same_text (get_or series x.0 no_series).measurement m) (same_text (get_or fields x.1 no_field).field field) h in
       let measurement = sym named.together ∙ same_text-eq (get_or series x.0 no_series).measurement m s.0 in

@@ -1,10 +1,11 @@
 //! Index of series and columns by their names.
 ghost use Rattle.std.specs.Bool.{OnTrue};
-ghost use Rattle.std.specs.Prelude.{◌≡◌, ◌≤◌, ◌<◌, ◌↔◌, [], length, IfSome, IfNone, Err};
+ghost use Rattle.std.specs.Prelude.{◌≡◌, ◌≤◌, ◌<◌, ◌↔◌, [], length, IfSome, IfNone, IfOk, Err};
 ghost use Rattle.ts_core.specs.Facts.{Column, is_of};
 ghost use Rattle.ts_core.specs.Members.{Among};
 ghost use Rattle.ts_raw.specs.Indexed.{IsSoundIndex, column_in};
 ghost use Rattle.ts_raw.specs.Registering.{IsRegistered};
+ghost use Rattle.ts_raw.specs.Tagged.{is_tagged};
 ghost use Rattle.ts_core.specs.Numbered.{IsAt, numbers_where};
 
 mod column_id;
@@ -14,6 +15,8 @@ mod fields;
 mod hash;
 mod series;
 mod series_id;
+mod tagged;
+mod tags;
 
 pub use column_id::ColumnId;
 use columns::ColumnTable;
@@ -23,6 +26,7 @@ use series::SeriesTable;
 pub use series_id::SeriesId;
 use std::alloc::{AllocError, Allocator};
 use std::marker::Model;
+use tagged::{put_in_order, tagged_columns};
 use ts_core::{FieldName, Key, KeyRef};
 
 /// Limit of the number of registered series.
@@ -197,6 +201,44 @@ impl<A: Allocator + Copy> Index<A> {
             Some(field) => self.columns.of_field(field),
             None => &[],
         }
+    }
+
+    /// Returns the columns of a measurement and a field whose series has this value of a tag, in creation order. Visits few
+    /// other series.
+    pub fn columns_with_tag(
+        &self,
+        alloc: A,
+        measurement: &str,
+        field: &str,
+        tag: &str,
+        value: &str,
+    ) -> Result<Vec<ColumnId, A>, AllocError>
+        requires { value.now ≡ [] → ⊥ }
+        ensures { IfOk result (λ v. v.items ≡ numbers_where (is_tagged measurement.now field.now tag.now value.now) self.now.columns) }
+    {
+        match self.fields.lookup(measurement, field) {
+            Some(field) => {
+                let numbers = self.series.with_tag(measurement, tag, value)?;
+                let mut found = tagged_columns(
+                    alloc,
+                    &self.series,
+                    &self.columns,
+                    &numbers,
+                    field,
+                    tag,
+                    value,
+                )?;
+                put_in_order(&mut found);
+                Ok(found)
+            }
+            None => Ok(Vec::new(alloc)),
+        }
+    }
+
+    /// Returns about how many series of a measurement have this value of a tag. It is a hint: which columns a query visits
+    /// may depend on it, but not its answer.
+    pub fn count_with_tag(&self, measurement: &str, tag: &str, value: &str) -> usize {
+        self.series.count_with_tag(measurement, tag, value)
     }
 
     /// Returns the column of a series and a field, creating it if needed. Fails with `AllocError` too if the index of

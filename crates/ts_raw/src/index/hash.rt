@@ -2,6 +2,7 @@
 ghost use Rattle.std.specs.Prelude.{◌≡◌};
 ghost use Rattle.ts_raw.specs.FieldKeys.{field_key, hash_of_field};
 ghost use Rattle.ts_raw.specs.Hashes.{hash_of_series};
+ghost use Rattle.ts_raw.specs.TagChains.{hash_of_tag};
 
 use std::hash::{FoldHasher, Hasher};
 use ts_core::KeyRef;
@@ -28,4 +29,16 @@ pub(crate) fn hash_field(measurement: &str, field: &str) -> u64
     hasher.write(measurement.as_bytes());
     hasher.write(field.as_bytes());
     hasher.finish()
+}
+
+/// Returns the hash of a tag of a measurement.
+#[tactic(auto, unfolding(crate::specs::TagChains::hash_of_tag))]
+pub(crate) fn hash_tag(measurement: &str, tag: &str, value: &str) -> u32
+    ensures { result ≡ hash_of_tag measurement.now (tag.now, value.now) }
+{
+    let mut hasher = FoldHasher::default();
+    hasher.write(measurement.as_bytes());
+    hasher.write(tag.as_bytes());
+    hasher.write(value.as_bytes());
+    (hasher.finish() % 4_294_967_296) as u32
 }

@@ -1,26 +1,30 @@
 //! Hash table of series, by their keys.
-ghost use Rattle.std.specs.Prelude.{◌≡◌, ◌≤◌, ◌<◌, ◌↔◌, [], length, IfSome, IfNone, Err, IsTrue, string_bytes};
+ghost use Rattle.std.specs.Prelude.{◌≡◌, ◌≤◌, ◌<◌, ◌↔◌, [], ℕ, length, IfSome, IfNone, IfOk, Err, IsTrue, string_bytes};
 ghost use Rattle.std.specs.Bool.{OnTrue};
 ghost use Rattle.ts_core.specs.Members.{Among, AllDistinct};
 ghost use Rattle.ts_core.specs.Texts.{owned_pairs, lent_pairs};
 ghost use Rattle.ts_raw.specs.Hashes.{hash_of_series};
 ghost use Rattle.ts_raw.specs.Registering.{IsRegistered};
+ghost use Rattle.ts_raw.specs.TagChains.{AreAmongTagged};
 ghost use Rattle.ts_core.specs.Numbered.{IsAt};
 
 use crate::index::fault::IndexFault;
-use crate::index::hash::hash_series;
+use crate::index::hash::{hash_series, hash_tag};
 use crate::index::series_id::SeriesId;
-use std::alloc::Allocator;
+use crate::index::tags::TagTable;
+use std::alloc::{AllocError, Allocator};
 use std::cmp::Ordering;
 use std::marker::Model;
 use ts_core::{Chains, Key, KeyRef, next_number};
 
 /// Hash table of the registered series. Its model is their list, in creation order. Caches for each series the one that
-/// `register` returned after it last time, so series that arrive in a recurring order are found without hashing.
+/// `register` returned after it last time, so series that arrive in a recurring order are found without hashing. Finds
+/// the series that have a tag, too.
 #[derive(Drop)]
 pub(crate) struct SeriesTable<A: Allocator> {
     keys: Vec<Key<A>, A>,
     chains: Chains<A>,
+    tags: TagTable<A>,
     followers: Vec<u32, A>,
     last: u32,
 }
@@ -28,14 +32,13 @@ pub(crate) struct SeriesTable<A: Allocator> {
 impl<A: Allocator> Model for SeriesTable<A> {
     ghost use Rattle.std.specs.Prelude.{List};
     ghost use Rattle.ts_core.specs.Facts.{Series};
-    ghost use Rattle.ts_raw.specs.Hashes.{hash_of_series};
-    ghost use Rattle.ts_core.specs.Tables.{IsTable};
+    ghost use Rattle.ts_raw.specs.TagChains.{IsSeriesTable};
 
     ghost Value = { List Series };
 
     ghost view = { λ t. t.keys.items };
 
-    ghost invariant = { λ t. IsTable hash_of_series t.keys.items t.chains };
+    ghost invariant = { λ t. IsSeriesTable t.keys.items t.chains t.tags };
 }
 
 /// Returns true if a tag has this key and this value.
@@ -77,6 +80,7 @@ impl<A: Allocator + Copy> SeriesTable<A> {
         SeriesTable {
             keys: Vec::new(alloc),
             chains: Chains::new(alloc),
+            tags: TagTable::new(alloc),
             followers: Vec::new(alloc),
             last: 0,
         }
@@ -142,6 +146,23 @@ impl<A: Allocator + Copy> SeriesTable<A> {
         }
     }
 
+    /// Returns the indices of candidates, among them all series of a measurement that have this value of a tag.
+    pub(crate) fn with_tag(
+        &self,
+        measurement: &str,
+        tag: &str,
+        value: &str,
+    ) -> Result<Vec<u32, A>, AllocError>
+        ensures { IfOk result (λ v. AreAmongTagged self.now measurement.now (tag.now, value.now) v.items) }
+    {
+        self.tags.series_of(hash_tag(measurement, tag, value))
+    }
+
+    /// Returns about how many series of a measurement have this value of a tag.
+    pub(crate) fn count_with_tag(&self, measurement: &str, tag: &str, value: &str) -> usize {
+        self.tags.count(hash_tag(measurement, tag, value))
+    }
+
     /// Returns the series of a key, registering it if needed. Fails with `TooManySeries` if it is new and `limit`
     /// series are registered.
     pub(crate) fn register(
@@ -181,6 +202,7 @@ impl<A: Allocator + Copy> SeriesTable<A> {
         let copy = Key::new(*self.keys.allocator(), key)?;
         self.keys.reserve(1)?;
         self.followers.reserve(1)?;
+        self.tags.push_all(key.measurement(), key.tags(), number)?;
         self.chains.push(hash)?;
         self.keys.push(copy).unwrap();
         self.followers.push(number.saturating_add(1)).unwrap();

@@ -17,7 +17,7 @@ index-other-requires g c =
     let series : List Series = c.self.inside.keys.items in
     let hashes : List ℕ = c.self.inside.chains in
     let within : c.in-Some.at < length series =
-    sought_within hash_of_series series hashes c.self.invariant key c.in-Some.at (subst (Sought series hashes key) c.in-Some.is c.loop-next.invariant) in
+    sought_within hash_of_series series hashes c.self.invariant.table key c.in-Some.at (subst (Sought series hashes key) c.in-Some.is c.loop-next.invariant) in
     search rules
 
 pub returns-then-eq-clause-found : goal.returns-then-eq-clause-found
@@ -26,7 +26,7 @@ returns-then-eq-clause-found g c =
     let series : List Series = c.self.inside.keys.items in
     let hashes : List ℕ = c.self.inside.chains in
     let within : c.in-Some.at < length series =
-    sought_within hash_of_series series hashes c.self.invariant key c.in-Some.at (subst (Sought series hashes key) c.in-Some.is c.loop-next.invariant) in
+    sought_within hash_of_series series hashes c.self.invariant.table key c.in-Some.at (subst (Sought series hashes key) c.in-Some.is c.loop-next.invariant) in
     let same : c.index-other.result.now ≡ key = same_series c.index-other.result.now key c.compare.result c.compare.ensures (sym c.eq.ensures ∙ c.if-eq.true) in
     subst (λ (all : List Series). IsAt all c.in-Some.at key) c.self.view_is (found_at series c.in-Some.at c.index-other.result.now key within c.index-other.ensures same)
 
@@ -51,7 +51,7 @@ loop-next-preserved g c =
     let other : c.index-other.result.now ≡ key → ⊥ =
     other_series c.index-other.result.now key c.compare.result c.compare.ensures (sym c.eq.ensures ∙ c.if-eq.false) in
     subst (Sought series hashes key) (sym c.older-next.ensures)
-    (sought_on hash_of_series series hashes c.self.invariant key c.in-Some.at c.index-other.result.now c.index-other.ensures other
+    (sought_on hash_of_series series hashes c.self.invariant.table key c.in-Some.at c.index-other.result.now c.index-other.ensures other
     (subst (Sought series hashes key) c.in-Some.is c.loop-next.invariant))
 
 pub returns-clause-absent : goal.returns-clause-absent
@@ -61,4 +61,4 @@ returns-clause-absent g c =
     let hashes : List ℕ = c.self.inside.chains in
     let ended : c.loop-next.next ≡ None = search rules in
     subst (λ (all : List Series). Among key all → ⊥) c.self.view_is
-    (sought_in_vain hash_of_series series hashes c.self.invariant key (subst (Sought series hashes key) ended c.loop-next.invariant))
+    (sought_in_vain hash_of_series series hashes c.self.invariant.table key (subst (Sought series hashes key) ended c.loop-next.invariant))

@@ -1,9 +1,12 @@
 use Rattle.std.proofs.Common.{◌≡◌, ℕ, List, [], ◌∷◌, ◌++◌, length, cond, is_ok, Result, inl, inr, refl, sym, ◌∙◌, ap, subst, rules}
 use Rattle.std.proofs.lemmas.Result.{err_from_is_err_and}
 use Rattle.ts_core.specs.Members.{Among}
-use Rattle.ts_core.specs.Facts.{Series}
+use Rattle.ts_core.specs.Facts.{Text, Series}
+use Rattle.ts_core.specs.Texts.{lent_pairs}
 use Rattle.ts_raw.specs.Hashes.{hash_of_series}
 use Rattle.ts_raw.specs.Registering.{IsRegistered}
+use Rattle.ts_raw.specs.TagChains.{IsSeriesTable, AllLead}
+use Rattle.ts_raw.proofs.TagLemmas.{tagged_still, tagged_more}
 use Rattle.ts_raw.specs.declared.index.fault.IndexFault.{IndexFault}
 use Rattle.ts_core.specs.Numbered.{IsAt}
 use Rattle.ts_core.specs.Tables.{IsTable}
@@ -32,6 +35,13 @@ pushed g c =
     c.push-2.ensures.items ∙ ap (λ r. cond (is_ok r) (c.reserve.new.self.items ++ c.in_ok-copy.copy ∷ []) c.reserve.new.self.items) c.unwrap.ensures
     ∙ ap (λ (xs : List Series). xs ++ c.in_ok-copy.copy ∷ []) c.in_ok-reserve.ensures.items ∙ ap (λ (x : Series). before ++ x ∷ []) c.in_ok-copy.ensures
 
+pub invariant_of-self-in_err-push : goal.invariant_of-self-in_err-push
+invariant_of-self-in_err-push g c =
+    let before : List Series = c.self.inside.keys.items in
+    subst (λ (xs : List Series). IsSeriesTable xs c.push.new.self c.push_all.new.self) (sym c.in_ok-reserve.ensures.items)
+    (subst (λ (hs : List ℕ). IsSeriesTable before hs c.push_all.new.self) (sym c.in_err-push.ensures.err)
+    record { table = c.self.invariant.table; tagged = tagged_still before c.self.inside.tags c.push_all.new.self c.self.invariant.tagged c.in_ok-push_all.ensures.kept })
+
 pub invariant_of-self-2 : goal.invariant_of-self-2
 invariant_of-self-2 g c =
     let key : Series = c.args.key.now in
@@ -39,8 +49,15 @@ invariant_of-self-2 g c =
     let hashes : List ℕ = c.self.inside.chains in
     let absent : Among key before → ⊥ = subst (λ (xs : List Series). Among key xs → ⊥) (sym c.self.view_is) c.in_default.ensures.absent in
     let hashed : c.push.new.self ≡ hashes ++ hash_of_series key ∷ [] = c.in_ok-push.ensures.ok ∙ ap (λ n. hashes ++ n ∷ []) c.hash_series-hash.ensures in
-    subst (λ (xs : List Series). IsTable hash_of_series xs c.push.new.self) (sym (pushed g c))
-    (subst (IsTable hash_of_series (before ++ key ∷ [])) (sym hashed) (table_more hash_of_series before hashes key c.self.invariant absent))
+    let number : c.in_ok-number.number ≡ length before = search rules in
+    let lead : AllLead c.push_all.new.self key.measurement key.tags (length before) =
+    subst (λ n. AllLead c.push_all.new.self key.measurement key.tags n) number
+    (subst (λ (ts : List (Text × Text)). AllLead c.push_all.new.self key.measurement ts c.in_ok-number.number) c.tags.ensures
+    (subst (λ (m : Text). AllLead c.push_all.new.self m (lent_pairs c.tags.result.now) c.in_ok-number.number) c.measurement.ensures c.in_ok-push_all.ensures.ok)) in
+    subst (λ (xs : List Series). IsSeriesTable xs c.push.new.self c.push_all.new.self) (sym (pushed g c)) (record {
+      table = subst (IsTable hash_of_series (before ++ key ∷ [])) (sym hashed) (table_more hash_of_series before hashes key c.self.invariant.table absent);
+      tagged = tagged_more before c.self.inside.tags c.push_all.new.self c.self.invariant.tagged c.in_ok-push_all.ensures.kept key lead;
+    })
 
 pub returns-in_err-push-clause-registered : goal.returns-in_err-push-clause-registered
 returns-in_err-push-clause-registered g c =
@@ -66,4 +83,4 @@ returns-clause-registered g c =
     }
 
 pub returns-clause-once : goal.returns-clause-once
-returns-clause-once g c = (invariant_of-self-2 g c).once
+returns-clause-once g c = (invariant_of-self-2 g c).table.once

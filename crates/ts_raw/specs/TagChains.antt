@@ -1,0 +1,67 @@
+-- Chains of series by the hashes of their tags. A chain may lead to a series that doesn't have the tag, or to none: whoever
+-- asks tests the series. (Own rule.)
+use Rattle.std.specs.Prelude.{◌≡◌, ℕ, zero, suc, ◌<◌, ◌%◌, nat_lt, nat_eq, List, length, Option, Some, None, if◌then◌else◌, slice_index_or, ◌⊎◌}
+use Rattle.std.specs.Map.{lookup}
+use Rattle.std.specs.Hash.FoldHasher.{initial, write, finish}
+use Rattle.ts_core.specs.Members.{Among}
+use Rattle.ts_core.specs.Facts.{Text, Series}
+use Rattle.ts_core.specs.Numbered.{IsAt}
+use Rattle.ts_core.specs.Tables.{IsTable}
+use Rattle.ts_raw.specs.Hashes.{hash_of_series}
+use Rattle.ts_raw.specs.declared.index.tags.TagLink.{TagLink}
+
+-- the hash of a tag of a measurement
+unfoldable pub hash_of_tag : Text → Text × Text → ℕ
+hash_of_tag measurement t = finish (write (write (write initial measurement) t.0) t.1) % 4_294_967_296
+
+-- hashes with the newest link of each, and all links
+pub record TagChains : Type 0 where
+  pub newest : List (ℕ × ℕ)
+  pub links : List TagLink
+
+-- in place of a link that isn't there
+abbrev pub no_link : TagLink
+no_link = record { series = 0; older = 0; count = 0 }
+
+-- the index of the next older link after the one at an index
+abbrev pub next_of : TagLink → ℕ → Option ℕ
+next_of l i = if nat_lt l.older i then Some l.older else None
+
+-- the first links of a chain, so many, lead to the series n
+unfoldable pub Leads : List TagLink → ℕ → Option ℕ → ℕ → Type 0
+Leads links k None n = ⊥
+Leads links zero (Some i) n = ⊥
+Leads links (suc k) (Some i) n = ((slice_index_or links i no_link).series ≡ n) ⊎ Leads links k (next_of (slice_index_or links i no_link) i) n
+
+-- the newest link of a hash
+abbrev pub head_of : List (ℕ × ℕ) → ℕ → Option ℕ
+head_of newest hash = lookup (nat_eq hash) newest
+
+-- the chain of a hash leads to the series n
+abbrev pub LeadsTo : TagChains → ℕ → ℕ → Type 0
+LeadsTo chains hash n = (k : ℕ) × Leads chains.links k (head_of chains.newest hash) n
+
+-- each chain begins at a link
+abbrev pub AreHeadsWithin : TagChains → Type 0
+AreHeadsWithin chains = (hash i : ℕ) → head_of chains.newest hash ≡ Some i → i < length chains.links
+
+-- what was found still is
+abbrev pub KeepLeads : TagChains → TagChains → Type 0
+KeepLeads before after = (hash n : ℕ) → LeadsTo before hash n → LeadsTo after hash n
+
+-- the chains of all these tags lead to the series n
+abbrev pub AllLead : TagChains → Text → List (Text × Text) → ℕ → Type 0
+AllLead chains measurement tags n = (t : Text × Text) → Among t tags → LeadsTo chains (hash_of_tag measurement t) n
+
+-- each series is found by each of its tags
+abbrev pub AreTagged : List Series → TagChains → Type 0
+AreTagged series chains = (n : ℕ) (s : Series) → IsAt series n s → AllLead chains s.measurement s.tags n
+
+-- each series once, with its hash, and found by each of its tags
+pub record IsSeriesTable (series : List Series) (hashes : List ℕ) (chains : TagChains) : Type 0 where
+  pub table : IsTable hash_of_series series hashes
+  pub tagged : AreTagged series chains
+
+-- the series of a measurement that have a tag are among these
+abbrev pub AreAmongTagged : List Series → Text → Text × Text → List ℕ → Type 0
+AreAmongTagged series measurement tag numbers = (n : ℕ) (s : Series) → IsAt series n s → s.measurement ≡ measurement → Among tag s.tags → Among n numbers
