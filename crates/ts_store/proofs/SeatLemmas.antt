@@ -1,16 +1,22 @@
 -- Columns that are lent by number are those of the index, and the points of one of them are its points.
-use Rattle.std.proofs.Common.{◌≡◌, ℕ, zero, suc, ℤ, ◌+◌, ◌<◌, Bool, true, false, cond, List, [], ◌∷◌, length, map, get_or, refl, ◌∙◌, ap, ap₂, arith}
+use Rattle.std.proofs.Common.{◌≡◌, ℕ, zero, suc, ℤ, ◌+◌, ◌<◌, Bool, ◌&&◌, true, false, cond, filter, List, [], ◌∷◌, length, replicate, map, get_or, refl, sym, ◌∙◌, ap, ap₂, subst, arith}
 use Rattle.std.specs.List.{AllByRecursion}
 use Rattle.std.specs.FinMap as finmap
-use Rattle.ts_core.specs.Facts.{Column}
+use Rattle.std.proofs.lemmas.Bool.{and_parts}
+use Rattle.std.proofs.lemmas.List.{length-replicate}
+use Rattle.ts_core.specs.Members.{Among}
+use Rattle.ts_core.specs.Facts.{Text, same_text, Column, is_of}
+use Rattle.ts_core.proofs.Ids.{same_text-eq}
+use Rattle.ts_raw.specs.Tagged.{has_tag, is_tagged}
+use Rattle.ts_raw.proofs.RisingLemmas.{numbered_from}
 use Rattle.ts_core.specs.Settings.{Rule}
 use Rattle.ts_core.specs.StoreStates.{ColumnPoints}
 use Rattle.ts_core.specs.StoreData.{rules_of}
 use Rattle.ts_core.specs.Views.{totals_in}
 use Rattle.ts_raw.specs.Columns.{PointMap, points_within}
-use Rattle.ts_core.specs.Numbered.{numbers_where_from, numbers_where}
+use Rattle.ts_core.specs.Numbered.{IsAt, numbers_where_from, numbers_where}
 use Rattle.ts_store.specs.ColumnsKept.{with_points}
-use Rattle.ts_store.specs.Seats.{Seat, no_points, seats_from, seats_where, seat_in, points_at}
+use Rattle.ts_store.specs.Seats.{Seat, no_points, seats_from, seats_where, seat_in, points_at, seat_has, IsNamed, AreWhole}
 
 -- ---- which columns
 
@@ -60,6 +66,45 @@ seats_there p n m (c ∷ cs) e =
 -- each of them is there
 pub seats-there : (p : Column → Bool) (cs : List ColumnPoints) → AllByRecursion (λ (s : Seat). s.number < length cs) (seats_where p cs)
 seats-there p cs = seats_there p 0 (length cs) cs (omega arith)
+
+-- those that have a tag are left of all by a filter
+seats_filter : (p : Column → Bool) (tag value : Text) (n : ℕ) (cs : List ColumnPoints) → seats_from (λ c. p c && has_tag tag value c.series) n cs ≡ filter (seat_has tag value) (seats_from p n cs)
+seats_filter p tag value n [] = refl
+seats_filter p tag value n (c ∷ cs) =
+    let seat : Seat = record { number = n; series = c.column.series } in
+    let all : List Seat = seats_from p (n + 1) cs in
+    let some : List Seat = seats_from (λ (x : Column). p x && has_tag tag value x.series) (n + 1) cs in
+    let rest : some ≡ filter (seat_has tag value) all = seats_filter p tag value (n + 1) cs in
+    elim (p c.column) as (λ b. cond (b && has_tag tag value c.column.series) (seat ∷ some) some ≡ filter (seat_has tag value) (cond b (seat ∷ all) all)) [
+      | true ↦ ap (λ (ss : List Seat). cond (has_tag tag value c.column.series) (seat ∷ ss) ss) rest
+      | false ↦ rest
+    ]
+
+narrowed : (m f tag value : Text) (cs : List Column) → map (seat_in cs) (numbers_where (is_tagged m f tag value) cs) ≡ filter (seat_has tag value) (map (seat_in cs) (numbers_where (is_of m f) cs))
+narrowed m f tag value cs =
+    let none : List PointMap = replicate (length cs) finmap.empty in
+    let as_many : length none ≡ length cs = length-replicate (length cs) finmap.empty in
+    numbers-seats (is_tagged m f tag value) cs none as_many
+    ∙ seats_filter (is_of m f) tag value 0 (with_points cs none)
+    ∙ ap (filter (seat_has tag value)) (sym (numbers-seats (is_of m f) cs none as_many))
+
+-- the names of one of them are those of all
+named_as_first : (m f m' f' : Text) (cs : List Column) (n : ℕ) → Among n (numbers_where (is_of m f) cs) → ((c : Column) → IsAt cs n c → IsNamed m' f' c) → (m ≡ m') × (f ≡ f')
+named_as_first m f m' f' cs n among names =
+    let s = numbered_from (is_of m f) 0 cs n among in
+    let c : Column = s.member in
+    let place : s.place ≡ n = (let e = s.is in omega (arith, e)) in
+    let named : IsNamed m' f' c = names c (subst (λ k. IsAt cs k c) place s.at) in
+    let parts = and_parts (same_text c.series.measurement m) (same_text c.field f) s.passes in
+    (sym (same_text-eq c.series.measurement m parts.0) ∙ sym named.measurement_is, sym (same_text-eq c.field f parts.1) ∙ sym named.field_is)
+
+-- those that the index finds by a tag are those of all that a filter leaves
+pub tagged_seats : (cs : List Column) (ids found : List ℕ) (n : ℕ) (m f tag value : Text) → AreWhole cs ids → Among n ids → ((c : Column) → IsAt cs n c → IsNamed m f c)
+    → found ≡ numbers_where (is_tagged m f tag value) cs → map (seat_in cs) found ≡ filter (seat_has tag value) (map (seat_in cs) ids)
+tagged_seats cs ids found n m f tag value whole among names is =
+    let same = named_as_first whole.measurement whole.field m f cs n (subst (λ (ns : List ℕ). Among n ns) whole.are among) names in
+    let all : ids ≡ numbers_where (is_of m f) cs = whole.are ∙ ap₂ (λ (x y : Text). numbers_where (is_of x y) cs) same.0 same.1 in
+    ap (map (seat_in cs)) is ∙ narrowed m f tag value cs ∙ ap (λ (ns : List ℕ). filter (seat_has tag value) (map (seat_in cs) ns)) (sym all)
 
 -- ---- which points
 

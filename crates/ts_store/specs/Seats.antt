@@ -1,6 +1,9 @@
 -- Results of a view: columns by index, points of a column, and cells with their totals. (Own rules.)
-use Rattle.std.specs.Prelude.{ℕ, ◌+◌, ℤ, pos, Bool, List, [], ◌∷◌, filter, map, if◌then◌else◌, slice_index_or}
-use Rattle.ts_core.specs.Facts.{Series, Column, is_within}
+use Rattle.std.specs.Prelude.{◌≡◌, ℕ, ◌+◌, ◌<◌, ℤ, pos, Bool, true, length, List, [], ◌∷◌, filter, map, if◌then◌else◌, slice_index_or}
+use Rattle.std.specs.List.{AllByRecursion}
+use Rattle.ts_core.specs.Facts.{Text, Series, Column, is_of, is_within}
+use Rattle.ts_core.specs.Numbered.{numbers_where}
+use Rattle.ts_raw.specs.Tagged.{has_tag}
 use Rattle.ts_core.specs.Aggregates.{Aggregate, empty_aggregate}
 use Rattle.ts_core.specs.Cells.{Cell}
 use Rattle.ts_core.specs.StoreStates.{ColumnPoints}
@@ -51,3 +54,23 @@ seat_of p = record { number = p.0; series = p.1 }
 -- the column with this index in an index's list, with its series
 abbrev pub seat_in : List Column → ℕ → Seat
 seat_in columns n = record { number = n; series = (slice_index_or columns n (record { series = record { measurement = []; tags = [] }; field = [] })).series }
+
+-- the series of the column has the value of the tag
+abbrev pub seat_has : Text → Text → Seat → Bool
+seat_has tag value s = has_tag tag value s.series
+
+-- the column is of this measurement and this field
+pub record IsNamed (measurement field : Text) (c : Column) : Type 0 where
+  pub measurement_is : measurement ≡ c.series.measurement
+  pub field_is : field ≡ c.field
+
+-- all columns of one measurement and one field
+pub record AreWhole (columns : List Column) (ns : List ℕ) : Type 0 where
+  pub measurement : Text
+  pub field : Text
+  pub are : ns ≡ numbers_where (is_of measurement field) columns
+
+-- columns of an index, all those of one measurement and one field if `whole` says so
+pub record AreColumns (columns : List Column) (ns : List ℕ) (whole : Bool) : Type 0 where
+  pub there : AllByRecursion (λ n. n < length columns) ns
+  pub all : whole ≡ true → AreWhole columns ns

@@ -141,7 +141,7 @@ impl<A: Allocator + Copy> ColumnFacts<A> {
     pub(crate) fn columns_of(&self, measurement: &str, field: &str) -> Columns<'_, A>
         ensures { result ≡ seats_where (is_of measurement.now field.now) self.now.columns }
     {
-        Columns::of(self.index.columns_of(measurement, field), &self.index)
+        Columns::all_of(&self.index, measurement, field)
     }
 
     /// Returns the points of a column from `from`, inclusive, to `to`, exclusive (nanoseconds).

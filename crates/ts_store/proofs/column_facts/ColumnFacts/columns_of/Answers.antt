@@ -1,23 +1,17 @@
-use Rattle.std.proofs.Common.{◌∙◌, ap, sym, subst, List, ℕ, ◌<◌, length, map}
-use Rattle.std.specs.List.{AllByRecursion}
+use Rattle.std.proofs.Common.{◌∙◌, ap}
 use Rattle.std.proofs.lemmas.List.{length-map}
 use Rattle.ts_core.specs.Facts.{is_of}
 use Rattle.ts_raw.specs.Columns.{ColumnState}
 use Rattle.ts_store.specs.ColumnsKept.{Held, point_maps}
-use Rattle.ts_store.specs.Seats.{seats_where, seat_in}
-use Rattle.ts_store.proofs.SeatLemmas.{numbers-seats, numbers-below}
+use Rattle.ts_store.specs.Seats.{seats_where}
+use Rattle.ts_store.proofs.SeatLemmas.{numbers-seats}
 use Rattle.ts_store.proofs.column_facts.ColumnFacts.columns_of.Goals as goal
-
-pub of-requires : goal.of-requires
-of-requires g c =
-    let cs = c.self.inside.index.columns in
-    subst (λ (ns : List ℕ). AllByRecursion (λ n. n < length cs) ns) (sym c.columns_of.ensures) (numbers-below (is_of c.args.measurement.now c.args.field.now) cs)
 
 pub returns : goal.returns
 returns g c =
     let ss = c.self.inside.columns.items in
     let cs = c.self.inside.index.columns in
     let asked = is_of c.args.measurement.now c.args.field.now in
-    c.of.ensures ∙ ap (map (seat_in cs)) c.columns_of.ensures
+    c.all_of.ensures
     ∙ numbers-seats asked cs (point_maps ss) (length-map ss (λ (s : ColumnState). s.points) ∙ c.self.invariant.each)
     ∙ ap (λ (h : Held). seats_where asked h.columns) c.self.view_is
