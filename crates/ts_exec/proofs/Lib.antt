@@ -8,6 +8,7 @@ mod Entries
 mod PointCounts
 mod CountSteps
 -- GroupTables, FirstOf: the cells and points of a piece
+mod Selected
 mod Walked
 mod NamedRules
 mod Widths

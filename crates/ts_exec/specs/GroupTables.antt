@@ -1,11 +1,12 @@
 -- Groups with their rows, in byte order of their values, and how points and cells are added to them. (Own rules.)
-use Rattle.std.specs.Prelude.{◌≡◌, ℕ, ℤ, pos, ◌+ℤ◌, ◌*ℤ◌, ◌==◌, Bool, not, ◌&&◌, T, List, [], ◌∷◌, map, length, replicate, Option, Some, None, if◌then◌else◌}
+use Rattle.std.specs.Prelude.{◌≡◌, ℕ, ℤ, pos, ◌+ℤ◌, ◌*ℤ◌, ◌==◌, Bool, false, not, ◌&&◌, T, List, [], ◌∷◌, filter, map, length, replicate, Option, Some, None, if◌then◌else◌}
 use Rattle.std.specs.List.{list_all}
 use Rattle.std.specs.FinMap.{find, put, is_sorted}
 use Rattle.ts_core.specs.Facts.{Text, is_of, is_within}
 use Rattle.ts_core.specs.Aggregates.{Aggregate, empty_aggregate}
+use Rattle.ts_core.specs.Members.{Among}
 use Rattle.ts_core.specs.Tags.{tag_values}
-use Rattle.ts_core.specs.Queries.{Query, meets, matches, group_of}
+use Rattle.ts_core.specs.Queries.{Query, Condition, meets, matches, group_of}
 use Rattle.ts_core.specs.Buckets.{bucket_of}
 use Rattle.ts_core.specs.Answers.{Row, Group, group_cmp, buckets_in}
 use Rattle.ts_core.specs.Pieces.{Source, Raw, Rollup, Piece, start_of}
@@ -62,6 +63,17 @@ with_seat q cs a b s t =
 abbrev pub with_seats : Query → List ColumnPoints → ℤ → ℤ → List Seat → Table → Table
 with_seats q cs a b [] t = t
 with_seats q cs a b (s ∷ ss) t = with_seats q cs a b ss (with_seat q cs a b s t)
+
+-- ---- the columns of a query
+
+-- the columns whose series meet the conditions
+abbrev pub selected_seats : List Condition → List Seat → List Seat
+selected_seats conditions = filter (λ s. list_all (meets s.series) conditions)
+
+-- one of the conditions wants a value of a tag
+pub record IsNarrowing (conditions : List Condition) (c : Condition) : Type 0 where
+  pub among : Among c conditions
+  pub same : c.differs ≡ false
 
 -- ---- a piece of cells
 

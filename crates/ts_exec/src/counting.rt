@@ -10,7 +10,8 @@ ghost use Rattle.ts_exec.specs.Shares.{points_of_shares, cell_share, source_shar
 
 use crate::executor::is_fresh;
 use crate::fault::ExecFault;
-use crate::pieces::{are_met, bucket_start, is_taken, rule_from};
+use crate::pieces::{bucket_start, is_taken, rule_from};
+use crate::selection::are_met;
 use std::alloc::Allocator;
 use ts_check::{Checked, Piece, PieceSource};
 use ts_core::{Partial, Rule, index_of};

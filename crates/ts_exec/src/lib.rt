@@ -31,6 +31,7 @@ mod filling;
 mod groups;
 mod pieces;
 mod rows;
+mod selection;
 mod slot;
 mod table;
 

@@ -15,12 +15,13 @@ ghost use Rattle.ts_exec.specs.GroupTables.{with_cell, with_cell_parts, with_sou
 
 use crate::buckets::{Buckets, width};
 use crate::groups::Groups;
+use crate::selection::selected_columns;
 use std::alloc::{AllocError, Allocator};
 use std::marker::Model;
 use ts_check::{Piece, PieceSource};
 use ts_core::{Key, Partial, Rule, index_of};
 use ts_ql::{Condition, Query};
-use ts_store::{CellSeen, View};
+use ts_store::{CellSeen, ColumnSeen, View};
 
 /// State shared by all pieces of a query: its buckets, and a scratch list for the tag values of a group. Its model is
 /// the query.
@@ -59,20 +60,6 @@ impl<'a, 'q, A: Allocator + Copy> Scan<'a, 'q, A> {
     }
 }
 
-fn is_met<A: Allocator + Copy>(key: &Key<A>, condition: &Condition<A>) -> bool
-    ensures { result ≡ meets key.now condition.now }
-{
-    let same = key.tag_value(condition.tag()) == condition.value();
-    if condition.differs() { !same } else { same }
-}
-
-/// Returns true if a series meets all conditions.
-pub(crate) fn are_met<A: Allocator + Copy>(key: &Key<A>, conditions: &[Condition<A>]) -> bool
-    ensures { result ≡ list_all (meets key.now) conditions.now }
-{
-    conditions.iter().all(|condition| is_met(key, condition))
-}
-
 /// Replaces `values` by a series' values of these tags.
 fn read_values<'a, A: Allocator + Copy>(
     values: &mut Vec<&'a str, A>,
@@ -98,13 +85,13 @@ fn first_bytes(text: &str) -> u128 {
     u128::from_be_bytes(bytes)
 }
 
-/// Inserts the groups of all selected columns up front, sorted, so that none is inserted in the middle later. Returns
-/// each column's slot, or an empty list if all columns are in one group, which has the first slot.
-fn expect_groups<'a, A: Allocator + Copy + 'a, V: View<A> + 'a>(
+/// Inserts the groups of all columns up front, sorted, so that none is inserted in the middle later. Returns each
+/// column's slot, or an empty list if all columns are in one group, which has the first slot.
+fn expect_groups<'a, A: Allocator + Copy>(
     groups: &mut Groups<'a, A>,
     alloc: A,
     query: &Query<A>,
-    view: &'a V,
+    columns: &[ColumnSeen<'a, A>],
 ) -> Result<Vec<usize, A>, AllocError>
     ensures { groups.new ≡ groups.old }
 {
@@ -113,14 +100,12 @@ fn expect_groups<'a, A: Allocator + Copy + 'a, V: View<A> + 'a>(
     }
     // The sort key decides most comparisons without reading the texts.
     let mut expected: Vec<(u128, Vec<&'a str, A>, usize), A> = Vec::new(alloc);
-    for column in view.columns_of(query.measurement(), query.field()) {
-        if are_met(column.key, query.conditions()) {
-            let mut values = Vec::with_capacity(alloc, query.group_tags().len())?;
-            read_values(&mut values, column.key, query.group_tags())?;
-            let first = values.first().copied().unwrap_or("");
-            let number = expected.len();
-            expected.push((first_bytes(first), values, number))?;
-        }
+    for column in columns {
+        let mut values = Vec::with_capacity(alloc, query.group_tags().len())?;
+        read_values(&mut values, column.key, query.group_tags())?;
+        let first = values.first().copied().unwrap_or("");
+        let number = expected.len();
+        expected.push((first_bytes(first), values, number))?;
     }
     expected.sort()?;
     let mut places = Vec::from_elem(alloc, 0usize, expected.len())?;
@@ -145,16 +130,15 @@ fn add_raw<'a, A: Allocator + Copy + 'a, V: View<A> + 'a>(
     ensures same { scan.new ≡ scan.old }
 {
     let alloc = *scan.values.allocator();
-    let places = expect_groups(groups, alloc, scan.query, view)?;
+    let columns = selected_columns(alloc, scan.query, view)?;
+    let places = expect_groups(groups, alloc, scan.query, &columns)?;
     let mut number: usize = 0;
-    for column in view.columns_of(scan.query.measurement(), scan.query.field()) {
-        if are_met(column.key, scan.query.conditions()) {
-            read_values(&mut scan.values, column.key, scan.query.group_tags())?;
-            let guess = places.get(number).copied().unwrap_or(0);
-            number = number.saturating_add(1);
-            let points = view.raw_range(column.id, from, to);
-            groups.add_points(guess, scan.width, &scan.values, &mut scan.buckets, points)?;
-        }
+    for column in &columns {
+        read_values(&mut scan.values, column.key, scan.query.group_tags())?;
+        let guess = places.get(number).copied().unwrap_or(0);
+        number = number.saturating_add(1);
+        let points = view.raw_range(column.id, from, to);
+        groups.add_points(guess, scan.width, &scan.values, &mut scan.buckets, points)?;
     }
     Ok(())
 }

@@ -1,22 +1,53 @@
-use Rattle.std.proofs.Common.{rules, ◌≡◌, to_z, of_z, w64, ap₂, subst, sym, List, length, ◌<◌}
-use Rattle.std.specs.List.{AllByRecursion}
+use Rattle.std.proofs.Common.{rules, ◌≡◌, ◌+◌, ℕ, ℤ, Bool, true, cond, to_z, of_z, w64, ap, ap₂, ◌∙◌, subst, sym, List, ◌∷◌, length, drop}
+use Rattle.std.specs.List.{list_all, AllByRecursion}
+use Rattle.std.proofs.lemmas.List.{drop_more}
 use Rattle.ts_core.specs.Facts.{is_of}
-use Rattle.ts_core.specs.Queries.{Query}
+use Rattle.ts_core.specs.Queries.{Query, meets}
 use Rattle.ts_core.specs.StoreStates.{ColumnPoints}
-use Rattle.ts_store.specs.Seats.{Seat, seats_where}
-use Rattle.ts_exec.specs.GroupTables.{Table, with_seats}
+use Rattle.ts_core.specs.Tags.{tag_values}
+use Rattle.ts_store.specs.Seats.{Seat, seats_where, points_at}
 use Rattle.ts_store.proofs.SeatLemmas.{seats-there}
+use Rattle.ts_exec.specs.RowParts.{bucket_grid}
+use Rattle.ts_exec.specs.GroupTables.{Table, AreBucketsOf, width, with_column_parts, with_seats, selected_seats}
+use Rattle.ts_exec.proofs.Selected.{IsSelected, all_selected, selected_give}
 use Rattle.ts_exec.proofs.pieces.add_raw.Goals as goal
 
 pub loop-column-init : goal.loop-column-init
 loop-column-init g c =
     let q : Query = c.args.scan.now in
     let cs : List ColumnPoints = (g.V.View.seen c.args.view.now).columns in
-    let first : c.into_iter-column-iterator.result ≡ seats_where (is_of q.measurement q.field) cs = search rules in (
-      tt,
-      tt,
-      ap₂ (λ (ss : List Seat) (t : Table). with_seats q cs (to_z w64 (of_z w64 c.args.from)) (to_z w64 (of_z w64 c.args.to)) ss t) first c.expect_groups.ensures,
-      subst (AllByRecursion (λ (s : Seat). s.number < length cs)) (sym first) (seats-there (is_of q.measurement q.field) cs),
+    let all : List Seat = seats_where (is_of q.measurement q.field) cs in
+    let a : ℤ = to_z w64 (of_z w64 c.args.from) in
+    let b : ℤ = to_z w64 (of_z w64 c.args.to) in
+    let chosen : c.deref-column-items.result.now ≡ selected_seats q.conditions all =
+    c.deref-column-items.ensures.value
+    ∙ subst (λ (x : Query). c.in_ok-columns.columns.items ≡ selected_seats x.conditions (seats_where (is_of x.measurement x.field) cs)) c.scan.view_is c.in_ok-columns.ensures in (
+      ap₂ (λ (ss : List Seat) (t : Table). with_seats q cs a b ss t) chosen c.expect_groups.ensures ∙ selected_give q cs a b all c.args.groups.now,
+      subst (AllByRecursion (IsSelected (length cs) q.conditions)) (sym chosen) (all_selected (length cs) q.conditions all (seats-there (is_of q.measurement q.field) cs)),
       c.scan.view_is,
       c.scan.invariant,
+    )
+
+pub loop-column-preserved : goal.loop-column-preserved
+loop-column-preserved g c =
+    let q : Query = c.args.scan.now in
+    let cs : List ColumnPoints = (g.V.View.seen c.args.view.now).columns in
+    let a : ℤ = to_z w64 (of_z w64 c.args.from) in
+    let b : ℤ = to_z w64 (of_z w64 c.args.to) in
+    let items : List Seat = c.deref-column-items.result.now in
+    let i : ℕ = c.loop-column.column-index in
+    let s : Seat = c.column-item.result in
+    let rest : List Seat = drop (i + 1) items in
+    let groups : Table = c.loop-column.groups in
+    let next : drop i items ≡ s ∷ rest = drop_more items i _ c.loop-column-test.true ∙ ap (λ (x : Seat). x ∷ rest) (sym c.column-item.is) in
+    let here : AllByRecursion (IsSelected (length cs) q.conditions) (s ∷ rest) = subst (AllByRecursion (IsSelected (length cs) q.conditions)) next c.loop-column.invariant.1 in
+    let met : list_all (meets s.series) q.conditions ≡ true = here.0.1 in
+    let given : Table = with_column_parts (bucket_grid q) (width q) (tag_values q.group_tags s.series) (points_at cs s.number a b) groups in
+    let added : c.add_points.new.self ≡ given = search rules in (
+      ap (λ (t : Table). with_seats q cs a b rest t) (added ∙ ap (λ (v : Bool). cond v given groups) (sym met))
+          ∙ ap (λ (ss : List Seat). with_seats q cs a b ss groups) (sym next)
+          ∙ c.loop-column.invariant.0,
+      here.1,
+      c.loop-column.invariant.2,
+      subst (AreBucketsOf c.loop-column.scan-inside.query.now.query c.loop-column.scan-inside.width) (sym c.in_ok-add_points.ensures.same) c.loop-column.invariant.3,
     )

@@ -1,0 +1,70 @@
+-- Columns whose series meet the conditions give what all columns give.
+use Rattle.std.proofs.Common.{◌≡◌, ℕ, ℤ, ◌<◌, Bool, true, false, not, cond, List, [], ◌∷◌, filter, refl, sym, ◌∙◌, ap, subst, true≢false, ⊎_elim}
+use Rattle.std.specs.List.{list_all, AllByRecursion}
+use Rattle.std.proofs.lemmas.Bool.{and_parts}
+use Rattle.ts_core.specs.Members.{Among}
+use Rattle.ts_core.specs.Facts.{same_text}
+use Rattle.ts_core.specs.Tags.{tag_value}
+use Rattle.ts_core.specs.Queries.{Query, Condition, meets}
+use Rattle.ts_core.specs.StoreStates.{ColumnPoints}
+use Rattle.ts_store.specs.Seats.{Seat, seat_has}
+use Rattle.ts_exec.specs.GroupTables.{Table, with_seat, with_seats, selected_seats, IsNarrowing}
+
+-- ---- what the selected columns give
+
+abbrev is_met : List Condition → Seat → Bool
+is_met conditions s = list_all (meets s.series) conditions
+
+-- a column that is there and meets the conditions
+abbrev pub IsSelected : ℕ → List Condition → Seat → Type 0
+IsSelected m conditions s = (s.number < m) × (list_all (meets s.series) conditions ≡ true)
+
+pub all_selected : (m : ℕ) (conditions : List Condition) (ss : List Seat) → AllByRecursion (λ (s : Seat). s.number < m) ss → AllByRecursion (IsSelected m conditions) (selected_seats conditions ss)
+all_selected m conditions [] h = tt
+all_selected m conditions (s ∷ ss) h =
+    let rest = all_selected m conditions ss h.1 in
+    elim (is_met conditions s) as (λ v. is_met conditions s ≡ v → AllByRecursion (IsSelected m conditions) (cond v (s ∷ selected_seats conditions ss) (selected_seats conditions ss))) [
+      | true ↦ λ e. ((h.0, e), rest)
+      | false ↦ λ e. rest
+    ] refl
+
+pub selected_give : (q : Query) (cs : List ColumnPoints) (a b : ℤ) (ss : List Seat) (t : Table) → with_seats q cs a b (selected_seats q.conditions ss) t ≡ with_seats q cs a b ss t
+selected_give q cs a b [] t = refl
+selected_give q cs a b (s ∷ ss) t =
+    let left : List Seat = selected_seats q.conditions ss in
+    elim (is_met q.conditions s) as (λ v. is_met q.conditions s ≡ v → with_seats q cs a b (cond v (s ∷ left) left) t ≡ with_seats q cs a b ss (with_seat q cs a b s t)) [
+      | true ↦ λ e. selected_give q cs a b ss (with_seat q cs a b s t)
+      | false ↦ λ e. selected_give q cs a b ss t ∙ ap (λ (u : Table). with_seats q cs a b ss u) (sym (unmet s t e))
+    ] refl
+  where
+    unmet : (s : Seat) (t : Table) → is_met q.conditions s ≡ false → with_seat q cs a b s t ≡ t
+    unmet s t e = rw e refl
+
+-- ---- which columns are selected
+
+all_among : {X : Type 0} (p : X → Bool) (xs : List X) (x : X) → list_all p xs ≡ true → Among x xs → p x ≡ true
+all_among p [] x h a = absurd a
+all_among p (y ∷ ys) x h a =
+    let s = and_parts (p y) (list_all p ys) h in
+    ⊎_elim {C = p x ≡ true} (λ e. ap p e ∙ s.0) (λ k. all_among p ys x s.1 k) a
+
+filter_twice : {X : Type 0} (p r : X → Bool) → ((x : X) → p x ≡ true → r x ≡ true) → (xs : List X) → filter p (filter r xs) ≡ filter p xs
+filter_twice p r h [] = refl
+filter_twice p r h (x ∷ xs) =
+    let rest = filter_twice p r h xs in
+    elim (r x) as (λ v. r x ≡ v → filter p (cond v (x ∷ filter r xs) (filter r xs)) ≡ cond (p x) (x ∷ filter p xs) (filter p xs)) [
+      | true ↦ λ e. ap (λ ys. cond (p x) (x ∷ ys) ys) rest
+      | false ↦ λ e. rest ∙ absent (p x) (λ t. true≢false (sym (h x t) ∙ e))
+    ] refl
+  where
+    absent : (v : Bool) → (v ≡ true → ⊥) → filter p xs ≡ cond v (x ∷ filter p xs) (filter p xs)
+    absent true n = absurd (n refl)
+    absent false n = refl
+
+pub selected_narrowed : (conditions : List Condition) (k : Condition) → IsNarrowing conditions k → (ss : List Seat) → selected_seats conditions (filter (seat_has k.tag k.value) ss) ≡ selected_seats conditions ss
+selected_narrowed conditions k is ss = filter_twice (is_met conditions) (seat_has k.tag k.value) has ss
+  where
+    has : (s : Seat) → is_met conditions s ≡ true → seat_has k.tag k.value s ≡ true
+    has s h =
+        let same : Bool = same_text (tag_value s.series k.tag) k.value in
+        subst (λ d. cond d (not same) same ≡ true) is.same (all_among (meets s.series) conditions k h is.among)

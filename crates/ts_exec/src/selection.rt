@@ -1,0 +1,79 @@
+//! Selects the columns of a query.
+ghost use Rattle.std.specs.Prelude.{◌≡◌, IfOk, IfSome};
+ghost use Rattle.std.specs.List.{list_all};
+ghost use Rattle.ts_core.specs.Facts.{is_of};
+ghost use Rattle.ts_core.specs.Queries.{meets};
+ghost use Rattle.ts_store.specs.Seats.{seats_where};
+ghost use Rattle.ts_exec.specs.GroupTables.{selected_seats, IsNarrowing};
+
+use std::alloc::{AllocError, Allocator};
+use ts_core::Key;
+use ts_ql::{Condition, Query};
+use ts_store::{ColumnSeen, Columns, View};
+
+fn is_met<A: Allocator + Copy>(key: &Key<A>, condition: &Condition<A>) -> bool
+    ensures { result ≡ meets key.now condition.now }
+{
+    let same = key.tag_value(condition.tag()) == condition.value();
+    if condition.differs() { !same } else { same }
+}
+
+/// Returns true if a series meets all conditions.
+pub(crate) fn are_met<A: Allocator + Copy>(key: &Key<A>, conditions: &[Condition<A>]) -> bool
+    ensures { result ≡ list_all (meets key.now) conditions.now }
+{
+    conditions.iter().all(|condition| is_met(key, condition))
+}
+
+/// Returns the condition that a tag has a value that the fewest columns have, if fewer than `limit` have it.
+fn narrowing<'q, A: Allocator + Copy>(
+    columns: &Columns<'_, A>,
+    conditions: &'q [Condition<A>],
+    limit: usize,
+) -> Option<&'q Condition<A>>
+    ensures { IfSome result (λ c. IsNarrowing conditions.now c.now) }
+{
+    let (first, others) = conditions.split_first()?;
+    if first.differs() {
+        return narrowing(columns, others, limit);
+    }
+    let count = columns.count_with_tag(first.tag(), first.value());
+    if count >= limit {
+        return narrowing(columns, others, limit);
+    }
+    match narrowing(columns, others, count) {
+        Some(better) => Some(better),
+        None => Some(first),
+    }
+}
+
+/// Returns columns of a query's measurement and field, in creation order: at least those whose series meet its
+/// conditions. If a condition leaves less than half of the columns, these are found by the index.
+fn candidates<'a, A: Allocator + Copy + 'a, V: View<A> + 'a>(
+    alloc: A,
+    query: &Query<A>,
+    view: &'a V,
+) -> Result<Vec<ColumnSeen<'a, A>, A>, AllocError>
+    ensures { IfOk result (λ v. selected_seats query.now.query.conditions v.items ≡ selected_seats query.now.query.conditions (seats_where (is_of query.now.query.measurement query.now.query.field) (V.seen view.now).columns)) }
+{
+    let columns = view.columns_of(query.measurement(), query.field());
+    match narrowing(&columns, query.conditions(), columns.len() / 2) {
+        Some(condition) => columns.with_tag(alloc, condition.tag(), condition.value()),
+        None => columns.to_vec(alloc),
+    }
+}
+
+/// Returns the columns of a query, in creation order: those of its measurement and field whose series meet its
+/// conditions.
+pub(crate) fn selected_columns<'a, A: Allocator + Copy + 'a, V: View<A> + 'a>(
+    alloc: A,
+    query: &Query<A>,
+    view: &'a V,
+) -> Result<Vec<ColumnSeen<'a, A>, A>, AllocError>
+    ensures { IfOk result (λ v. v.items ≡ selected_seats query.now.query.conditions (seats_where (is_of query.now.query.measurement query.now.query.field) (V.seen view.now).columns)) }
+{
+    let mut found = candidates(alloc, query, view)?;
+    let conditions = query.conditions();
+    found.retain(|column| are_met(column.key, conditions));
+    Ok(found)
+}
