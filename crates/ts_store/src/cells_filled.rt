@@ -13,12 +13,12 @@ ghost use Rattle.ts_store.specs.PointsRead.{number_of_points};
 ghost use Rattle.ts_store.specs.RollupSteps.{with_frozen_all};
 ghost use Rattle.ts_store.specs.Rollups.{AreRollups, IsLaneOf, cells_of, lane_at, with_frozen};
 
-use crate::column_facts::ColumnFacts;
+use crate::column_facts::{ColumnFacts, StoredColumn};
 use crate::freezing::is_last;
 use crate::rollup::Rollup;
 use std::alloc::{AllocError, Allocator};
 use ts_core::{Agg, Partial, Rule, index_of};
-use ts_raw::{PlainColumn, Points};
+use ts_raw::Points;
 
 /// Returns true if a bucket is neither below the low index nor the last one.
 fn is_needed(index: &i128, low: &i128, last: &Option<i128>) -> bool
@@ -61,7 +61,7 @@ fn make_under_all<A: Allocator + Copy>(
     lows: &[i128],
     rollups: &mut [Rollup<A>],
     number: usize,
-    column: &PlainColumn<A>,
+    column: &StoredColumn<A>,
 ) -> Result<(), AllocError>
     requires intervals { AllByRecursion (λ r. pos 1 ≤ℤ r.interval) rules.now }
     requires inside { AllByRecursion (λ s. number < length s.lanes) rollups.old }
@@ -86,7 +86,7 @@ pub(crate) fn make_all_cells<A: Allocator + Copy>(
     rules: &[Rule<A>],
     lows: &[i128],
     rollups: &mut [Rollup<A>],
-    columns: &[PlainColumn<A>],
+    columns: &[StoredColumn<A>],
 ) -> Result<(), AllocError>
     requires intervals { AllByRecursion (λ r. pos 1 ≤ℤ r.interval) rules.now }
     requires each { AllByRecursion (λ s. length s.lanes ≡ length columns.now) rollups.old }
@@ -136,7 +136,7 @@ fn add_under_all<A: Allocator + Copy>(
     rules: &[Rule<A>],
     rollups: &mut [Rollup<A>],
     number: usize,
-    column: &PlainColumn<A>,
+    column: &StoredColumn<A>,
 )
     requires intervals { AllByRecursion (λ r. pos 1 ≤ℤ r.interval) rules.now }
     requires inside { AllByRecursion (λ s. number < length s.lanes) rollups.old }
@@ -157,7 +157,7 @@ fn add_under_all<A: Allocator + Copy>(
 pub(crate) fn add_all_points<A: Allocator + Copy>(
     rules: &[Rule<A>],
     rollups: &mut [Rollup<A>],
-    columns: &[PlainColumn<A>],
+    columns: &[StoredColumn<A>],
 )
     requires intervals { AllByRecursion (λ r. pos 1 ≤ℤ r.interval) rules.now }
     requires each { AllByRecursion (λ s. length s.lanes ≡ length columns.now) rollups.old }

@@ -25,12 +25,15 @@ use ts_core::{KeyRef, Rule};
 use ts_line::Line;
 use ts_raw::{ColumnId, Index, PlainColumn, Points, SERIES_LIMIT};
 
+/// Type of a store's columns. Storing them in another way is a change of this line.
+pub(crate) type StoredColumn<A> = PlainColumn<A>;
+
 /// Index, one column per series and field, one rollup per rule, and a scratch list of the columns that the current line
 /// touches.
 #[derive(Drop)]
 pub(crate) struct ColumnFacts<A: Allocator> {
     pub(crate) index: Index<A>,
-    pub(crate) columns: Vec<PlainColumn<A>, A>,
+    pub(crate) columns: Vec<StoredColumn<A>, A>,
     pub(crate) rollups: Vec<Rollup<A>, A>,
     touched: Vec<ColumnId, A>,
 }

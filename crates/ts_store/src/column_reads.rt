@@ -6,11 +6,12 @@ ghost use Rattle.ts_raw.specs.PlainColumns.{IsRising};
 ghost use Rattle.ts_store.specs.ColumnsKept.{point_maps};
 ghost use Rattle.ts_store.specs.PointsRead.{number_of_points};
 
+use crate::column_facts::StoredColumn;
 use std::alloc::Allocator;
-use ts_raw::{Column, PlainColumn, Points};
+use ts_raw::{Column, Points};
 
 /// Returns the number of points of all columns.
-pub(crate) fn raw_points<A: Allocator + Copy>(columns: &[PlainColumn<A>]) -> u64
+pub(crate) fn raw_points<A: Allocator + Copy>(columns: &[StoredColumn<A>]) -> u64
     requires { number_of_points columns.now ≤ 2 ^ 62 }
     ensures { result ≡ number_of_points columns.now }
 {
@@ -22,7 +23,7 @@ pub(crate) fn raw_points<A: Allocator + Copy>(columns: &[PlainColumn<A>]) -> u64
 }
 
 /// Returns the number of points of all columns in memory, which may include up to 256 removed ones per column.
-pub(crate) fn held_points<A: Allocator + Copy>(columns: &[PlainColumn<A>]) -> u64
+pub(crate) fn held_points<A: Allocator + Copy>(columns: &[StoredColumn<A>]) -> u64
     requires { number_of_points columns.now ≤ 2 ^ 62 }
     ensures all { number_of_points columns.now ≤ result }
     ensures few_more { result ≤ number_of_points columns.now + 256 * length columns.now }
@@ -36,7 +37,7 @@ pub(crate) fn held_points<A: Allocator + Copy>(columns: &[PlainColumn<A>]) -> u6
 
 /// Returns the points of the column at index `at` from `from`, inclusive, to `to`, exclusive (nanoseconds).
 pub(crate) fn raw_range<'a, A: Allocator + Copy>(
-    columns: &'a [PlainColumn<A>],
+    columns: &'a [StoredColumn<A>],
     at: usize,
     from: i64,
     to: i64,
@@ -50,7 +51,7 @@ pub(crate) fn raw_range<'a, A: Allocator + Copy>(
 }
 
 /// Returns all points of the column at index `at`.
-pub(crate) fn all_points<A: Allocator + Copy>(columns: &[PlainColumn<A>], at: usize) -> Points<'_>
+pub(crate) fn all_points<A: Allocator + Copy>(columns: &[StoredColumn<A>], at: usize) -> Points<'_>
     requires { at < length columns.now }
     ensures points { result ≡ map.entries (get_or (point_maps columns.now) at map.empty) }
     ensures rising { IsRising result }

@@ -9,12 +9,13 @@ ghost use Rattle.ts_store.specs.LinesInColumns.{SetsAside};
 ghost use Rattle.ts_store.specs.Rollups.{AreRollups, KeepCells, HaveNext, with_next, cells_of};
 ghost use Rattle.ts_core.specs.Members.{Among};
 
+use crate::column_facts::StoredColumn;
 use crate::rollup::Rollup;
 use std::alloc::{AllocError, Allocator};
 use std::marker::Model;
 use ts_core::{Key, Rule, Time, reserve_eighth};
 use ts_line::Line;
-use ts_raw::{Column, ColumnId, Index, PlainColumn, SeriesId};
+use ts_raw::{Column, ColumnId, Index, SeriesId};
 
 /// Finds the lane of a new column under each rule, and allocates everything that the column needs there.
 fn prepare_rollups<A: Allocator + Copy>(
@@ -54,7 +55,7 @@ fn commit_rollups<A: Allocator + Copy>(rollups: &mut [Rollup<A>], column: Column
 #[cold]
 pub(crate) fn make_column<A: Allocator + Copy>(
     index: &mut Index<A>,
-    columns: &mut Vec<PlainColumn<A>, A>,
+    columns: &mut Vec<StoredColumn<A>, A>,
     rules: &[Rule<A>],
     rollups: &mut [Rollup<A>],
     series: SeriesId,
@@ -72,7 +73,7 @@ pub(crate) fn make_column<A: Allocator + Copy>(
     prepare_rollups(rules, rollups, index.key_of(series), field)?;
     let column = index.add_column(series, field)?;
     columns
-        .push(PlainColumn::new(*columns.allocator()))
+        .push(StoredColumn::new(*columns.allocator()))
         .unwrap();
     commit_rollups(rollups, column);
     Ok(column)
@@ -81,7 +82,7 @@ pub(crate) fn make_column<A: Allocator + Copy>(
 /// Returns the column of a series and a field, creating it if needed.
 fn column_for<A: Allocator + Copy>(
     index: &mut Index<A>,
-    columns: &mut Vec<PlainColumn<A>, A>,
+    columns: &mut Vec<StoredColumn<A>, A>,
     rules: &[Rule<A>],
     rollups: &mut [Rollup<A>],
     series: SeriesId,
@@ -102,7 +103,7 @@ fn column_for<A: Allocator + Copy>(
 
 /// Stages a point in a column, and appends the column to `touched`. Changes no points.
 fn prepare_at<A: Allocator + Copy>(
-    columns: &mut Vec<PlainColumn<A>, A>,
+    columns: &mut Vec<StoredColumn<A>, A>,
     touched: &mut Vec<ColumnId, A>,
     column: ColumnId,
     time: Time,
@@ -122,7 +123,7 @@ fn prepare_at<A: Allocator + Copy>(
 /// Stages the points of a line, each in its column, and appends the columns to `touched`.
 pub(crate) fn prepare_line<A: Allocator + Copy, L: Allocator>(
     index: &mut Index<A>,
-    columns: &mut Vec<PlainColumn<A>, A>,
+    columns: &mut Vec<StoredColumn<A>, A>,
     rules: &[Rule<A>],
     rollups: &mut [Rollup<A>],
     touched: &mut Vec<ColumnId, A>,

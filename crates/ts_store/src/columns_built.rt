@@ -14,11 +14,11 @@ ghost use Rattle.ts_raw.specs.PlainColumns.{IsRising};
 ghost use Rattle.ts_store.specs.Building.{cells_at};
 ghost use Rattle.ts_store.specs.Rollups.{AreRollups, cells_of};
 
-use crate::column_facts::ColumnFacts;
+use crate::column_facts::{ColumnFacts, StoredColumn};
 use crate::columns::make_column;
 use std::alloc::{AllocError, Allocator};
 use ts_core::{Agg, KeyRef, Rule, Time};
-use ts_raw::{PlainColumn, SeriesId};
+use ts_raw::SeriesId;
 
 impl<A: Allocator + Copy> ColumnFacts<A> {
     /// Registers a series, which must be new. On allocation failure, nothing changes.
@@ -62,7 +62,7 @@ impl<A: Allocator + Copy> ColumnFacts<A> {
             series,
             field,
         )?;
-        self.columns[column.number()] = PlainColumn::of(points);
+        self.columns[column.number()] = StoredColumn::of(points);
         Ok(())
     }
 

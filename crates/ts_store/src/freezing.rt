@@ -12,11 +12,12 @@ ghost use Rattle.ts_store.specs.LivePuts.{IsOver};
 ghost use Rattle.ts_store.specs.PointsRead.{number_of_points};
 ghost use Rattle.ts_store.specs.RollupSteps.{FreezesFit, FreezeFit, facts_left, with_frozen_all};
 
+use crate::column_facts::StoredColumn;
 use crate::live_parts::lane_left;
 use crate::rollup::Rollup;
 use std::alloc::Allocator;
 use ts_core::{Agg, Partial, Rule, Time, index_of};
-use ts_raw::{Column as _, PlainColumn, Points};
+use ts_raw::{Column as _, Points};
 
 /// Freezes points of a column under a rule. Points of one bucket mostly follow one another, so it folds them first and
 /// merges them into the cell at once.
@@ -60,7 +61,7 @@ pub(crate) fn is_last(last: &Option<i128>, index: &i128) -> bool
 fn refold_points<A: Allocator + Copy>(
     rule: &Rule<A>,
     rollup: &mut Rollup<A>,
-    columns: &[PlainColumn<A>],
+    columns: &[StoredColumn<A>],
     column: usize,
     mark: Time,
 )
@@ -90,7 +91,7 @@ fn refold_points<A: Allocator + Copy>(
 fn move_points<A: Allocator + Copy>(
     rule: &Rule<A>,
     rollup: &mut Rollup<A>,
-    columns: &[PlainColumn<A>],
+    columns: &[StoredColumn<A>],
     column: usize,
     mark: Time,
 )
@@ -111,7 +112,7 @@ fn move_points<A: Allocator + Copy>(
 pub(crate) fn move_all<A: Allocator + Copy>(
     rules: &[Rule<A>],
     rollups: &mut [Rollup<A>],
-    columns: &[PlainColumn<A>],
+    columns: &[StoredColumn<A>],
     column: usize,
     mark: Time,
 )

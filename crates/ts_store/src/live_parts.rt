@@ -5,11 +5,12 @@ ghost use Rattle.ts_core.specs.Members.{AllDistinct};
 ghost use Rattle.ts_store.specs.LivePoints.{points_since, left_states, lane_total as total_in};
 ghost use Rattle.ts_store.specs.PointsRead.{number_of_points};
 
+use crate::column_facts::StoredColumn;
 use crate::rollup::Rollup;
 use std::alloc::Allocator;
 use ts_cells::LaneId;
 use ts_core::{Agg, Partial, Rule, Time};
-use ts_raw::{Column, PlainColumn, Points};
+use ts_raw::{Column, Points};
 
 /// An aggregate with points merged in.
 fn with_points(total: Agg, points: Points<'_>) -> Agg
@@ -41,7 +42,7 @@ fn with_points_since(total: Agg, points: Points<'_>, mark: Time) -> Agg
 pub(crate) fn lane_total<A: Allocator + Copy>(
     rule: &Rule<A>,
     rollup: &Rollup<A>,
-    columns: &[PlainColumn<A>],
+    columns: &[StoredColumn<A>],
     lane: LaneId,
     index: &i128,
 ) -> Agg
@@ -64,7 +65,7 @@ pub(crate) fn lane_total<A: Allocator + Copy>(
 pub(crate) fn lane_left<A: Allocator + Copy>(
     rule: &Rule<A>,
     rollup: &Rollup<A>,
-    columns: &[PlainColumn<A>],
+    columns: &[StoredColumn<A>],
     lane: LaneId,
     index: &i128,
     moved: usize,

@@ -13,12 +13,13 @@ ghost use Rattle.ts_store.specs.PointsRead.{number_of_points};
 ghost use Rattle.ts_store.specs.Rollups.{AreRollups, lane_at, with_frozen, cells_of};
 ghost use Rattle.ts_store.specs.RollupSteps.{with_frozen_all};
 
+use crate::column_facts::StoredColumn;
 use crate::live_parts::lane_total;
 use crate::rollup::Rollup;
 use std::alloc::Allocator;
 use ts_core::{Agg, Partial, Remainder, Rule, Time, index_of};
 use ts_line::Field;
-use ts_raw::{Column as _, ColumnId, PlainColumn};
+use ts_raw::{Column as _, ColumnId};
 
 /// Returns true if one of the rules rolls a column up.
 fn is_rolled<A: Allocator + Copy>(rollups: &[Rollup<A>], column: usize) -> bool
@@ -36,7 +37,7 @@ fn is_rolled<A: Allocator + Copy>(rollups: &[Rollup<A>], column: usize) -> bool
 fn put_under<A: Allocator + Copy>(
     rule: &Rule<A>,
     rollup: &mut Rollup<A>,
-    columns: &[PlainColumn<A>],
+    columns: &[StoredColumn<A>],
     column: ColumnId,
     time: Time,
     value: i64,
@@ -71,7 +72,7 @@ fn put_under<A: Allocator + Copy>(
 fn put_under_all<A: Allocator + Copy>(
     rules: &[Rule<A>],
     rollups: &mut [Rollup<A>],
-    columns: &[PlainColumn<A>],
+    columns: &[StoredColumn<A>],
     column: ColumnId,
     time: Time,
     value: i64,
@@ -94,7 +95,7 @@ fn put_under_all<A: Allocator + Copy>(
 
 /// Puts in what is aside in a column, a point of this time and value, and corrects the cells of the rules.
 fn put_rolled<A: Allocator + Copy>(
-    columns: &mut Vec<PlainColumn<A>, A>,
+    columns: &mut Vec<StoredColumn<A>, A>,
     rules: &[Rule<A>],
     rollups: &mut [Rollup<A>],
     column: ColumnId,
@@ -117,7 +118,7 @@ fn put_rolled<A: Allocator + Copy>(
 /// Puts in what is aside in a column: a point of this time and value. If no rule rolls the column up,
 /// asks nothing else of it.
 fn put_point<A: Allocator + Copy>(
-    columns: &mut Vec<PlainColumn<A>, A>,
+    columns: &mut Vec<StoredColumn<A>, A>,
     rules: &[Rule<A>],
     rollups: &mut [Rollup<A>],
     column: ColumnId,
@@ -141,7 +142,7 @@ fn put_point<A: Allocator + Copy>(
 
 /// Puts in what is aside in the columns of these numbers: points of this time with the values of fields. It takes no memory.
 pub(crate) fn put_points<A: Allocator + Copy, L: Allocator>(
-    columns: &mut Vec<PlainColumn<A>, A>,
+    columns: &mut Vec<StoredColumn<A>, A>,
     rules: &[Rule<A>],
     rollups: &mut [Rollup<A>],
     numbers: &[ColumnId],
