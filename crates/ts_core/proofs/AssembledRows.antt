@@ -16,8 +16,8 @@ use Rattle.ts_core.specs.Queries.{Query, is_selected, group_of}
 use Rattle.ts_core.specs.Answers.{same_group, is_in_row, bucket_in}
 use Rattle.ts_core.specs.Pieces.{Source, Raw, Rollup, Piece, asked, SourceServes, IsValidPiece, Covers, IsValid}
 use Rattle.ts_core.specs.Cells.{Cell, same_cell, cell_of, is_rolled, is_in_cell}
-use Rattle.ts_core.specs.StoreStates.{facts_of}
-use Rattle.ts_core.specs.Views.{RuleTotals, Seen, Shows}
+use Rattle.ts_core.specs.StoreStates.{facts_of, RuleCells}
+use Rattle.ts_core.specs.Views.{Seen, Shows, shown_total}
 use Rattle.ts_core.specs.Assembly.{in_part, stand_in, rule_shown, totals_given, aggregate_given, assembled}
 use Rattle.ts_core.proofs.Intervals.{IsWide}
 use Rattle.ts_core.proofs.MembersLemmas.{AllDistinct-filter, Among-filter_passes, Among-filter_was, Among-filter_stays, filter-none}
@@ -51,10 +51,10 @@ fold-agree one two [] h = refl
 fold-agree one two (x ∷ xs) h = ap₂ merged (h x (inl refl)) (fold-agree one two xs (λ y a. h y (inr a)))
 
 -- the facts that pass are grouped by their cells
-cells_piece : (q : Query) (g : List Text) (k : ℤ) (a b : ℤ) (fs : List Fact) (o : Option RuleTotals) → pos 1 ≤ℤ q.interval → Serving fs q o a b → q.from ≤ℤ a → b ≤ℤ q.to
+cells_piece : (q : Query) (g : List Text) (k : ℤ) (a b : ℤ) (fs : List Fact) (o : Option RuleCells) → pos 1 ≤ℤ q.interval → Serving fs q o a b → q.from ≤ℤ a → b ≤ℤ q.to
     → totals_given o (in_part (is_in_row q g k) a b) ≡ aggregate_where (in_part (is_in_row q g k) a b) fs
 cells_piece q g k a b fs o v s h l =
-    let y : RuleTotals = s.shown in
+    let y : RuleCells = s.shown in
     let rule : Rule = y.rule in
     let test : Fact → Bool = in_part (is_in_row q g k) a b in
     let xs : List Fact = filter test fs in
@@ -66,7 +66,7 @@ cells_piece q g k a b fs o v s h l =
     let inside : (f : Fact) → Among f xs → Among (cell_of rule f) ks = λ f m.
     let p : test f ≡ true = Among-filter_passes test f fs m in
     Among-filter_stays passes (cell_of rule f) y.cells (s.totals.there f (Among-filter_was test f fs m) (rolled f p) (index_of-high s f.time (parts f p).1)) (sym (alike f (rolled f p)) ∙ p) in
-    let each : (c : Cell) → Among c ks → y.total c ≡ aggregate_of (filter (λ f. same_cell (cell_of rule f) c) xs) = λ c m.
+    let each : (c : Cell) → Among c ks → shown_total y c ≡ aggregate_of (filter (λ f. same_cell (cell_of rule f) c) xs) = λ c m.
     let p : test (stand_in rule c) ≡ true = Among-filter_passes passes c y.cells m in
     let agree : (f : Fact) → (is_rolled rule f && same_cell (cell_of rule f) c) ≡ (test f && same_cell (cell_of rule f) c) = λ f.
     elim (same_cell (cell_of rule f) c) as (λ z. same_cell (cell_of rule f) c ≡ z → (is_rolled rule f && z) ≡ (test f && z)) [
@@ -76,7 +76,7 @@ cells_piece q g k a b fs o v s h l =
     s.totals.totals c (start_of-high s c.index (parts (stand_in rule c) p).1)
     ∙ ap aggregate_of (filter-agree (is_in_cell rule c) (λ f. test f && same_cell (cell_of rule f) c) fs (λ f m. agree f) ∙ sym (filter_both (λ f. same_cell (cell_of rule f) c) test fs)) in
     ap (λ x. totals_given x test) s.is
-    ∙ fold-agree y.total (λ c. aggregate_of (filter (λ f. same_cell (cell_of rule f) c) xs)) ks each
+    ∙ fold-agree (shown_total y) (λ c. aggregate_of (filter (λ f. same_cell (cell_of rule f) c) xs)) ks each
     ∙ sym (fold-groups aggregate_laws one_fact (cell_of rule) same_cell same_cell-eq same_cell-refl ks (AllDistinct-filter passes y.cells s.totals.once) xs inside)
 
 -- ---- a range in two parts

@@ -15,8 +15,9 @@ use Rattle.ts_core.specs.Marks.{index_of}
 use Rattle.ts_core.specs.Queries.{Query, matches}
 use Rattle.ts_core.specs.Pieces.{Rollup, MarkedRule, marked_rules, asked, rule_named, start_of, RuleServes, SourceServes}
 use Rattle.ts_core.specs.Cells.{Cell, cell_cmp, same_cell, is_rolled}
-use Rattle.ts_core.specs.Views.{RuleTotals, Seen, HasTotals, Shows, seen_rule, seen_low}
+use Rattle.ts_core.specs.Views.{Seen, HasTotals, Shows}
 use Rattle.ts_core.specs.Assembly.{rule_shown}
+use Rattle.ts_core.specs.StoreStates.{RuleCells, rule_of, lowest_of}
 use Rattle.ts_core.proofs.Intervals.{IsWide}
 use Rattle.ts_core.proofs.Ids.{equal_of, same_text-eq}
 use Rattle.ts_core.proofs.Comparisons.{same_text-from_eq}
@@ -46,15 +47,15 @@ same_cell-refl a = ap is_eq (tied_itself cells_total a)
 -- ---- the rule that is shown
 
 -- the rule is shown, and its cells serve the query from a to b
-pub record Serving (fs : List Fact) (q : Query) (o : Option RuleTotals) (a b : ℤ) : Type 0 where
-  pub shown : RuleTotals
+pub record Serving (fs : List Fact) (q : Query) (o : Option RuleCells) (a b : ℤ) : Type 0 where
+  pub shown : RuleCells
   pub is : o ≡ Some shown
   pub wide : pos 1 ≤ℤ shown.rule.interval
   pub serves : RuleServes q (record { rule = shown.rule; low = shown.low }) a b
   pub totals : HasTotals fs shown
 
-record IsShown (fs : List Fact) (o : Option RuleTotals) (r : MarkedRule) : Type 0 where
-  shown : RuleTotals
+record IsShown (fs : List Fact) (o : Option RuleCells) (r : MarkedRule) : Type 0 where
+  shown : RuleCells
   is : o ≡ Some shown
   same : record { rule = shown.rule; low = shown.low } ≡ r
   totals : HasTotals fs shown
@@ -62,11 +63,11 @@ record IsShown (fs : List Fact) (o : Option RuleTotals) (r : MarkedRule) : Type 
 the_rule : (r m : MarkedRule) → Some r ≡ Some m → r ≡ m
 the_rule r m e = cc
 
-shown_rule : (fs : List Fact) (name : Text) (rs : List RuleTotals) (r : MarkedRule) → AllByRecursion (HasTotals fs) rs → rule_named name (marked_rules (map seen_rule rs) (map seen_low rs)) ≡ Some r → IsShown fs (rule_shown name rs) r
+shown_rule : (fs : List Fact) (name : Text) (rs : List RuleCells) (r : MarkedRule) → AllByRecursion (HasTotals fs) rs → rule_named name (marked_rules (map rule_of rs) (map lowest_of rs)) ≡ Some r → IsShown fs (rule_shown name rs) r
 shown_rule fs name [] r a e = absurd (let n : None ≡ Some r = e in cc)
 shown_rule fs name (y ∷ ys) r a e =
     let first : MarkedRule = record { rule = y.rule; low = y.low } in
-    elim (same_text y.rule.name name) as (λ b. cond b (Some first) (rule_named name (marked_rules (map seen_rule ys) (map seen_low ys))) ≡ Some r → IsShown fs (cond b (Some y) (rule_shown name ys)) r) [
+    elim (same_text y.rule.name name) as (λ b. cond b (Some first) (rule_named name (marked_rules (map rule_of ys) (map lowest_of ys))) ≡ Some r → IsShown fs (cond b (Some y) (rule_shown name ys)) r) [
       | true ↦ λ k. record { shown = y; is = refl; same = the_rule first r k; totals = a.0 }
       | false ↦ λ k. shown_rule fs name ys r a.1 k
     ] e
@@ -84,7 +85,7 @@ pub serving : (opening : Settings) (h : History) (seen : Seen) (q : Query) → S
 serving opening h seen q shows wide name a b s =
     let r : MarkedRule = s.0 in
     let named : rule_named name (marked_rules seen.settings.rules seen.marks.lows) ≡ Some r = s.1 in
-    let here : rule_named name (marked_rules (map seen_rule seen.rules) (map seen_low seen.rules)) ≡ Some r = ap₂ (λ rs lows. rule_named name (marked_rules rs lows)) shows.rules shows.lows ∙ named in
+    let here : rule_named name (marked_rules (map rule_of seen.rules) (map lowest_of seen.rules)) ≡ Some r = ap₂ (λ rs lows. rule_named name (marked_rules rs lows)) shows.rules shows.lows ∙ named in
     let found = shown_rule (latest_of h) name seen.rules r shows.rolled here in
     record {
       shown = found.shown;
@@ -96,7 +97,7 @@ serving opening h seen q shows wide name a b s =
 
 -- ---- what lies in the piece
 
-module _ {fs : List Fact} {q : Query} {o : Option RuleTotals} {a b : ℤ} (s : Serving fs q o a b) where
+module _ {fs : List Fact} {q : Query} {o : Option RuleCells} {a b : ℤ} (s : Serving fs q o a b) where
   -- the rule's bucket of a time in the piece is at or above the low index
   pub index_of-high : (t : ℤ) → is_within a b t ≡ true → s.shown.low ≤ℤ index_of s.shown.rule t
   index_of-high t m =

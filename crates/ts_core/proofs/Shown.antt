@@ -1,5 +1,5 @@
 -- What stands for a history shows it.
-use Rattle.std.proofs.Common.{◌≡◌, ℤ, List, [], ◌∷◌, map, refl, sym, ◌∙◌, ap, ap₂, subst, ◌≤ℤ◌}
+use Rattle.std.proofs.Common.{◌≡◌, ℤ, List, [], ◌∷◌, sym, ◌∙◌, ap, ap₂, subst, ◌≤ℤ◌}
 use Rattle.std.specs.List.{AllByRecursion}
 use Rattle.ts_core.specs.Facts.{Column, Fact}
 use Rattle.ts_core.specs.Settings.{Settings}
@@ -8,12 +8,12 @@ use Rattle.ts_core.specs.Latest.{latest_of}
 use Rattle.ts_core.specs.Marks.{Marks}
 use Rattle.ts_core.specs.Aggregates.{merged}
 use Rattle.ts_core.specs.RawFacts.{kept_from}
-use Rattle.ts_core.specs.StoreStates.{RuleCells, StoreState, StandsFor, HasCells, rule_of, lowest_of, facts_of}
-use Rattle.ts_core.specs.Views.{HasTotals, Shows, totals_in, seen_of, seen_rule, seen_low}
+use Rattle.ts_core.specs.StoreStates.{RuleCells, StoreState, StandsFor, HasCells, facts_of}
+use Rattle.ts_core.specs.Views.{HasTotals, Shows, seen_of}
 use Rattle.ts_core.proofs.Cuts.{total_of-parts, Holds}
 use Rattle.ts_core.proofs.StateLemmas.{is_kept-above, StandsFor-Holds}
 
-all_totals : (cut : Column → ℤ) (fs : List Fact) (rs : List RuleCells) → AllByRecursion (HasCells cut fs) rs → AllByRecursion (HasTotals fs) (map totals_in rs)
+all_totals : (cut : Column → ℤ) (fs : List Fact) (rs : List RuleCells) → AllByRecursion (HasCells cut fs) rs → AllByRecursion (HasTotals fs) rs
 all_totals cut fs [] a = tt
 all_totals cut fs (r ∷ rs) a = (
   record {
@@ -23,14 +23,6 @@ all_totals cut fs (r ∷ rs) a = (
   },
   all_totals cut fs rs a.1,
 )
-
-seen_rules : (rs : List RuleCells) → map seen_rule (map totals_in rs) ≡ map rule_of rs
-seen_rules [] = refl
-seen_rules (r ∷ rs) = ap (λ xs. r.rule ∷ xs) (seen_rules rs)
-
-seen_lows : (rs : List RuleCells) → map seen_low (map totals_in rs) ≡ map lowest_of rs
-seen_lows [] = refl
-seen_lows (r ∷ rs) = ap (λ xs. r.low ∷ xs) (seen_lows rs)
 
 pub stands_shows : (opening : Settings) (h : History) (s : StoreState) → StandsFor opening h s → Shows opening h (seen_of s)
 stands_shows opening h s st =
@@ -45,7 +37,7 @@ stands_shows opening h s st =
       columns_there = st.columns_there;
       once = st.once;
       raw = λ f m. (λ a. (held.only f a).0, λ a. held.all f a (is_kept-above opening h s.waiting f (subst (λ x. x ≤ℤ f.time) raw m)));
-      rules = seen_rules s.rules ∙ st.rules;
-      lows = seen_lows s.rules ∙ st.lows;
+      rules = st.rules;
+      lows = st.lows;
       rolled = all_totals cut (latest_of h) s.rules st.rolled;
     }

@@ -10,15 +10,15 @@ use Rattle.ts_core.specs.Queries.{Query, matches, group_of}
 use Rattle.ts_core.specs.Answers.{Row, Group, buckets_in, all_groups, is_in_row}
 use Rattle.ts_core.specs.Pieces.{Source, Raw, Rollup, Piece, start_of}
 use Rattle.ts_core.specs.Cells.{Cell}
-use Rattle.ts_core.specs.StoreStates.{facts_of}
-use Rattle.ts_core.specs.Views.{RuleTotals, Seen}
+use Rattle.ts_core.specs.StoreStates.{facts_of, RuleCells}
+use Rattle.ts_core.specs.Views.{Seen, shown_total}
 
 -- a cell matches as a representative fact would: one at the start of its bucket, in a series with the kept tags
 abbrev pub stand_in : Rule → Cell → Fact
 stand_in r k = record { column = record { series = record { measurement = r.measurement; tags = zip r.kept_tags k.group }; field = k.field }; time = start_of r k.index; value = pos 0 }
 
 -- the first rule of a name in the view
-abbrev pub rule_shown : Text → List RuleTotals → Option RuleTotals
+abbrev pub rule_shown : Text → List RuleCells → Option RuleCells
 rule_shown name [] = None
 rule_shown name (r ∷ rs) = if same_text r.rule.name name then Some r else rule_shown name rs
 
@@ -29,9 +29,9 @@ in_part test a b f = test f && is_within a b f.time
 -- ---- rows
 
 -- the merged totals of the matching cells
-abbrev pub totals_given : Option RuleTotals → (Fact → Bool) → Aggregate
+abbrev pub totals_given : Option RuleCells → (Fact → Bool) → Aggregate
 totals_given None test = empty_aggregate
-totals_given (Some r) test = fold_by empty_aggregate merged r.total (filter (λ (k : Cell). test (stand_in r.rule k)) r.cells)
+totals_given (Some r) test = fold_by empty_aggregate merged (shown_total r) (filter (λ (k : Cell). test (stand_in r.rule k)) r.cells)
 
 abbrev pub aggregate_given : Seen → Source → (Fact → Bool) → Aggregate
 aggregate_given seen Raw test = aggregate_of (filter test (facts_of seen.columns))
@@ -44,9 +44,9 @@ assembled seen q pieces g k = fold_by empty_aggregate merged (λ (p : Piece). ag
 -- ---- groups
 
 -- the groups of the matching cells that have data
-abbrev pub cell_groups : Query → Option RuleTotals → (Fact → Bool) → List (List Text)
+abbrev pub cell_groups : Query → Option RuleCells → (Fact → Bool) → List (List Text)
 cell_groups q None test = []
-cell_groups q (Some r) test = map (λ (k : Cell). group_of q (stand_in r.rule k)) (filter (λ (k : Cell). test (stand_in r.rule k) && not ((r.total k).count == 0)) r.cells)
+cell_groups q (Some r) test = map (λ (k : Cell). group_of q (stand_in r.rule k)) (filter (λ (k : Cell). test (stand_in r.rule k) && not ((shown_total r k).count == 0)) r.cells)
 
 abbrev pub groups_given : Seen → Query → Source → (Fact → Bool) → List (List Text)
 groups_given seen q Raw test = map (group_of q) (filter test (facts_of seen.columns))

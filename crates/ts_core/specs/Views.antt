@@ -1,41 +1,32 @@
--- Views of a store, and when a view shows a history: the raw facts at or above the raw mark, and the totals of cells.
--- (Own rules.)
-use Rattle.std.specs.Prelude.{◌≡◌, ◌↔◌, ℤ, ◌≤ℤ◌, IsTrue, List, map}
+-- Views of a store, and when a view shows a history: the raw facts at or above the raw mark, and cells whose two parts
+-- together are the totals. (Own rules.)
+use Rattle.std.specs.Prelude.{◌≡◌, ◌↔◌, ◌≤ℤ◌, IsTrue, List, map}
 use Rattle.std.specs.List.{AllByRecursion}
 use Rattle.ts_core.specs.Members.{Among, AllDistinct}
 use Rattle.ts_core.specs.Facts.{Fact}
-use Rattle.ts_core.specs.Settings.{Rule, Settings}
+use Rattle.ts_core.specs.Settings.{Settings}
 use Rattle.ts_core.specs.History.{History, settings_of, IsLawful}
 use Rattle.ts_core.specs.Latest.{latest_of}
 use Rattle.ts_core.specs.Marks.{Marks, marks_of}
-use Rattle.ts_core.specs.Aggregates.{Aggregate, merged}
+use Rattle.ts_core.specs.Aggregates.{Aggregate}
 use Rattle.ts_core.specs.Cells.{Cell, cell_of, is_rolled, total_of}
-use Rattle.ts_core.specs.StoreStates.{ColumnPoints, column_of, facts_of, RuleCells, StoreState}
-
--- a rule, its low index, its visible cells, and their totals
-pub record RuleTotals : Type 0 where
-  pub rule : Rule
-  pub low : ℤ
-  pub cells : List Cell
-  pub total : Cell → Aggregate
+use Rattle.ts_core.specs.StoreStates.{ColumnPoints, column_of, facts_of, RuleCells, total_in, rule_of, lowest_of, StoreState}
 
 pub record Seen : Type 0 where
   pub settings : Settings
   pub marks : Marks
   pub columns : List ColumnPoints
-  pub rules : List RuleTotals
+  pub rules : List RuleCells
 
-abbrev pub seen_rule : RuleTotals → Rule
-seen_rule r = r.rule
-
-abbrev pub seen_low : RuleTotals → ℤ
-seen_low r = r.low
+-- the aggregate of all facts of a cell, as the view shows it
+abbrev pub shown_total : RuleCells → Cell → Aggregate
+shown_total r k = total_in (r.parts k)
 
 -- from its low index on, the rule shows the cell of each fact, with the total of its facts
-pub record HasTotals (facts : List Fact) (r : RuleTotals) : Type 0 where
+pub record HasTotals (facts : List Fact) (r : RuleCells) : Type 0 where
   pub once : AllDistinct r.cells
   pub there : (f : Fact) → Among f facts → IsTrue (is_rolled r.rule f) → r.low ≤ℤ (cell_of r.rule f).index → Among (cell_of r.rule f) r.cells
-  pub totals : (k : Cell) → r.low ≤ℤ k.index → r.total k ≡ total_of r.rule k facts
+  pub totals : (k : Cell) → r.low ≤ℤ k.index → shown_total r k ≡ total_of r.rule k facts
 
 -- the view shows a history
 pub record Shows (opening : Settings) (h : History) (seen : Seen) : Type 0 where
@@ -49,14 +40,11 @@ pub record Shows (opening : Settings) (h : History) (seen : Seen) : Type 0 where
   pub once : AllDistinct (facts_of seen.columns)
   pub raw : (f : Fact) → seen.marks.raw ≤ℤ f.time → Among f (facts_of seen.columns) ↔ Among f (latest_of h)
   -- the rules are those of the settings, and show their cells
-  pub rules : map seen_rule seen.rules ≡ seen.settings.rules
-  pub lows : map seen_low seen.rules ≡ seen.marks.lows
+  pub rules : map rule_of seen.rules ≡ seen.settings.rules
+  pub lows : map lowest_of seen.rules ≡ seen.marks.lows
   pub rolled : AllByRecursion (HasTotals (latest_of h)) seen.rules
 
 -- ---- the view of a store
 
-abbrev pub totals_in : RuleCells → RuleTotals
-totals_in r = record { rule = r.rule; low = r.low; cells = r.cells; total = λ k. merged (r.parts k).frozen (r.parts k).live }
-
 abbrev pub seen_of : StoreState → Seen
-seen_of s = record { settings = s.settings; marks = s.marks; columns = s.columns; rules = map totals_in s.rules }
+seen_of s = record { settings = s.settings; marks = s.marks; columns = s.columns; rules = s.rules }

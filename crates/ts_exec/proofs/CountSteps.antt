@@ -7,10 +7,10 @@ use Rattle.ts_core.specs.Settings.{Rule}
 use Rattle.ts_core.specs.Marks.{index_of}
 use Rattle.ts_core.specs.Queries.{Query, meets}
 use Rattle.ts_core.specs.Pieces.{Piece}
-use Rattle.ts_core.specs.StoreStates.{ColumnPoints}
-use Rattle.ts_core.specs.Views.{RuleTotals, Seen}
+use Rattle.ts_core.specs.StoreStates.{ColumnPoints, RuleCells, total_in}
+use Rattle.ts_core.specs.Views.{Seen}
 use Rattle.ts_core.specs.Assembly.{rule_shown}
-use Rattle.ts_store.specs.Seats.{Seat, points_at, CellTotal, no_rule, cells_within, cells_at}
+use Rattle.ts_store.specs.Seats.{Seat, points_at, SeenCell, no_rule, cells_within, cells_at}
 use Rattle.ts_exec.specs.GroupTables.{is_cell_taken}
 use Rattle.ts_exec.specs.Shares.{Share, points_of_shares, seat_shares, seats_shares, cell_share, rule_shares, source_shares, pieces_shares}
 use Rattle.ts_exec.proofs.NamedRules.{IsShownAt}
@@ -45,14 +45,14 @@ counted-other_seat q cs a b s ss n not_met =
     ap (λ k. min (k + n) 18446744073709551615) same
 
 -- a cell
-abbrev pub taken_shares : Query → Rule → ℤ → ℤ → List CellTotal → List Share
+abbrev pub taken_shares : Query → Rule → ℤ → ℤ → List SeenCell → List Share
 taken_shares q r a b cs = map (cell_share q r) (filter (is_cell_taken q r a b) cs)
 
-pub counted-cell : (q : Query) (r : Rule) (a b : ℤ) (c : CellTotal) (cs : List CellTotal) (n new : ℕ)
-    → new ≡ min (n + cond (is_cell_taken q r a b c) c.total.count 0) 18446744073709551615 → counted new (taken_shares q r a b cs) ≡ counted n (taken_shares q r a b (c ∷ cs))
+pub counted-cell : (q : Query) (r : Rule) (a b : ℤ) (c : SeenCell) (cs : List SeenCell) (n new : ℕ)
+    → new ≡ min (n + cond (is_cell_taken q r a b c) (total_in c.parts).count 0) 18446744073709551615 → counted new (taken_shares q r a b cs) ≡ counted n (taken_shares q r a b (c ∷ cs))
 counted-cell q r a b c cs n new e =
-    elim (is_cell_taken q r a b c) as (λ z. new ≡ min (n + cond z c.total.count 0) 18446744073709551615 → counted new (taken_shares q r a b cs) ≡ counted n (map (cell_share q r) (cond z (c ∷ filter (is_cell_taken q r a b) cs) (filter (is_cell_taken q r a b) cs)))) [
-      | true ↦ λ f. more (c.total.count + points_of_shares (taken_shares q r a b cs)) c.total.count (points_of_shares (taken_shares q r a b cs)) n new (omega arith) f
+    elim (is_cell_taken q r a b c) as (λ z. new ≡ min (n + cond z (total_in c.parts).count 0) 18446744073709551615 → counted new (taken_shares q r a b cs) ≡ counted n (map (cell_share q r) (cond z (c ∷ filter (is_cell_taken q r a b) cs) (filter (is_cell_taken q r a b) cs)))) [
+      | true ↦ λ f. more ((total_in c.parts).count + points_of_shares (taken_shares q r a b cs)) (total_in c.parts).count (points_of_shares (taken_shares q r a b cs)) n new (omega arith) f
       | false ↦ λ f. more (points_of_shares (taken_shares q r a b cs)) 0 (points_of_shares (taken_shares q r a b cs)) n new (omega arith) f
     ] e
 
@@ -75,7 +75,7 @@ pub counted-none : (ss : List Share) → counted 0 ss ≡ min (points_of_shares 
 counted-none ss = omega arith
 
 -- the cells of a rule that is shown
-pub found-shares : (q : Query) (a b : ℤ) (name : Text) (shown : List RuleTotals) (number : ℕ) (rule : Rule) → IsShownAt name shown number rule
+pub found-shares : (q : Query) (a b : ℤ) (name : Text) (shown : List RuleCells) (number : ℕ) (rule : Rule) → IsShownAt name shown number rule
     → taken_shares q rule a b (cells_at shown number (index_of rule a) (index_of rule b)) ≡ rule_shares q a b (rule_shown name shown)
 found-shares q a b name shown number rule s =
     sym (ap (rule_shares q a b) s.found ∙ ap (λ r. taken_shares q r a b (cells_within (get_or shown number no_rule) (index_of r a) (index_of r b))) s.is)

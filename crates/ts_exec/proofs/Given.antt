@@ -15,7 +15,7 @@ use Rattle.ts_core.specs.Answers.{Group, same_group, numbers_from, bucket_in, bu
 use Rattle.ts_core.specs.Pieces.{Source, Raw, Rollup, Piece, asked, SourceServes, IsValidPiece, Covers, IsValid, start_of}
 use Rattle.ts_core.specs.Cells.{Cell, is_in_cell, total_of}
 use Rattle.ts_core.specs.StoreStates.{facts_of}
-use Rattle.ts_core.specs.Views.{Seen, Shows}
+use Rattle.ts_core.specs.Views.{Seen, Shows, shown_total}
 use Rattle.ts_core.specs.Assembly.{in_part, totals_given, aggregate_given, assembled, cell_groups, groups_given, assembled_groups, assembled_row, assembled_answer}
 use Rattle.ts_core.proofs.Intervals.{IsWide, asked_wide, settings_faultless}
 use Rattle.ts_core.proofs.Folds.{fold-count}
@@ -68,8 +68,8 @@ module _ (opening : Settings) (h : History) (seen : Seen) (q : Query) (shows : S
   piece_total g j (Rollup name) a b s l m =
       let v = serving opening h seen q shows wide name a b s in
       let test = in_part (is_in_row q g (bucket_in q q.from +ℤ pos j)) a b in
-      let sound : (k : Cell) → is_within a b (start_of v.shown.rule k.index) ≡ true → ((v.shown.total k).count == 0) ≡ true → v.shown.total k ≡ empty_aggregate = λ k w none.
-      let is : v.shown.total k ≡ total_of v.shown.rule k (latest_of h) = v.totals.totals k (start_of-high v k.index w) in
+      let sound : (k : Cell) → is_within a b (start_of v.shown.rule k.index) ≡ true → ((shown_total v.shown k).count == 0) ≡ true → shown_total v.shown k ≡ empty_aggregate = λ k w none.
+      let is : shown_total v.shown k ≡ total_of v.shown.rule k (latest_of h) = v.totals.totals k (start_of-high v k.index w) in
       is ∙ none_of (filter (is_in_cell v.shown.rule k) (latest_of h)) (ap (λ (x : Aggregate). x.count == 0) (sym is) ∙ none) in
       subst (λ o. total_at g j (rule_shares q a b o) ≡ totals_given o test) (sym v.is) (rule-total q v.shown a b v.wide v.serves.starts v.serves.ends wide.query g j sound)
 

@@ -21,8 +21,8 @@ use Rattle.ts_core.specs.Queries.{Query, meets, is_selected, matches, group_of}
 use Rattle.ts_core.specs.Answers.{same_group, bucket_in, is_in_row}
 use Rattle.ts_core.specs.Pieces.{Source, Raw, Rollup, Piece, start_of, IsBoundary}
 use Rattle.ts_core.specs.Cells.{Cell}
-use Rattle.ts_core.specs.StoreStates.{ColumnPoints, facts_at, facts_of}
-use Rattle.ts_core.specs.Views.{RuleTotals, Seen}
+use Rattle.ts_core.specs.StoreStates.{ColumnPoints, facts_at, facts_of, RuleCells, total_in}
+use Rattle.ts_core.specs.Views.{Seen, shown_total}
 use Rattle.ts_core.specs.Assembly.{stand_in, rule_shown, in_part, totals_given, cell_groups}
 use Rattle.ts_core.proofs.AnswersLaws.{filter_both}
 use Rattle.ts_core.proofs.Cuts.{filter-agree}
@@ -32,7 +32,7 @@ use Rattle.ts_core.proofs.BucketsInRange.{at_least_none-is}
 use Rattle.ts_core.proofs.Comparisons.{le_true, lt_true, same_bool}
 use Rattle.ts_core.proofs.GroupsInOrder.{same_group-eq, same_group-refl}
 use Rattle.ts_core.proofs.Folds.{fold-append}
-use Rattle.ts_store.specs.Seats.{Seat, seats_from, seats_where, no_points, points_at, CellTotal, with_total, cells_within}
+use Rattle.ts_store.specs.Seats.{Seat, seats_from, seats_where, no_points, points_at, SeenCell, with_parts, cells_within}
 use Rattle.ts_exec.specs.RowParts.{bucket_grid, place_at}
 use Rattle.ts_exec.specs.GroupTables.{Table, IsGroupTable, width, with_column_parts, with_cell_part, with_seat, with_seats, is_cell_taken, with_cell_parts, with_rule, with_source, with_pieces}
 use Rattle.ts_exec.specs.Shares.{Share, group_in, with_shares, is_share, total_at, point_share, seat_shares, seats_shares, cell_share, rule_shares, source_shares, pieces_shares}
@@ -56,16 +56,16 @@ module _ (q : Query) (a b : ℤ) where
       ∙ seats_put cs ss (with_shares (width q) (seat_shares q cs a b s) t) (shares-table (width q) (seat_shares q cs a b s) t h)
       ∙ sym (shares-append (width q) (seat_shares q cs a b s) (seats_shares q cs a b ss) t)
 
-  cells_put : (r : Rule) (cs : List CellTotal) (t : Table) → with_cell_parts q r a b cs t ≡ with_shares (width q) (map (cell_share q r) (filter (is_cell_taken q r a b) cs)) t
+  cells_put : (r : Rule) (cs : List SeenCell) (t : Table) → with_cell_parts q r a b cs t ≡ with_shares (width q) (map (cell_share q r) (filter (is_cell_taken q r a b) cs)) t
   cells_put r [] t = refl
   cells_put r (c ∷ cs) t =
-      elim (is_cell_taken q r a b c) as (λ z. with_cell_parts q r a b cs (cond z (with_cell_part (width q) (cell_share q r c).group (cell_share q r c).place c.total t) t)
+      elim (is_cell_taken q r a b c) as (λ z. with_cell_parts q r a b cs (cond z (with_cell_part (width q) (cell_share q r c).group (cell_share q r c).place (total_in c.parts) t) t)
       ≡ with_shares (width q) (map (cell_share q r) (cond z (c ∷ filter (is_cell_taken q r a b) cs) (filter (is_cell_taken q r a b) cs))) t) [
         | true ↦ cells_put r cs _
         | false ↦ cells_put r cs t
       ]
 
-  rule_put : (o : Option RuleTotals) (t : Table) → with_rule q a b o t ≡ with_shares (width q) (rule_shares q a b o) t
+  rule_put : (o : Option RuleCells) (t : Table) → with_rule q a b o t ≡ with_shares (width q) (rule_shares q a b o) t
   rule_put None t = refl
   rule_put (Some r) t = cells_put r.rule (cells_within r (index_of r.rule a) (index_of r.rule b)) t
 
@@ -241,38 +241,38 @@ walked r a b k h at bt e =
     let low' : index_of r a ≤ℤ k = subst (λ z. index_of r a ≤ℤ z) same low in
     ap₂ (λ x y. x && y) (le_true (index_of r a) k low') (lt_true k (index_of r b) below)
 
-module _ (q : Query) (r : RuleTotals) (a b : ℤ) (h : pos 1 ≤ℤ r.rule.interval) (starts : IsBoundary r.rule a) (ends : IsBoundary r.rule b) where
+module _ (q : Query) (r : RuleCells) (a b : ℤ) (h : pos 1 ≤ℤ r.rule.interval) (starts : IsBoundary r.rule a) (ends : IsBoundary r.rule b) where
   abbrev taken : Cell → Bool
-  taken k = is_cell_taken q r.rule a b (with_total r.total k)
+  taken k = is_cell_taken q r.rule a b (with_parts r.parts k)
 
   -- the walk leaves out no cell that is taken
-  taken_walked : (ks : List Cell) → filter (is_cell_taken q r.rule a b) (map (with_total r.total) (filter (λ (k : Cell). is_within (index_of r.rule a) (index_of r.rule b) k.index) ks)) ≡ map (with_total r.total) (filter taken ks)
+  taken_walked : (ks : List Cell) → filter (is_cell_taken q r.rule a b) (map (with_parts r.parts) (filter (λ (k : Cell). is_within (index_of r.rule a) (index_of r.rule b) k.index) ks)) ≡ map (with_parts r.parts) (filter taken ks)
   taken_walked [] = refl
   taken_walked (k ∷ ks) =
       let rest = taken_walked ks in
       elim (is_within (index_of r.rule a) (index_of r.rule b) k.index) as (λ z. is_within (index_of r.rule a) (index_of r.rule b) k.index ≡ z
-      → filter (is_cell_taken q r.rule a b) (map (with_total r.total) (cond z (k ∷ filter (λ (x : Cell). is_within (index_of r.rule a) (index_of r.rule b) x.index) ks) (filter (λ (x : Cell). is_within (index_of r.rule a) (index_of r.rule b) x.index) ks)))
-      ≡ map (with_total r.total) (filter taken (k ∷ ks))) [
-        | true ↦ λ e. elim (taken k) as (λ z. cond z (with_total r.total k ∷ filter (is_cell_taken q r.rule a b) (map (with_total r.total) (filter (λ (x : Cell). is_within (index_of r.rule a) (index_of r.rule b) x.index) ks))) (filter (is_cell_taken q r.rule a b) (map (with_total r.total) (filter (λ (x : Cell). is_within (index_of r.rule a) (index_of r.rule b) x.index) ks)))
-            ≡ map (with_total r.total) (cond z (k ∷ filter taken ks) (filter taken ks))) [
-              | true ↦ ap (λ xs. with_total r.total k ∷ xs) rest
+      → filter (is_cell_taken q r.rule a b) (map (with_parts r.parts) (cond z (k ∷ filter (λ (x : Cell). is_within (index_of r.rule a) (index_of r.rule b) x.index) ks) (filter (λ (x : Cell). is_within (index_of r.rule a) (index_of r.rule b) x.index) ks)))
+      ≡ map (with_parts r.parts) (filter taken (k ∷ ks))) [
+        | true ↦ λ e. elim (taken k) as (λ z. cond z (with_parts r.parts k ∷ filter (is_cell_taken q r.rule a b) (map (with_parts r.parts) (filter (λ (x : Cell). is_within (index_of r.rule a) (index_of r.rule b) x.index) ks))) (filter (is_cell_taken q r.rule a b) (map (with_parts r.parts) (filter (λ (x : Cell). is_within (index_of r.rule a) (index_of r.rule b) x.index) ks)))
+            ≡ map (with_parts r.parts) (cond z (k ∷ filter taken ks) (filter taken ks))) [
+              | true ↦ ap (λ xs. with_parts r.parts k ∷ xs) rest
               | false ↦ rest
             ]
         | false ↦ λ e.
             let out : taken k ≡ false = elim (taken k) as (λ z. taken k ≡ z → z ≡ false) [
               | true ↦ λ y.
-                  let p = and_parts (matches q (stand_in r.rule k) && is_within a b (start_of r.rule k.index)) (not ((r.total k).count == 0)) y in
+                  let p = and_parts (matches q (stand_in r.rule k) && is_within a b (start_of r.rule k.index)) (not ((shown_total r k).count == 0)) y in
                   let w = and_parts (matches q (stand_in r.rule k)) (is_within a b (start_of r.rule k.index)) p.0 in
                   sym (walked r.rule a b k.index h starts ends w.1) ∙ e
               | false ↦ λ y. refl
             ] refl in
-            rest ∙ ap (λ z. map (with_total r.total) (cond z (k ∷ filter taken ks) (filter taken ks))) (sym out)
+            rest ∙ ap (λ z. map (with_parts r.parts) (cond z (k ∷ filter taken ks) (filter taken ks))) (sym out)
       ] refl
 
   abbrev pub cell_share_of : Cell → Share
-  cell_share_of k = cell_share q r.rule (with_total r.total k)
+  cell_share_of k = cell_share q r.rule (with_parts r.parts k)
 
-  map_map : (ks : List Cell) → map (cell_share q r.rule) (map (with_total r.total) ks) ≡ map cell_share_of ks
+  map_map : (ks : List Cell) → map (cell_share q r.rule) (map (with_parts r.parts) ks) ≡ map cell_share_of ks
   map_map [] = refl
   map_map (k ∷ ks) = ap (λ xs. cell_share_of k ∷ xs) (map_map ks)
 
@@ -283,18 +283,18 @@ module _ (q : Query) (r : RuleTotals) (a b : ℤ) (h : pos 1 ≤ℤ r.rule.inter
   rule-groups = ap (map group_in) rule-shares ∙ mapped-groups cell_share_of (filter taken r.cells)
 
   -- where a total of no points is the empty one
-  module _ (wide : pos 1 ≤ℤ q.interval) (g : List Text) (j : ℕ) (sound : (k : Cell) → is_within a b (start_of r.rule k.index) ≡ true → ((r.total k).count == 0) ≡ true → r.total k ≡ empty_aggregate) where
+  module _ (wide : pos 1 ≤ℤ q.interval) (g : List Text) (j : ℕ) (sound : (k : Cell) → is_within a b (start_of r.rule k.index) ≡ true → ((shown_total r k).count == 0) ≡ true → shown_total r k ≡ empty_aggregate) where
     abbrev row_test : Fact → Bool
     row_test = in_part (is_in_row q g (row_index q wide g j a b)) a b
 
     abbrev in_both : Cell → Bool
     in_both k = taken k && is_share g j (cell_share_of k)
 
-    both_is : (k : Cell) → in_both k ≡ (row_test (stand_in r.rule k) && not ((r.total k).count == 0))
+    both_is : (k : Cell) → in_both k ≡ (row_test (stand_in r.rule k) && not ((shown_total r k).count == 0))
     both_is k =
         let m : Bool = matches q (stand_in r.rule k) && is_within a b (start_of r.rule k.index) in
         let s : Bool = is_share g j (cell_share_of k) in
-        swapped m (not ((r.total k).count == 0)) s ∙ ap (λ x. x && not ((r.total k).count == 0)) (in_row q wide g j a b (stand_in r.rule k))
+        swapped m (not ((shown_total r k).count == 0)) s ∙ ap (λ x. x && not ((shown_total r k).count == 0)) (in_row q wide g j a b (stand_in r.rule k))
       where
         swapped : (x y z : Bool) → ((x && y) && z) ≡ ((x && z) && y)
         swapped true true true = refl
@@ -303,18 +303,18 @@ module _ (q : Query) (r : RuleTotals) (a b : ℤ) (h : pos 1 ≤ℤ r.rule.inter
         swapped true false false = refl
         swapped false y z = refl
 
-    sums : (ks : List Cell) → fold_by empty_aggregate merged r.total (filter in_both ks) ≡ fold_by empty_aggregate merged r.total (filter (λ (k : Cell). row_test (stand_in r.rule k)) ks)
+    sums : (ks : List Cell) → fold_by empty_aggregate merged (shown_total r) (filter in_both ks) ≡ fold_by empty_aggregate merged (shown_total r) (filter (λ (k : Cell). row_test (stand_in r.rule k)) ks)
     sums [] = refl
     sums (k ∷ ks) =
         let rest = sums ks in
-        ap (λ z. fold_by empty_aggregate merged r.total (cond z (k ∷ filter in_both ks) (filter in_both ks))) (both_is k)
-        ∙ elim (row_test (stand_in r.rule k)) as (λ x. row_test (stand_in r.rule k) ≡ x → fold_by empty_aggregate merged r.total (cond (x && not ((r.total k).count == 0)) (k ∷ filter in_both ks) (filter in_both ks))
-        ≡ fold_by empty_aggregate merged r.total (cond x (k ∷ filter (λ (c : Cell). row_test (stand_in r.rule c)) ks) (filter (λ (c : Cell). row_test (stand_in r.rule c)) ks))) [
-          | true ↦ λ e. elim ((r.total k).count == 0) as (λ y. ((r.total k).count == 0) ≡ y → fold_by empty_aggregate merged r.total (cond (not y) (k ∷ filter in_both ks) (filter in_both ks)) ≡ merged (r.total k) (fold_by empty_aggregate merged r.total (filter (λ (c : Cell). row_test (stand_in r.rule c)) ks))) [
+        ap (λ z. fold_by empty_aggregate merged (shown_total r) (cond z (k ∷ filter in_both ks) (filter in_both ks))) (both_is k)
+        ∙ elim (row_test (stand_in r.rule k)) as (λ x. row_test (stand_in r.rule k) ≡ x → fold_by empty_aggregate merged (shown_total r) (cond (x && not ((shown_total r k).count == 0)) (k ∷ filter in_both ks) (filter in_both ks))
+        ≡ fold_by empty_aggregate merged (shown_total r) (cond x (k ∷ filter (λ (c : Cell). row_test (stand_in r.rule c)) ks) (filter (λ (c : Cell). row_test (stand_in r.rule c)) ks))) [
+          | true ↦ λ e. elim ((shown_total r k).count == 0) as (λ y. ((shown_total r k).count == 0) ≡ y → fold_by empty_aggregate merged (shown_total r) (cond (not y) (k ∷ filter in_both ks) (filter in_both ks)) ≡ merged (shown_total r k) (fold_by empty_aggregate merged (shown_total r) (filter (λ (c : Cell). row_test (stand_in r.rule c)) ks))) [
             | true ↦ λ none.
                 let w = (and_parts (is_in_row q g (row_index q wide g j a b) (stand_in r.rule k)) (is_within a b (start_of r.rule k.index)) e).1 in
-                rest ∙ sym (ap (λ x. merged x (fold_by empty_aggregate merged r.total (filter (λ (c : Cell). row_test (stand_in r.rule c)) ks))) (sound k w none) ∙ aggregate_laws.unit _)
-            | false ↦ λ some. ap (merged (r.total k)) rest
+                rest ∙ sym (ap (λ x. merged x (fold_by empty_aggregate merged (shown_total r) (filter (λ (c : Cell). row_test (stand_in r.rule c)) ks))) (sound k w none) ∙ aggregate_laws.unit _)
+            | false ↦ λ some. ap (merged (shown_total r k)) rest
           ] refl
           | false ↦ λ e. rest
         ] refl
@@ -323,5 +323,5 @@ module _ (q : Query) (r : RuleTotals) (a b : ℤ) (h : pos 1 ≤ℤ r.rule.inter
     rule-total =
         ap (total_at g j) rule-shares
         ∙ mapped-total cell_share_of g j (filter taken r.cells)
-        ∙ ap (fold_by empty_aggregate merged r.total) (filter_both (λ (k : Cell). is_share g j (cell_share_of k)) taken r.cells)
+        ∙ ap (fold_by empty_aggregate merged (shown_total r)) (filter_both (λ (k : Cell). is_share g j (cell_share_of k)) taken r.cells)
         ∙ sums r.cells

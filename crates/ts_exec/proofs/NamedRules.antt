@@ -5,19 +5,19 @@ use Rattle.ts_core.specs.Facts.{Text, same_text}
 use Rattle.ts_core.specs.Settings.{Rule}
 use Rattle.ts_core.specs.Marks.{index_of}
 use Rattle.ts_core.specs.Queries.{Query}
-use Rattle.ts_core.specs.Views.{RuleTotals, seen_rule}
 use Rattle.ts_core.specs.Assembly.{rule_shown}
+use Rattle.ts_core.specs.StoreStates.{RuleCells, rule_of}
 use Rattle.ts_store.specs.Seats.{no_rule, cells_within, cells_at}
 use Rattle.ts_exec.specs.FirstOf.{rule_from}
 use Rattle.ts_exec.specs.GroupTables.{Table, with_cell_parts, with_rule}
 
 -- the rule of that number is shown, with its cells
-pub record IsShownAt (name : Text) (shown : List RuleTotals) (number : ℕ) (rule : Rule) : Type 0 where
+pub record IsShownAt (name : Text) (shown : List RuleCells) (number : ℕ) (rule : Rule) : Type 0 where
   pub within : number < length shown
   pub found : rule_shown name shown ≡ Some (get_or shown number no_rule)
   pub is : (get_or shown number no_rule).rule ≡ rule
 
-record IsFound (name : Text) (shown : List RuleTotals) (from number : ℕ) (rule : Rule) : Type 0 where
+record IsFound (name : Text) (shown : List RuleCells) (from number : ℕ) (rule : Rule) : Type 0 where
   place : ℕ
   counted : number ≡ from + place
   here : IsShownAt name shown place rule
@@ -28,10 +28,10 @@ same_pair p r e = cc
 no_pair : (r : ℕ × Rule) → None ≡ Some r → ⊥
 no_pair r e = cc
 
-found_from : (name : Text) (shown : List RuleTotals) (from number : ℕ) (rule : Rule) → rule_from name from (map seen_rule shown) ≡ Some (number, rule) → IsFound name shown from number rule
+found_from : (name : Text) (shown : List RuleCells) (from number : ℕ) (rule : Rule) → rule_from name from (map rule_of shown) ≡ Some (number, rule) → IsFound name shown from number rule
 found_from name [] from number rule e = absurd (no_pair (number, rule) e)
 found_from name (y ∷ ys) from number rule e =
-    elim (same_text y.rule.name name) as (λ b. same_text y.rule.name name ≡ b → cond b (Some (from, y.rule)) (rule_from name (from + 1) (map seen_rule ys)) ≡ Some (number, rule) → IsFound name (y ∷ ys) from number rule) [
+    elim (same_text y.rule.name name) as (λ b. same_text y.rule.name name ≡ b → cond b (Some (from, y.rule)) (rule_from name (from + 1) (map rule_of ys)) ≡ Some (number, rule) → IsFound name (y ∷ ys) from number rule) [
       | true ↦ λ s k.
           let p = same_pair (from, y.rule) (number, rule) k in
           let n : from ≡ number = ap (λ (x : ℕ × Rule). x.0) p in
@@ -43,7 +43,7 @@ found_from name (y ∷ ys) from number rule e =
           record { place = suc f.place; counted = omega arith; here = record { within = omega arith; found = ap (λ b. cond b (Some y) (rule_shown name ys)) s ∙ f.here.found; is = f.here.is } }
     ] refl e
 
-pub found-shown : (name : Text) (shown : List RuleTotals) (number : ℕ) (rule : Rule) → rule_from name 0 (map seen_rule shown) ≡ Some (number, rule) → IsShownAt name shown number rule
+pub found-shown : (name : Text) (shown : List RuleCells) (number : ℕ) (rule : Rule) → rule_from name 0 (map rule_of shown) ≡ Some (number, rule) → IsShownAt name shown number rule
 found-shown name shown number rule e =
     let f = found_from name shown 0 number rule e in
     let n = f.counted in
@@ -51,15 +51,15 @@ found-shown name shown number rule e =
     subst (λ i. IsShownAt name shown i rule) same f.here
 
 -- its cells are put
-pub found-put : (q : Query) (a b : ℤ) (t : Table) (name : Text) (shown : List RuleTotals) (number : ℕ) (rule : Rule) → IsShownAt name shown number rule
+pub found-put : (q : Query) (a b : ℤ) (t : Table) (name : Text) (shown : List RuleCells) (number : ℕ) (rule : Rule) → IsShownAt name shown number rule
     → with_cell_parts q rule a b (cells_at shown number (index_of rule a) (index_of rule b)) t ≡ with_rule q a b (rule_shown name shown) t
 found-put q a b t name shown number rule s =
     sym (ap (λ o. with_rule q a b o t) s.found ∙ ap (λ r. with_cell_parts q r a b (cells_within (get_or shown number no_rule) (index_of r a) (index_of r b)) t) s.is)
 
-pub none-shown : (name : Text) (shown : List RuleTotals) (from : ℕ) → rule_from name from (map seen_rule shown) ≡ None → rule_shown name shown ≡ None
+pub none-shown : (name : Text) (shown : List RuleCells) (from : ℕ) → rule_from name from (map rule_of shown) ≡ None → rule_shown name shown ≡ None
 none-shown name [] from e = refl
 none-shown name (y ∷ ys) from e =
-    elim (same_text y.rule.name name) as (λ b. cond b (Some (from, y.rule)) (rule_from name (from + 1) (map seen_rule ys)) ≡ None → cond b (Some y) (rule_shown name ys) ≡ None) [
+    elim (same_text y.rule.name name) as (λ b. cond b (Some (from, y.rule)) (rule_from name (from + 1) (map rule_of ys)) ≡ None → cond b (Some y) (rule_shown name ys) ≡ None) [
       | true ↦ λ k. absurd (no_pair (from, y.rule) (sym k))
       | false ↦ λ k. none-shown name ys (from + 1) k
     ] e

@@ -17,8 +17,8 @@ use Rattle.ts_core.specs.Tags.{tag_values}
 use Rattle.ts_core.specs.Queries.{Query, IsQuery, Condition, meets, is_selected, matches}
 use Rattle.ts_core.specs.Answers.{at_least_none, bucket_in, is_in_row}
 use Rattle.ts_core.specs.Pieces.{Source, Raw, Rollup, Piece, asked, SourceServes, IsValidPiece, Covers, IsValid, start_of}
-use Rattle.ts_core.specs.StoreStates.{ColumnPoints}
-use Rattle.ts_core.specs.Views.{RuleTotals, Seen, Shows}
+use Rattle.ts_core.specs.StoreStates.{ColumnPoints, RuleCells, total_in}
+use Rattle.ts_core.specs.Views.{Seen, Shows}
 use Rattle.ts_core.specs.Assembly.{rule_shown, assembled}
 use Rattle.ts_core.proofs.Intervals.{IsWide, asked_wide, settings_faultless}
 use Rattle.ts_core.proofs.Folds.{fold-count}
@@ -26,7 +26,7 @@ use Rattle.ts_core.proofs.Cuts.{one_fact, filter-agree}
 use Rattle.ts_core.proofs.Boundaries.{within_parts}
 use Rattle.ts_core.proofs.AssembledRows.{assembled-row}
 use Rattle.ts_ql.proofs.CountingLemmas.{in_first}
-use Rattle.ts_store.specs.Seats.{Seat, seats_where, points_at, CellTotal, cells_within}
+use Rattle.ts_store.specs.Seats.{Seat, seats_where, points_at, SeenCell, cells_within}
 use Rattle.ts_exec.specs.RowParts.{BucketGrid, bucket_grid, place_at}
 use Rattle.ts_exec.specs.GroupTables.{is_cell_taken}
 use Rattle.ts_exec.specs.Shares.{Share, is_share, total_at, points_of_shares, point_share, seat_shares, seats_shares, cell_share, rule_shares, source_shares, pieces_shares}
@@ -101,11 +101,11 @@ module _ (q : Query) (a b : ℤ) where
       ∙ ap₂ (λ (m n : ℕ). m + n) (seat-points q cs a b s ∙ sym (seat-points (whole q) cs a b s)) (seats_same cs ss)
       ∙ sym (points-append (seat_shares (whole q) cs a b s) (seats_shares (whole q) cs a b ss))
 
-  cells_same : (r : RuleTotals) (cs : List CellTotal) → points_of_shares (map (cell_share q r.rule) cs) ≡ points_of_shares (map (cell_share (whole q) r.rule) cs)
+  cells_same : (r : RuleCells) (cs : List SeenCell) → points_of_shares (map (cell_share q r.rule) cs) ≡ points_of_shares (map (cell_share (whole q) r.rule) cs)
   cells_same r [] = refl
-  cells_same r (c ∷ cs) = ap (λ n. c.total.count + n) (cells_same r cs)
+  cells_same r (c ∷ cs) = ap (λ n. (total_in c.parts).count + n) (cells_same r cs)
 
-  rule_same : (o : Option RuleTotals) → points_of_shares (rule_shares q a b o) ≡ points_of_shares (rule_shares (whole q) a b o)
+  rule_same : (o : Option RuleCells) → points_of_shares (rule_shares q a b o) ≡ points_of_shares (rule_shares (whole q) a b o)
   rule_same None = refl
   rule_same (Some r) = cells_same r (filter (is_cell_taken q r.rule a b) (cells_within r (index_of r.rule a) (index_of r.rule b)))
 
@@ -163,7 +163,7 @@ module _ (q : Query) where
     first_seats cs [] = tt
     first_seats cs (s ∷ ss) = first_append (seat_shares (whole q) cs a b s) (seats_shares (whole q) cs a b ss) (first_seat cs s) (first_seats cs ss)
 
-    first_rule : (o : Option RuleTotals) → AllByRecursion IsFirst (rule_shares (whole q) a b o)
+    first_rule : (o : Option RuleCells) → AllByRecursion IsFirst (rule_shares (whole q) a b o)
     first_rule None = tt
     first_rule (Some r) =
         first_passed (cell_share (whole q) r.rule) (is_cell_taken (whole q) r.rule a b)

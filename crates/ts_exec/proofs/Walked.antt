@@ -9,24 +9,23 @@ use Rattle.ts_core.specs.Marks.{index_of}
 use Rattle.ts_core.specs.Queries.{Query, is_selected, matches}
 use Rattle.ts_core.specs.Assembly.{stand_in}
 use Rattle.ts_core.specs.Pieces.{start_of}
-use Rattle.ts_core.specs.Aggregates.{Aggregate}
 use Rattle.ts_core.specs.Cells.{Cell}
-use Rattle.ts_core.specs.Views.{RuleTotals}
+use Rattle.ts_core.specs.StoreStates.{CellParts, RuleCells, total_in}
 use Rattle.ts_core.proofs.Boundaries.{within_parts}
 use Rattle.ts_core.proofs.BucketsOrder.{bucket_is, one_more, times_le}
-use Rattle.ts_store.specs.Seats.{CellTotal, with_total, cells_within}
+use Rattle.ts_store.specs.Seats.{SeenCell, with_parts, cells_within}
 use Rattle.ts_exec.specs.GroupTables.{is_cell_taken}
 
-all_within : (total : Cell → Aggregate) (a b : ℤ) (ks : List Cell) → AllByRecursion (λ (c : CellTotal). is_within a b c.cell.index ≡ true) (map (with_total total) (filter (λ (k : Cell). is_within a b k.index) ks))
-all_within total a b [] = tt
-all_within total a b (k ∷ ks) =
-    elim (is_within a b k.index) as (λ z. is_within a b k.index ≡ z → AllByRecursion (λ (c : CellTotal). is_within a b c.cell.index ≡ true) (map (with_total total) (cond z (k ∷ filter (λ (x : Cell). is_within a b x.index) ks) (filter (λ (x : Cell). is_within a b x.index) ks)))) [
-      | true ↦ λ e. (e, all_within total a b ks)
-      | false ↦ λ e. all_within total a b ks
+all_within : (parts : Cell → CellParts) (a b : ℤ) (ks : List Cell) → AllByRecursion (λ (c : SeenCell). is_within a b c.cell.index ≡ true) (map (with_parts parts) (filter (λ (k : Cell). is_within a b k.index) ks))
+all_within parts a b [] = tt
+all_within parts a b (k ∷ ks) =
+    elim (is_within a b k.index) as (λ z. is_within a b k.index ≡ z → AllByRecursion (λ (c : SeenCell). is_within a b c.cell.index ≡ true) (map (with_parts parts) (cond z (k ∷ filter (λ (x : Cell). is_within a b x.index) ks) (filter (λ (x : Cell). is_within a b x.index) ks)))) [
+      | true ↦ λ e. (e, all_within parts a b ks)
+      | false ↦ λ e. all_within parts a b ks
     ] refl
 
-pub cells-within : (r : RuleTotals) (a b : ℤ) → AllByRecursion (λ (c : CellTotal). is_within a b c.cell.index ≡ true) (cells_within r a b)
-cells-within r a b = all_within r.total a b r.cells
+pub cells-within : (r : RuleCells) (a b : ℤ) → AllByRecursion (λ (c : SeenCell). is_within a b c.cell.index ≡ true) (cells_within r a b)
+cells-within r a b = all_within r.parts a b r.cells
 
 -- a cell's bucket starts near the bounds of the range
 pub start_near : (r : Rule) (a b k : ℤ) → pos 1 ≤ℤ r.interval → SFits w64 r.interval → SFits w64 a → SFits w64 b → is_within (index_of r a) (index_of r b) k ≡ true → unsigned_abs (start_of r k) ≤ 2 ^ 126
@@ -49,9 +48,9 @@ within_fits a b (pos n) fa fb w = let within = within_parts a b (pos n) w in let
 within_fits a b (negsuc n) fa fb w = let within = within_parts a b (negsuc n) w in let low = within.0 in record { sfits = omega (arith, ints) }
 
 -- a cell that is taken starts in the query's range and in the piece
-pub taken-within : (q : Query) (r : Rule) (a b : ℤ) (c : CellTotal) → is_cell_taken q r a b c ≡ true → (is_within q.from q.to (start_of r c.cell.index) ≡ true) × (is_within a b (start_of r c.cell.index) ≡ true)
+pub taken-within : (q : Query) (r : Rule) (a b : ℤ) (c : SeenCell) → is_cell_taken q r a b c ≡ true → (is_within q.from q.to (start_of r c.cell.index) ≡ true) × (is_within a b (start_of r c.cell.index) ≡ true)
 taken-within q r a b c e =
     let f : Fact = stand_in r c.cell in
-    let both = and_parts (matches q f && is_within a b f.time) (not (c.total.count == 0)) e in
+    let both = and_parts (matches q f && is_within a b f.time) (not ((total_in c.parts).count == 0)) e in
     let parts = and_parts (matches q f) (is_within a b f.time) both.0 in
     ((and_parts (is_selected q f.column) (is_within q.from q.to f.time) parts.0).1, parts.1)

@@ -12,10 +12,10 @@ use Rattle.ts_core.specs.Answers.{Row, Group, group_cmp, buckets_in}
 use Rattle.ts_core.specs.Pieces.{Source, Raw, Rollup, Piece, start_of}
 use Rattle.ts_core.specs.Marks.{index_of}
 use Rattle.ts_core.specs.Settings.{Rule}
-use Rattle.ts_core.specs.StoreStates.{ColumnPoints}
-use Rattle.ts_core.specs.Views.{RuleTotals, Seen}
+use Rattle.ts_core.specs.StoreStates.{ColumnPoints, RuleCells, total_in}
+use Rattle.ts_core.specs.Views.{Seen}
 use Rattle.ts_core.specs.Assembly.{stand_in, rule_shown}
-use Rattle.ts_store.specs.Seats.{Seat, seats_where, points_at, CellTotal, cells_within}
+use Rattle.ts_store.specs.Seats.{Seat, seats_where, points_at, SeenCell, cells_within}
 use Rattle.ts_exec.specs.RowParts.{BucketGrid, bucket_grid, place_at, with_part, with_point_parts}
 
 -- groups with their rows
@@ -78,20 +78,20 @@ pub record IsNarrowing (conditions : List Condition) (c : Condition) : Type 0 wh
 -- ---- a piece of cells
 
 -- a cell that has data and matches the query
-abbrev pub is_cell_taken : Query → Rule → ℤ → ℤ → CellTotal → Bool
-is_cell_taken q r a b c = (matches q (stand_in r c.cell) && is_within a b (start_of r c.cell.index)) && not (c.total.count == 0)
+abbrev pub is_cell_taken : Query → Rule → ℤ → ℤ → SeenCell → Bool
+is_cell_taken q r a b c = (matches q (stand_in r c.cell) && is_within a b (start_of r c.cell.index)) && not ((total_in c.parts).count == 0)
 
-abbrev pub with_cell : Query → Rule → ℤ → ℤ → CellTotal → Table → Table
+abbrev pub with_cell : Query → Rule → ℤ → ℤ → SeenCell → Table → Table
 with_cell q r a b c t =
     if is_cell_taken q r a b c
-    then with_cell_part (width q) (group_of q (stand_in r c.cell)) (place_at (bucket_grid q) (start_of r c.cell.index)) c.total t
+    then with_cell_part (width q) (group_of q (stand_in r c.cell)) (place_at (bucket_grid q) (start_of r c.cell.index)) (total_in c.parts) t
     else t
 
-abbrev pub with_cell_parts : Query → Rule → ℤ → ℤ → List CellTotal → Table → Table
+abbrev pub with_cell_parts : Query → Rule → ℤ → ℤ → List SeenCell → Table → Table
 with_cell_parts q r a b [] t = t
 with_cell_parts q r a b (c ∷ cs) t = with_cell_parts q r a b cs (with_cell q r a b c t)
 
-abbrev pub with_rule : Query → ℤ → ℤ → Option RuleTotals → Table → Table
+abbrev pub with_rule : Query → ℤ → ℤ → Option RuleCells → Table → Table
 with_rule q a b None t = t
 with_rule q a b (Some r) t = with_cell_parts q r.rule a b (cells_within r (index_of r.rule a) (index_of r.rule b)) t
 

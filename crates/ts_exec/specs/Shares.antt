@@ -10,10 +10,10 @@ use Rattle.ts_core.specs.Tags.{tag_values}
 use Rattle.ts_core.specs.Queries.{Query, meets, group_of}
 use Rattle.ts_core.specs.Answers.{same_group}
 use Rattle.ts_core.specs.Pieces.{Source, Raw, Rollup, Piece, start_of}
-use Rattle.ts_core.specs.StoreStates.{ColumnPoints}
-use Rattle.ts_core.specs.Views.{RuleTotals, Seen}
+use Rattle.ts_core.specs.StoreStates.{ColumnPoints, RuleCells, total_in}
+use Rattle.ts_core.specs.Views.{Seen}
 use Rattle.ts_core.specs.Assembly.{stand_in, rule_shown}
-use Rattle.ts_store.specs.Seats.{Seat, seats_where, points_at, CellTotal, cells_within}
+use Rattle.ts_store.specs.Seats.{Seat, seats_where, points_at, SeenCell, cells_within}
 use Rattle.ts_exec.specs.RowParts.{BucketGrid, bucket_grid, place_at}
 use Rattle.ts_exec.specs.GroupTables.{Table, with_cell_part, is_cell_taken}
 
@@ -53,10 +53,10 @@ abbrev pub seats_shares : Query → List ColumnPoints → ℤ → ℤ → List S
 seats_shares q cs a b [] = []
 seats_shares q cs a b (s ∷ ss) = seat_shares q cs a b s ++ seats_shares q cs a b ss
 
-abbrev pub cell_share : Query → Rule → CellTotal → Share
-cell_share q r c = record { group = group_of q (stand_in r c.cell); place = place_at (bucket_grid q) (start_of r c.cell.index); part = c.total }
+abbrev pub cell_share : Query → Rule → SeenCell → Share
+cell_share q r c = record { group = group_of q (stand_in r c.cell); place = place_at (bucket_grid q) (start_of r c.cell.index); part = total_in c.parts }
 
-abbrev pub rule_shares : Query → ℤ → ℤ → Option RuleTotals → List Share
+abbrev pub rule_shares : Query → ℤ → ℤ → Option RuleCells → List Share
 rule_shares q a b None = []
 rule_shares q a b (Some r) = map (cell_share q r.rule) (filter (is_cell_taken q r.rule a b) (cells_within r (index_of r.rule a) (index_of r.rule b)))
 

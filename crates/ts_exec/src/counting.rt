@@ -3,6 +3,7 @@ ghost use Rattle.std.specs.Prelude.{◌≡◌, ◌<◌, pos, ◌≤ℤ◌, true,
 ghost use Rattle.ts_core.specs.Facts.{is_within};
 ghost use Rattle.ts_core.specs.Marks.{index_of};
 ghost use Rattle.ts_core.specs.Pieces.{Raw};
+ghost use Rattle.ts_core.specs.StoreStates.{total_in};
 ghost use Rattle.ts_store.specs.Seats.{cells_at};
 ghost use Rattle.ts_exec.specs.Executions.{IsCountOf};
 ghost use Rattle.ts_exec.specs.GroupTables.{is_cell_taken};
@@ -47,11 +48,11 @@ fn cell_points<A: Allocator + Copy>(
 ) -> u64
     requires interval { pos 1 ≤ℤ rule.now.interval }
     requires within { is_within (index_of rule.now from) (index_of rule.now to) cell.now.cell.index ≡ true }
-    ensures { result ≡ (if is_cell_taken query.now.query rule.now from to cell.now then cell.now.total.count else 0) }
+    ensures { result ≡ (if is_cell_taken query.now.query rule.now from to cell.now then (total_in cell.now.parts).count else 0) }
 {
     let start = bucket_start(rule, from, to, &cell.index);
     if is_taken(rule, query, from, to, &start, cell) {
-        cell.total.count()
+        cell.count()
     } else {
         0
     }

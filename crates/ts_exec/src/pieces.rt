@@ -218,7 +218,7 @@ pub(crate) fn is_taken<A: Allocator>(
     if !is_within(from, to, start) {
         return false;
     }
-    cell.total.count() != 0
+    cell.count() != 0
 }
 
 /// Replaces `values` by a cell's values of these tags.
@@ -273,7 +273,7 @@ fn add_cell<'a, A: Allocator + Copy>(
         scan.query.group_tags(),
     )?;
     let place = scan.buckets.place(start as i64);
-    groups.add_part(scan.width, &scan.values, place, cell.total)
+    groups.add_part(scan.width, &scan.values, place, cell.total())
 }
 
 /// Adds the cells of a rule from `from`, inclusive, to `to`, exclusive, that the query matches.

@@ -9,10 +9,7 @@ use Rattle.ts_core.specs.Facts.{Text, same_text, Column, is_of}
 use Rattle.ts_core.proofs.Ids.{same_text-eq}
 use Rattle.ts_raw.specs.Tagged.{has_tag, is_tagged}
 use Rattle.ts_raw.proofs.RisingLemmas.{numbered_from}
-use Rattle.ts_core.specs.Settings.{Rule}
 use Rattle.ts_core.specs.StoreStates.{ColumnPoints}
-use Rattle.ts_core.specs.StoreData.{rules_of}
-use Rattle.ts_core.specs.Views.{totals_in}
 use Rattle.ts_raw.specs.Columns.{PointMap, points_within}
 use Rattle.ts_core.specs.Numbered.{IsAt, numbers_where_from, numbers_where}
 use Rattle.ts_store.specs.ColumnsKept.{with_points}
@@ -113,13 +110,6 @@ points-at [] ms n a b l there = absurd (omega (arith, there))
 points-at (c ∷ cs) [] n a b l there = absurd (omega (arith, l))
 points-at (c ∷ cs) (m ∷ ms) zero a b l there = refl
 points-at (c ∷ cs) (m ∷ ms) (suc n) a b l there = points-at cs ms n a b (omega (arith, l)) (omega (arith, there))
-
--- ---- no rules
-
-pub none-shown : (cs : List ColumnPoints) (rs : List Rule) (lows : List ℤ) → map totals_in (rules_of rs lows []) ≡ []
-none-shown cs [] lows = refl
-none-shown cs (r ∷ rs) [] = refl
-none-shown cs (r ∷ rs) (low ∷ lows) = refl
 
 -- all of them
 pub points-there : (cs : List Column) (ms : List PointMap) (n : ℕ) → length ms ≡ length cs → n < length cs → (get_or (with_points cs ms) n no_points).points ≡ finmap.entries (get_or ms n finmap.empty)

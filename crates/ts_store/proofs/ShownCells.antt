@@ -1,4 +1,4 @@
--- The cells of a walk with their totals are those that a store shows of the rule.
+-- The cells of a walk with their parts are those that a store shows of the rule.
 use Rattle.std.proofs.Common.{◌≡◌, ℕ, zero, suc, ℤ, pos, ◌<◌, ◌≤◌, ◌^◌, true, false, cond, List, [], ◌∷◌, length, map, filter, get_or, Option, Some, refl, sym, ◌∙◌, ap, ap₂, subst, inl, inr, arith}
 use Rattle.std.specs.FinMap as finmap
 use Rattle.std.specs.FinMap.{get-entries, entries_sorted}
@@ -9,13 +9,13 @@ use Rattle.ts_core.specs.Members.{Among}
 use Rattle.ts_core.specs.Facts.{Fact, is_within}
 use Rattle.ts_core.specs.Settings.{Rule, Settings}
 use Rattle.ts_core.specs.Marks.{Marks}
-use Rattle.ts_core.specs.Aggregates.{Aggregate, merged}
+use Rattle.ts_core.specs.Aggregates.{Aggregate}
 use Rattle.ts_core.specs.MergeLaws.{aggregate_laws}
 use Rattle.ts_core.specs.Cells.{Cell, is_in_cell}
 use Rattle.ts_core.specs.Changes.{or_else}
-use Rattle.ts_core.specs.StoreStates.{ColumnPoints, CellParts, column_of, facts_of}
+use Rattle.ts_core.specs.StoreStates.{ColumnPoints, CellParts, column_of, facts_of, RuleCells, rule_of}
 use Rattle.ts_core.specs.StoreData.{CellMap, StoreData, no_parts, rule_cells, rules_of, state_of, IsLive, AreLive}
-use Rattle.ts_core.specs.Views.{RuleTotals, totals_in, seen_of, seen_rule}
+use Rattle.ts_core.specs.Views.{seen_of}
 use Rattle.ts_core.proofs.Cuts.{one_fact}
 use Rattle.ts_core.proofs.Folds.{fold-count}
 use Rattle.ts_core.proofs.MembersLemmas.{Among-filter_was}
@@ -28,7 +28,7 @@ use Rattle.ts_store.specs.ColumnsKept.{Held}
 use Rattle.ts_store.specs.OpenRuns.{Run, IsKept, kept_data}
 use Rattle.ts_store.specs.LiveCells.{walked_cell, walked_cells, rollup_at, cells_of_rule, IsWhole, AreWhole, IsRuled}
 use Rattle.ts_store.specs.Rollups.{RollupState, new_rollup, cells_of}
-use Rattle.ts_store.specs.Seats.{CellTotal, with_total, cells_within, cells_at, no_rule}
+use Rattle.ts_store.specs.Seats.{SeenCell, with_parts, cells_within, cells_at, no_rule}
 use Rattle.ts_store.proofs.RollupsGrow.{rollups-length}
 
 -- ---- cells of a map
@@ -37,10 +37,10 @@ use Rattle.ts_store.proofs.RollupsGrow.{rollups-length}
 abbrev IsFound : CellMap → KeptCell CellParts → Type 0
 IsFound m k = finmap.get m k.cell ≡ Some k.part
 
-total_shown : (r : Rule) (low : ℤ) (m : CellMap) (k : KeptCell CellParts) → IsFound m k → walked_cell k ≡ with_total (totals_in (rule_cells r low m)).total k.cell
-total_shown r low m k found =
+parts_shown : (r : Rule) (low : ℤ) (m : CellMap) (k : KeptCell CellParts) → IsFound m k → walked_cell k ≡ with_parts (rule_cells r low m).parts k.cell
+parts_shown r low m k found =
     let parts : k.part ≡ or_else no_parts (finmap.get m k.cell) = sym (ap (or_else no_parts) found) in
-    λ i. record { cell = k.cell; total = merged (parts i).frozen (parts i).live }
+    λ i. record { cell = k.cell; parts = parts i }
 
 cell_whole : (r : Rule) (columns : List ColumnPoints) (m : CellMap) → IsLive columns r m → HoldsFew (2 ^ 62) columns r m → (k : KeptCell CellParts) → IsFound m k → IsWhole k
 cell_whole r columns m live counts k found =
@@ -68,9 +68,9 @@ all_whole : (r : Rule) (columns : List ColumnPoints) (m : CellMap) → IsLive co
 all_whole r columns m live counts [] found = tt
 all_whole r columns m live counts (k ∷ ks) found = (cell_whole r columns m live counts k found.0, all_whole r columns m live counts ks found.1)
 
-all_shown : (r : Rule) (low : ℤ) (m : CellMap) (ks : List (KeptCell CellParts)) → AllByRecursion (IsFound m) ks → walked_cells ks ≡ map (with_total (totals_in (rule_cells r low m)).total) (map (λ (e : Cell × CellParts). e.0) (map entry_of ks))
+all_shown : (r : Rule) (low : ℤ) (m : CellMap) (ks : List (KeptCell CellParts)) → AllByRecursion (IsFound m) ks → walked_cells ks ≡ map (with_parts (rule_cells r low m).parts) (map (λ (e : Cell × CellParts). e.0) (map entry_of ks))
 all_shown r low m [] found = refl
-all_shown r low m (k ∷ ks) found = ap₂ (λ (x : CellTotal) (xs : List CellTotal). x ∷ xs) (total_shown r low m k found.0) (all_shown r low m ks found.1)
+all_shown r low m (k ∷ ks) found = ap₂ (λ (x : SeenCell) (xs : List SeenCell). x ∷ xs) (parts_shown r low m k found.0) (all_shown r low m ks found.1)
 
 keys_within : (a b : ℤ) (es : List (Cell × CellParts)) → map (λ (e : Cell × CellParts). e.0) (filter (λ (e : Cell × CellParts). is_within a b e.0.index) es) ≡ filter (λ (k : Cell). is_within a b k.index) (map (λ (e : Cell × CellParts). e.0) es)
 keys_within a b [] = refl
@@ -83,12 +83,12 @@ keys_within a b (e ∷ es) =
     ]
 
 -- and they are those that are shown
-walk_shows : (r : Rule) (low : ℤ) (m : CellMap) (a b : ℤ) (ks : List (KeptCell CellParts)) → map entry_of ks ≡ entries_within a b m → walked_cells ks ≡ cells_within (totals_in (rule_cells r low m)) a b
+walk_shows : (r : Rule) (low : ℤ) (m : CellMap) (a b : ℤ) (ks : List (KeptCell CellParts)) → map entry_of ks ≡ entries_within a b m → walked_cells ks ≡ cells_within (rule_cells r low m) a b
 walk_shows r low m a b ks e =
-    let total : Cell → Aggregate = (totals_in (rule_cells r low m)).total in
+    let parts : Cell → CellParts = (rule_cells r low m).parts in
     all_shown r low m ks (walk_found m a b ks e)
-    ∙ ap (λ es. map (with_total total) (map (λ (x : Cell × CellParts). x.0) es)) e
-    ∙ ap (map (with_total total)) (keys_within a b (finmap.entries m))
+    ∙ ap (λ es. map (with_parts parts) (map (λ (x : Cell × CellParts). x.0) es)) e
+    ∙ ap (map (with_parts parts)) (keys_within a b (finmap.entries m))
 
 -- ---- the rule of a number
 
@@ -106,11 +106,11 @@ live_at columns (x ∷ rs) (y ∷ ss) (suc n) r s all at here = live_at columns 
 
 -- it is shown by its place
 shown_at : (rs : List Rule) (lows : List ℤ) (ss : List RollupState) (n : ℕ) (r : Rule) (s : RollupState) → IsAt rs n r → IsAt ss n s → length lows ≡ length rs
-    → (low : ℤ) × (get_or (map totals_in (rules_of rs lows (cells_of ss))) n no_rule ≡ totals_in (rule_cells r low s.grid.cells))
+    → (low : ℤ) × (get_or (rules_of rs lows (cells_of ss)) n no_rule ≡ rule_cells r low s.grid.cells)
 shown_at [] lows ss n r s at here l = absurd (none-some r at)
 shown_at (x ∷ rs) [] ss n r s at here l = absurd (omega (arith, l))
 shown_at (x ∷ rs) (low ∷ lows) [] n r s at here l = absurd (none-some s here)
-shown_at (x ∷ rs) (low ∷ lows) (y ∷ ss) zero r s at here l = (low, ap₂ (λ (q : Rule) (t : RollupState). totals_in (rule_cells q low t.grid.cells)) (same_Some x r at) (same_Some y s here))
+shown_at (x ∷ rs) (low ∷ lows) (y ∷ ss) zero r s at here l = (low, ap₂ (λ (q : Rule) (t : RollupState). rule_cells q low t.grid.cells) (same_Some x r at) (same_Some y s here))
 shown_at (x ∷ rs) (low ∷ lows) (y ∷ ss) (suc n) r s at here l = shown_at rs lows ss n r s at here (omega (arith, l))
 
 -- ---- of a whole store
@@ -122,7 +122,7 @@ rules-length (r ∷ rs) [] ms e f = absurd (omega (arith, e))
 rules-length (r ∷ rs) (low ∷ lows) [] e f = absurd (omega (arith, f))
 rules-length (r ∷ rs) (low ∷ lows) (m ∷ ms) e f = ap suc (rules-length rs lows ms (omega (arith, e)) (omega (arith, f)))
 
-pub rules-shown : (rs : List Rule) (lows : List ℤ) (ms : List CellMap) → length lows ≡ length rs → length ms ≡ length rs → map seen_rule (map totals_in (rules_of rs lows ms)) ≡ rs
+pub rules-shown : (rs : List Rule) (lows : List ℤ) (ms : List CellMap) → length lows ≡ length rs → length ms ≡ length rs → map rule_of (rules_of rs lows ms) ≡ rs
 rules-shown [] lows ms e f = refl
 rules-shown (r ∷ rs) [] ms e f = absurd (omega (arith, e))
 rules-shown (r ∷ rs) (low ∷ lows) [] e f = absurd (omega (arith, f))
@@ -156,7 +156,7 @@ store_shows settings marks accepted held run n r a b kept there read =
     let at : IsAt rs n r = slice_get-get_or rs n r there ∙ ap Some (sym read) in
     let here : IsAt held.rollups n (rollup_at held.rollups n) = slice_get-get_or held.rollups n new_rollup below in
     let shown = shown_at rs marks.lows held.rollups n r (rollup_at held.rollups n) at here kept.sized.lows in
-    sym (ap (λ (t : RuleTotals). cells_within t a b) shown.1)
+    sym (ap (λ (t : RuleCells). cells_within t a b) shown.1)
 
 -- ---- a walk over the cells of the rule of a number
 

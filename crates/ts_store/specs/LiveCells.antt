@@ -1,22 +1,19 @@
--- Cells of an iterator, each with its total: that of both its parts. (Own rules.)
+-- Cells of an iterator, each with both its parts. (Own rules.)
 use Rattle.std.specs.Prelude.{ℕ, ℤ, pos, ◌+◌, ◌^◌, ◌≤◌, ◌<◌, List, length, map, get_or}
 use Rattle.std.specs.List.{AllByRecursion}
 use Rattle.ts_core.specs.Settings.{Rule}
-use Rattle.ts_core.specs.Aggregates.{merged}
 use Rattle.ts_core.specs.StoreStates.{CellParts}
 use Rattle.ts_core.specs.StoreData.{rule_cells, IsLive}
-use Rattle.ts_core.specs.Views.{totals_in}
 use Rattle.ts_cells.specs.Walks.{KeptCell}
 use Rattle.ts_store.specs.ColumnsKept.{Held}
 use Rattle.ts_store.specs.CellCounts.{HoldsFew}
 use Rattle.ts_store.specs.Rollups.{RollupState, new_rollup}
-use Rattle.ts_store.specs.Seats.{CellTotal, cells_within}
+use Rattle.ts_store.specs.Seats.{SeenCell, cells_within}
 
--- a cell with its total
-abbrev pub walked_cell : KeptCell CellParts → CellTotal
-walked_cell k = record { cell = k.cell; total = merged k.part.frozen k.part.live }
+abbrev pub walked_cell : KeptCell CellParts → SeenCell
+walked_cell k = record { cell = k.cell; parts = k.part }
 
-abbrev pub walked_cells : List (KeptCell CellParts) → List CellTotal
+abbrev pub walked_cells : List (KeptCell CellParts) → List SeenCell
 walked_cells ks = map walked_cell ks
 
 -- the cell's facts are few enough to count
@@ -31,9 +28,9 @@ AreWhole ks = AllByRecursion IsWhole ks
 abbrev pub rollup_at : List RollupState → ℕ → RollupState
 rollup_at ss n = get_or ss n new_rollup
 
--- its cells from index a, inclusive, to index b, exclusive, with their totals, regardless of its low index
-abbrev pub cells_of_rule : Held → Rule → ℕ → ℤ → ℤ → List CellTotal
-cells_of_rule held r n a b = cells_within (totals_in (rule_cells r (pos 0) (rollup_at held.rollups n).grid.cells)) a b
+-- its cells from index a, inclusive, to index b, exclusive, with their parts, regardless of its low index
+abbrev pub cells_of_rule : Held → Rule → ℕ → ℤ → ℤ → List SeenCell
+cells_of_rule held r n a b = cells_within (rule_cells r (pos 0) (rollup_at held.rollups n).grid.cells) a b
 
 -- the live part of each cell of the rule with this index is that of its raw facts, and no cell has more facts than can
 -- be counted

@@ -1,13 +1,13 @@
--- Results of a view: columns by index, points of a column, and cells with their totals. (Own rules.)
+-- Results of a view: columns by index, points of a column, and cells with their parts. (Own rules.)
 use Rattle.std.specs.Prelude.{◌≡◌, ℕ, ◌+◌, ◌<◌, ℤ, pos, Bool, true, length, List, [], ◌∷◌, filter, map, if◌then◌else◌, slice_index_or}
 use Rattle.std.specs.List.{AllByRecursion}
 use Rattle.ts_core.specs.Facts.{Text, Series, Column, is_of, is_within}
 use Rattle.ts_core.specs.Numbered.{numbers_where}
 use Rattle.ts_raw.specs.Tagged.{has_tag}
-use Rattle.ts_core.specs.Aggregates.{Aggregate, empty_aggregate}
+use Rattle.ts_core.specs.Aggregates.{empty_aggregate}
 use Rattle.ts_core.specs.Cells.{Cell}
-use Rattle.ts_core.specs.StoreStates.{ColumnPoints}
-use Rattle.ts_core.specs.Views.{RuleTotals}
+use Rattle.ts_core.specs.TwoParts.{both_parts}
+use Rattle.ts_core.specs.StoreStates.{ColumnPoints, CellParts, RuleCells}
 use Rattle.ts_store.specs.PointsRead.{points_between}
 
 -- a column by its index, with its series
@@ -30,22 +30,22 @@ no_points = record { column = record { series = record { measurement = []; tags 
 abbrev pub points_at : List ColumnPoints → ℕ → ℤ → ℤ → List (ℤ × ℤ)
 points_at cs n a b = points_between a b (slice_index_or cs n no_points).points
 
--- a cell with its total
-pub record CellTotal : Type 0 where
+-- a cell with its parts
+pub record SeenCell : Type 0 where
   pub cell : Cell
-  pub total : Aggregate
+  pub parts : CellParts
 
-abbrev pub with_total : (Cell → Aggregate) → Cell → CellTotal
-with_total total k = record { cell = k; total = total k }
+abbrev pub with_parts : (Cell → CellParts) → Cell → SeenCell
+with_parts parts k = record { cell = k; parts = parts k }
 
-abbrev pub no_rule : RuleTotals
-no_rule = record { rule = record { name = []; measurement = []; interval = pos 1; offset = pos 0; kept_tags = []; duration = 0 }; low = pos 0; cells = []; total = λ k. empty_aggregate }
+abbrev pub no_rule : RuleCells
+no_rule = record { rule = record { name = []; measurement = []; interval = pos 1; offset = pos 0; kept_tags = []; duration = 0 }; low = pos 0; cells = []; parts = λ k. both_parts empty_aggregate }
 
 -- the cells of a rule from index a, inclusive, to index b, exclusive
-abbrev pub cells_within : RuleTotals → ℤ → ℤ → List CellTotal
-cells_within r a b = map (with_total r.total) (filter (λ (k : Cell). is_within a b k.index) r.cells)
+abbrev pub cells_within : RuleCells → ℤ → ℤ → List SeenCell
+cells_within r a b = map (with_parts r.parts) (filter (λ (k : Cell). is_within a b k.index) r.cells)
 
-abbrev pub cells_at : List RuleTotals → ℕ → ℤ → ℤ → List CellTotal
+abbrev pub cells_at : List RuleCells → ℕ → ℤ → ℤ → List SeenCell
 cells_at rs n a b = cells_within (slice_index_or rs n no_rule) a b
 
 abbrev pub seat_of : ℕ × Series → Seat

@@ -1,6 +1,7 @@
 //! Iterators over the cells that a view shows.
-ghost use Rattle.std.specs.Prelude.{◌≡◌, map};
+ghost use Rattle.std.specs.Prelude.{◌≡◌, ◌+◌, ◌≤◌, ◌^◌, map, string_bytes};
 ghost use Rattle.std.specs.Iterator.{YieldsFirst, item_count};
+ghost use Rattle.ts_core.specs.StoreStates.{total_in};
 ghost use Rattle.ts_store.specs.LiveCells.{walked_cells, cells_of_rule, AreWhole, IsRuled};
 
 use crate::column_facts::ColumnFacts;
@@ -9,7 +10,7 @@ use std::marker::Model;
 use ts_cells::{Parts, Walk};
 use ts_core::{Agg, Partial, Rule};
 
-/// A cell with the total of its facts.
+/// A cell with both its parts, which have at most 2^62 facts together.
 #[derive(Drop)]
 pub struct CellSeen<'a, A: Allocator> {
     /// Index of its bucket.
@@ -18,20 +19,70 @@ pub struct CellSeen<'a, A: Allocator> {
     pub field: &'a str,
     /// Values of the rule's kept tags.
     pub group: &'a [String<A>],
-    /// Aggregate of its facts.
-    pub total: Agg,
+    frozen: Agg,
+    live: Agg,
 }
 
 impl<'a, A: Allocator> Model for CellSeen<'a, A> {
-    ghost use Rattle.std.specs.Prelude.{map, string_bytes};
-    ghost use Rattle.ts_store.specs.Seats.{CellTotal};
+    ghost use Rattle.std.specs.Prelude.{◌+◌, ◌≤◌, ◌^◌, map, string_bytes};
+    ghost use Rattle.ts_store.specs.Seats.{SeenCell};
 
-    ghost Value = { CellTotal };
+    ghost Value = { SeenCell };
 
-    ghost view = { λ c. record { cell = record { index = c.index; field = c.field.now; group = map string_bytes c.group.now }; total = c.total } };
+    ghost view = { λ c. record { cell = record { index = c.index; field = c.field.now; group = map string_bytes c.group.now }; parts = record { frozen = c.frozen; live = c.live } } };
+
+    ghost invariant = { λ c. c.frozen.count + c.live.count ≤ 2 ^ 62 };
 }
 
 impl<'a, A: Allocator> CellSeen<'a, A> {
+    /// Creates a cell, for views that aren't stores.
+    pub fn new(
+        index: i128,
+        field: &'a str,
+        group: &'a [String<A>],
+        frozen: Agg,
+        live: Agg,
+    ) -> CellSeen<'a, A>
+        requires { frozen.count + live.count ≤ 2 ^ 62 }
+        ensures { result ≡ record { cell = record { index = index; field = field.now; group = map string_bytes group.now }; parts = record { frozen = frozen; live = live } } }
+    {
+        CellSeen {
+            index,
+            field,
+            group,
+            frozen,
+            live,
+        }
+    }
+
+    /// Returns the aggregate of its frozen facts.
+    pub fn frozen(&self) -> Agg
+        ensures { result ≡ self.now.parts.frozen }
+    {
+        self.frozen
+    }
+
+    /// Returns the aggregate of its raw facts.
+    pub fn live(&self) -> Agg
+        ensures { result ≡ self.now.parts.live }
+    {
+        self.live
+    }
+
+    /// Returns the number of its facts.
+    pub fn count(&self) -> u64
+        ensures { result ≡ (total_in self.now.parts).count }
+    {
+        self.frozen.count() + self.live.count()
+    }
+
+    /// Returns the aggregate of its facts, merging both parts.
+    pub fn total(&self) -> Agg
+        ensures { result ≡ total_in self.now.parts }
+    {
+        self.frozen.merge(self.live)
+    }
+
     fn again(&self) -> CellSeen<'a, A>
         ensures { result ≡ self.now }
     {
@@ -39,13 +90,13 @@ impl<'a, A: Allocator> CellSeen<'a, A> {
             index: self.index,
             field: self.field,
             group: self.group,
-            total: self.total,
+            frozen: self.frozen,
+            live: self.live,
         }
     }
 }
 
-/// Iterator over the cells of a rollup, each with the total of both its parts. Its model is the list of those that
-/// remain.
+/// Iterator over the cells of a rollup. Its model is the list of those that remain.
 #[derive(Drop)]
 struct RollupCells<'a, A: Allocator> {
     left: Walk<'a, Parts<Agg>, A>,
@@ -53,10 +104,10 @@ struct RollupCells<'a, A: Allocator> {
 
 impl<'a, A: Allocator> Model for RollupCells<'a, A> {
     ghost use Rattle.std.specs.Prelude.{List};
-    ghost use Rattle.ts_store.specs.Seats.{CellTotal};
+    ghost use Rattle.ts_store.specs.Seats.{SeenCell};
     ghost use Rattle.ts_store.specs.LiveCells.{walked_cells, AreWhole};
 
-    ghost Value = { List CellTotal };
+    ghost Value = { List SeenCell };
 
     ghost view = { λ w. walked_cells w.left };
 
@@ -72,9 +123,9 @@ struct LentCells<'a, A: Allocator> {
 
 impl<'a, A: Allocator> Model for LentCells<'a, A> {
     ghost use Rattle.std.specs.Prelude.{List, drop};
-    ghost use Rattle.ts_store.specs.Seats.{CellTotal};
+    ghost use Rattle.ts_store.specs.Seats.{SeenCell};
 
-    ghost Value = { List CellTotal };
+    ghost Value = { List SeenCell };
 
     ghost view = { λ c. drop c.given c.cells.now };
 }
@@ -93,10 +144,10 @@ pub struct CellWalk<'a, A: Allocator> {
 
 impl<'a, A: Allocator> Model for CellWalk<'a, A> {
     ghost use Rattle.std.specs.Prelude.{List};
-    ghost use Rattle.ts_store.specs.Seats.{CellTotal};
+    ghost use Rattle.ts_store.specs.Seats.{SeenCell};
     ghost use Rattle.ts_store.specs.CellsLeft.{cells_left};
 
-    ghost Value = { List CellTotal };
+    ghost Value = { List SeenCell };
 
     ghost view = { λ w. cells_left w.left };
 }
@@ -123,7 +174,7 @@ impl<'a, A: Allocator> CellWalk<'a, A> {
 }
 
 impl<A: Allocator + Copy> ColumnFacts<A> {
-    /// Returns an iterator over the cells of a rule with their totals, ordered by index, field and group. They are
+    /// Returns an iterator over the cells of a rule with their parts, ordered by index, field and group. They are
     /// those from bucket `from`, inclusive, to bucket `to`, exclusive. `number` is the index of the rule in the
     /// settings.
     pub(crate) fn cell_walk<'a>(
@@ -153,7 +204,8 @@ impl<'a, A: Allocator + Copy> Iterator for RollupCells<'a, A> {
             index: kept.index,
             field: kept.field,
             group: kept.group,
-            total: kept.part.frozen.merge(kept.part.live),
+            frozen: kept.part.frozen,
+            live: kept.part.live,
         })
     }
 }

@@ -2,7 +2,8 @@
 ghost use Rattle.std.specs.Prelude.{◌≡◌, ◌<◌, length, map};
 ghost use Rattle.std.specs.Iterator.{YieldsFirst, item_count};
 ghost use Rattle.ts_core.specs.Facts.{is_of};
-ghost use Rattle.ts_core.specs.Views.{Seen, seen_rule};
+ghost use Rattle.ts_core.specs.Views.{Seen};
+ghost use Rattle.ts_core.specs.StoreStates.{rule_of};
 ghost use Rattle.ts_store.specs.Seats.{seats_where, points_at, cells_at};
 
 use crate::cell_walk::CellWalk;
@@ -38,7 +39,7 @@ pub trait View<A: Allocator> {
     /// Returns the settings. The view shows the cells of each of their rules, in their order.
     fn settings(&self) -> &Settings<A>
         ensures value { result.now ≡ (seen self.now).settings }
-        ensures rules { map seen_rule (seen self.now).rules ≡ (seen self.now).settings.rules };
+        ensures rules { map rule_of (seen self.now).rules ≡ (seen self.now).settings.rules };
 
     /// Returns the marks.
     fn marks(&self) -> &Marks<A>

@@ -36,7 +36,7 @@ impl<'a, A: Allocator + Copy> View<A> for OneCell<'a, A> {
       settings = v.store.now.settings;
       marks = v.store.now.marks;
       columns = v.store.now.columns;
-      rules = map (λ r. record { rule = r.rule; low = r.low; cells = v.cell.cell ∷ []; total = λ k. v.cell.total }) (seen_of (state_of v.store.now)).rules;
+      rules = map (λ r. record { rule = r.rule; low = r.low; cells = v.cell.cell ∷ []; parts = λ k. v.cell.parts }) (seen_of (state_of v.store.now)).rules;
     } };
 
     fn settings(&self) -> &Settings<A> {
@@ -110,12 +110,7 @@ fn with_cell<A: Allocator + Copy>(
     total: Agg,
 ) -> Result<Option<(u64, i128)>, Fail> {
     let plan = certified(alloc, store, 120, TWO_PIECES).ok_or("no plan")?;
-    let cell = CellSeen {
-        index: 1,
-        field: "v",
-        group: &[],
-        total,
-    };
+    let cell = CellSeen::new(1, "v", &[], total, Agg::empty());
     Ok(answered(alloc, &OneCell { store, cell }, &plan))
 }
 

@@ -3,7 +3,8 @@ use Rattle.ts_core.specs.Settings.{Rule}
 use Rattle.ts_core.specs.Marks.{index_of}
 use Rattle.ts_core.specs.Queries.{Query}
 use Rattle.ts_core.specs.Pieces.{Source, Rollup}
-use Rattle.ts_core.specs.Views.{Seen, RuleTotals, seen_rule}
+use Rattle.ts_core.specs.Views.{Seen}
+use Rattle.ts_core.specs.StoreStates.{RuleCells, rule_of}
 use Rattle.ts_store.specs.Seats.{cells_at}
 use Rattle.ts_exec.specs.FirstOf.{rule_from}
 use Rattle.ts_exec.specs.Shares.{Share, points_of_shares, rule_shares, source_shares}
@@ -13,8 +14,8 @@ use Rattle.ts_exec.proofs.counting.piece_points.Goals as goal
 
 pub rollup_points-requires-clause-number : goal.rollup_points-requires-clause-number
 rollup_points-requires-clause-number g c =
-    let shown : List RuleTotals = (g.V.View.seen c.args.view.now).rules in
-    let e : rule_from c.as_str.result.now 0 (map seen_rule shown) ≡ Some (c.in-Some.number, c.in-Some.rule.now) = search rules in
+    let shown : List RuleCells = (g.V.View.seen c.args.view.now).rules in
+    let e : rule_from c.as_str.result.now 0 (map rule_of shown) ≡ Some (c.in-Some.number, c.in-Some.rule.now) = search rules in
     (found-shown c.as_str.result.now shown c.in-Some.number c.in-Some.rule.now e).within
 
 pub rollup_points-requires-clause-interval : goal.rollup_points-requires-clause-interval
@@ -26,7 +27,7 @@ pub returns-in-Some : goal.returns-in-Some
 returns-in-Some g c =
     let seen : Seen = g.V.View.seen c.args.view.now in
     let q : Query = c.args.query.now.query in
-    let e : rule_from c.as_str.result.now 0 (map seen_rule seen.rules) ≡ Some (c.in-Some.number, c.in-Some.rule.now) = search rules in
+    let e : rule_from c.as_str.result.now 0 (map rule_of seen.rules) ≡ Some (c.in-Some.number, c.in-Some.rule.now) = search rules in
     let own_name : c.args.piece.now.source ≡ Rollup c.in-Rollup.name = search rules in
     let source = own_name ∙ ap Rollup (sym c.as_str.ensures.value) in
     let s = found-shown c.as_str.result.now seen.rules c.in-Some.number c.in-Some.rule.now e in
@@ -39,7 +40,7 @@ pub returns-in-None : goal.returns-in-None
 returns-in-None g c =
     let seen : Seen = g.V.View.seen c.args.view.now in
     let q : Query = c.args.query.now.query in
-    let e : rule_from c.as_str.result.now 0 (map seen_rule seen.rules) ≡ None = search rules in
+    let e : rule_from c.as_str.result.now 0 (map rule_of seen.rules) ≡ None = search rules in
     let own_name : c.args.piece.now.source ≡ Rollup c.in-Rollup.name = search rules in
     let source = own_name ∙ ap Rollup (sym c.as_str.ensures.value) in
     sym (ap (λ (z : Source). min (points_of_shares (source_shares seen q z c.args.piece.now.from c.args.piece.now.to)) 18446744073709551615) source

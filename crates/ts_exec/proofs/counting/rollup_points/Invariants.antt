@@ -2,7 +2,7 @@ use Rattle.std.proofs.Common.{◌≡◌, ◌≤◌, true}
 use Rattle.std.specs.List.{AllByRecursion}
 use Rattle.ts_core.specs.Facts.{is_within}
 use Rattle.ts_core.specs.Marks.{index_of}
-use Rattle.ts_store.specs.Seats.{CellTotal, cells_at}
+use Rattle.ts_store.specs.Seats.{SeenCell, cells_at}
 use Rattle.ts_exec.proofs.CountSteps.{counted, taken_shares}
 use Rattle.ts_exec.proofs.counting.rollup_points.Given as goal
 
@@ -13,5 +13,5 @@ invariant-loop-cell g l =
     let b = index_of l.rule l.to in
     (goal.iterator-loop-cell g).can_next l.cell-iterator × (goal.iterator-loop-cell g).is_finite l.cell-iterator
     × (counted l.count (taken_shares q l.rule l.from l.to l.cell-iterator) ≡ counted 0 (taken_shares q l.rule l.from l.to (cells_at (g.V.View.seen l.view).rules l.number a b)))
-    × AllByRecursion (λ (c : CellTotal). is_within a b c.cell.index ≡ true) l.cell-iterator
+    × AllByRecursion (λ (c : SeenCell). is_within a b c.cell.index ≡ true) l.cell-iterator
     × (l.count ≤ 18446744073709551615)

@@ -6,9 +6,10 @@ use Rattle.ts_core.specs.Queries.{Query, group_of}
 use Rattle.ts_core.specs.Tags.{value_among}
 use Rattle.ts_core.specs.Pieces.{start_of}
 use Rattle.ts_core.specs.Assembly.{stand_in}
+use Rattle.ts_core.specs.StoreStates.{total_in}
 use Rattle.ts_core.proofs.Boundaries.{within_parts}
 use Rattle.ts_ql.specs.Selects.{texts}
-use Rattle.ts_store.specs.Seats.{CellTotal}
+use Rattle.ts_store.specs.Seats.{SeenCell}
 use Rattle.ts_exec.specs.Lent.{lent}
 use Rattle.ts_exec.specs.RowParts.{BucketGrid, bucket_grid, place_at}
 use Rattle.ts_exec.specs.GroupTables.{Table, width, is_cell_taken, with_cell_part, with_cell}
@@ -20,15 +21,15 @@ pub returns-then-not-is_taken-clause-value : goal.returns-then-not-is_taken-clau
 returns-then-not-is_taken-clause-value g c =
     let q : Query = c.args.scan.now in
     let r : Rule = c.args.rule.now in
-    let k : CellTotal = c.args.cell in
+    let k : SeenCell = c.args.cell in
     let e : is_cell_taken q r c.args.from c.args.to k ≡ false = search rules in
-    sym (ap (λ b. cond b (with_cell_part (width q) (group_of q (stand_in r k.cell)) (place_at (bucket_grid q) (start_of r k.cell.index)) k.total c.args.groups.now) c.args.groups.now) e)
+    sym (ap (λ b. cond b (with_cell_part (width q) (group_of q (stand_in r k.cell)) (place_at (bucket_grid q) (start_of r k.cell.index)) (total_in k.parts) c.args.groups.now) c.args.groups.now) e)
 
 pub overflow_cast-start : goal.overflow_cast-start
 overflow_cast-start g c =
     let q : Query = c.args.scan.now in
     let r : Rule = c.args.rule.now in
-    let k : CellTotal = c.args.cell in
+    let k : SeenCell = c.args.cell in
     let e : is_cell_taken q r c.args.from c.args.to k ≡ true = search rules in
     let s : to_z w128 (of_z w128 c.bucket_start-start.result) ≡ start_of r k.cell.index = search rules in
     subst (SFits w64) (sym s) (within_fits c.args.from c.args.to (start_of r k.cell.index) c.ranges.from c.ranges.to (taken-within q r c.args.from c.args.to k e).1)
@@ -38,7 +39,7 @@ returns-clause-value g c =
     let q : Query = c.args.scan.now in
     let at : c.scan.inside.query.now.query ≡ q = c.scan.view_is in
     let r : Rule = c.args.rule.now in
-    let k : CellTotal = c.args.cell in
+    let k : SeenCell = c.args.cell in
     let t : ℤ = start_of r k.cell.index in
     let e : is_cell_taken q r c.args.from c.args.to k ≡ true = search rules in
     let wide : pos 1 ≤ℤ q.interval = search rules in
@@ -57,7 +58,7 @@ returns-clause-value g c =
     let read : lent c.read_kept_values.new.values.items ≡ map (value_among (zip (map string_bytes c.kept_tags.result.now) (map string_bytes c.cell.inside.group.now))) (texts c.group_tags.result.now) = search rules in
     let v : lent c.deref.result.now ≡ group_of q (stand_in r k.cell) =
     ap lent c.deref.ensures.value ∙ read ∙ ap₂ (λ (ts : List (Text × Text)) (ks : List Text). map (value_among ts) ks) (ap₂ (λ (xs ys : List Text). zip xs ys) kept group) tags in
-    let put : with_cell_part (width q) (lent c.deref.result.now) c.place-place.result k.total c.args.groups.now ≡ with_cell q r c.args.from c.args.to k c.args.groups.now =
-    ap₂ (λ (x : List Text) i. with_cell_part (width q) x i k.total c.args.groups.now) v p
-    ∙ sym (ap (λ b. cond b (with_cell_part (width q) (group_of q (stand_in r k.cell)) (place_at (bucket_grid q) t) k.total c.args.groups.now) c.args.groups.now) e) in
+    let put : with_cell_part (width q) (lent c.deref.result.now) c.place-place.result (total_in k.parts) c.args.groups.now ≡ with_cell q r c.args.from c.args.to k c.args.groups.now =
+    ap₂ (λ (x : List Text) i. with_cell_part (width q) x i (total_in k.parts) c.args.groups.now) v p
+    ∙ sym (ap (λ b. cond b (with_cell_part (width q) (group_of q (stand_in r k.cell)) (place_at (bucket_grid q) t) (total_in k.parts) c.args.groups.now) c.args.groups.now) e) in
     subst (λ (z : Table). OnOk c.add_part.result (c.add_part.new.self ≡ z)) put (search rules)

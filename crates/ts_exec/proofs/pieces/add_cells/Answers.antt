@@ -4,8 +4,8 @@ use Rattle.ts_core.specs.Facts.{is_within}
 use Rattle.ts_core.specs.Marks.{index_of}
 use Rattle.ts_core.specs.Queries.{Query}
 use Rattle.ts_core.specs.Settings.{Rule}
-use Rattle.ts_core.specs.Views.{RuleTotals}
-use Rattle.ts_store.specs.Seats.{CellTotal, no_rule, cells_at}
+use Rattle.ts_core.specs.StoreStates.{RuleCells}
+use Rattle.ts_store.specs.Seats.{SeenCell, no_rule, cells_at}
 use Rattle.ts_exec.specs.GroupTables.{with_cell_parts}
 use Rattle.ts_exec.proofs.Walked.{cells-within}
 use Rattle.ts_exec.proofs.pieces.add_cells.Goals as goal
@@ -14,15 +14,15 @@ pub loop-cell-init : goal.loop-cell-init
 loop-cell-init g c =
     let q : Query = c.args.scan.now in
     let r : Rule = c.args.rule.now in
-    let rs : List RuleTotals = (g.V.View.seen c.args.view.now).rules in
+    let rs : List RuleCells = (g.V.View.seen c.args.view.now).rules in
     let f : SFits w64 c.args.from = search rules in
     let t : SFits w64 c.args.to = search rules in
     let first : c.into_iter-cell-iterator.result ≡ cells_at rs c.args.number (index_of r c.args.from) (index_of r c.args.to) = search rules in
     rw (to_z-of_z f, to_z-of_z t) (
       tt,
       tt,
-      ap (λ (cs : List CellTotal). with_cell_parts q r c.args.from c.args.to cs c.args.groups.now) first,
-      subst (AllByRecursion (λ (x : CellTotal). is_within (index_of r c.args.from) (index_of r c.args.to) x.cell.index ≡ true)) (sym first) (cells-within (get_or rs c.args.number no_rule) (index_of r c.args.from) (index_of r c.args.to)),
+      ap (λ (cs : List SeenCell). with_cell_parts q r c.args.from c.args.to cs c.args.groups.now) first,
+      subst (AllByRecursion (λ (x : SeenCell). is_within (index_of r c.args.from) (index_of r c.args.to) x.cell.index ≡ true)) (sym first) (cells-within (get_or rs c.args.number no_rule) (index_of r c.args.from) (index_of r c.args.to)),
       refl,
     )
 

@@ -2,7 +2,7 @@ use Rattle.std.proofs.Common.{◌≡◌, true}
 use Rattle.std.specs.List.{AllByRecursion}
 use Rattle.ts_core.specs.Facts.{is_within}
 use Rattle.ts_core.specs.Marks.{index_of}
-use Rattle.ts_store.specs.Seats.{CellTotal, cells_at}
+use Rattle.ts_store.specs.Seats.{SeenCell, cells_at}
 use Rattle.ts_exec.specs.GroupTables.{with_cell_parts}
 use Rattle.ts_exec.proofs.pieces.add_cells.Given as goal
 
@@ -13,5 +13,5 @@ invariant-loop-cell g l =
     let b = index_of l.rule l.to in
     (goal.iterator-loop-cell g).can_next l.cell-iterator × (goal.iterator-loop-cell g).is_finite l.cell-iterator
     × (with_cell_parts q l.rule l.from l.to l.cell-iterator l.groups ≡ with_cell_parts q l.rule l.from l.to (cells_at (g.V.View.seen l.view).rules l.number a b) l.fn.groups)
-    × AllByRecursion (λ (c : CellTotal). is_within a b c.cell.index ≡ true) l.cell-iterator
+    × AllByRecursion (λ (c : SeenCell). is_within a b c.cell.index ≡ true) l.cell-iterator
     × (l.scan ≡ l.fn.scan)

@@ -1,8 +1,9 @@
 use Rattle.std.proofs.Common.{rules, ◌≡◌, pos, ◌≤ℤ◌, ◌∙◌, ap, subst, sym, map, Some, None, List, OnOk}
 use Rattle.ts_core.specs.Settings.{Rule}
 use Rattle.ts_core.specs.Queries.{Query}
-use Rattle.ts_core.specs.Views.{Seen, RuleTotals, seen_rule}
+use Rattle.ts_core.specs.Views.{Seen}
 use Rattle.ts_core.specs.Pieces.{Source, Rollup}
+use Rattle.ts_core.specs.StoreStates.{RuleCells, rule_of}
 use Rattle.ts_exec.specs.FirstOf.{rule_from}
 use Rattle.ts_exec.specs.GroupTables.{Table, with_rule, with_source}
 use Rattle.ts_exec.proofs.NamedRules.{found-shown, none-shown, found-holds, found-put}
@@ -10,8 +11,8 @@ use Rattle.ts_exec.proofs.pieces.add_piece.Goals as goal
 
 pub add_cells-requires-clause-number : goal.add_cells-requires-clause-number
 add_cells-requires-clause-number g c =
-    let shown : List RuleTotals = (g.V.View.seen c.args.view.now).rules in
-    let e : rule_from c.as_str.result.now 0 (map seen_rule shown) ≡ Some (c.in-Some.number, c.in-Some.rule.now) = search rules in
+    let shown : List RuleCells = (g.V.View.seen c.args.view.now).rules in
+    let e : rule_from c.as_str.result.now 0 (map rule_of shown) ≡ Some (c.in-Some.number, c.in-Some.rule.now) = search rules in
     (found-shown c.as_str.result.now shown c.in-Some.number c.in-Some.rule.now e).within
 
 pub add_cells-requires-clause-interval : goal.add_cells-requires-clause-interval
@@ -23,7 +24,7 @@ pub returns-in-Some-clause-value : goal.returns-in-Some-clause-value
 returns-in-Some-clause-value g c =
     let seen : Seen = g.V.View.seen c.args.view.now in
     let q : Query = c.args.scan.now in
-    let e : rule_from c.as_str.result.now 0 (map seen_rule seen.rules) ≡ Some (c.in-Some.number, c.in-Some.rule.now) = search rules in
+    let e : rule_from c.as_str.result.now 0 (map rule_of seen.rules) ≡ Some (c.in-Some.number, c.in-Some.rule.now) = search rules in
     let own_name : c.args.piece.now.source ≡ Rollup c.in-Rollup.name = search rules in
     let source = own_name ∙ ap Rollup (sym c.as_str.ensures.value) in
     let s = found-shown c.as_str.result.now seen.rules c.in-Some.number c.in-Some.rule.now e in
@@ -35,7 +36,7 @@ pub returns-in-None-clause-value : goal.returns-in-None-clause-value
 returns-in-None-clause-value g c =
     let seen : Seen = g.V.View.seen c.args.view.now in
     let q : Query = c.args.scan.now in
-    let e : rule_from c.as_str.result.now 0 (map seen_rule seen.rules) ≡ None = search rules in
+    let e : rule_from c.as_str.result.now 0 (map rule_of seen.rules) ≡ None = search rules in
     let own_name : c.args.piece.now.source ≡ Rollup c.in-Rollup.name = search rules in
     let source = own_name ∙ ap Rollup (sym c.as_str.ensures.value) in
     sym (ap (λ (z : Source). with_source seen q z c.args.piece.now.from c.args.piece.now.to c.args.groups.now) source

@@ -1,8 +1,7 @@
-use Rattle.std.proofs.Common.{◌≡◌, ◌<◌, ◌∙◌, ℕ, List, ap, subst, length, map, get_or, refl, arith}
-use Rattle.std.proofs.lemmas.List.{length-map}
+use Rattle.std.proofs.Common.{◌≡◌, ◌<◌, ◌∙◌, ℕ, List, ap, subst, length, get_or, refl, arith}
 use Rattle.ts_core.specs.Settings.{Rule}
 use Rattle.ts_core.specs.StoreData.{StoreData, rules_of, state_of}
-use Rattle.ts_core.specs.Views.{totals_in, seen_of}
+use Rattle.ts_core.specs.Views.{seen_of}
 use Rattle.ts_store.specs.OpenRuns.{kept_data}
 use Rattle.ts_store.specs.SizedStores.{IsSized}
 use Rattle.ts_store.specs.Seats.{cells_at}
@@ -10,11 +9,10 @@ use Rattle.ts_store.proofs.ShownCells.{rules-length, store_ruled, store_shows}
 use Rattle.ts_store.proofs.store.StoreView.cell_walk.Goals as goal
 
 -- the rule is one of the settings
-inside_settings : (k : StoreData) (n m : ℕ) → IsSized k → n < length (map totals_in (rules_of k.settings.rules k.marks.lows k.cells)) → m ≡ length k.settings.rules → n < m
+inside_settings : (k : StoreData) (n m : ℕ) → IsSized k → n < length (rules_of k.settings.rules k.marks.lows k.cells) → m ≡ length k.settings.rules → n < m
 inside_settings k n m sized there same =
     let each = rules-length k.settings.rules k.marks.lows k.cells sized.lows sized.cells in
-    let all = length-map (rules_of k.settings.rules k.marks.lows k.cells) totals_in in
-    omega (arith, each, all, same, there)
+    omega (arith, each, same, there)
 
 pub bounds-rules-rule : goal.bounds-rules-rule
 bounds-rules-rule g c =

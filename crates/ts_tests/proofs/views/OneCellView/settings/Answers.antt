@@ -1,9 +1,9 @@
 use Rattle.std.proofs.Common.{◌≡◌, ◌∙◌, List, [], ◌∷◌, ap, refl, map}
-use Rattle.ts_core.specs.Views.{RuleTotals, seen_rule}
-use Rattle.ts_store.specs.Seats.{CellTotal}
+use Rattle.ts_store.specs.Seats.{SeenCell}
 use Rattle.ts_tests.proofs.views.OneCellView.settings.Goals as goal
+use Rattle.ts_core.specs.StoreStates.{RuleCells, rule_of}
 
-same_rules : (c : CellTotal) (rs : List RuleTotals) → map seen_rule (map (λ (r : RuleTotals). record { rule = r.rule; low = r.low; cells = c.cell ∷ []; total = λ k. c.total }) rs) ≡ map seen_rule rs
+same_rules : (c : SeenCell) (rs : List RuleCells) → map rule_of (map (λ (r : RuleCells). record { rule = r.rule; low = r.low; cells = c.cell ∷ []; parts = λ k. c.parts }) rs) ≡ map rule_of rs
 same_rules c [] = refl
 same_rules c (r ∷ rs) = ap (λ xs. r.rule ∷ xs) (same_rules c rs)
 
