@@ -6,6 +6,8 @@
 #[cfg(test)]
 mod block_bytes;
 #[cfg(test)]
+mod refused;
+#[cfg(test)]
 mod refusing;
 #[cfg(test)]
 mod stale_plans;
