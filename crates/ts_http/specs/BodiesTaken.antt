@@ -7,13 +7,13 @@ use Rattle.ts_http.specs.declared.body.Body.{Body}
 use Rattle.ts_http.specs.declared.body.Body.TheVariants.{Whole, Cut, NoMemory}
 
 -- of these bytes after a head
-abbrev pub TellsBody : ℕ → Text → Body → Type 0
+abbrev pub TellsBody : {A : Type 0} → ℕ → Text → Body A → Type 0
 TellsBody len rest (Whole body) = (others : Text) × (rest ≡ body.items ++ others) × (length body.items ≡ len)
 TellsBody len rest Cut = length rest < len
 TellsBody len rest NoMemory = ⊤
 
 -- the bytes after the head, and those read then, begin with the body or end inside it
-pub record IsBodyTaken {E : Type 0} (old : Input) (behind : Text) (len : ℕ) (result : Result Body E) (new : Input) : Type 0 where
+pub record IsBodyTaken {A E : Type 0} (old : Input) (behind : Text) (len : ℕ) (result : Result (Body A) E) (new : Input) : Type 0 where
   pub body : IfOk result (λ body. (got : Text) × Consumes old.remaining new.remaining got × TellsBody len (behind ++ (got ++ unwrap_or new.remaining [])) body)
   pub failures : new.failures ≡ old.failures + one_if_err result
   pub turns : new.turns ≤ old.turns + len

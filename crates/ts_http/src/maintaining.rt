@@ -15,7 +15,7 @@ use crate::refusal::Refusal;
 use crate::reply::Note;
 use crate::status::Status;
 use itoa::Buffer;
-use std::alloc::Global;
+use std::alloc::Allocator;
 use ts_core::Time;
 use ts_store::{StepAnswer, Store, View};
 
@@ -41,7 +41,7 @@ fn step_count(value: &[u8]) -> Option<usize>
 }
 
 /// Returns the number of steps that a request asks for.
-fn steps(alloc: Global, query: &[u8]) -> Result<usize, Refusal>
+fn steps<A: Allocator + Copy>(alloc: A, query: &[u8]) -> Result<usize, Refusal>
     ensures { IsAsked (steps_in query.now) Refusal.BadSteps result }
 {
     match first_named(alloc, query, "steps") {
@@ -55,7 +55,7 @@ fn steps(alloc: Global, query: &[u8]) -> Result<usize, Refusal>
 }
 
 /// Begins a run at a moment if none is open.
-fn open_run(store: &mut Store<Global>, now: Time)
+fn open_run<A: Allocator + Copy>(store: &mut Store<A>, now: Time)
     ensures opened { store.new ≡ run_opened now store.old }
     ensures begins { store.old.running ≡ false → GoesOn store.old (Begin now) (run_begun now store.old) }
 {
@@ -66,7 +66,7 @@ fn open_run(store: &mut Store<Global>, now: Time)
 }
 
 /// Takes steps of the open run until it ends, at most `limit`.
-fn take_steps(store: &mut Store<Global>, limit: usize) -> Progress
+fn take_steps<A: Allocator + Copy>(store: &mut Store<A>, limit: usize) -> Progress
     requires { store.old.running ≡ true }
     ensures { HasStepped limit store.old store.new result.taken result.done }
 {
@@ -100,7 +100,12 @@ fn progress_note(progress: Progress, raw: Time) -> Note
 }
 
 /// Takes the steps that a request asks for. After the number of steps is known this does not allocate.
-pub(crate) fn maintain(alloc: Global, store: &mut Store<Global>, now: Time, query: &[u8]) -> Outcome
+pub(crate) fn maintain<A: Allocator + Copy>(
+    alloc: A,
+    store: &mut Store<A>,
+    now: Time,
+    query: &[u8],
+) -> Outcome
     ensures { MaintainsAs now query.now store.old result store.new }
 {
     let limit = match steps(alloc, query) {

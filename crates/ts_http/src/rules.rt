@@ -11,7 +11,7 @@ use crate::refusal::Refusal;
 use crate::reply::{Note, error_note};
 use crate::status::Status;
 use itoa::Buffer;
-use std::alloc::{AllocError, Global};
+use std::alloc::{AllocError, Allocator, Global};
 use std::str;
 use ts_core::{SettingsError, SettingsFault};
 use ts_store::{AddedRule, Store, View};
@@ -42,10 +42,10 @@ fn dropped_note(name: &str) -> Note
 }
 
 /// Returns JSON with the fault of a rule.
-fn fault_body(alloc: Global, fault: SettingsFault) -> Result<String, AllocError>
+fn fault_body(json: Global, fault: SettingsFault) -> Result<String, AllocError>
     ensures { IfOk result (λ body. string_bytes body ≡ error_text (settings_fault_text fault)) }
 {
-    let mut body = String::new(alloc);
+    let mut body = String::new(json);
     body.push_str("{\"error\":\"")?;
     fault.text_to(&mut body)?;
     body.push_str("\"}")?;
@@ -53,38 +53,48 @@ fn fault_body(alloc: Global, fault: SettingsFault) -> Result<String, AllocError>
 }
 
 /// Returns the outcome for a rule with a fault, or out of memory.
-fn refused(alloc: Global, fault: SettingsFault) -> Outcome
+fn refused(json: Global, fault: SettingsFault) -> Outcome
     ensures { (reply_of false result ≡ bad_reply (error_text (settings_fault_text fault))) ⊎ (result ≡ Outcome.Refused Refusal.OutOfMemory) }
 {
-    match fault_body(alloc, fault) {
+    match fault_body(json, fault) {
         Ok(body) => Outcome::Answered(Status::BadRequest, body),
         Err(_) => Outcome::Refused(Refusal::OutOfMemory),
     }
 }
 
 /// Adds the rule of a text.
-fn add_text(alloc: Global, store: &mut Store<Global>, text: &str) -> Outcome
+fn add_text<A: Allocator + Copy>(
+    alloc: A,
+    json: Global,
+    store: &mut Store<A>,
+    text: &str,
+) -> Outcome
     ensures { AddsAs text.now store.old result store.new }
 {
-    match store.add_rule_text(alloc, alloc, text) {
+    match store.add_rule_text(alloc, json, text) {
         Ok(added) => Outcome::Brief(Status::Success, added_note(&added)),
-        Err(SettingsError::Fault(fault)) => refused(alloc, fault),
+        Err(SettingsError::Fault(fault)) => refused(json, fault),
         Err(SettingsError::OutOfMemory) => Outcome::Refused(Refusal::OutOfMemory),
     }
 }
 
 /// Adds the rule of a body.
-pub(crate) fn add_rule(alloc: Global, store: &mut Store<Global>, body: &[u8]) -> Outcome
+pub(crate) fn add_rule<A: Allocator + Copy>(
+    alloc: A,
+    json: Global,
+    store: &mut Store<A>,
+    body: &[u8],
+) -> Outcome
     ensures { AddsAs body.now store.old result store.new }
 {
     match str::from_utf8(body) {
-        Ok(text) => add_text(alloc, store, text),
+        Ok(text) => add_text(alloc, json, store, text),
         Err(_) => Outcome::Refused(Refusal::BodyNotText),
     }
 }
 
 /// Drops the rule with a name.
-fn drop_named(store: &mut Store<Global>, name: &str) -> Outcome
+fn drop_named<A: Allocator + Copy>(store: &mut Store<A>, name: &str) -> Outcome
     ensures { DropsNamed name.now store.old result store.new }
 {
     // states that settings have no fault, so their names have at most 32 bytes
@@ -96,7 +106,11 @@ fn drop_named(store: &mut Store<Global>, name: &str) -> Outcome
 }
 
 /// Drops the rule that the parameter `name` names.
-pub(crate) fn drop_rule(alloc: Global, store: &mut Store<Global>, query: &[u8]) -> Outcome
+pub(crate) fn drop_rule<A: Allocator + Copy>(
+    alloc: A,
+    store: &mut Store<A>,
+    query: &[u8],
+) -> Outcome
     ensures { DropsAs query.now store.old result store.new }
 {
     match first_named(alloc, query, "name") {

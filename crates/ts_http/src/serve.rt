@@ -22,7 +22,7 @@ use crate::rules::{add_rule, drop_rule};
 use crate::status::Status;
 use crate::writing::write;
 use httparse::spans::{EMPTY_HEADER_SPAN, HeaderSpan, RequestSpans};
-use std::alloc::Global;
+use std::alloc::{Allocator, Global};
 use std::io::{Read, Write};
 use ts_core::{Refused, Sink, Source, Time};
 use ts_store::Store;
@@ -129,9 +129,10 @@ fn body_len(
 }
 
 /// Executes a request.
-fn act(
-    alloc: Global,
-    store: &mut Store<Global>,
+fn act<A: Allocator + Copy>(
+    alloc: A,
+    json: Global,
+    store: &mut Store<A>,
     now: Time,
     asked: &Asked<'_>,
     body: &[u8],
@@ -144,6 +145,7 @@ fn act(
         Route::Write => write(alloc, store, now, asked.query, body),
         Route::Query => query(
             alloc,
+            json,
             store,
             now,
             &Form {
@@ -153,7 +155,7 @@ fn act(
         ),
         Route::Maintain => maintain(alloc, store, now, asked.query),
         Route::Rules => match asked.method {
-            Method::Post => add_rule(alloc, store, body),
+            Method::Post => add_rule(alloc, json, store, body),
             Method::Delete => drop_rule(alloc, store, asked.query),
             _ => unreachable!(),
         },
@@ -163,9 +165,10 @@ fn act(
 }
 
 /// Reads the body, and executes the request.
-fn act_on_body<R: Read>(
-    alloc: Global,
-    store: &mut Store<Global>,
+fn act_on_body<R: Read, A: Allocator + Copy>(
+    alloc: A,
+    json: Global,
+    store: &mut Store<A>,
     now: Time,
     asked: &Asked<'_>,
     len: usize,
@@ -176,7 +179,7 @@ fn act_on_body<R: Read>(
     ensures { IsActedOn now asked.now.route asked.now.method asked.now.query.now asked.now.behind.now len store.old source.old result store.new source.new }
 {
     match take_body(alloc, asked.behind, len, source)? {
-        Body::Whole(body) => Ok(act(alloc, store, now, asked, &body)),
+        Body::Whole(body) => Ok(act(alloc, json, store, now, asked, &body)),
         Body::Cut => Ok(Outcome::Refused(Refusal::BodyEndsEarly)),
         Body::NoMemory => Ok(Outcome::Refused(Refusal::OutOfMemory)),
     }
@@ -201,10 +204,11 @@ fn reply<W: Write>(
 }
 
 /// Serves one request at a moment: reads it whole, executes it, and sends the reply. Replies but the answer to a query
-/// do not allocate.
-pub fn serve_one<R: Read, W: Write>(
-    alloc: Global,
-    store: &mut Store<Global>,
+/// do not allocate. JSON is parsed and written in `json`, everything else is allocated in `alloc`.
+pub fn serve_one<R: Read, W: Write, A: Allocator + Copy>(
+    alloc: A,
+    json: Global,
+    store: &mut Store<A>,
     now: Time,
     source: &mut Source<R>,
     sink: &mut Sink<W>,
@@ -225,7 +229,7 @@ pub fn serve_one<R: Read, W: Write>(
             let asked = asked_by(came, &found);
             match body_len(came, &spans[..found.headers], asked.route, asked.method) {
                 Ok(len) => {
-                    let outcome = act_on_body(alloc, store, now, &asked, len, source)?;
+                    let outcome = act_on_body(alloc, json, store, now, &asked, len, source)?;
                     reply(&outcome, asked.route, false, sink)
                 }
                 Err(refusal) => {

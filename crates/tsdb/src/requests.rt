@@ -91,7 +91,7 @@ fn serve_stream(
     let _ = stream.set_nodelay(true);
     let mut source = Source::new(Timed::new(stream, clock, PATIENCE));
     let mut sink = Sink::new(Timed::new(stream, clock, PATIENCE));
-    match serve_one(alloc, store, now, &mut source, &mut sink) {
+    match serve_one(alloc, alloc, store, now, &mut source, &mut sink) {
         Ok(served) => {
             finish(stream, clock, served);
             is_saved_after(served)

@@ -7,10 +7,10 @@ use Rattle.ts_http.proofs.BatchLemmas.{begins, goes_on, all_done, stopped, next_
 use Rattle.ts_http.proofs.batch.write_lines.Goals as goal
 
 pub loop-line-init : goal.loop-line-init
-loop-line-init c = (search rules, omega (arith, c.new-tally.ensures.none.0), omega (arith, c.new-tally.ensures.none.1), λ s i. begins c.args.precision c.args.now s (body_lines c.args.body.now) c.new-tally.result c.args.store.now c.new-tally.ensures.tally i)
+loop-line-init g c = (search rules, omega (arith, c.new-tally.ensures.none.0), omega (arith, c.new-tally.ensures.none.1), λ s i. begins c.args.precision c.args.now s (body_lines c.args.body.now) c.new-tally.result c.args.store.now c.new-tally.ensures.tally i)
 
 pub loop-line-preserved : goal.loop-line-preserved
-loop-line-preserved c =
+loop-line-preserved g c =
     let p = split_parts 10 c.loop-line.rest.now c.split_once.result c.split_once.ensures.cases (lit< tt) in
     let parts = rw c.in-Some.is at p in
     let next : body_lines c.loop-line.rest.now ≡ c.in-Some.line.now ∷ body_lines c.in-Some.others.now = next_line c.loop-line.rest.now c.in-Some.line.now c.in-Some.others.now parts.0 parts.1 in
@@ -23,7 +23,7 @@ loop-line-preserved c =
     )
 
 pub returns-in_err-write_in : goal.returns-in_err-write_in
-returns-in_err-write_in c = λ s h.
+returns-in_err-write_in g c = λ s h.
     let p = split_parts 10 c.loop-line.rest.now c.split_once.result c.split_once.ensures.cases (lit< tt) in
     let parts = rw c.in-Some.is at p in
     let next : body_lines c.loop-line.rest.now ≡ c.in-Some.line.now ∷ body_lines c.in-Some.others.now = next_line c.loop-line.rest.now c.in-Some.line.now c.in-Some.others.now parts.0 parts.1 in
@@ -32,7 +32,7 @@ returns-in_err-write_in c = λ s h.
     (c.loop-line.invariant.3 s h) next c.in_err-write_in.ensures)
 
 pub returns-in_err-write_in-2 : goal.returns-in_err-write_in-2
-returns-in_err-write_in-2 c = λ s h.
+returns-in_err-write_in-2 g c = λ s h.
     let p = split_parts 10 c.loop-line.rest.now c.split_once.result c.split_once.ensures.cases (lit< tt) in
     let none = rw c.in_default.is at p in
     let q = err_from_is_err_and c.from_residual-in_err-write_in-2.result c.from_residual-in_err-write_in-2.ensures.1 in
@@ -40,7 +40,7 @@ returns-in_err-write_in-2 c = λ s h.
     (c.loop-line.invariant.3 s h) (last_line c.loop-line.rest.now none) c.in_err-write_in-2.ensures)
 
 pub returns : goal.returns
-returns c = λ s h.
+returns g c = λ s h.
     let p = split_parts 10 c.loop-line.rest.now c.split_once.result c.split_once.ensures.cases (lit< tt) in
     let none = rw c.in_default.is at p in
     all_done AllocError c.args.precision c.args.now s c.args.body.now c.count-2.new.self c.write_in-2.new.store

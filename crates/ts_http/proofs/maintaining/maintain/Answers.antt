@@ -10,10 +10,10 @@ use Rattle.ts_http.proofs.MaintainLemmas.{steps_refused, maintained}
 use Rattle.ts_http.proofs.maintaining.maintain.Goals as goal
 
 pub returns-in-Err : goal.returns-in-Err
-returns-in-Err c = steps_refused c.args.now c.args.query.now c.args.store.now c.in-Err.refusal c.in-Err.ensures
+returns-in-Err g c = steps_refused c.args.now c.args.query.now c.args.store.now c.in-Err.refusal c.in-Err.ensures
 
 pub returns : goal.returns
-returns c =
+returns g c =
     let k : StoreData = c.take_steps-progress.new.store in
     let text : c.progress_note.result.bytes ≡ progress_text c.take_steps-progress.result.done k.marks.raw c.take_steps-progress.result.taken = search rules in
     maintained c.args.now c.args.query.now c.args.store.now c.in-Ok.limit k c.take_steps-progress.result.taken c.take_steps-progress.result.done (Brief Success c.progress_note.result) c.in-Ok.ensures c.open_run.ensures.begins

@@ -8,7 +8,7 @@ use Rattle.ts_http.proofs.MaintainLemmas.{goes_on, ends}
 use Rattle.ts_http.proofs.maintaining.take_steps.Goals as goal
 
 pub loop-taken-init : goal.loop-taken-init
-loop-taken-init c = record {
+loop-taken-init g c = record {
   within = omega arith;
   history = λ opening h st. st;
   left = omega arith;
@@ -18,7 +18,7 @@ loop-taken-init c = record {
 }
 
 pub loop-taken-preserved : goal.loop-taken-preserved
-loop-taken-preserved c =
+loop-taken-preserved g c =
     let moved : c.step.result ≡ Moved = search rules in
     let did = c.step.ensures.moved moved in
     let next : suc c.loop-taken.taken ≡ c.loop-taken.taken + 1 = omega arith in
@@ -32,13 +32,13 @@ loop-taken-preserved c =
     }
 
 pub returns-then-eq : goal.returns-then-eq
-returns-then-eq c =
+returns-then-eq g c =
     let done : c.step.result ≡ Done = search rules in
     let did = c.step.ensures.done done in
     ends c.args.limit c.args.store.now c.loop-taken.taken c.loop-taken.store c.step.new.self c.loop-taken-test.true c.loop-taken.invariant.history c.loop-taken.invariant.left (c.step.ensures.last done c.loop-taken.invariant.running) did.0 (c.step.ensures.series ∙ c.loop-taken.invariant.series) (c.step.ensures.marks ∙ c.loop-taken.invariant.marks)
 
 pub returns : goal.returns
-returns c =
+returns g c =
     let all : c.loop-taken.taken ≡ c.args.limit = (let within = c.loop-taken.invariant.within in omega (arith, c.loop-taken-test.false)) in
     let stands = subst (λ n. OfEachHistory c.args.store.now (λ opening h. StandsFor opening (steps_taken n h) (state_of c.loop-taken.store))) all c.loop-taken.invariant.history in
     let left = c.loop-taken.invariant.left in

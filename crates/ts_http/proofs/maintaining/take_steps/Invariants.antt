@@ -6,7 +6,7 @@ use Rattle.ts_store.specs.WholeRuns.{steps_taken}
 use Rattle.ts_http.proofs.maintaining.take_steps.Given as goal
 
 abbrev pub invariant-loop-taken : goal.invariant-loop-taken
-invariant-loop-taken l = record {
+invariant-loop-taken g l = record {
   within : l.taken ≤ l.limit;
   history : OfEachHistory l.fn.store (λ opening h. StandsFor opening (steps_taken l.taken h) (state_of l.store));
   left : l.taken + steps_left (state_of l.store) ≡ steps_left (state_of l.fn.store);
