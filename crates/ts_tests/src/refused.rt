@@ -2,6 +2,7 @@
 
 mod images;
 mod queries;
+mod requests;
 mod rules;
 mod trial;
 mod writes;
