@@ -1,12 +1,19 @@
-//! Tests of what only a call shows: bytes of coded blocks, stale plans, a view that shows no history, an allocator that
-//! refuses one request. It depends on libraries, and nothing depends on it, so no other crate is proved once more for its
-//! tests. All its code is tests; it promises nothing.
+//! Tests of what only a call shows: bytes of coded blocks, stale plans, a view that shows no history, columns, spans of
+//! lines, limits, and an allocator that refuses one request. It depends on libraries, and nothing depends on it, so no
+//! other crate is proved once more for its tests. All its code is tests; it promises nothing.
 #![tactic(auto)]
 
 #[cfg(test)]
 mod block_bytes;
 #[cfg(test)]
 mod refused;
+mod columns;
+#[cfg(test)]
+mod index_limits;
+#[cfg(test)]
+mod line_spans;
+#[cfg(test)]
+mod messages;
 #[cfg(test)]
 mod refusing;
 #[cfg(test)]
