@@ -1,6 +1,6 @@
-//! Tests of what only a call shows: bytes of coded blocks, stale plans, a view that shows no history, columns, spans of
-//! lines, limits, and an allocator that refuses one request. It depends on libraries, and nothing depends on it, so no
-//! other crate is proved once more for its tests. All its code is tests; it promises nothing.
+//! Tests of what only a call shows: bytes of blocks and images, devices that fail, stale plans, a view that shows no
+//! history, columns, spans of lines, limits, and an allocator that refuses one request. It depends on libraries, and
+//! nothing depends on it, so no other crate is proved once more for its tests. All its code is tests; it promises nothing.
 #![tactic(auto)]
 
 #[cfg(test)]
@@ -8,6 +8,14 @@ mod block_bytes;
 #[cfg(test)]
 mod refused;
 mod columns;
+#[cfg(test)]
+mod devices;
+#[cfg(test)]
+mod image_bytes;
+#[cfg(test)]
+mod image_devices;
+#[cfg(test)]
+mod images;
 #[cfg(test)]
 mod index_limits;
 #[cfg(test)]

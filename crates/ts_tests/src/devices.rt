@@ -1,0 +1,99 @@
+//! Devices over memory: a reader and a writer that take bytes in pieces, and fail at one call.
+
+use std::io;
+use std::io::{ErrorKind, Read, Write};
+
+/// A call that no test makes.
+pub(crate) const NEVER: usize = usize::MAX;
+
+/// A reader of at most `piece` bytes a call. The call `fails_at`, counted from 0, fails; the next one goes on.
+#[derive(Drop)]
+pub(crate) struct PieceReader<'a> {
+    pub(crate) left: &'a [u8],
+    pub(crate) piece: usize,
+    pub(crate) calls: usize,
+    pub(crate) fails_at: usize,
+}
+
+impl<'a> PieceReader<'a> {
+    /// Creates a reader that no call was made to.
+    pub(crate) fn new(left: &'a [u8], piece: usize, fails_at: usize) -> PieceReader<'a> {
+        PieceReader {
+            left,
+            piece,
+            calls: 0,
+            fails_at,
+        }
+    }
+}
+
+impl Read for PieceReader<'_> {
+    fn read(&mut self, buf: &mut [u8]) -> io::Result<usize> {
+        let call = self.calls;
+        self.calls = call.saturating_add(1);
+        if call == self.fails_at {
+            return Err(io::Error::from(ErrorKind::Other));
+        }
+        let count = self.left.len().min(buf.len()).min(self.piece);
+        buf[..count].copy_from_slice(&self.left[..count]);
+        self.left = &self.left[count..];
+        Ok(count)
+    }
+}
+
+/// How a call of a writer goes wrong.
+#[derive(Clone, Copy, Debug, PartialEq, Eq)]
+pub(crate) enum Failure {
+    /// It returns an error.
+    Error,
+    /// It accepts no byte.
+    Nothing,
+}
+
+/// A writer of at most `piece` bytes a call. The call `fails_at`, counted from 0, goes wrong; the next one goes on.
+#[derive(Drop)]
+pub(crate) struct PieceWriter {
+    pub(crate) written: Vec<u8>,
+    pub(crate) piece: usize,
+    pub(crate) calls: usize,
+    pub(crate) fails_at: usize,
+    pub(crate) failure: Failure,
+}
+
+impl PieceWriter {
+    /// Creates a writer, over an empty vector, that no call was made to.
+    pub(crate) fn new(
+        written: Vec<u8>,
+        piece: usize,
+        fails_at: usize,
+        failure: Failure,
+    ) -> PieceWriter {
+        PieceWriter {
+            written,
+            piece,
+            calls: 0,
+            fails_at,
+            failure,
+        }
+    }
+}
+
+impl Write for PieceWriter {
+    fn write(&mut self, buf: &[u8]) -> io::Result<usize> {
+        let call = self.calls;
+        self.calls = call.saturating_add(1);
+        if call == self.fails_at {
+            return match self.failure {
+                Failure::Error => Err(io::Error::from(ErrorKind::Other)),
+                Failure::Nothing => Ok(0),
+            };
+        }
+        let count = buf.len().min(self.piece);
+        self.written.extend_from_slice(&buf[..count])?;
+        Ok(count)
+    }
+
+    fn flush(&mut self) -> io::Result<()> {
+        Ok(())
+    }
+}

@@ -1,0 +1,61 @@
+//! The image of a small store: its fields, and helpers to save and load it.
+
+use crate::stores::{NEW_LINES, OLD_LINES, ONE_RULE, at_second, store_of, write_all};
+use std::alloc::Global;
+use std::test::Fail;
+use ts_core::{Sink, Source};
+use ts_image::{LoadFault, load, save};
+use ts_store::Store;
+
+/// Lengths of the fields of the image of `worked_store`, by the description of the form: a text is its length in eight
+/// bytes and its bytes.
+pub(crate) const FIELDS: [usize; 68] = [
+    // head; raw duration, rules; name, measurement, interval, offset, duration, kept tags, the kept tag
+    4, 1, 8, 1, 10, 11, 8, 8, 8, 1, 12, //
+    // raw mark, low index, whether a run is open, accepted facts, series
+    8, 8, 1, 8, 4, //
+    // measurement, tags, key, value, columns; field, whether it waits, points; time, value
+    11, 1, 12, 9, 8, 9, 1, 8, 8, 8, //
+    // the second series, whose column has no point
+    11, 1, 12, 9, 8, 9, 1, 8, //
+    // cells; index, field, group; count, sum, least, greatest, first with its time, last with its time
+    8, 8, 9, 9, 8, 16, 8, 8, 8, 8, 8, 8, //
+    8, 9, 9, 8, 16, 8, 8, 8, 8, 8, 8, //
+    8, 9, 9, 8, 16, 8, 8, 8, 8, 8, 8,
+];
+
+/// Length of that image.
+pub(crate) const IMAGE_LEN: usize = 537;
+
+/// Returns a store with two series and three cells, of which one has a raw point too.
+pub(crate) fn worked_store(alloc: Global) -> Result<Store<Global>, Fail> {
+    let now = at_second(200)?;
+    let mut store = store_of(alloc, alloc, ONE_RULE)?;
+    if !write_all(alloc, &mut store, &OLD_LINES)? || store.retain(now).is_err() {
+        Err("a refused line")?;
+    }
+    if !write_all(alloc, &mut store, &NEW_LINES[..4])? {
+        Err("a refused line")?;
+    }
+    Ok(store)
+}
+
+/// Returns the image of a store.
+pub(crate) fn saved(alloc: Global, store: &Store<Global>) -> Result<Vec<u8>, Fail> {
+    let mut sink = Sink::new(Vec::new(alloc));
+    if save(alloc, store, &mut sink).is_err() {
+        Err("no image")?;
+    }
+    Ok(sink.into_inner())
+}
+
+/// Returns the image of `worked_store`.
+pub(crate) fn worked_image(alloc: Global) -> Result<Vec<u8>, Fail> {
+    let store = worked_store(alloc)?;
+    saved(alloc, &store)
+}
+
+/// Loads the image in some bytes.
+pub(crate) fn loaded(alloc: Global, bytes: &[u8]) -> Result<Store<Global>, LoadFault> {
+    load(alloc, &mut Source::new(bytes))
+}
