@@ -7,6 +7,8 @@
 mod block_bytes;
 #[cfg(test)]
 mod refused;
+mod cell_limits;
+#[cfg(test)]
 mod columns;
 #[cfg(test)]
 mod devices;
@@ -24,6 +26,8 @@ mod line_spans;
 mod messages;
 #[cfg(test)]
 mod refusing;
+#[cfg(test)]
+mod script_devices;
 #[cfg(test)]
 mod stale_plans;
 #[cfg(test)]

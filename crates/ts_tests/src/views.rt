@@ -73,7 +73,7 @@ fn merged(a: Agg, b: Agg) -> Result<Agg, Fail> {
 }
 
 /// Returns the aggregate of 2^62 - 1 points of value 1 at this time.
-fn all_but_one(time: Time) -> Result<Agg, Fail> {
+pub(crate) fn all_but_one(time: Time) -> Result<Agg, Fail> {
     let one = Agg::single(time, 1);
     let mut total = Agg::empty();
     for _ in 0..62 {
