@@ -6,7 +6,6 @@
 #[cfg(test)]
 mod block_bytes;
 #[cfg(test)]
-mod refused;
 mod cell_limits;
 #[cfg(test)]
 mod columns;
@@ -24,6 +23,8 @@ mod index_limits;
 mod line_spans;
 #[cfg(test)]
 mod messages;
+#[cfg(test)]
+mod refused;
 #[cfg(test)]
 mod refusing;
 #[cfg(test)]
