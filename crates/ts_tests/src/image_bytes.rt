@@ -31,10 +31,9 @@ fn is_fault_or_store(alloc: Global, bytes: &[u8]) -> Result<bool, Fail> {
     match loaded(alloc, bytes) {
         Ok(store) => {
             let mut store = store;
-            let same = saved(alloc, &store)?.as_slice() == bytes;
             let answers = answers_calls(alloc, &mut store)?;
             let _image = saved(alloc, &store)?;
-            Ok(same && answers)
+            Ok(answers)
         }
         Err(LoadFault::Device | LoadFault::Turns | LoadFault::OutOfMemory) => Ok(false),
         Err(_) => Ok(true),

@@ -136,28 +136,37 @@ fn is_stale_with(
     }
 }
 
-/// Returns true if a plan is executed before a change of the rules, and is stale after it.
-fn is_stale_after(
-    alloc: Global,
-    certificate: Option<&str>,
-    change: (Option<&str>, Option<&str>, &[i128]),
-) -> Result<bool, Fail> {
+/// Returns a store whose points are dropped: a run of retention at 200 seconds follows the lines.
+fn dropped_points(alloc: Global) -> Result<Store<Global>, Fail> {
     let now = at_second(200)?;
     let mut store = store_of(alloc, alloc, ONE_RULE)?;
     if !write_all(alloc, &mut store, &OLD_LINES)? || store.retain(now).is_err() {
         Err("a refused line")?;
     }
-    let plan = checked(alloc, &store, certificate).ok_or("no plan")?;
-    let before = is_stale(&store, &plan) || execute(alloc, &store, &plan).is_err();
-    change_rules(alloc, &mut store, change.0, change.1)?;
-    Ok(!before && is_stale(&store, &plan) && is_stale_with(alloc, &store, &plan, change.2))
+    Ok(store)
+}
+
+/// Returns true if a plan is executed before a change of the rules, and is stale after it.
+fn is_stale_after(
+    alloc: Global,
+    store: &mut Store<Global>,
+    plan: &Checked<Global>,
+    change: (Option<&str>, Option<&str>, &[i128]),
+) -> Result<bool, Fail> {
+    if is_stale(store, plan) || execute(alloc, store, plan).is_err() {
+        return Ok(false);
+    }
+    change_rules(alloc, store, change.0, change.1)?;
+    Ok(is_stale(store, plan) && is_stale_with(alloc, store, plan, change.2))
 }
 
 #[test]
 fn a_change_of_the_rules_makes_plans_stale(rt: HostRuntime) -> Result<(), Fail> {
     for certificate in [Some(CELLS), None] {
         for change in CHANGES {
-            let stale = is_stale_after(rt.alloc(), certificate, change)?;
+            let mut store = dropped_points(rt.alloc())?;
+            let plan = checked(rt.alloc(), &store, certificate).ok_or("no plan")?;
+            let stale = is_stale_after(rt.alloc(), &mut store, &plan, change)?;
             assert!(rt; stale, "{certificate:?} {change:?}");
         }
     }
