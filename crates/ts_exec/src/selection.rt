@@ -11,6 +11,7 @@ use ts_core::Key;
 use ts_ql::{Condition, Query};
 use ts_store::{ColumnSeen, Columns, View};
 
+/// Returns true if a series meets a condition.
 fn is_met<A: Allocator + Copy>(key: &Key<A>, condition: &Condition<A>) -> bool
     ensures { result ≡ meets key.now condition.now }
 {
