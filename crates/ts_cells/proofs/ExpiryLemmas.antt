@@ -12,13 +12,13 @@ use Rattle.std.proofs.lemmas.Cmp.{tied_itself}
 use Rattle.std.specs.Cmp.{int_cmp_total}
 use Rattle.std.proofs.lemmas.Grind.{get_or-set_at}
 use Rattle.std.proofs.Math.Nat.{eq-or-lt_of_le}
-use Rattle.ts_core.specs.Members.{AllDistinct}
-use Rattle.ts_core.specs.Cells.{Cell, cell_cmp}
-use Rattle.ts_core.proofs.Ids.{equal_of}
-use Rattle.ts_core.proofs.PieceCells.{cells_total}
-use Rattle.ts_core.proofs.Comparisons.{lt_not}
-use Rattle.ts_core.proofs.Places.{both_of, less_of}
-use Rattle.ts_core.specs.Changes.{or_else}
+use Rattle.ts_core.specs.lists.Members.{AllDistinct}
+use Rattle.ts_core.specs.store.Cells.{Cell, cell_cmp}
+use Rattle.ts_core.proofs.facts.Ids.{equal_of}
+use Rattle.ts_core.proofs.plans.PieceCells.{cells_total}
+use Rattle.ts_core.proofs.lists.Comparisons.{lt_not}
+use Rattle.ts_core.proofs.lists.Places.{both_of, less_of}
+use Rattle.ts_core.specs.lists.Changes.{or_else}
 use Rattle.std.specs.Bool.{OnTrue, OnFalse}
 use Rattle.ts_cells.specs.Grids.{Lane, lane_of, cell_at, RowOf, held, cell_in, entries_of, RowsRise, cells_of_bucket, HasLost}
 use Rattle.ts_cells.specs.Expiry.{HasEmptyFront, LosesOne, RemovesOne, IsAbove}

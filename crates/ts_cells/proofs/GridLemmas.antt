@@ -5,14 +5,14 @@ use Rattle.std.specs.Cmp.{int_cmp_total}
 use Rattle.std.specs.FinMap.{FinMap, find, get, from_entries, get-from_entries, same_map}
 use Rattle.std.specs.FinMap.Entries.{below_all}
 use Rattle.std.proofs.lemmas.Map.Lookups.{exact_signed}
-use Rattle.ts_core.specs.Members.{Among, AllDistinct}
-use Rattle.ts_core.specs.Cells.{Cell, cell_cmp, same_cell}
-use Rattle.ts_core.proofs.PieceCells.{cells_total, exact_cells, same_cell-eq, same_cell-refl}
-use Rattle.ts_core.proofs.Places.{both_of}
-use Rattle.ts_core.proofs.Ids.{equal_of}
+use Rattle.ts_core.specs.lists.Members.{Among, AllDistinct}
+use Rattle.ts_core.specs.store.Cells.{Cell, cell_cmp, same_cell}
+use Rattle.ts_core.proofs.plans.PieceCells.{cells_total, exact_cells, same_cell-eq, same_cell-refl}
+use Rattle.ts_core.proofs.lists.Places.{both_of}
+use Rattle.ts_core.proofs.facts.Ids.{equal_of}
 use Rattle.std.proofs.lemmas.Cmp.{tied_itself}
 use Rattle.std.proofs.Common.{pos}
-use Rattle.ts_core.specs.Changes.{or_else}
+use Rattle.ts_core.specs.lists.Changes.{or_else}
 use Rattle.ts_cells.proofs.Searches.{find_below}
 use Rattle.ts_cells.specs.Grids.{Lane, no_lane, lane_of, cell_at, cell_in, RowOf, held, row_entries, entries_of, RowsRise, cells_of_bucket}
 

@@ -9,13 +9,13 @@ use Rattle.std.specs.List.Sorted.{IsPartitionPoint}
 use Rattle.std.proofs.lemmas.Cmp.{tied_itself}
 use Rattle.std.proofs.lemmas.Map.Lookups.{exact_signed}
 use Rattle.std.proofs.lemmas.Bool.{and_parts}
-use Rattle.ts_core.specs.Members.{Among, AllDistinct}
-use Rattle.ts_core.specs.Cells.{Cell, cell_cmp, same_cell}
-use Rattle.ts_core.proofs.Ids.{equal_of}
-use Rattle.ts_core.proofs.PieceCells.{cells_total, same_cell-eq, same_cell-refl}
-use Rattle.ts_core.proofs.Places.{put_at, put_between, found_at}
-use Rattle.ts_core.proofs.Comparisons.{same_bool}
-use Rattle.ts_core.specs.Changes.{or_else, changed, with_change}
+use Rattle.ts_core.specs.lists.Members.{Among, AllDistinct}
+use Rattle.ts_core.specs.store.Cells.{Cell, cell_cmp, same_cell}
+use Rattle.ts_core.proofs.facts.Ids.{equal_of}
+use Rattle.ts_core.proofs.plans.PieceCells.{cells_total, same_cell-eq, same_cell-refl}
+use Rattle.ts_core.proofs.lists.Places.{put_at, put_between, found_at}
+use Rattle.ts_core.proofs.lists.Comparisons.{same_bool}
+use Rattle.ts_core.specs.lists.Changes.{or_else, changed, with_change}
 use Rattle.ts_cells.specs.CellChanges.{roomy, with_room}
 use Rattle.ts_cells.specs.Grids.{Lane, no_lane, lane_of, cell_in, RowOf, held, entries_of, RowsRise, cells_of_bucket}
 use Rattle.ts_cells.proofs.Searches.{missing}

@@ -2,12 +2,12 @@
 use Rattle.std.proofs.Common.{◌≡◌, ℕ, ℤ, ◌<◌, ◌≤◌, ◌+◌, List, [], ◌∷◌, ◌++◌, length, length-append, get_or, take, map, String, string_bytes, Bor, refl, sym, ◌∙◌, ap, ap₂, subst, Option, Some, None, inl, inr, arith}
 use Rattle.std.specs.List.{AllByRecursion}
 use Rattle.std.proofs.Common.{Result, Ok, Err, OnOk}
-use Rattle.ts_core.specs.Members.{Among}
-use Rattle.ts_core.proofs.NumberedLemmas.{once_more}
+use Rattle.ts_core.specs.lists.Members.{Among}
+use Rattle.ts_core.proofs.lists.NumberedLemmas.{once_more}
 use Rattle.std.proofs.lemmas.List.{take_more}
-use Rattle.ts_core.specs.Facts.{Text}
-use Rattle.ts_core.specs.Numbered.{Gains}
-use Rattle.ts_core.proofs.ListSteps.{map-push}
+use Rattle.ts_core.specs.facts.Facts.{Text}
+use Rattle.ts_core.specs.lists.Numbered.{Gains}
+use Rattle.ts_core.proofs.lists.ListSteps.{map-push}
 use Rattle.std.specs.Hash.FoldHasher.{write}
 use Rattle.std.specs.declared.hash.FoldHasher.{FoldHasher}
 use Rattle.ts_cells.specs.Lanes.{hash_of_texts}

@@ -13,10 +13,10 @@ use Rattle.std.proofs.lemmas.List.{get_or_append_left}
 use Rattle.std.proofs.lemmas.Option.{slice_get-get_or}
 use Rattle.std.proofs.lemmas.Bool.{cases_lt}
 use Rattle.std.proofs.Math.Seq.{get_or-append_seam}
-use Rattle.ts_core.specs.Members.{Among}
-use Rattle.ts_core.specs.Facts.{Text, text_cmp}
-use Rattle.ts_core.proofs.Ids.{equal_of}
-use Rattle.ts_core.proofs.Places.{rises, put_between}
+use Rattle.ts_core.specs.lists.Members.{Among}
+use Rattle.ts_core.specs.facts.Facts.{Text, text_cmp}
+use Rattle.ts_core.proofs.facts.Ids.{equal_of}
+use Rattle.ts_core.proofs.lists.Places.{rises, put_between}
 use Rattle.ts_cells.specs.Grids.{Lane, no_lane}
 use Rattle.ts_cells.specs.Lanes.{lane_cmp, found_cmp, lanes_numbered, AreInside, IsOrdered}
 use Rattle.ts_cells.proofs.GridLemmas.{get_among}

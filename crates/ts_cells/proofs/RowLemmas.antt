@@ -5,7 +5,7 @@ use Rattle.std.proofs.lemmas.Option.{slice_get_past, slice_get-get_or}
 use Rattle.std.proofs.lemmas.List.{length-set, length-take-le, get_or_append_left}
 use Rattle.std.proofs.lemmas.Bool.{cases_lt}
 use Rattle.std.proofs.Math.Seq.{get_or-append_seam}
-use Rattle.ts_core.specs.Changes.{or_else}
+use Rattle.ts_core.specs.lists.Changes.{or_else}
 use Rattle.ts_cells.specs.Grids.{held, HasLost}
 use Rattle.ts_cells.specs.Rows.{no_place, place_of, by_lane, IsPlaced}
 

@@ -2,7 +2,7 @@
 use Rattle.std.proofs.Common.{◌≡◌, ℕ, zero, suc, ◌<◌, ◌≤◌, cond, T, List, [], ◌∷◌, length, get_or, ap, ◌∙◌, refl, Some, None, Result, Ok, Err, MatchResult, HoldsAt, is_eq, arith, Ordering, Less, Equal, Greater}
 use Rattle.std.specs.Ordering.{ordering_index, ordering_reverse}
 use Rattle.std.specs.FinMap.Entries.{below_all}
-use Rattle.ts_core.proofs.Places.{both_of, less_of}
+use Rattle.ts_core.proofs.lists.Places.{both_of, less_of}
 use Rattle.std.specs.Cmp.{IsTotalOrder}
 use Rattle.std.specs.FinMap.{find}
 use Rattle.std.specs.List.Sorted.{IsPartitionPoint, IsBinarySearchResult, IsNonDecreasingBy}

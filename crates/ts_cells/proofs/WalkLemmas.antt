@@ -11,14 +11,14 @@ use Rattle.std.proofs.lemmas.Map.Lookups.{exact_signed}
 use Rattle.std.proofs.lemmas.List.{map-append}
 use Rattle.std.proofs.lemmas.List.Elements.{filter-append}
 use Rattle.std.proofs.lemmas.Option.{slice_get-get_or}
-use Rattle.ts_core.specs.Members.{Among, AllDistinct}
-use Rattle.ts_core.specs.Facts.{is_within}
-use Rattle.ts_core.specs.Cells.{Cell, cell_cmp, same_cell}
-use Rattle.ts_core.specs.Changes.{or_else}
-use Rattle.ts_core.proofs.Ids.{equal_of}
-use Rattle.ts_core.proofs.PieceCells.{cells_total, exact_cells, same_cell-eq}
-use Rattle.ts_core.proofs.Places.{both_of, less_of}
-use Rattle.ts_core.specs.Numbered.{IsAt}
+use Rattle.ts_core.specs.lists.Members.{Among, AllDistinct}
+use Rattle.ts_core.specs.facts.Facts.{is_within}
+use Rattle.ts_core.specs.store.Cells.{Cell, cell_cmp, same_cell}
+use Rattle.ts_core.specs.lists.Changes.{or_else}
+use Rattle.ts_core.proofs.facts.Ids.{equal_of}
+use Rattle.ts_core.proofs.plans.PieceCells.{cells_total, exact_cells, same_cell-eq}
+use Rattle.ts_core.proofs.lists.Places.{both_of, less_of}
+use Rattle.ts_core.specs.lists.Numbered.{IsAt}
 use Rattle.ts_cells.specs.Grids.{Lane, no_lane, lane_of, cell_at, cell_in, RowOf, held, entries_of, RowsRise, cells_of_bucket}
 use Rattle.ts_cells.specs.Lanes.{lane_cmp, lanes_numbered, AreInside, IsOrdered}
 use Rattle.ts_cells.specs.Walks.{KeptCell, entry_of, with_kept, row_left, walk_left, entries_within}

@@ -2,8 +2,8 @@
 use Rattle.std.specs.Prelude.{ℕ, Option, Some, None}
 use Rattle.std.specs.declared.cmp.Ordering.{Ordering}
 use Rattle.std.specs.FinMap.{FinMap, get, insert}
-use Rattle.ts_core.specs.Changes.{joined_within}
-use Rattle.ts_core.specs.TwoParts.{PartsOf, in_frozen, in_live, with_live}
+use Rattle.ts_core.specs.lists.Changes.{joined_within}
+use Rattle.ts_core.specs.store.TwoParts.{PartsOf, in_frozen, in_live, with_live}
 use Rattle.ts_cells.specs.declared.parts.Change.{Change}
 use Rattle.ts_cells.specs.declared.parts.Change.TheVariants.{Freeze, Add, Correct}
 

@@ -4,7 +4,7 @@ use Rattle.std.specs.Ordering.{int_cmp, eq_by_cmp}
 use Rattle.std.specs.List.{AllWithin}
 use Rattle.std.specs.FinMap as finmap
 use Rattle.std.specs.FinMap.{FinMap}
-use Rattle.ts_core.specs.Cells.{Cell, cell_cmp}
+use Rattle.ts_core.specs.store.Cells.{Cell, cell_cmp}
 use Rattle.ts_cells.specs.Grids.{RowOf, held, cells_of_bucket}
 
 -- the first `count` rows have no cells

@@ -5,12 +5,12 @@ use Rattle.std.specs.List.{AllByRecursion}
 use Rattle.std.specs.FinMap as finmap
 use Rattle.std.specs.FinMap.{FinMap, is_sorted, find, from_entries}
 use Rattle.std.specs.Coded.{Coded, code_by, coded×, coded_list}
-use Rattle.ts_core.specs.Members.{AllDistinct}
+use Rattle.ts_core.specs.lists.Members.{AllDistinct}
 use Rattle.std.specs.Borrow.{Bor}
-use Rattle.ts_core.specs.Facts.{Text}
-use Rattle.ts_core.specs.Cells.{Cell, cell_cmp}
-use Rattle.ts_core.specs.Changes.{or_else}
-use Rattle.ts_core.specs.StoreCodes.{coded_text, coded_cell}
+use Rattle.ts_core.specs.facts.Facts.{Text}
+use Rattle.ts_core.specs.store.Cells.{Cell, cell_cmp}
+use Rattle.ts_core.specs.lists.Changes.{or_else}
+use Rattle.ts_core.specs.store.StoreCodes.{coded_text, coded_cell}
 
 -- a field with a group, shared by its cells in all buckets
 pub record Lane : Type 0 where

@@ -8,8 +8,8 @@ use Rattle.std.specs.Ordering.{ordering_then}
 use Rattle.std.specs.Cmp.Lexicographic.{slice_cmp}
 use Rattle.std.specs.List.{AllByRecursion}
 use Rattle.std.specs.FinMap.{is_sorted, find}
-use Rattle.ts_core.specs.Facts.{Text, text_cmp}
-use Rattle.ts_core.specs.Tables.{IsTable}
+use Rattle.ts_core.specs.facts.Facts.{Text, text_cmp}
+use Rattle.ts_core.specs.lists.Tables.{IsTable}
 use Rattle.ts_cells.specs.Grids.{Lane, no_lane}
 
 -- lanes are ordered by field, then group

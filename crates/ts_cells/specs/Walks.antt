@@ -3,9 +3,9 @@ use Rattle.std.specs.Prelude.{ℕ, ℤ, List, [], ◌∷◌, ◌++◌, filter, O
 use Rattle.std.specs.FinMap as finmap
 use Rattle.std.specs.FinMap.{FinMap}
 use Rattle.std.specs.Coded.{Coded, code_by, coded×, coded_ℕ}
-use Rattle.ts_core.specs.Facts.{is_within}
-use Rattle.ts_core.specs.Cells.{Cell, cell_cmp}
-use Rattle.ts_core.specs.StoreCodes.{coded_cell}
+use Rattle.ts_core.specs.facts.Facts.{is_within}
+use Rattle.ts_core.specs.store.Cells.{Cell, cell_cmp}
+use Rattle.ts_core.specs.store.StoreCodes.{coded_cell}
 use Rattle.ts_cells.specs.Grids.{Lane, cell_in, RowOf, held}
 
 -- a cell with its part and the index of its lane

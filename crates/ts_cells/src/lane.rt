@@ -1,7 +1,7 @@
 //! A lane: one rollup series of a rule, which is a field with the values of the kept tags.
 ghost use Rattle.std.specs.Prelude.{◌≡◌, ◌↔◌, IsTrue, IfOk, map, string_bytes};
 ghost use Rattle.std.specs.Cmp.Lexicographic.{slice_cmp};
-ghost use Rattle.ts_core.specs.Facts.{text_cmp};
+ghost use Rattle.ts_core.specs.facts.Facts.{text_cmp};
 ghost use Rattle.ts_cells.specs.Grids.{lent_texts, lane_named};
 ghost use Rattle.ts_cells.specs.Lanes.{lane_cmp, hash_of_lane};
 

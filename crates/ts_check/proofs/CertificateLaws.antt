@@ -3,8 +3,8 @@ use Rattle.std.proofs.Common.{◌≡◌, ℕ, ◌+◌, ◌<◌, ◌≤◌, List,
 use Rattle.std.specs.List.{flat_map}
 use Rattle.std.proofs.lemmas.List.{take-append-drop, length-take-le}
 use Rattle.std.proofs.Math.Seq.{take-append_seam}
-use Rattle.ts_core.specs.Facts.{Text}
-use Rattle.ts_core.specs.Pieces.{Source, Raw, Rollup, Piece}
+use Rattle.ts_core.specs.facts.Facts.{Text}
+use Rattle.ts_core.specs.plans.Pieces.{Source, Raw, Rollup, Piece}
 use Rattle.ts_check.specs.CertificateTexts.{HasSpelling, EachHasSpelling, source_text, range_text, piece_text, piece_line, certificate_text, IsCertificate, Beginning, NoLine, Open, Closed, beginning_pieces, beginning_text, BeginsWell, IsFirstBadLine, IsReadingOf, IsReadAs, IsOneCertificate}
 use Rattle.ts_check.specs.CertificateLines.{Lacks, IsPiece, HasPiece, Stops, IsReadingIfRoom}
 use Rattle.ts_check.specs.declared.certificate_fault.ReadCertificateError.{ReadCertificateError}

@@ -10,10 +10,10 @@ use Rattle.std.proofs.lemmas.Str.Parse.{digit_at}
 use Rattle.std.proofs.lemmas.Str.Pattern.{IsSplitOnceResult, split_parts}
 use Rattle.std.proofs.lemmas.Int.{to_z-of_z}
 use lib.Signed.{mag}
-use Rattle.ts_core.specs.Facts.{Text}
-use Rattle.ts_core.specs.Pieces.{Source, Raw, Rollup, Piece}
-use Rattle.ts_core.specs.SettingsFaults.{is_between, is_name_byte, is_rule_name}
-use Rattle.ts_core.proofs.Walks.{same_piece as same_parts}
+use Rattle.ts_core.specs.facts.Facts.{Text}
+use Rattle.ts_core.specs.plans.Pieces.{Source, Raw, Rollup, Piece}
+use Rattle.ts_core.specs.settings.SettingsFaults.{is_between, is_name_byte, is_rule_name}
+use Rattle.ts_core.proofs.plans.Walks.{same_piece as same_parts}
 use Rattle.ts_check.specs.CertificateTexts.{HasRuleName, HasSpelling, source_text, range_text, piece_text, piece_line}
 use Rattle.ts_check.specs.CertificateLines.{Lacks, IsNumber, IsRange, IsSource, IsPiece}
 

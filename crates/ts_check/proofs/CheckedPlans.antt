@@ -1,10 +1,10 @@
 -- Plans without a fault are valid, and so are their copies.
 use Rattle.std.proofs.Common.{◌≡◌, sym, subst, ap, ◌∙◌, List, Some, None, Result, Err}
-use Rattle.ts_core.specs.Settings.{Settings}
-use Rattle.ts_core.specs.Marks.{Marks}
-use Rattle.ts_core.specs.Pieces.{Piece, IsValid}
-use Rattle.ts_core.specs.Faults.{first_fault}
-use Rattle.ts_core.proofs.Validity.{first_fault-valid, first_fault-not_valid}
+use Rattle.ts_core.specs.settings.Settings.{Settings}
+use Rattle.ts_core.specs.store.Marks.{Marks}
+use Rattle.ts_core.specs.plans.Pieces.{Piece, IsValid}
+use Rattle.ts_core.specs.plans.Faults.{first_fault}
+use Rattle.ts_core.proofs.plans.Validity.{first_fault-valid, first_fault-not_valid}
 use Rattle.ts_ql.specs.Selects.{Select}
 use Rattle.ts_check.specs.Checks.{Plan, IsValidPlan, IsCheckOf}
 use Rattle.ts_check.specs.declared.fault.CheckError.{CheckError}

@@ -2,9 +2,9 @@
 use Rattle.std.proofs.Common.{◌<◌, ◌≤◌, ◌^◌, length, arith, length-append}
 use Rattle.std.specs.Fmt.{decimal}
 use Rattle.std.proofs.lemmas.Fmt.{length-decimal-le}
-use Rattle.ts_core.specs.declared.fault.Fault.{Fault}
-use Rattle.ts_core.specs.declared.fault.Fault.TheVariants.{Gap, BelowMark, NoSuchRule, OtherMeasurement, OffBoundary, BelowLow, Straddles, TagNotKept}
-use Rattle.ts_core.specs.Faults.{fault_number}
+use Rattle.ts_core.specs.declared.plans.fault.Fault.{Fault}
+use Rattle.ts_core.specs.declared.plans.fault.Fault.TheVariants.{Gap, BelowMark, NoSuchRule, OtherMeasurement, OffBoundary, BelowLow, Straddles, TagNotKept}
+use Rattle.ts_core.specs.plans.Faults.{fault_number}
 use Rattle.ts_check.specs.declared.fault.CheckFault.{CheckFault}
 use Rattle.ts_check.specs.declared.certificate_fault.CertificateFault.{CertificateFault}
 use Rattle.ts_check.specs.CheckTexts.{check_fault_text, certificate_fault_text}

@@ -1,10 +1,10 @@
 -- Marked rules: how many there are, and that each has buckets of a nanosecond or more.
 use Rattle.std.proofs.Common.{◌≡◌, ◌≤◌, pos, ◌≤ℤ◌, ℤ, arith, List, [], ◌∷◌, length, Some}
 use Rattle.std.specs.List.{AllByRecursion}
-use Rattle.ts_core.specs.Facts.{Text}
-use Rattle.ts_core.specs.Settings.{Rule}
-use Rattle.ts_core.specs.Pieces.{MarkedRule, marked_rules, rule_named}
-use Rattle.ts_core.proofs.GoodPlaces.{number_of, rule_wide}
+use Rattle.ts_core.specs.facts.Facts.{Text}
+use Rattle.ts_core.specs.settings.Settings.{Rule}
+use Rattle.ts_core.specs.plans.Pieces.{MarkedRule, marked_rules, rule_named}
+use Rattle.ts_core.proofs.plans.GoodPlaces.{number_of, rule_wide}
 
 pub marked_rules-short : (rs : List Rule) (lows : List ℤ) → length (marked_rules rs lows) ≤ length rs
 marked_rules-short [] lows = omega arith

@@ -2,8 +2,8 @@
 use Rattle.std.specs.Prelude.{◌≡◌, ◌⊎◌, ℕ, ℤ, ◌<◌, ◌≢◌, List, ◌++◌, length, codes, Option, Some, None, Result, Ok, Err, FitsSigned, slice_index}
 use Rattle.std.specs.Fmt.{signed_decimal}
 use Rattle.std.specs.Int.{w64}
-use Rattle.ts_core.specs.Facts.{Text}
-use Rattle.ts_core.specs.Pieces.{Source, Piece}
+use Rattle.ts_core.specs.facts.Facts.{Text}
+use Rattle.ts_core.specs.plans.Pieces.{Source, Piece}
 use Rattle.ts_check.specs.CertificateTexts.{HasRuleName, HasSpelling, source_text, range_text, piece_text, piece_line, IsCertificate, IsFirstBadLine}
 use Rattle.ts_check.specs.declared.certificate_fault.ReadCertificateError.{ReadCertificateError}
 use Rattle.ts_check.specs.declared.certificate_fault.ReadCertificateError.TheVariants as errors

@@ -11,9 +11,9 @@ use Rattle.std.specs.Fmt.{decimal, signed_decimal}
 use Rattle.std.specs.Int.{w64}
 use Rattle.std.specs.List.{list_all, AllByRecursion, flat_map}
 use Rattle.std.specs.Str.Parse.{digits_value}
-use Rattle.ts_core.specs.Facts.{Text}
-use Rattle.ts_core.specs.Pieces.{Source, Raw, Rollup, Piece}
-use Rattle.ts_core.specs.SettingsFaults.{is_rule_name}
+use Rattle.ts_core.specs.facts.Facts.{Text}
+use Rattle.ts_core.specs.plans.Pieces.{Source, Raw, Rollup, Piece}
+use Rattle.ts_core.specs.settings.SettingsFaults.{is_rule_name}
 use Rattle.ts_check.specs.declared.certificate_fault.ReadCertificateError.{ReadCertificateError}
 use Rattle.ts_check.specs.declared.certificate_fault.ReadCertificateError.TheVariants as errors
 

@@ -1,9 +1,9 @@
 -- Messages of the errors of plans and of certificates' texts. (Own rules.)
-use Rattle.ts_core.specs.Facts.{Text}
-use Rattle.ts_core.specs.declared.fault_code.FaultCode.TheVariants.{BadCertificate}
-use Rattle.ts_core.specs.declared.fault_text.FaultDetail.TheVariants.{At, OfPiece}
-use Rattle.ts_core.specs.Faults.{piece_fault_code}
-use Rattle.ts_core.specs.FaultTexts.{fault_text, memory_text}
+use Rattle.ts_core.specs.facts.Facts.{Text}
+use Rattle.ts_core.specs.declared.text.fault_code.FaultCode.TheVariants.{BadCertificate}
+use Rattle.ts_core.specs.declared.text.fault_text.FaultDetail.TheVariants.{At, OfPiece}
+use Rattle.ts_core.specs.plans.Faults.{piece_fault_code}
+use Rattle.ts_core.specs.text.FaultTexts.{fault_text, memory_text}
 use Rattle.ts_check.specs.declared.fault.CheckFault.{CheckFault}
 use Rattle.ts_check.specs.declared.fault.CheckError.{CheckError}
 use Rattle.ts_check.specs.declared.fault.CheckError.TheVariants as checks

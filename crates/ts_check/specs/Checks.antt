@@ -1,11 +1,11 @@
 -- The result of a check of a plan: acceptance, or the first error. (Own rules.)
 use Rattle.std.specs.Prelude.{◌≡◌, ℕ, pos, ◌≤ℤ◌, List, Option, Some, None, Result, Ok, Err}
 use Rattle.std.specs.List.{AllByRecursion}
-use Rattle.ts_core.specs.Settings.{Settings}
-use Rattle.ts_core.specs.Marks.{Marks}
-use Rattle.ts_core.specs.Pieces.{Piece, MarkedRule, Asked, IsValid}
-use Rattle.ts_core.specs.declared.fault.Fault.{Fault}
-use Rattle.ts_core.specs.Faults.{first_fault}
+use Rattle.ts_core.specs.settings.Settings.{Settings}
+use Rattle.ts_core.specs.store.Marks.{Marks}
+use Rattle.ts_core.specs.plans.Pieces.{Piece, MarkedRule, Asked, IsValid}
+use Rattle.ts_core.specs.declared.plans.fault.Fault.{Fault}
+use Rattle.ts_core.specs.plans.Faults.{first_fault}
 use Rattle.ts_ql.specs.Selects.{Select}
 use Rattle.ts_check.specs.declared.fault.CheckError.{CheckError}
 use Rattle.ts_check.specs.declared.fault.CheckError.TheVariants as errors

@@ -1,6 +1,6 @@
 //! A query together with the settings and marks it is planned under.
 ghost use Rattle.std.specs.Prelude.{◌≡◌, ◌≤◌, length, slice_get};
-ghost use Rattle.ts_core.specs.Pieces.{marked_rules, rule_named, asked};
+ghost use Rattle.ts_core.specs.plans.Pieces.{marked_rules, rule_named, asked};
 ghost use Rattle.ts_check.specs.Checks.{HasPositiveIntervals};
 
 use std::alloc::Allocator;
@@ -18,7 +18,7 @@ pub struct MarkedRule<'a, A: Allocator> {
 }
 
 impl<'a, A: Allocator> Model for MarkedRule<'a, A> {
-    ghost use Rattle.ts_core.specs.Pieces.{MarkedRule as MarkedRuleValue};
+    ghost use Rattle.ts_core.specs.plans.Pieces.{MarkedRule as MarkedRuleValue};
 
     ghost Value = { MarkedRuleValue };
 
@@ -34,7 +34,7 @@ pub struct Asked<'a, A: Allocator> {
 }
 
 impl<'a, A: Allocator> Model for Asked<'a, A> {
-    ghost use Rattle.ts_core.specs.Pieces.{Asked as AskedValue, asked};
+    ghost use Rattle.ts_core.specs.plans.Pieces.{Asked as AskedValue, asked};
 
     ghost Value = { AskedValue };
 

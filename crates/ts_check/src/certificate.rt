@@ -39,7 +39,7 @@ pub struct Piece {
 }
 
 impl Model for Piece {
-    ghost use Rattle.ts_core.specs.Pieces.{Piece as PieceValue};
+    ghost use Rattle.ts_core.specs.plans.Pieces.{Piece as PieceValue};
     ghost use Rattle.ts_check.specs.Certificates.{source_of};
 
     ghost Value = { PieceValue };
@@ -69,7 +69,7 @@ pub struct Certificate<A: Allocator> {
 
 impl<A: Allocator> Model for Certificate<A> {
     ghost use Rattle.std.specs.Prelude.{List};
-    ghost use Rattle.ts_core.specs.Pieces.{Piece as PieceValue};
+    ghost use Rattle.ts_core.specs.plans.Pieces.{Piece as PieceValue};
     ghost use Rattle.ts_check.specs.CertificateTexts.{EachHasSpelling};
 
     ghost Value = { List PieceValue };

@@ -1,6 +1,6 @@
 //! Error of a certificate's text, with its byte offset and its message.
 ghost use Rattle.std.specs.Prelude.{◌≡◌, ◌≤◌, length};
-ghost use Rattle.ts_core.specs.FaultTexts.{IsAppended};
+ghost use Rattle.ts_core.specs.text.FaultTexts.{IsAppended};
 ghost use Rattle.ts_check.specs.CheckTexts.{certificate_fault_text, read_certificate_error_text};
 ghost use Rattle.ts_check.specs.declared.certificate_fault.ReadCertificateError.TheVariants as errors;
 

@@ -1,6 +1,6 @@
 //! Errors of a plan, with their pieces and messages.
 ghost use Rattle.std.specs.Prelude.{◌≡◌, ◌≤◌, length};
-ghost use Rattle.ts_core.specs.FaultTexts.{IsAppended};
+ghost use Rattle.ts_core.specs.text.FaultTexts.{IsAppended};
 ghost use Rattle.ts_check.specs.CheckTexts.{check_fault_text, check_error_text};
 ghost use Rattle.ts_check.specs.declared.fault.CheckError.TheVariants as errors;
 

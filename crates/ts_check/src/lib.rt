@@ -11,8 +11,9 @@
 //!     // or the first error, such as BelowMark at piece 0
 //! ```
 //!
-//! To add a condition on pieces: touch valid.rt (in order of precedence), ts_core's specs/Pieces.antt and Faults.antt,
-//! and a `FaultCode`. To change the text of a certificate: read.rt, write.rt and specs/CertificateTexts.antt.
+//! To add a condition on pieces: touch valid.rt (in order of precedence), ts_core's specs/plans/Pieces.antt and
+//! Faults.antt, and a `FaultCode`. To change the text of a certificate: read.rt, write.rt and
+//! specs/CertificateTexts.antt.
 #![tactic(auto)]
 
 mod asked;

@@ -1,6 +1,6 @@
 //! Parses certificates from text.
 ghost use Rattle.std.specs.Prelude.{◌≡◌, ◌+◌, ◌<◌, ◌≤◌, List, ◌∷◌, ◌++◌, codes, length, IfOk, IfErr, IfSome, IfNone, option_map};
-ghost use Rattle.ts_core.specs.Pieces.{Piece as PieceValue};
+ghost use Rattle.ts_core.specs.plans.Pieces.{Piece as PieceValue};
 ghost use Rattle.ts_check.specs.Certificates.{source_of};
 ghost use Rattle.ts_check.specs.CertificateTexts.{EachHasSpelling, IsCertificate, IsFirstBadLine, IsReadingOf, IsReadAs, IsPlainSpelling};
 ghost use Rattle.ts_check.specs.CertificateLines.{TakesSpelled, Lacks, IsNumber, IsRange, IsSource, IsPiece, HasPiece, Stops, IsReadingIfRoom};

@@ -1,6 +1,6 @@
 //! Names of rules, which are short enough to be stored inline.
 ghost use Rattle.std.specs.Prelude.{◌≡◌, ◌≤◌, length, true, false, MatchOption};
-ghost use Rattle.ts_core.specs.SettingsFaults.{is_rule_name};
+ghost use Rattle.ts_core.specs.settings.SettingsFaults.{is_rule_name};
 
 use arrayvec::ArrayString;
 use std::marker::Model;
@@ -14,8 +14,8 @@ pub struct RuleName {
 
 impl Model for RuleName {
     ghost use Rattle.std.specs.Prelude.{◌≡◌, true};
-    ghost use Rattle.ts_core.specs.Facts.{Text};
-    ghost use Rattle.ts_core.specs.SettingsFaults.{is_rule_name};
+    ghost use Rattle.ts_core.specs.facts.Facts.{Text};
+    ghost use Rattle.ts_core.specs.settings.SettingsFaults.{is_rule_name};
 
     ghost Value = { Text };
 

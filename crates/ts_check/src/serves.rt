@@ -3,8 +3,8 @@ ghost use Rattle.std.specs.Prelude.{◌≡◌, ◌||◌, pos, ◌≤ℤ◌, map,
 ghost use Rattle.std.specs.List.{list_all};
 ghost use Rattle.std.specs.Int.{int_rem_euclid};
 ghost use Rattle.std.specs.Ordering.{int_eq};
-ghost use Rattle.ts_core.specs.Faults.{is_boundary, divides, is_in_one_bucket, keeps};
-ghost use Rattle.ts_core.specs.Pieces.{tags_of};
+ghost use Rattle.ts_core.specs.plans.Faults.{is_boundary, divides, is_in_one_bucket, keeps};
+ghost use Rattle.ts_core.specs.plans.Pieces.{tags_of};
 
 use std::alloc::Allocator;
 use ts_core::{Rule, index_of, is_among};

@@ -2,8 +2,8 @@
 ghost use Rattle.std.specs.Prelude.{◌≡◌, ◌&&◌, pos, int_lt, int_le, ◌≤ℤ◌, Some};
 ghost use Rattle.std.specs.List.{AllByRecursion};
 ghost use Rattle.std.specs.Ordering.{int_eq};
-ghost use Rattle.ts_core.specs.Marks.{index_of};
-ghost use Rattle.ts_core.specs.Faults.{rule_fault, piece_fault, gap_at, pieces_fault, first_fault};
+ghost use Rattle.ts_core.specs.store.Marks.{index_of};
+ghost use Rattle.ts_core.specs.plans.Faults.{rule_fault, piece_fault, gap_at, pieces_fault, first_fault};
 
 use crate::asked::{Asked, MarkedRule};
 use crate::certificate::{Piece, PieceSource};

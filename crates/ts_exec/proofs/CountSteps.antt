@@ -2,15 +2,15 @@
 use Rattle.std.proofs.Common.{◌≡◌, ℕ, ◌+◌, ◌<◌, ◌≤◌, min, ℤ, true, false, cond, List, [], ◌∷◌, ◌++◌, map, filter, length, get_or, drop, sym, ◌∙◌, ap, arith}
 use Rattle.std.proofs.lemmas.List.{drop_more}
 use Rattle.std.specs.List.{list_all}
-use Rattle.ts_core.specs.Facts.{Text}
-use Rattle.ts_core.specs.Settings.{Rule}
-use Rattle.ts_core.specs.Marks.{index_of}
-use Rattle.ts_core.specs.Queries.{Query, meets}
-use Rattle.ts_core.specs.Pieces.{Piece}
-use Rattle.ts_core.specs.StoreStates.{ColumnPoints, RuleCells, total_in}
-use Rattle.ts_core.specs.Views.{Seen}
-use Rattle.ts_core.specs.Assembly.{rule_shown}
-use Rattle.ts_store.specs.Seats.{Seat, points_at, SeenCell, no_rule, cells_within, cells_at}
+use Rattle.ts_core.specs.facts.Facts.{Text}
+use Rattle.ts_core.specs.settings.Settings.{Rule}
+use Rattle.ts_core.specs.store.Marks.{index_of}
+use Rattle.ts_core.specs.queries.Queries.{Query, meets}
+use Rattle.ts_core.specs.plans.Pieces.{Piece}
+use Rattle.ts_core.specs.store.StoreStates.{ColumnPoints, RuleCells, total_in}
+use Rattle.ts_core.specs.store.Views.{Seen}
+use Rattle.ts_core.specs.plans.Assembly.{rule_shown}
+use Rattle.ts_store.specs.read.Seats.{Seat, points_at, SeenCell, no_rule, cells_within, cells_at}
 use Rattle.ts_exec.specs.GroupTables.{is_cell_taken}
 use Rattle.ts_exec.specs.Shares.{Share, points_of_shares, seat_shares, seats_shares, cell_share, rule_shares, source_shares, pieces_shares}
 use Rattle.ts_exec.proofs.NamedRules.{IsShownAt}

@@ -4,10 +4,10 @@ use Rattle.std.proofs.lemmas.Int.{ints}
 use Rattle.std.specs.List.{list_any}
 use Rattle.std.specs.FinMap.{find, is_sorted}
 use Rattle.std.specs.FinMap.Entries.{below_all, same_entries}
-use Rattle.ts_core.specs.Facts.{Text}
-use Rattle.ts_core.specs.Aggregates.{Aggregate, empty_aggregate}
-use Rattle.ts_core.specs.Answers.{Row, group_cmp, same_group, numbers_from, all_groups}
-use Rattle.ts_core.proofs.GroupsInOrder.{groups_total, exact_groups, same_group-eq, all_groups-among, entries, AreInOrder, all_groups-in_order, any_among, among_any}
+use Rattle.ts_core.specs.facts.Facts.{Text}
+use Rattle.ts_core.specs.aggregates.Aggregates.{Aggregate, empty_aggregate}
+use Rattle.ts_core.specs.queries.Answers.{Row, group_cmp, same_group, numbers_from, all_groups}
+use Rattle.ts_core.proofs.queries.GroupsInOrder.{groups_total, exact_groups, same_group-eq, all_groups-among, entries, AreInOrder, all_groups-in_order, any_among, among_any}
 use Rattle.ts_exec.specs.RowParts.{BucketGrid}
 use Rattle.ts_exec.specs.GroupTables.{Table, IsGroupTable, rows_or, rows_for, rows_from}
 

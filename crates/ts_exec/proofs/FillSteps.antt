@@ -5,16 +5,16 @@ use Rattle.std.proofs.Math.IntN.{suc_ℤ-*ℤ, pos-*ℤ-pos}
 use Rattle.std.proofs.lemmas.List.{drop_all}
 use Rattle.std.proofs.lemmas.Nat.{mul-le}
 use Rattle.std.proofs.lemmas.Int.{ints, fits_signed_from_abs}
-use Rattle.ts_core.specs.declared.fill.Fill.{Fill}
-use Rattle.ts_core.specs.declared.fill.Fill.TheVariants.{Null as NullFill, None as NoneFill, Previous as PreviousFill, Number as NumberFill}
-use Rattle.ts_core.specs.declared.value.Function.{Function}
-use Rattle.ts_core.specs.Facts.{Text}
-use Rattle.ts_core.specs.Aggregates.{Aggregate}
-use Rattle.ts_core.specs.Buckets.{bucket_start}
-use Rattle.ts_core.specs.Queries.{Query}
-use Rattle.ts_core.specs.Answers.{Row, Group, bucket_in}
-use Rattle.ts_core.specs.Fills.{FilledRow, FilledGroup, is_empty, has_data, shown, numbered, repeated, last_data, with_previous, number_value, filled_rows, filled}
-use Rattle.ts_core.proofs.BucketsOrder.{one_more}
+use Rattle.ts_core.specs.declared.queries.fill.Fill.{Fill}
+use Rattle.ts_core.specs.declared.queries.fill.Fill.TheVariants.{Null as NullFill, None as NoneFill, Previous as PreviousFill, Number as NumberFill}
+use Rattle.ts_core.specs.declared.queries.value.Function.{Function}
+use Rattle.ts_core.specs.facts.Facts.{Text}
+use Rattle.ts_core.specs.aggregates.Aggregates.{Aggregate}
+use Rattle.ts_core.specs.aggregates.Buckets.{bucket_start}
+use Rattle.ts_core.specs.queries.Queries.{Query}
+use Rattle.ts_core.specs.queries.Answers.{Row, Group, bucket_in}
+use Rattle.ts_core.specs.queries.Fills.{FilledRow, FilledGroup, is_empty, has_data, shown, numbered, repeated, last_data, with_previous, number_value, filled_rows, filled}
+use Rattle.ts_core.proofs.aggregates.BucketsOrder.{one_more}
 use Rattle.ts_exec.specs.RowParts.{BucketGrid, bucket_grid}
 use Rattle.ts_exec.specs.GroupTables.{rows_from, group_with}
 use Rattle.ts_ql.specs.Selects.{Projection, Select}

@@ -1,9 +1,9 @@
 -- A plan that is fresh is valid for what is seen.
 use Rattle.std.proofs.Common.{sym, subst}
-use Rattle.ts_core.specs.Settings.{Settings}
-use Rattle.ts_core.specs.Marks.{Marks}
-use Rattle.ts_core.specs.Pieces.{IsValid}
-use Rattle.ts_core.specs.Views.{Seen}
+use Rattle.ts_core.specs.settings.Settings.{Settings}
+use Rattle.ts_core.specs.store.Marks.{Marks}
+use Rattle.ts_core.specs.plans.Pieces.{IsValid}
+use Rattle.ts_core.specs.store.Views.{Seen}
 use Rattle.ts_check.specs.Checks.{Plan, IsValidPlan}
 use Rattle.ts_exec.specs.Executions.{IsFresh}
 

@@ -3,27 +3,27 @@ use Rattle.std.proofs.Common.{◌≡◌, ℕ, zero, suc, ◌+◌, ◌<◌, ◌�
 use Rattle.std.proofs.lemmas.Int.{ints}
 use Rattle.std.proofs.lemmas.List.{length-replicate, get_or-replicate}
 use Rattle.std.specs.List.{list_any, AllByRecursion}
-use Rattle.ts_core.specs.Facts.{Text, Fact, is_within}
-use Rattle.ts_core.specs.Aggregates.{Aggregate, empty_aggregate, merged, aggregate_of}
-use Rattle.ts_core.specs.MergeLaws.{aggregate_laws}
-use Rattle.ts_core.specs.Settings.{Settings}
-use Rattle.ts_core.specs.SettingsFaults.{settings_fault}
-use Rattle.ts_core.specs.History.{History, accepted}
-use Rattle.ts_core.specs.Latest.{others, latest, latest_of}
-use Rattle.ts_core.specs.Queries.{Query, IsQuery, matches}
-use Rattle.ts_core.specs.Answers.{Group, same_group, numbers_from, bucket_in, buckets_in, all_groups, is_in_row, at_least_none, answer_of}
-use Rattle.ts_core.specs.Pieces.{Source, Raw, Rollup, Piece, asked, SourceServes, IsValidPiece, Covers, IsValid, start_of}
-use Rattle.ts_core.specs.Cells.{Cell, is_in_cell, total_of}
-use Rattle.ts_core.specs.StoreStates.{facts_of}
-use Rattle.ts_core.specs.Views.{Seen, Shows, shown_total}
-use Rattle.ts_core.specs.Assembly.{in_part, totals_given, aggregate_given, assembled, cell_groups, groups_given, assembled_groups, assembled_row, assembled_answer}
-use Rattle.ts_core.proofs.Intervals.{IsWide, asked_wide, settings_faultless}
-use Rattle.ts_core.proofs.Folds.{fold-count}
-use Rattle.ts_core.proofs.Cuts.{one_fact}
-use Rattle.ts_core.proofs.PieceCells.{serving, start_of-high}
-use Rattle.ts_core.proofs.AssembledRows.{assembled-row}
-use Rattle.ts_core.proofs.AssembledAnswers.{assembled-answer}
-use Rattle.ts_core.proofs.StepStands.{few_accepted}
+use Rattle.ts_core.specs.facts.Facts.{Text, Fact, is_within}
+use Rattle.ts_core.specs.aggregates.Aggregates.{Aggregate, empty_aggregate, merged, aggregate_of}
+use Rattle.ts_core.specs.aggregates.MergeLaws.{aggregate_laws}
+use Rattle.ts_core.specs.settings.Settings.{Settings}
+use Rattle.ts_core.specs.settings.SettingsFaults.{settings_fault}
+use Rattle.ts_core.specs.store.History.{History, accepted}
+use Rattle.ts_core.specs.facts.Latest.{others, latest, latest_of}
+use Rattle.ts_core.specs.queries.Queries.{Query, IsQuery, matches}
+use Rattle.ts_core.specs.queries.Answers.{Group, same_group, numbers_from, bucket_in, buckets_in, all_groups, is_in_row, at_least_none, answer_of}
+use Rattle.ts_core.specs.plans.Pieces.{Source, Raw, Rollup, Piece, asked, SourceServes, IsValidPiece, Covers, IsValid, start_of}
+use Rattle.ts_core.specs.store.Cells.{Cell, is_in_cell, total_of}
+use Rattle.ts_core.specs.store.StoreStates.{facts_of}
+use Rattle.ts_core.specs.store.Views.{Seen, Shows, shown_total}
+use Rattle.ts_core.specs.plans.Assembly.{in_part, totals_given, aggregate_given, assembled, cell_groups, groups_given, assembled_groups, assembled_row, assembled_answer}
+use Rattle.ts_core.proofs.settings.Intervals.{IsWide, asked_wide, settings_faultless}
+use Rattle.ts_core.proofs.aggregates.Folds.{fold-count}
+use Rattle.ts_core.proofs.store.Cuts.{one_fact}
+use Rattle.ts_core.proofs.plans.PieceCells.{serving, start_of-high}
+use Rattle.ts_core.proofs.plans.AssembledRows.{assembled-row}
+use Rattle.ts_core.proofs.plans.AssembledAnswers.{assembled-answer}
+use Rattle.ts_core.proofs.moves.StepStands.{few_accepted}
 use Rattle.ts_exec.specs.Answered.{HasRows}
 use Rattle.ts_exec.specs.RowParts.{bucket_grid}
 use Rattle.ts_exec.specs.GroupTables.{Table, rows_for, rows_from, width, group_with, with_pieces, given}

@@ -9,30 +9,30 @@ use Rattle.std.specs.Ordering.{int_eq, int_cmp}
 use Rattle.std.specs.Cmp.{int_cmp_total}
 use Rattle.std.specs.FinMap.{int_cmp-IsAntisymmetric}
 use Rattle.std.proofs.lemmas.Cmp.{tied_itself}
-use Rattle.ts_core.proofs.Ids.{equal_of}
-use Rattle.ts_core.specs.Facts.{Text, Column, Fact, is_of, is_within}
-use Rattle.ts_core.specs.Partials.{fold_by}
-use Rattle.ts_core.specs.Aggregates.{empty_aggregate, aggregate_of_one, merged, aggregate_of}
-use Rattle.ts_core.specs.MergeLaws.{aggregate_laws}
-use Rattle.ts_core.specs.Tags.{tag_values}
-use Rattle.ts_core.specs.Settings.{Rule}
-use Rattle.ts_core.specs.Marks.{index_of}
-use Rattle.ts_core.specs.Queries.{Query, meets, is_selected, matches, group_of}
-use Rattle.ts_core.specs.Answers.{same_group, bucket_in, is_in_row}
-use Rattle.ts_core.specs.Pieces.{Source, Raw, Rollup, Piece, start_of, IsBoundary}
-use Rattle.ts_core.specs.Cells.{Cell}
-use Rattle.ts_core.specs.StoreStates.{ColumnPoints, facts_at, facts_of, RuleCells, total_in}
-use Rattle.ts_core.specs.Views.{Seen, shown_total}
-use Rattle.ts_core.specs.Assembly.{stand_in, rule_shown, in_part, totals_given, cell_groups}
-use Rattle.ts_core.proofs.AnswersLaws.{filter_both}
-use Rattle.ts_core.proofs.Cuts.{filter-agree}
-use Rattle.ts_core.proofs.Boundaries.{within_parts}
-use Rattle.ts_core.proofs.BucketsOrder.{bucket_le, times_le, bucket_of-start}
-use Rattle.ts_core.proofs.BucketsInRange.{at_least_none-is}
-use Rattle.ts_core.proofs.Comparisons.{le_true, lt_true, same_bool}
-use Rattle.ts_core.proofs.GroupsInOrder.{same_group-eq, same_group-refl}
-use Rattle.ts_core.proofs.Folds.{fold-append}
-use Rattle.ts_store.specs.Seats.{Seat, seats_from, seats_where, no_points, points_at, SeenCell, with_parts, cells_within}
+use Rattle.ts_core.proofs.facts.Ids.{equal_of}
+use Rattle.ts_core.specs.facts.Facts.{Text, Column, Fact, is_of, is_within}
+use Rattle.ts_core.specs.aggregates.Partials.{fold_by}
+use Rattle.ts_core.specs.aggregates.Aggregates.{empty_aggregate, aggregate_of_one, merged, aggregate_of}
+use Rattle.ts_core.specs.aggregates.MergeLaws.{aggregate_laws}
+use Rattle.ts_core.specs.facts.Tags.{tag_values}
+use Rattle.ts_core.specs.settings.Settings.{Rule}
+use Rattle.ts_core.specs.store.Marks.{index_of}
+use Rattle.ts_core.specs.queries.Queries.{Query, meets, is_selected, matches, group_of}
+use Rattle.ts_core.specs.queries.Answers.{same_group, bucket_in, is_in_row}
+use Rattle.ts_core.specs.plans.Pieces.{Source, Raw, Rollup, Piece, start_of, IsBoundary}
+use Rattle.ts_core.specs.store.Cells.{Cell}
+use Rattle.ts_core.specs.store.StoreStates.{ColumnPoints, facts_at, facts_of, RuleCells, total_in}
+use Rattle.ts_core.specs.store.Views.{Seen, shown_total}
+use Rattle.ts_core.specs.plans.Assembly.{stand_in, rule_shown, in_part, totals_given, cell_groups}
+use Rattle.ts_core.proofs.queries.AnswersLaws.{filter_both}
+use Rattle.ts_core.proofs.store.Cuts.{filter-agree}
+use Rattle.ts_core.proofs.queries.Boundaries.{within_parts}
+use Rattle.ts_core.proofs.aggregates.BucketsOrder.{bucket_le, times_le, bucket_of-start}
+use Rattle.ts_core.proofs.queries.BucketsInRange.{at_least_none-is}
+use Rattle.ts_core.proofs.lists.Comparisons.{le_true, lt_true, same_bool}
+use Rattle.ts_core.proofs.queries.GroupsInOrder.{same_group-eq, same_group-refl}
+use Rattle.ts_core.proofs.aggregates.Folds.{fold-append}
+use Rattle.ts_store.specs.read.Seats.{Seat, seats_from, seats_where, no_points, points_at, SeenCell, with_parts, cells_within}
 use Rattle.ts_exec.specs.RowParts.{bucket_grid, place_at}
 use Rattle.ts_exec.specs.GroupTables.{Table, IsGroupTable, width, with_column_parts, with_cell_part, with_seat, with_seats, is_cell_taken, with_cell_parts, with_rule, with_source, with_pieces}
 use Rattle.ts_exec.specs.Shares.{Share, group_in, with_shares, is_share, total_at, point_share, seat_shares, seats_shares, cell_share, rule_shares, source_shares, pieces_shares}

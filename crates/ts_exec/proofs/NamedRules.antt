@@ -1,13 +1,13 @@
 -- The rule of a name that a plan's piece is of: its number, its interval, and its cells.
 use Rattle.std.proofs.Common.{◌≡◌, ℕ, suc, ◌+◌, ◌<◌, ℤ, true, false, cond, refl, sym, ◌∙◌, ap, subst, List, [], ◌∷◌, length, map, get_or, Some, None, arith}
 use Rattle.std.specs.List.{AllByRecursion}
-use Rattle.ts_core.specs.Facts.{Text, same_text}
-use Rattle.ts_core.specs.Settings.{Rule}
-use Rattle.ts_core.specs.Marks.{index_of}
-use Rattle.ts_core.specs.Queries.{Query}
-use Rattle.ts_core.specs.Assembly.{rule_shown}
-use Rattle.ts_core.specs.StoreStates.{RuleCells, rule_of}
-use Rattle.ts_store.specs.Seats.{no_rule, cells_within, cells_at}
+use Rattle.ts_core.specs.facts.Facts.{Text, same_text}
+use Rattle.ts_core.specs.settings.Settings.{Rule}
+use Rattle.ts_core.specs.store.Marks.{index_of}
+use Rattle.ts_core.specs.queries.Queries.{Query}
+use Rattle.ts_core.specs.plans.Assembly.{rule_shown}
+use Rattle.ts_core.specs.store.StoreStates.{RuleCells, rule_of}
+use Rattle.ts_store.specs.read.Seats.{no_rule, cells_within, cells_at}
 use Rattle.ts_exec.specs.FirstOf.{rule_from}
 use Rattle.ts_exec.specs.GroupTables.{Table, with_cell_parts, with_rule}
 

@@ -1,10 +1,10 @@
 -- A bucket's edge, the bucket that starts there, and its edge.
 use Rattle.std.proofs.Common.{◌≡◌, ℕ, ◌+◌, min, ℤ, pos, ◌+ℤ◌, ◌-ℤ◌, ◌≤ℤ◌, ◌<ℤ◌, arith, sym, ◌∙◌, ap, subst}
 use Rattle.std.proofs.lemmas.Int.{ints}
-use Rattle.ts_core.specs.Buckets.{IsBucketOf, bucket_of}
-use Rattle.ts_core.proofs.BucketsOrder.{bucket_is, bucket_same, bucket_le, one_more}
-use Rattle.ts_core.specs.Answers.{at_least_none}
-use Rattle.ts_core.proofs.BucketsInRange.{at_least_none-is}
+use Rattle.ts_core.specs.aggregates.Buckets.{IsBucketOf, bucket_of}
+use Rattle.ts_core.proofs.aggregates.BucketsOrder.{bucket_is, bucket_same, bucket_le, one_more}
+use Rattle.ts_core.specs.queries.Answers.{at_least_none}
+use Rattle.ts_core.proofs.queries.BucketsInRange.{at_least_none-is}
 use Rattle.ts_exec.specs.RowParts.{BucketGrid, place_at, IsEnd}
 
 -- the bucket that starts at an edge

@@ -4,29 +4,29 @@ use Rattle.std.proofs.lemmas.Int.{ints}
 use Rattle.std.specs.List.{list_all, AllByRecursion}
 use Rattle.std.specs.Ordering.{int_eq}
 use Rattle.std.proofs.lemmas.Bool.{and_parts}
-use Rattle.ts_core.specs.Facts.{Text, Fact, is_of, is_within}
-use Rattle.ts_core.specs.Partials.{fold_by}
-use Rattle.ts_core.specs.Aggregates.{Aggregate, empty_aggregate, merged}
-use Rattle.ts_core.specs.MergeLaws.{aggregate_laws}
-use Rattle.ts_core.specs.Settings.{Settings}
-use Rattle.ts_core.specs.SettingsFaults.{settings_fault}
-use Rattle.ts_core.specs.Marks.{Marks, index_of}
-use Rattle.ts_core.specs.History.{History}
-use Rattle.ts_core.specs.Latest.{latest_of}
-use Rattle.ts_core.specs.Tags.{tag_values}
-use Rattle.ts_core.specs.Queries.{Query, IsQuery, Condition, meets, is_selected, matches}
-use Rattle.ts_core.specs.Answers.{at_least_none, bucket_in, is_in_row}
-use Rattle.ts_core.specs.Pieces.{Source, Raw, Rollup, Piece, asked, SourceServes, IsValidPiece, Covers, IsValid, start_of}
-use Rattle.ts_core.specs.StoreStates.{ColumnPoints, RuleCells, total_in}
-use Rattle.ts_core.specs.Views.{Seen, Shows}
-use Rattle.ts_core.specs.Assembly.{rule_shown, assembled}
-use Rattle.ts_core.proofs.Intervals.{IsWide, asked_wide, settings_faultless}
-use Rattle.ts_core.proofs.Folds.{fold-count}
-use Rattle.ts_core.proofs.Cuts.{one_fact, filter-agree}
-use Rattle.ts_core.proofs.Boundaries.{within_parts}
-use Rattle.ts_core.proofs.AssembledRows.{assembled-row}
+use Rattle.ts_core.specs.facts.Facts.{Text, Fact, is_of, is_within}
+use Rattle.ts_core.specs.aggregates.Partials.{fold_by}
+use Rattle.ts_core.specs.aggregates.Aggregates.{Aggregate, empty_aggregate, merged}
+use Rattle.ts_core.specs.aggregates.MergeLaws.{aggregate_laws}
+use Rattle.ts_core.specs.settings.Settings.{Settings}
+use Rattle.ts_core.specs.settings.SettingsFaults.{settings_fault}
+use Rattle.ts_core.specs.store.Marks.{Marks, index_of}
+use Rattle.ts_core.specs.store.History.{History}
+use Rattle.ts_core.specs.facts.Latest.{latest_of}
+use Rattle.ts_core.specs.facts.Tags.{tag_values}
+use Rattle.ts_core.specs.queries.Queries.{Query, IsQuery, Condition, meets, is_selected, matches}
+use Rattle.ts_core.specs.queries.Answers.{at_least_none, bucket_in, is_in_row}
+use Rattle.ts_core.specs.plans.Pieces.{Source, Raw, Rollup, Piece, asked, SourceServes, IsValidPiece, Covers, IsValid, start_of}
+use Rattle.ts_core.specs.store.StoreStates.{ColumnPoints, RuleCells, total_in}
+use Rattle.ts_core.specs.store.Views.{Seen, Shows}
+use Rattle.ts_core.specs.plans.Assembly.{rule_shown, assembled}
+use Rattle.ts_core.proofs.settings.Intervals.{IsWide, asked_wide, settings_faultless}
+use Rattle.ts_core.proofs.aggregates.Folds.{fold-count}
+use Rattle.ts_core.proofs.store.Cuts.{one_fact, filter-agree}
+use Rattle.ts_core.proofs.queries.Boundaries.{within_parts}
+use Rattle.ts_core.proofs.plans.AssembledRows.{assembled-row}
 use Rattle.ts_ql.proofs.CountingLemmas.{in_first}
-use Rattle.ts_store.specs.Seats.{Seat, seats_where, points_at, SeenCell, cells_within}
+use Rattle.ts_store.specs.read.Seats.{Seat, seats_where, points_at, SeenCell, cells_within}
 use Rattle.ts_exec.specs.RowParts.{BucketGrid, bucket_grid, place_at}
 use Rattle.ts_exec.specs.GroupTables.{is_cell_taken}
 use Rattle.ts_exec.specs.Shares.{Share, is_share, total_at, points_of_shares, point_share, seat_shares, seats_shares, cell_share, rule_shares, source_shares, pieces_shares}

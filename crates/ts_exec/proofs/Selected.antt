@@ -2,12 +2,12 @@
 use Rattle.std.proofs.Common.{◌≡◌, ℕ, ℤ, ◌<◌, Bool, true, false, not, cond, List, [], ◌∷◌, filter, refl, sym, ◌∙◌, ap, subst, true≢false, ⊎_elim}
 use Rattle.std.specs.List.{list_all, AllByRecursion}
 use Rattle.std.proofs.lemmas.Bool.{and_parts}
-use Rattle.ts_core.specs.Members.{Among}
-use Rattle.ts_core.specs.Facts.{same_text}
-use Rattle.ts_core.specs.Tags.{tag_value}
-use Rattle.ts_core.specs.Queries.{Query, Condition, meets}
-use Rattle.ts_core.specs.StoreStates.{ColumnPoints}
-use Rattle.ts_store.specs.Seats.{Seat, seat_has}
+use Rattle.ts_core.specs.lists.Members.{Among}
+use Rattle.ts_core.specs.facts.Facts.{same_text}
+use Rattle.ts_core.specs.facts.Tags.{tag_value}
+use Rattle.ts_core.specs.queries.Queries.{Query, Condition, meets}
+use Rattle.ts_core.specs.store.StoreStates.{ColumnPoints}
+use Rattle.ts_store.specs.read.Seats.{Seat, seat_has}
 use Rattle.ts_exec.specs.GroupTables.{Table, with_seat, with_seats, selected_seats, IsNarrowing}
 
 -- ---- what the selected columns give

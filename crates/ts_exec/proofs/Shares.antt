@@ -5,12 +5,12 @@ use Rattle.std.proofs.lemmas.List.{length-set, get_or-set_same, get_or-set_other
 use Rattle.std.specs.List.{list_any}
 use Rattle.std.specs.FinMap.{find, put}
 use Rattle.std.specs.FinMap.Entries.{is_sorted-put, find-put, same_entries}
-use Rattle.ts_core.specs.Facts.{Text}
-use Rattle.ts_core.specs.Partials.{fold_by}
-use Rattle.ts_core.specs.Aggregates.{Aggregate, empty_aggregate, merged}
-use Rattle.ts_core.specs.MergeLaws.{aggregate_laws}
-use Rattle.ts_core.specs.Answers.{group_cmp, same_group}
-use Rattle.ts_core.proofs.GroupsInOrder.{groups_total, exact_groups, same_group-refl, same_group-eq}
+use Rattle.ts_core.specs.facts.Facts.{Text}
+use Rattle.ts_core.specs.aggregates.Partials.{fold_by}
+use Rattle.ts_core.specs.aggregates.Aggregates.{Aggregate, empty_aggregate, merged}
+use Rattle.ts_core.specs.aggregates.MergeLaws.{aggregate_laws}
+use Rattle.ts_core.specs.queries.Answers.{group_cmp, same_group}
+use Rattle.ts_core.proofs.queries.GroupsInOrder.{groups_total, exact_groups, same_group-refl, same_group-eq}
 use Rattle.ts_exec.specs.RowParts.{BucketGrid, added, place_at, with_part, with_point_parts}
 use Rattle.ts_exec.specs.GroupTables.{Table, IsGroupTable, rows_or, rows_for, with_cell_part, with_column_parts}
 use Rattle.ts_exec.specs.Shares.{Share, with_shares, is_share, total_at, point_share}

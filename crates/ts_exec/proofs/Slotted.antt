@@ -8,11 +8,11 @@ use Rattle.std.proofs.lemmas.Cmp.{tied_itself}
 use Rattle.std.specs.FinMap.{find, put, is_sorted}
 use Rattle.std.specs.FinMap.Entries.{below_all, is_sorted-put, find-put, same_entries}
 use Rattle.std.specs.List.Sorted.{IsBinarySearchResult, IsPartitionPoint}
-use Rattle.ts_core.specs.Facts.{Text}
-use Rattle.ts_core.specs.Aggregates.{Aggregate}
-use Rattle.ts_core.specs.Answers.{group_cmp, same_group}
-use Rattle.ts_core.proofs.Places.{both_of, less_of, rises, found_at, put_at, put_between}
-use Rattle.ts_core.proofs.GroupsInOrder.{groups_total, exact_groups, same_group-eq}
+use Rattle.ts_core.specs.facts.Facts.{Text}
+use Rattle.ts_core.specs.aggregates.Aggregates.{Aggregate}
+use Rattle.ts_core.specs.queries.Answers.{group_cmp, same_group}
+use Rattle.ts_core.proofs.lists.Places.{both_of, less_of, rises, found_at, put_at, put_between}
+use Rattle.ts_core.proofs.queries.GroupsInOrder.{groups_total, exact_groups, same_group-eq}
 use Rattle.ts_exec.specs.GroupTables.{IsGroupTable, rows_or, rows_for}
 use Rattle.ts_exec.specs.Slots.{Slots, AreSlots, with_made, made}
 use Rattle.ts_exec.specs.Searches.{IsPlaceOfGroup, HoldsGroup}

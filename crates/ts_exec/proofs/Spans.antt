@@ -2,8 +2,8 @@
 use Rattle.std.proofs.Common.{◌≡◌, ℤ, pos, ◌+ℤ◌, ◌-ℤ◌, ◌≤ℤ◌, ◌≤◌, ◌^◌, unsigned_abs, arith, refl, SFits, w64, to_z, of_z, to_z-of_z}
 use Rattle.std.specs.Int.{w128}
 use Rattle.std.proofs.lemmas.Int.{ints, fits_signed_from_abs}
-use Rattle.ts_core.specs.Buckets.{bucket_of, bucket_start}
-use Rattle.ts_core.proofs.BucketsOrder.{bucket_is, bucket_same, bucket_of-start, one_more}
+use Rattle.ts_core.specs.aggregates.Buckets.{bucket_of, bucket_start}
+use Rattle.ts_core.proofs.aggregates.BucketsOrder.{bucket_is, bucket_same, bucket_of-start, one_more}
 use Rattle.ts_exec.specs.RowParts.{IsSpan}
 use Rattle.ts_exec.specs.Fillings.{AreNear}
 

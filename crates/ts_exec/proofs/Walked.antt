@@ -3,17 +3,17 @@ use Rattle.std.proofs.Common.{◌≡◌, ℤ, pos, negsuc, ◌+ℤ◌, ◌≤ℤ
 use Rattle.std.proofs.lemmas.Int.{ints}
 use Rattle.std.specs.List.{AllByRecursion}
 use Rattle.std.proofs.lemmas.Bool.{and_parts}
-use Rattle.ts_core.specs.Facts.{Fact, is_within}
-use Rattle.ts_core.specs.Settings.{Rule}
-use Rattle.ts_core.specs.Marks.{index_of}
-use Rattle.ts_core.specs.Queries.{Query, is_selected, matches}
-use Rattle.ts_core.specs.Assembly.{stand_in}
-use Rattle.ts_core.specs.Pieces.{start_of}
-use Rattle.ts_core.specs.Cells.{Cell}
-use Rattle.ts_core.specs.StoreStates.{CellParts, RuleCells, total_in}
-use Rattle.ts_core.proofs.Boundaries.{within_parts}
-use Rattle.ts_core.proofs.BucketsOrder.{bucket_is, one_more, times_le}
-use Rattle.ts_store.specs.Seats.{SeenCell, with_parts, cells_within}
+use Rattle.ts_core.specs.facts.Facts.{Fact, is_within}
+use Rattle.ts_core.specs.settings.Settings.{Rule}
+use Rattle.ts_core.specs.store.Marks.{index_of}
+use Rattle.ts_core.specs.queries.Queries.{Query, is_selected, matches}
+use Rattle.ts_core.specs.plans.Assembly.{stand_in}
+use Rattle.ts_core.specs.plans.Pieces.{start_of}
+use Rattle.ts_core.specs.store.Cells.{Cell}
+use Rattle.ts_core.specs.store.StoreStates.{CellParts, RuleCells, total_in}
+use Rattle.ts_core.proofs.queries.Boundaries.{within_parts}
+use Rattle.ts_core.proofs.aggregates.BucketsOrder.{bucket_is, one_more, times_le}
+use Rattle.ts_store.specs.read.Seats.{SeenCell, with_parts, cells_within}
 use Rattle.ts_exec.specs.GroupTables.{is_cell_taken}
 
 all_within : (parts : Cell → CellParts) (a b : ℤ) (ks : List Cell) → AllByRecursion (λ (c : SeenCell). is_within a b c.cell.index ≡ true) (map (with_parts parts) (filter (λ (k : Cell). is_within a b k.index) ks))

@@ -1,11 +1,11 @@
 -- How many buckets a query has, and that a moment of its range is in one of them.
 use Rattle.std.proofs.Common.{◌≡◌, ℕ, zero, suc, ◌+◌, ◌<◌, ℤ, pos, ◌+ℤ◌, ◌-ℤ◌, ◌≤ℤ◌, ◌<ℤ◌, length, min, cond, [], refl, sym, ◌∙◌, ap, subst, arith}
 use Rattle.std.proofs.lemmas.Int.{ints}
-use Rattle.ts_core.specs.Queries.{Query}
-use Rattle.ts_core.specs.Answers.{at_least_none, numbers_from, bucket_in}
-use Rattle.ts_core.proofs.BucketsOrder.{bucket_le}
-use Rattle.ts_core.proofs.BucketsInRange.{at_least_none-is}
-use Rattle.ts_core.proofs.Comparisons.{lt_true}
+use Rattle.ts_core.specs.queries.Queries.{Query}
+use Rattle.ts_core.specs.queries.Answers.{at_least_none, numbers_from, bucket_in}
+use Rattle.ts_core.proofs.aggregates.BucketsOrder.{bucket_le}
+use Rattle.ts_core.proofs.queries.BucketsInRange.{at_least_none-is}
+use Rattle.ts_core.proofs.lists.Comparisons.{lt_true}
 use Rattle.ts_exec.specs.RowParts.{bucket_grid, place_at}
 use Rattle.ts_exec.specs.GroupTables.{width}
 

@@ -1,8 +1,8 @@
 -- An answer together with its query. (InfluxData 1.8, InfluxQL: the GROUP BY clause.)
 use Rattle.std.specs.Prelude.{◌≡◌, ℕ, List, length}
-use Rattle.ts_core.specs.Facts.{Text}
-use Rattle.ts_core.specs.Aggregates.{Aggregate}
-use Rattle.ts_core.specs.Answers.{Group}
+use Rattle.ts_core.specs.facts.Facts.{Text}
+use Rattle.ts_core.specs.aggregates.Aggregates.{Aggregate}
+use Rattle.ts_core.specs.queries.Answers.{Group}
 use Rattle.ts_ql.specs.Selects.{Select}
 
 pub record Answered : Type 0 where

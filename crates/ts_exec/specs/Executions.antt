@@ -1,11 +1,11 @@
 -- Results of executing a checked plan. (Own rules.)
 use Rattle.std.specs.Prelude.{◌≡◌, ℕ, min, length, filter, Result, Ok, Err}
-use Rattle.ts_core.specs.Answers.{answer_of}
-use Rattle.ts_core.specs.History.{History}
-use Rattle.ts_core.specs.Latest.{latest_of}
-use Rattle.ts_core.specs.Queries.{matches}
-use Rattle.ts_core.specs.Settings.{Settings}
-use Rattle.ts_core.specs.Views.{Seen, Shows}
+use Rattle.ts_core.specs.queries.Answers.{answer_of}
+use Rattle.ts_core.specs.store.History.{History}
+use Rattle.ts_core.specs.facts.Latest.{latest_of}
+use Rattle.ts_core.specs.queries.Queries.{matches}
+use Rattle.ts_core.specs.settings.Settings.{Settings}
+use Rattle.ts_core.specs.store.Views.{Seen, Shows}
 use Rattle.ts_check.specs.Checks.{Plan}
 use Rattle.ts_exec.specs.declared.fault.ExecFault.{ExecFault}
 use Rattle.ts_exec.specs.declared.fault.ExecFault.TheVariants as errors

@@ -3,15 +3,15 @@
 use Rattle.std.specs.Prelude.{◌^◌, ℤ, pos, neg_ℤ, ◌+ℤ◌, ◌≤ℤ◌, FitsSigned, List, [], ◌∷◌, map, filter, Option, Some, None, if◌then◌else◌}
 use Rattle.std.specs.Int.{w128}
 use Rattle.std.specs.List.{AllByRecursion}
-use Rattle.ts_core.specs.declared.fill.Fill.{Fill}
-use Rattle.ts_core.specs.declared.fill.Fill.TheVariants.{Null as NullFill, None as NoneFill, Previous as PreviousFill, Number as NumberFill}
-use Rattle.ts_core.specs.declared.value.Function.{Function}
-use Rattle.ts_core.specs.declared.value.Value.{Value}
-use Rattle.ts_core.specs.declared.value.Value.TheVariants.{Null}
-use Rattle.ts_core.specs.Facts.{Text}
-use Rattle.ts_core.specs.Aggregates.{Aggregate}
-use Rattle.ts_core.specs.Answers.{Row}
-use Rattle.ts_core.specs.Fills.{FilledRow, FilledGroup, is_empty, has_data, last_data, value_of, number_value, filled_rows, filled}
+use Rattle.ts_core.specs.declared.queries.fill.Fill.{Fill}
+use Rattle.ts_core.specs.declared.queries.fill.Fill.TheVariants.{Null as NullFill, None as NoneFill, Previous as PreviousFill, Number as NumberFill}
+use Rattle.ts_core.specs.declared.queries.value.Function.{Function}
+use Rattle.ts_core.specs.declared.queries.value.Value.{Value}
+use Rattle.ts_core.specs.declared.queries.value.Value.TheVariants.{Null}
+use Rattle.ts_core.specs.facts.Facts.{Text}
+use Rattle.ts_core.specs.aggregates.Aggregates.{Aggregate}
+use Rattle.ts_core.specs.queries.Answers.{Row}
+use Rattle.ts_core.specs.queries.Fills.{FilledRow, FilledGroup, is_empty, has_data, last_data, value_of, number_value, filled_rows, filled}
 use Rattle.ts_ql.specs.Selects.{Projection, Select}
 use Rattle.ts_exec.specs.Answered.{Answered}
 use Rattle.ts_exec.specs.declared.filled.Shown.{Shown}

@@ -2,20 +2,20 @@
 use Rattle.std.specs.Prelude.{◌≡◌, ℕ, ℤ, pos, ◌+ℤ◌, ◌*ℤ◌, ◌==◌, Bool, false, not, ◌&&◌, T, List, [], ◌∷◌, filter, map, length, replicate, Option, Some, None, if◌then◌else◌}
 use Rattle.std.specs.List.{list_all}
 use Rattle.std.specs.FinMap.{find, put, is_sorted}
-use Rattle.ts_core.specs.Facts.{Text, is_of, is_within}
-use Rattle.ts_core.specs.Aggregates.{Aggregate, empty_aggregate}
-use Rattle.ts_core.specs.Members.{Among}
-use Rattle.ts_core.specs.Tags.{tag_values}
-use Rattle.ts_core.specs.Queries.{Query, Condition, meets, matches, group_of}
-use Rattle.ts_core.specs.Buckets.{bucket_of}
-use Rattle.ts_core.specs.Answers.{Row, Group, group_cmp, buckets_in}
-use Rattle.ts_core.specs.Pieces.{Source, Raw, Rollup, Piece, start_of}
-use Rattle.ts_core.specs.Marks.{index_of}
-use Rattle.ts_core.specs.Settings.{Rule}
-use Rattle.ts_core.specs.StoreStates.{ColumnPoints, RuleCells, total_in}
-use Rattle.ts_core.specs.Views.{Seen}
-use Rattle.ts_core.specs.Assembly.{stand_in, rule_shown}
-use Rattle.ts_store.specs.Seats.{Seat, seats_where, points_at, SeenCell, cells_within}
+use Rattle.ts_core.specs.facts.Facts.{Text, is_of, is_within}
+use Rattle.ts_core.specs.aggregates.Aggregates.{Aggregate, empty_aggregate}
+use Rattle.ts_core.specs.lists.Members.{Among}
+use Rattle.ts_core.specs.facts.Tags.{tag_values}
+use Rattle.ts_core.specs.queries.Queries.{Query, Condition, meets, matches, group_of}
+use Rattle.ts_core.specs.aggregates.Buckets.{bucket_of}
+use Rattle.ts_core.specs.queries.Answers.{Row, Group, group_cmp, buckets_in}
+use Rattle.ts_core.specs.plans.Pieces.{Source, Raw, Rollup, Piece, start_of}
+use Rattle.ts_core.specs.store.Marks.{index_of}
+use Rattle.ts_core.specs.settings.Settings.{Rule}
+use Rattle.ts_core.specs.store.StoreStates.{ColumnPoints, RuleCells, total_in}
+use Rattle.ts_core.specs.store.Views.{Seen}
+use Rattle.ts_core.specs.plans.Assembly.{stand_in, rule_shown}
+use Rattle.ts_store.specs.read.Seats.{Seat, seats_where, points_at, SeenCell, cells_within}
 use Rattle.ts_exec.specs.RowParts.{BucketGrid, bucket_grid, place_at, with_part, with_point_parts}
 
 -- groups with their rows

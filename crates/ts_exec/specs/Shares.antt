@@ -1,19 +1,19 @@
 -- Contributions of pieces to buckets of groups. (Own rules.)
 use Rattle.std.specs.Prelude.{ℕ, ◌+◌, ◌==◌, ℤ, Bool, ◌&&◌, List, [], ◌∷◌, ◌++◌, map, filter, Option, Some, None, if◌then◌else◌}
 use Rattle.std.specs.List.{list_all}
-use Rattle.ts_core.specs.Facts.{Text, is_of}
-use Rattle.ts_core.specs.Partials.{fold_by}
-use Rattle.ts_core.specs.Aggregates.{Aggregate, empty_aggregate, aggregate_of_one, merged}
-use Rattle.ts_core.specs.Marks.{index_of}
-use Rattle.ts_core.specs.Settings.{Rule}
-use Rattle.ts_core.specs.Tags.{tag_values}
-use Rattle.ts_core.specs.Queries.{Query, meets, group_of}
-use Rattle.ts_core.specs.Answers.{same_group}
-use Rattle.ts_core.specs.Pieces.{Source, Raw, Rollup, Piece, start_of}
-use Rattle.ts_core.specs.StoreStates.{ColumnPoints, RuleCells, total_in}
-use Rattle.ts_core.specs.Views.{Seen}
-use Rattle.ts_core.specs.Assembly.{stand_in, rule_shown}
-use Rattle.ts_store.specs.Seats.{Seat, seats_where, points_at, SeenCell, cells_within}
+use Rattle.ts_core.specs.facts.Facts.{Text, is_of}
+use Rattle.ts_core.specs.aggregates.Partials.{fold_by}
+use Rattle.ts_core.specs.aggregates.Aggregates.{Aggregate, empty_aggregate, aggregate_of_one, merged}
+use Rattle.ts_core.specs.store.Marks.{index_of}
+use Rattle.ts_core.specs.settings.Settings.{Rule}
+use Rattle.ts_core.specs.facts.Tags.{tag_values}
+use Rattle.ts_core.specs.queries.Queries.{Query, meets, group_of}
+use Rattle.ts_core.specs.queries.Answers.{same_group}
+use Rattle.ts_core.specs.plans.Pieces.{Source, Raw, Rollup, Piece, start_of}
+use Rattle.ts_core.specs.store.StoreStates.{ColumnPoints, RuleCells, total_in}
+use Rattle.ts_core.specs.store.Views.{Seen}
+use Rattle.ts_core.specs.plans.Assembly.{stand_in, rule_shown}
+use Rattle.ts_store.specs.read.Seats.{Seat, seats_where, points_at, SeenCell, cells_within}
 use Rattle.ts_exec.specs.RowParts.{BucketGrid, bucket_grid, place_at}
 use Rattle.ts_exec.specs.GroupTables.{Table, with_cell_part, is_cell_taken}
 

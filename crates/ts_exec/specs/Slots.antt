@@ -1,9 +1,9 @@
 -- Slots of the group table in byte order of their values, each with rows if its group has data. (Own rules.)
 use Rattle.std.specs.Prelude.{T, List, [], ◌∷◌, Option, Some, None}
 use Rattle.std.specs.FinMap.{is_sorted}
-use Rattle.ts_core.specs.Facts.{Text}
-use Rattle.ts_core.specs.Aggregates.{Aggregate}
-use Rattle.ts_core.specs.Answers.{group_cmp}
+use Rattle.ts_core.specs.facts.Facts.{Text}
+use Rattle.ts_core.specs.aggregates.Aggregates.{Aggregate}
+use Rattle.ts_core.specs.queries.Answers.{group_cmp}
 use Rattle.ts_exec.specs.GroupTables.{Table}
 
 abbrev pub Slots : Type 0

@@ -1,10 +1,10 @@
 //! Counts the points that a checked plan asks for, without visiting raw points.
 ghost use Rattle.std.specs.Prelude.{◌≡◌, ◌<◌, pos, ◌≤ℤ◌, true, length, min, map, filter, if◌then◌else◌};
-ghost use Rattle.ts_core.specs.Facts.{is_within};
-ghost use Rattle.ts_core.specs.Marks.{index_of};
-ghost use Rattle.ts_core.specs.Pieces.{Raw};
-ghost use Rattle.ts_core.specs.StoreStates.{total_in};
-ghost use Rattle.ts_store.specs.Seats.{cells_at};
+ghost use Rattle.ts_core.specs.facts.Facts.{is_within};
+ghost use Rattle.ts_core.specs.store.Marks.{index_of};
+ghost use Rattle.ts_core.specs.plans.Pieces.{Raw};
+ghost use Rattle.ts_core.specs.store.StoreStates.{total_in};
+ghost use Rattle.ts_store.specs.read.Seats.{cells_at};
 ghost use Rattle.ts_exec.specs.Executions.{IsCountOf};
 ghost use Rattle.ts_exec.specs.GroupTables.{is_cell_taken};
 ghost use Rattle.ts_exec.specs.Shares.{points_of_shares, cell_share, source_shares, pieces_shares};

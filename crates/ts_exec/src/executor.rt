@@ -1,7 +1,7 @@
 //! `execute`: answers a query by a checked plan.
 ghost use Rattle.std.specs.Prelude.{◌≡◌, ◌↔◌, [], IsTrue, IsOk, IfOk};
 ghost use Rattle.std.specs.List.{AllByRecursion};
-ghost use Rattle.ts_core.specs.Queries.{IsQuery};
+ghost use Rattle.ts_core.specs.queries.Queries.{IsQuery};
 ghost use Rattle.ts_exec.specs.Answered.{HasRows};
 ghost use Rattle.ts_exec.specs.Executions.{IsFresh, IsExecutionOf};
 ghost use Rattle.ts_exec.specs.GroupTables.{with_pieces, width};

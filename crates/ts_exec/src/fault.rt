@@ -1,6 +1,6 @@
 //! Errors of an execution, with their messages.
 ghost use Rattle.std.specs.Prelude.{◌≡◌};
-ghost use Rattle.ts_core.specs.FaultTexts.{IsAppended};
+ghost use Rattle.ts_core.specs.text.FaultTexts.{IsAppended};
 ghost use Rattle.ts_exec.specs.ExecTexts.{exec_fault_text};
 ghost use Rattle.ts_exec.specs.declared.fault.ExecFault.TheVariants as errors;
 

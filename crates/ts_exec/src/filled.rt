@@ -1,7 +1,7 @@
 //! Iterators over the rows of a filled answer. They do not allocate.
 ghost use Rattle.std.specs.Prelude.{◌≡◌, filter};
 ghost use Rattle.std.specs.Iterator.{YieldsFirst, item_count};
-ghost use Rattle.ts_core.specs.Fills.{has_data, last_data, filled_rows};
+ghost use Rattle.ts_core.specs.queries.Fills.{has_data, last_data, filled_rows};
 ghost use Rattle.ts_exec.specs.Fillings.{EndsFit, functions_of, rows_at, shown_by, shown_rows, shown_value};
 
 use std::alloc::Allocator;
@@ -62,7 +62,7 @@ pub struct Values<'a, A: Allocator> {
 
 impl<'a, A: Allocator> Model for Values<'a, A> {
     ghost use Rattle.std.specs.Prelude.{List, map};
-    ghost use Rattle.ts_core.specs.declared.value.Value.{Value as ColumnValue};
+    ghost use Rattle.ts_core.specs.declared.queries.value.Value.{Value as ColumnValue};
     ghost use Rattle.ts_exec.specs.Fillings.{functions_of, shown_value};
 
     ghost Value = { List ColumnValue };
@@ -93,7 +93,7 @@ pub struct FilledRow<'a, A: Allocator> {
 }
 
 impl<'a, A: Allocator> Model for FilledRow<'a, A> {
-    ghost use Rattle.ts_core.specs.Fills.{FilledRow as RowValue};
+    ghost use Rattle.ts_core.specs.queries.Fills.{FilledRow as RowValue};
     ghost use Rattle.ts_exec.specs.Fillings.{functions_of, shown_row};
 
     ghost Value = { RowValue };
@@ -128,7 +128,7 @@ pub(crate) struct BucketRow {
 }
 
 impl Model for BucketRow {
-    ghost use Rattle.ts_core.specs.Answers.{Row};
+    ghost use Rattle.ts_core.specs.queries.Answers.{Row};
 
     ghost Value = { Row };
 
@@ -153,7 +153,7 @@ pub(crate) struct BucketRows<'a> {
 
 impl<'a> Model for BucketRows<'a> {
     ghost use Rattle.std.specs.Prelude.{List};
-    ghost use Rattle.ts_core.specs.Answers.{Row};
+    ghost use Rattle.ts_core.specs.queries.Answers.{Row};
     ghost use Rattle.ts_exec.specs.Fillings.{EndsFit, rows_at};
 
     ghost Value = { List Row };
@@ -240,7 +240,7 @@ pub struct FilledRows<'a, A: Allocator> {
 
 impl<'a, A: Allocator> Model for FilledRows<'a, A> {
     ghost use Rattle.std.specs.Prelude.{List};
-    ghost use Rattle.ts_core.specs.Fills.{FilledRow as RowValue};
+    ghost use Rattle.ts_core.specs.queries.Fills.{FilledRow as RowValue};
     ghost use Rattle.ts_exec.specs.Fillings.{functions_of, rows_behind, shown_rows};
 
     ghost Value = { List RowValue };

@@ -1,7 +1,7 @@
 //! `fill`: applies the fill option to the rows of an answer.
 ghost use Rattle.std.specs.Prelude.{◌≡◌, ◌≤ℤ◌, pos};
 ghost use Rattle.std.specs.Iterator.{YieldsFirst, item_count};
-ghost use Rattle.ts_core.specs.Buckets.{bucket_of, bucket_start};
+ghost use Rattle.ts_core.specs.aggregates.Buckets.{bucket_of, bucket_start};
 ghost use Rattle.ts_exec.specs.Fillings.{AreNear, filled_answer};
 
 use crate::filled::{BucketRows, FilledRows};
@@ -78,7 +78,7 @@ pub struct FilledGroup<'r, 'a, A: Allocator> {
 }
 
 impl<'r, 'a, A: Allocator> Model for FilledGroup<'r, 'a, A> {
-    ghost use Rattle.ts_core.specs.Fills.{FilledGroup as GroupValue};
+    ghost use Rattle.ts_core.specs.queries.Fills.{FilledGroup as GroupValue};
     ghost use Rattle.ts_exec.specs.Lent.{lent};
 
     ghost Value = { GroupValue };
@@ -99,7 +99,7 @@ pub struct FilledGroups<'r, 'a, A: Allocator> {
 
 impl<'r, 'a, A: Allocator> Model for FilledGroups<'r, 'a, A> {
     ghost use Rattle.std.specs.Prelude.{List, map, drop};
-    ghost use Rattle.ts_core.specs.Fills.{FilledGroup as GroupValue};
+    ghost use Rattle.ts_core.specs.queries.Fills.{FilledGroup as GroupValue};
     ghost use Rattle.ts_exec.specs.Fillings.{functions_of, group_at, AreNear};
 
     ghost Value = { List GroupValue };

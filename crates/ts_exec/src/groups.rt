@@ -23,8 +23,8 @@ pub struct GroupRows<'a, A: Allocator> {
 
 impl<'a, A: Allocator> Model for GroupRows<'a, A> {
     ghost use Rattle.std.specs.Prelude.{List};
-    ghost use Rattle.ts_core.specs.Aggregates.{Aggregate};
-    ghost use Rattle.ts_core.specs.Facts.{Text};
+    ghost use Rattle.ts_core.specs.aggregates.Aggregates.{Aggregate};
+    ghost use Rattle.ts_core.specs.facts.Facts.{Text};
     ghost use Rattle.ts_exec.specs.Lent.{lent};
 
     ghost Value = { List Text × List Aggregate };

@@ -1,14 +1,14 @@
 //! Adds the pieces of a plan to the groups.
 ghost use Rattle.std.specs.Prelude.{◌≡◌, ◌+◌, ◌^◌, ◌<◌, pos, ◌≤ℤ◌, true, option_map, zip, length, map, string_bytes, OnOk, IfOk};
 ghost use Rattle.std.specs.List.{list_all};
-ghost use Rattle.ts_core.specs.Assembly.{stand_in};
-ghost use Rattle.ts_core.specs.Facts.{is_within};
-ghost use Rattle.ts_core.specs.Marks.{index_of};
-ghost use Rattle.ts_core.specs.Pieces.{Raw, start_of};
-ghost use Rattle.ts_core.specs.Queries.{IsQuery, meets, is_selected};
-ghost use Rattle.ts_core.specs.Tags.{tag_values, value_among};
+ghost use Rattle.ts_core.specs.plans.Assembly.{stand_in};
+ghost use Rattle.ts_core.specs.facts.Facts.{is_within};
+ghost use Rattle.ts_core.specs.store.Marks.{index_of};
+ghost use Rattle.ts_core.specs.plans.Pieces.{Raw, start_of};
+ghost use Rattle.ts_core.specs.queries.Queries.{IsQuery, meets, is_selected};
+ghost use Rattle.ts_core.specs.facts.Tags.{tag_values, value_among};
 ghost use Rattle.ts_ql.specs.Selects.{texts};
-ghost use Rattle.ts_store.specs.Seats.{cells_at};
+ghost use Rattle.ts_store.specs.read.Seats.{cells_at};
 ghost use Rattle.ts_exec.specs.FirstOf.{rule_from};
 ghost use Rattle.ts_exec.specs.Lent.{lent};
 ghost use Rattle.ts_exec.specs.GroupTables.{with_cell, with_cell_parts, with_source, with_pieces, is_cell_taken};
@@ -34,7 +34,7 @@ pub(crate) struct Scan<'a, 'q, A: Allocator> {
 }
 
 impl<'a, 'q, A: Allocator> Model for Scan<'a, 'q, A> {
-    ghost use Rattle.ts_core.specs.Queries.{Query as QueryValue};
+    ghost use Rattle.ts_core.specs.queries.Queries.{Query as QueryValue};
     ghost use Rattle.ts_exec.specs.GroupTables.{AreBucketsOf};
 
     ghost Value = { QueryValue };

@@ -1,6 +1,6 @@
 //! Adds points and parts to the rows of a group.
 ghost use Rattle.std.specs.Prelude.{◌≡◌, ◌∷◌, length, get_or, set};
-ghost use Rattle.ts_core.specs.Aggregates.{empty_aggregate};
+ghost use Rattle.ts_core.specs.aggregates.Aggregates.{empty_aggregate};
 ghost use Rattle.ts_exec.specs.RowParts.{added, with_part, with_point_parts};
 
 use crate::buckets::Buckets;

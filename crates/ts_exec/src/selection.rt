@@ -1,9 +1,9 @@
 //! Selects the columns of a query.
 ghost use Rattle.std.specs.Prelude.{◌≡◌, IfOk, IfSome};
 ghost use Rattle.std.specs.List.{list_all};
-ghost use Rattle.ts_core.specs.Facts.{is_of};
-ghost use Rattle.ts_core.specs.Queries.{meets};
-ghost use Rattle.ts_store.specs.Seats.{seats_where};
+ghost use Rattle.ts_core.specs.facts.Facts.{is_of};
+ghost use Rattle.ts_core.specs.queries.Queries.{meets};
+ghost use Rattle.ts_store.specs.read.Seats.{seats_where};
 ghost use Rattle.ts_exec.specs.GroupTables.{selected_seats, IsNarrowing};
 
 use std::alloc::{AllocError, Allocator};

@@ -1,6 +1,6 @@
 //! Slot of the group table: a group that may be empty.
 ghost use Rattle.std.specs.Prelude.{◌≡◌, ◌∷◌, None, Some, OnOk, OnErr, option_map};
-ghost use Rattle.ts_core.specs.Answers.{group_cmp};
+ghost use Rattle.ts_core.specs.queries.Answers.{group_cmp};
 ghost use Rattle.ts_exec.specs.Lent.{lent};
 ghost use Rattle.ts_exec.specs.RowParts.{with_part, with_point_parts};
 ghost use Rattle.ts_exec.specs.GroupTables.{rows_or};
@@ -22,8 +22,8 @@ pub(crate) struct Slot<'a, A: Allocator> {
 
 impl<'a, A: Allocator> Model for Slot<'a, A> {
     ghost use Rattle.std.specs.Prelude.{List, Option, option_map};
-    ghost use Rattle.ts_core.specs.Aggregates.{Aggregate};
-    ghost use Rattle.ts_core.specs.Facts.{Text};
+    ghost use Rattle.ts_core.specs.aggregates.Aggregates.{Aggregate};
+    ghost use Rattle.ts_core.specs.facts.Facts.{Text};
     ghost use Rattle.ts_exec.specs.Lent.{lent};
 
     ghost Value = { List Text × Option (List Aggregate) };

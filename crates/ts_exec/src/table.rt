@@ -1,7 +1,7 @@
 //! Answer to a query: groups with one row per bucket.
 ghost use Rattle.std.specs.Prelude.{◌≡◌, map};
 ghost use Rattle.std.specs.List.{AllByRecursion};
-ghost use Rattle.ts_core.specs.Answers.{bucket_in};
+ghost use Rattle.ts_core.specs.queries.Answers.{bucket_in};
 ghost use Rattle.ts_exec.specs.Answered.{HasRows};
 ghost use Rattle.ts_exec.specs.GroupTables.{group_with, width};
 

@@ -3,17 +3,17 @@ use Rattle.std.proofs.Common.{◌≡◌, ◌⊎◌, ⊎_elim, ℤ, List, [], ◌
 use Rattle.std.specs.Str.{IsUtf8}
 use Rattle.std.specs.Io.KnownBytes.{Appends}
 use Rattle.std.proofs.KnownBytes.{Appends-trans}
-use Rattle.ts_core.specs.Facts.{Text, same_text}
-use Rattle.ts_core.specs.StoreData.{StoreData, OfEachHistory}
-use Rattle.ts_core.specs.Devices.{Output, IsPut, AppendsFront}
-use Rattle.ts_core.specs.declared.time_unit.TimeUnit.{TimeUnit}
+use Rattle.ts_core.specs.facts.Facts.{Text, same_text}
+use Rattle.ts_core.specs.store.StoreData.{StoreData, OfEachHistory}
+use Rattle.ts_core.specs.io.Devices.{Output, IsPut, AppendsFront}
+use Rattle.ts_core.specs.declared.facts.time_unit.TimeUnit.{TimeUnit}
 use Rattle.ts_reply.specs.Answering.{IsReply}
 use Rattle.ts_reply.specs.Explaining.{IsExplanation}
 use Rattle.ts_reply.specs.declared.answering.Reply.{Reply}
 use Rattle.ts_reply.specs.declared.epoch.Epoch.{Epoch}
 use Rattle.ts_http.specs.Acts.{Replied, refusing, batch_reply, precision_in, epoch_asked, explain_asked, value_in, Writes, Queries}
-use Rattle.ts_store.specs.LineTexts.{State, IsIn, refusal_text}
-use Rattle.ts_store.specs.declared.write_text.LineOutcome.{LineOutcome}
+use Rattle.ts_store.specs.write.LineTexts.{State, IsIn, refusal_text}
+use Rattle.ts_store.specs.declared.write.write_text.LineOutcome.{LineOutcome}
 use Rattle.ts_http.specs.Batches.{refusals_of}
 use Rattle.ts_http.specs.Outcomes.{reply_of, WritesAs, QueriesAs, answered_reply}
 use Rattle.ts_http.specs.Parameters.{Parameters, first_named}

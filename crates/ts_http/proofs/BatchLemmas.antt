@@ -2,12 +2,12 @@
 use Rattle.std.proofs.Common.{◌≡◌, ◌≢◌, ℕ, ℤ, suc, ◌+◌, ◌<◌, ◌==◌, cond, List, [], ◌∷◌, ◌++◌, length, map, get_or, Option, Some, None, option_map, Result, Ok, Err, refl, sym, ap, ◌∙◌, subst, arith, append_assoc, append-nil, length-append}
 use Rattle.std.proofs.lemmas.Bool.Decides.{nat_tests}
 use Rattle.std.proofs.lemmas.List.{map-append}
-use Rattle.ts_core.specs.Facts.{Text}
-use Rattle.ts_core.specs.StoreData.{StoreData}
-use Rattle.ts_core.specs.declared.time_unit.TimeUnit.{TimeUnit}
-use Rattle.ts_store.specs.LineTexts.{State, IsIn, WritesText, WritesFrom, refusal_of, refusal_text, line_refusal_text}
-use Rattle.ts_store.specs.declared.write_text.LineOutcome.{LineOutcome}
-use Rattle.ts_store.specs.declared.write_text.LineRefusal.{LineRefusal}
+use Rattle.ts_core.specs.facts.Facts.{Text}
+use Rattle.ts_core.specs.store.StoreData.{StoreData}
+use Rattle.ts_core.specs.declared.facts.time_unit.TimeUnit.{TimeUnit}
+use Rattle.ts_store.specs.write.LineTexts.{State, IsIn, WritesText, WritesFrom, refusal_of, refusal_text, line_refusal_text}
+use Rattle.ts_store.specs.declared.write.write_text.LineOutcome.{LineOutcome}
+use Rattle.ts_store.specs.declared.write.write_text.LineRefusal.{LineRefusal}
 use Rattle.ts_http.specs.Batches.{TakesLines, body_lines, onto_first, refusals_from}
 use Rattle.ts_http.specs.Tallies.{TallyIs, DidLines, numbered_text, first_of}
 use Rattle.ts_http.specs.declared.batch.Tally.{Tally}

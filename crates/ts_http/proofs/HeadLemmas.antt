@@ -9,8 +9,8 @@ use Rattle.httparse.specs.Spans.{IsRequestOf, IsRequestWithin, RequestOverflows,
 use Rattle.httparse.specs.declared.spans.HeaderSpan.{HeaderSpan}
 use Rattle.httparse.specs.declared.spans.RequestSpans.{RequestSpans}
 use Rattle.httparse.proofs.GrammarLemmas.{ReadsRequest-append}
-use Rattle.ts_core.specs.Facts.{Text}
-use Rattle.ts_core.specs.Devices.{Input}
+use Rattle.ts_core.specs.facts.Facts.{Text}
+use Rattle.ts_core.specs.io.Devices.{Input}
 use Rattle.ts_http.specs.Heads.{head_limit, field_limit, IsUnfinished, ReadsHead, Fault}
 use Rattle.ts_http.specs.declared.head.HeadFault.TheVariants.{EndsEarly, TooLarge, Malformed}
 use Rattle.ts_http.specs.declared.head.HeadRead.{HeadRead}

@@ -10,9 +10,9 @@ use Rattle.std.specs.Str.{IsUtf8}
 use Rattle.std.specs.Char.{is_ascii_digit}
 use Rattle.std.specs.List.{list_all}
 use Rattle.std.specs.Str.Parse.{IsNumeral, AllDigits, without_leading_plus, digits_value}
-use Rattle.ts_core.specs.Facts.{Text}
-use Rattle.ts_core.specs.Numbers.{are_digits}
-use Rattle.ts_core.proofs.NumberLemmas.{all_digits, digit_not_plus}
+use Rattle.ts_core.specs.facts.Facts.{Text}
+use Rattle.ts_core.specs.text.Numbers.{are_digits}
+use Rattle.ts_core.proofs.text.NumberLemmas.{all_digits, digit_not_plus}
 use Rattle.ts_http.specs.Requests.{is_number}
 
 record Digits (value : Text) : Type 0 where

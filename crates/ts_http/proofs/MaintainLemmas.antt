@@ -2,16 +2,16 @@
 use Rattle.std.proofs.Common.{◌≡◌, ◌≢◌, ◌⊎◌, ⊎_elim, ℕ, suc, ◌+◌, ◌-◌, ◌<◌, ◌≤◌, ℤ, Bool, true, false, true≢false, cond, nat_lt, nat_le, min, length, ◌∷◌, Option, Some, None, refl, sym, ap, ◌∙◌, subst, arith}
 use Rattle.std.proofs.lemmas.Bool.{lt-ltb, le-ltb, le-leb, lt-leb}
 use Rattle.std.proofs.Math.Nat.{min-eq_left, min-eq_right}
-use Rattle.ts_core.specs.Facts.{Text}
-use Rattle.ts_core.specs.History.{History, Begin, Step}
-use Rattle.ts_core.specs.Marks.{marks_of}
-use Rattle.ts_core.specs.Runs.{steps_left, turns_left}
-use Rattle.ts_core.specs.StoreStates.{StandsFor}
-use Rattle.ts_core.specs.StoreData.{StoreData, state_of, OfEachHistory, GoesOn}
-use Rattle.ts_core.specs.StoreMoves.{run_begun}
-use Rattle.ts_store.specs.WholeRuns.{steps_taken}
+use Rattle.ts_core.specs.facts.Facts.{Text}
+use Rattle.ts_core.specs.store.History.{History, Begin, Step}
+use Rattle.ts_core.specs.store.Marks.{marks_of}
+use Rattle.ts_core.specs.moves.Runs.{steps_left, turns_left}
+use Rattle.ts_core.specs.store.StoreStates.{StandsFor}
+use Rattle.ts_core.specs.store.StoreData.{StoreData, state_of, OfEachHistory, GoesOn}
+use Rattle.ts_core.specs.moves.StoreMoves.{run_begun}
+use Rattle.ts_store.specs.retain.WholeRuns.{steps_taken}
 use Rattle.ts_http.specs.Acts.{Replied, refusing, answer_reply, Maintains}
-use Rattle.ts_store.specs.LineTexts.{State, IsIn}
+use Rattle.ts_store.specs.write.LineTexts.{State, IsIn}
 use Rattle.ts_http.specs.Maintaining.{steps_in, OpensRun, run_opened, left_in, stepped, with_steps, progress_text, run_text}
 use Rattle.ts_http.specs.MaintainSteps.{HasStepped}
 use Rattle.ts_http.specs.Outcomes.{reply_of, MaintainsAs}

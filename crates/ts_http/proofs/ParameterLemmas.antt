@@ -1,6 +1,6 @@
 -- The first parameter of a name, as pairs are passed over.
 use Rattle.std.proofs.Common.{◌≡◌, true, false, [], ◌∷◌, map, Option, Some, None, sym, ap, ◌∙◌, cond}
-use Rattle.ts_core.specs.Facts.{Text, same_text}
+use Rattle.ts_core.specs.facts.Facts.{Text, same_text}
 use Rattle.ts_http.specs.Parameters.{Parameters, first_named, decoded, decoded_pair}
 
 pub found_first : (name n v value : Text) (left rest : Parameters) (whole : Option Text) → first_named name (map decoded_pair left) ≡ whole → left ≡ (n, v) ∷ rest → true ≡ same_text (decoded n) name → value ≡ decoded v → Some value ≡ whole

@@ -1,6 +1,6 @@
 -- Texts that are put one after another.
 use Rattle.std.proofs.Common.{◌≡◌, [], ◌++◌, ap, ◌∙◌, append_assoc}
-use Rattle.ts_core.specs.Facts.{Text}
+use Rattle.ts_core.specs.facts.Facts.{Text}
 
 pub three_put : (old p d e a b c : Text) → a ≡ old ++ p → b ≡ a ++ d → c ≡ b ++ e → c ≡ old ++ (p ++ (d ++ e))
 three_put old p d e a b c x y z =

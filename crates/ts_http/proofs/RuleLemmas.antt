@@ -2,22 +2,22 @@
 use Rattle.std.proofs.Common.{◌≡◌, ◌⊎◌, ⊎_elim, [], ◌++◌, true, false, IsTrue, ap, sym, ◌∙◌, subst, None, Ok, Err, arith, codes}
 use Rattle.std.specs.Str.{IsUtf8}
 use Rattle.std.proofs.lemmas.Fmt.{decimal_digit}
-use Rattle.ts_core.specs.Facts.{Text}
-use Rattle.ts_core.specs.Settings.{Settings}
-use Rattle.ts_core.specs.SettingsFaults.{is_named, settings_fault_text, unknown_rule_text}
-use Rattle.ts_core.specs.declared.settings_fault.SettingsFault.{SettingsFault}
-use Rattle.ts_core.specs.StoreData.{StoreData}
+use Rattle.ts_core.specs.facts.Facts.{Text}
+use Rattle.ts_core.specs.settings.Settings.{Settings}
+use Rattle.ts_core.specs.settings.SettingsFaults.{is_named, settings_fault_text, unknown_rule_text}
+use Rattle.ts_core.specs.declared.settings.settings_fault.SettingsFault.{SettingsFault}
+use Rattle.ts_core.specs.store.StoreData.{StoreData}
 use Rattle.ts_http.specs.Acts.{Replied, bad_reply, answer_reply, added_text, dropped_text, AddsRule, DropsRule, name_in}
 use Rattle.ts_http.specs.HttpReplies.{error_text}
 use Rattle.ts_http.specs.Outcomes.{AddsAs, DropsAs, DropsNamed, reply_of}
 use Rattle.ts_http.specs.declared.outcome.Outcome.{Outcome}
 use Rattle.ts_http.specs.declared.outcome.Outcome.TheVariants as outcomes
 use Rattle.ts_http.specs.declared.refusal.Refusal.TheVariants as refusals
-use Rattle.ts_store.specs.LineTexts.{IsIn}
-use Rattle.ts_store.specs.RuleTexts.{rule_for, settings_in, low_in, with_rule_added, with_rule_dropped, TextComes}
-use Rattle.ts_store.specs.RulesChanged.{RuleGoes}
-use Rattle.ts_store.specs.declared.rule_text.AddedRule.{AddedRule}
-use Rattle.ts_store.proofs.RuleStates.{rule_came, rule_went}
+use Rattle.ts_store.specs.write.LineTexts.{IsIn}
+use Rattle.ts_store.specs.rules.RuleTexts.{rule_for, settings_in, low_in, with_rule_added, with_rule_dropped, TextComes}
+use Rattle.ts_store.specs.rules.RulesChanged.{RuleGoes}
+use Rattle.ts_store.specs.declared.rules.rule_text.AddedRule.{AddedRule}
+use Rattle.ts_store.proofs.rules.RuleStates.{rule_came, rule_went}
 
 -- ---- POST
 

@@ -7,11 +7,11 @@ use Rattle.httparse.specs.Grammar.{RequestHead}
 use Rattle.httparse.specs.Spans.{IsHeaderWithin, IsRequestWithin, IsRequestAt, header_bytes, span_bytes}
 use Rattle.httparse.specs.declared.spans.HeaderSpan.{HeaderSpan}
 use Rattle.httparse.specs.declared.spans.RequestSpans.{RequestSpans}
-use Rattle.ts_core.specs.Facts.{Text}
-use Rattle.ts_core.specs.Devices.{Input}
-use Rattle.ts_core.specs.StoreData.{StoreData}
+use Rattle.ts_core.specs.facts.Facts.{Text}
+use Rattle.ts_core.specs.io.Devices.{Input}
+use Rattle.ts_core.specs.store.StoreData.{StoreData}
 use Rattle.httparse.proofs.GrammarLemmas.{ReadsRequest-append}
-use Rattle.ts_core.specs.Devices.{Output}
+use Rattle.ts_core.specs.io.Devices.{Output}
 use Rattle.ts_http.specs.Acts.{Acts}
 use Rattle.ts_http.specs.Heads.{IsWhole, ReadsHead, Nothing}
 use Rattle.ts_http.specs.Reading.{request_of}
@@ -27,7 +27,7 @@ use Rattle.ts_http.specs.declared.serve.IoFault.{IoFault}
 use Rattle.ts_http.specs.declared.serve.IoFault.TheVariants.{Reader, Writer}
 use Rattle.ts_http.specs.declared.serve.Served.{Served}
 use Rattle.ts_http.specs.declared.serve.Served.TheVariants as served
-use Rattle.ts_store.specs.LineTexts.{State, IsIn}
+use Rattle.ts_store.specs.write.LineTexts.{State, IsIn}
 use Rattle.ts_http.specs.Maintaining.{left_in}
 use Rattle.ts_http.specs.Outcomes.{WritesAs, QueriesAs, MaintainsAs, AddsAs, DropsAs, ActsAs, reply_of}
 use Rattle.ts_http.specs.declared.outcome.Outcome.{Outcome}

@@ -3,22 +3,22 @@
 use Rattle.std.specs.Prelude.{◌≡◌, ℕ, ℤ, Bool, true, false, IsTrue, List, [], ◌∷◌, ◌++◌, length, codes, if◌then◌else◌, Option, Some, None, Ok, Err}
 use Rattle.std.specs.Fmt.{signed_decimal}
 use Rattle.std.specs.Str.{IsUtf8}
-use Rattle.ts_core.specs.Facts.{Text, same_text}
-use Rattle.ts_core.specs.Marks.{marks_of}
-use Rattle.ts_core.specs.Settings.{Rule}
-use Rattle.ts_core.specs.SettingsFaults.{is_named, settings_fault_text, unknown_rule_text}
-use Rattle.ts_core.specs.declared.settings_fault.SettingsFault.{SettingsFault}
-use Rattle.ts_core.specs.TimeUnits.{precision_of}
-use Rattle.ts_core.specs.declared.time_unit.TimeUnit.{TimeUnit}
-use Rattle.ts_core.specs.declared.time_unit.TimeUnit.TheVariants.{Nanoseconds}
+use Rattle.ts_core.specs.facts.Facts.{Text, same_text}
+use Rattle.ts_core.specs.store.Marks.{marks_of}
+use Rattle.ts_core.specs.settings.Settings.{Rule}
+use Rattle.ts_core.specs.settings.SettingsFaults.{is_named, settings_fault_text, unknown_rule_text}
+use Rattle.ts_core.specs.declared.settings.settings_fault.SettingsFault.{SettingsFault}
+use Rattle.ts_core.specs.facts.TimeUnits.{precision_of}
+use Rattle.ts_core.specs.declared.facts.time_unit.TimeUnit.{TimeUnit}
+use Rattle.ts_core.specs.declared.facts.time_unit.TimeUnit.TheVariants.{Nanoseconds}
 use Rattle.ts_reply.specs.Answering.{IsReply}
 use Rattle.ts_reply.specs.Explaining.{IsExplanation}
 use Rattle.ts_reply.specs.Epochs.{epoch_of}
 use Rattle.ts_reply.specs.declared.epoch.Epoch.{Epoch}
 use Rattle.ts_reply.specs.declared.epoch.Epoch.TheVariants as epochs
-use Rattle.ts_store.specs.LineTexts.{State}
-use Rattle.ts_store.specs.RuleTexts.{rule_for, settings_in, low_in, with_rule_added, with_rule_dropped}
-use Rattle.ts_store.specs.declared.write_text.LineOutcome.{LineOutcome}
+use Rattle.ts_store.specs.write.LineTexts.{State}
+use Rattle.ts_store.specs.rules.RuleTexts.{rule_for, settings_in, low_in, with_rule_added, with_rule_dropped}
+use Rattle.ts_store.specs.declared.write.write_text.LineOutcome.{LineOutcome}
 use Rattle.ts_http.specs.Batches.{TakesLines, StopsAtLine, body_lines, refusals_of, partial_text}
 use Rattle.ts_http.specs.Maintaining.{steps_in, OpensRun, with_steps, run_text}
 use Rattle.ts_http.specs.HttpReplies.{reply_text, error_text, refusal_status, refusal_reply}

@@ -2,10 +2,10 @@
 -- (InfluxData 1.8, API reference: /write, partial writes; line protocol reference. Own rules: the lines are
 -- written one by one; the report has the first refused line and the number of refused lines.)
 use Rattle.std.specs.Prelude.{◌≡◌, ℕ, ◌+◌, ℤ, ◌==◌, List, [], ◌∷◌, ◌++◌, map, codes, if◌then◌else◌, Option, Some, None, decimal}
-use Rattle.ts_core.specs.Facts.{Text}
-use Rattle.ts_core.specs.declared.time_unit.TimeUnit.{TimeUnit}
-use Rattle.ts_store.specs.LineTexts.{State, WritesText, RunsOutOfMemory, refusal_text}
-use Rattle.ts_store.specs.declared.write_text.LineOutcome.{LineOutcome}
+use Rattle.ts_core.specs.facts.Facts.{Text}
+use Rattle.ts_core.specs.declared.facts.time_unit.TimeUnit.{TimeUnit}
+use Rattle.ts_store.specs.write.LineTexts.{State, WritesText, RunsOutOfMemory, refusal_text}
+use Rattle.ts_store.specs.declared.write.write_text.LineOutcome.{LineOutcome}
 
 -- ---- lines, whose timestamps have a precision, at a moment
 

@@ -1,8 +1,8 @@
 -- The outcome of reading a body. (Own rules.)
 use Rattle.std.specs.Prelude.{◌≡◌, ◌<◌, ◌≤◌, ◌+◌, ℕ, ⊤, [], ◌++◌, length, unwrap_or, Result, IfOk}
 use Rattle.std.specs.Io.KnownBytes.{Consumes}
-use Rattle.ts_core.specs.Facts.{Text}
-use Rattle.ts_core.specs.Devices.{Input, one_if_err}
+use Rattle.ts_core.specs.facts.Facts.{Text}
+use Rattle.ts_core.specs.io.Devices.{Input, one_if_err}
 use Rattle.ts_http.specs.declared.body.Body.{Body}
 use Rattle.ts_http.specs.declared.body.Body.TheVariants.{Whole, Cut, NoMemory}
 

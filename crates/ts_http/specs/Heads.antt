@@ -3,7 +3,7 @@
 use Rattle.std.specs.Prelude.{◌≡◌, ◌≢◌, ◌≤◌, ◌<◌, ℕ, [], length, take}
 use Rattle.httparse.specs.Grammar.{RequestHead, ReadsRequest, print_request, HasNoRequest, NeverHasRequest, MayBecomeRequest}
 use Rattle.httparse.specs.Spans.{RequestOverflows, RequestExceeds}
-use Rattle.ts_core.specs.Facts.{Text}
+use Rattle.ts_core.specs.facts.Facts.{Text}
 use Rattle.ts_http.specs.declared.head.HeadFault.{HeadFault}
 use Rattle.ts_http.specs.declared.head.HeadFault.TheVariants.{EndsEarly, TooLarge, Malformed}
 

@@ -2,7 +2,7 @@
 -- which fields a reply has, and that the connection is closed after it.)
 use Rattle.std.specs.Prelude.{ℕ, Bool, [], ◌∷◌, ◌++◌, length, codes, if◌then◌else◌, Option, Some, None, option_map, unwrap_or, decimal}
 use Rattle.http.specs.StatusCode.{code_digits, reason_phrase}
-use Rattle.ts_core.specs.Facts.{Text}
+use Rattle.ts_core.specs.facts.Facts.{Text}
 use Rattle.ts_http.specs.Requests.{allowed_methods}
 use Rattle.ts_http.specs.declared.head.HeadFault.TheVariants.{EndsEarly, TooLarge, Malformed}
 use Rattle.ts_http.specs.declared.refusal.Refusal.{Refusal}

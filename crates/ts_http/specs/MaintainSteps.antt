@@ -1,8 +1,8 @@
 -- The effect of some steps of an open run, at most n, until it ends. (Own rule.)
 use Rattle.std.specs.Prelude.{◌≡◌, ℕ, nat_le, min, Bool}
-use Rattle.ts_core.specs.Runs.{steps_left}
-use Rattle.ts_core.specs.StoreStates.{StandsFor}
-use Rattle.ts_core.specs.StoreData.{StoreData, state_of, OfEachHistory}
+use Rattle.ts_core.specs.moves.Runs.{steps_left}
+use Rattle.ts_core.specs.store.StoreStates.{StandsFor}
+use Rattle.ts_core.specs.store.StoreData.{StoreData, state_of, OfEachHistory}
 use Rattle.ts_http.specs.Maintaining.{stepped}
 
 pub record HasStepped (n : ℕ) (old new : StoreData) (taken : ℕ) (done : Bool) : Type 0 where

@@ -2,13 +2,13 @@
 use Rattle.std.specs.Prelude.{ℕ, ◌-◌, nat_lt, nat_le, min, length, ℤ, Bool, true, false, ◌&&◌, ◌∷◌, ◌++◌, codes, if◌then◌else◌, Option, Some, None, decimal}
 use Rattle.std.specs.Fmt.{signed_decimal}
 use Rattle.std.specs.Str.Parse.{digits_value}
-use Rattle.ts_core.specs.Facts.{Text}
-use Rattle.ts_core.specs.History.{History, Begin, Step, IsRunOpen}
-use Rattle.ts_core.specs.Runs.{steps_left}
-use Rattle.ts_core.specs.StoreData.{StoreData, state_of}
-use Rattle.ts_core.specs.StoreMoves.{run_begun}
-use Rattle.ts_store.specs.WholeRuns.{steps_taken}
-use Rattle.ts_store.specs.LineTexts.{State}
+use Rattle.ts_core.specs.facts.Facts.{Text}
+use Rattle.ts_core.specs.store.History.{History, Begin, Step, IsRunOpen}
+use Rattle.ts_core.specs.moves.Runs.{steps_left}
+use Rattle.ts_core.specs.store.StoreData.{StoreData, state_of}
+use Rattle.ts_core.specs.moves.StoreMoves.{run_begun}
+use Rattle.ts_store.specs.retain.WholeRuns.{steps_taken}
+use Rattle.ts_store.specs.write.LineTexts.{State}
 use Rattle.ts_http.specs.Parameters.{parameters, first_named}
 use Rattle.ts_http.specs.Requests.{is_number}
 

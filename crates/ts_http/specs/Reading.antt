@@ -5,8 +5,8 @@ use Rattle.std.specs.Io.KnownBytes.{Consumes, IsAtEnd}
 use Rattle.httparse.specs.Grammar.{RequestHead, NeverHasRequest}
 use Rattle.httparse.specs.Spans.{IsRequestAt, IsRequestOf, IsRequestWithin, RequestOverflows, RequestExceeds}
 use Rattle.httparse.specs.declared.spans.HeaderSpan.{HeaderSpan}
-use Rattle.ts_core.specs.Facts.{Text}
-use Rattle.ts_core.specs.Devices.{Input, one_if_err}
+use Rattle.ts_core.specs.facts.Facts.{Text}
+use Rattle.ts_core.specs.io.Devices.{Input, one_if_err}
 use Rattle.ts_http.specs.Heads.{Nothing, Fault, IsWhole, IsUnfinished, ReadsHead, head_limit, field_limit}
 use Rattle.ts_http.specs.declared.head.HeadFault.TheVariants.{EndsEarly, TooLarge, Malformed}
 use Rattle.ts_http.specs.declared.head.HeadRead.{HeadRead}

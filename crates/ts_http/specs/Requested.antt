@@ -2,7 +2,7 @@
 -- before anything is executed; bytes after it mean nothing.)
 use Rattle.std.specs.Prelude.{◌≡◌, ◌<◌, Bool, true, false, ◌++◌, length, Some, None}
 use Rattle.httparse.specs.Grammar.{RequestHead}
-use Rattle.ts_core.specs.Facts.{Text}
+use Rattle.ts_core.specs.facts.Facts.{Text}
 use Rattle.ts_http.specs.Heads.{Nothing, Fault, IsWhole, ReadsHead}
 use Rattle.ts_http.specs.Requests.{path_of, query_of, route_of, method_of, fields_of, refused, body_length}
 use Rattle.ts_http.specs.declared.head.HeadFault.{HeadFault}

@@ -7,9 +7,9 @@ use Rattle.std.specs.Char.{to_ascii_lowercase}
 use Rattle.std.specs.Str.Parse.{digits_value}
 use Rattle.httparse.specs.Grammar.{RequestHead}
 use Rattle.httparse.specs.Spans.{name_and_value}
-use Rattle.ts_core.specs.Facts.{Text, same_text}
-use Rattle.ts_core.specs.Numbers.{are_digits}
-use Rattle.ts_core.specs.SettingsFaults.{unless}
+use Rattle.ts_core.specs.facts.Facts.{Text, same_text}
+use Rattle.ts_core.specs.text.Numbers.{are_digits}
+use Rattle.ts_core.specs.settings.SettingsFaults.{unless}
 use Rattle.ts_http.specs.declared.route.Route.{Route}
 use Rattle.ts_http.specs.declared.route.Route.TheVariants as to
 use Rattle.ts_http.specs.declared.route.Method.{Method}

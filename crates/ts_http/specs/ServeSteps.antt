@@ -1,9 +1,9 @@
 -- Steps of serving one request, as the code takes them. (Own rules.)
 use Rattle.std.specs.Prelude.{◌≡◌, ◌⊎◌, ◌<◌, ◌≤◌, ◌+◌, ℕ, ℤ, Bool, [], ◌++◌, length, unwrap_or, Some, None, Result, Ok, Err, IfOk, OnErr}
 use Rattle.std.specs.Io.KnownBytes.{Consumes, Appends}
-use Rattle.ts_core.specs.Facts.{Text}
-use Rattle.ts_core.specs.Devices.{Input, Output, AppendsFront, one_if_err}
-use Rattle.ts_core.specs.StoreData.{StoreData}
+use Rattle.ts_core.specs.facts.Facts.{Text}
+use Rattle.ts_core.specs.io.Devices.{Input, Output, AppendsFront, one_if_err}
+use Rattle.ts_core.specs.store.StoreData.{StoreData}
 use Rattle.ts_http.specs.Outcomes.{ActsAs, reply_of}
 use Rattle.ts_http.specs.Requests.{Fields, refused, body_length, body_limit}
 use Rattle.ts_http.specs.declared.outcome.Outcome.{Outcome}

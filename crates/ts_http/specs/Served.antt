@@ -1,11 +1,11 @@
 -- A request served: the bytes read, the store afterwards, and the bytes written. (Own rules.)
 use Rattle.std.specs.Prelude.{◌≡◌, ℕ, ℤ, Bool, ◌+◌, ◌≤◌, [], Result, Ok, Err, IfOk}
 use Rattle.std.specs.Io.KnownBytes.{Consumes, Appends}
-use Rattle.ts_core.specs.Facts.{Text}
-use Rattle.ts_core.specs.Devices.{Input, Output, AppendsFront}
-use Rattle.ts_core.specs.StoreData.{StoreData}
+use Rattle.ts_core.specs.facts.Facts.{Text}
+use Rattle.ts_core.specs.io.Devices.{Input, Output, AppendsFront}
+use Rattle.ts_core.specs.store.StoreData.{StoreData}
 use Rattle.ts_http.specs.Acts.{Replied, Acts}
-use Rattle.ts_store.specs.LineTexts.{State, IsIn}
+use Rattle.ts_store.specs.write.LineTexts.{State, IsIn}
 use Rattle.ts_http.specs.HttpReplies.{refusal_status, refusal_reply}
 use Rattle.ts_http.specs.Maintaining.{left_in}
 use Rattle.ts_http.specs.Reading.{request_of}

@@ -1,11 +1,11 @@
 -- The code's record of a batch. (Own rules.)
 use Rattle.std.specs.Prelude.{◌≡◌, ℕ, ℤ, List, [], ◌∷◌, length, map, Option, Some, None, option_map, Result, Ok, Err}
-use Rattle.ts_core.specs.Facts.{Text}
-use Rattle.ts_core.specs.StoreData.{StoreData}
-use Rattle.ts_core.specs.declared.time_unit.TimeUnit.{TimeUnit}
-use Rattle.ts_store.specs.LineTexts.{State, IsIn, line_refusal_text, refusal_text}
-use Rattle.ts_store.specs.declared.write_text.LineOutcome.{LineOutcome}
-use Rattle.ts_store.specs.declared.write_text.LineRefusal.{LineRefusal}
+use Rattle.ts_core.specs.facts.Facts.{Text}
+use Rattle.ts_core.specs.store.StoreData.{StoreData}
+use Rattle.ts_core.specs.declared.facts.time_unit.TimeUnit.{TimeUnit}
+use Rattle.ts_store.specs.write.LineTexts.{State, IsIn, line_refusal_text, refusal_text}
+use Rattle.ts_store.specs.declared.write.write_text.LineOutcome.{LineOutcome}
+use Rattle.ts_store.specs.declared.write.write_text.LineRefusal.{LineRefusal}
 use Rattle.ts_http.specs.Batches.{TakesLines, StopsAtLine, body_lines, refusals_from}
 use Rattle.ts_http.specs.declared.batch.Tally.{Tally}
 

@@ -1,8 +1,8 @@
 //! `/maintain`: steps of a retention run.
 ghost use Rattle.std.specs.Prelude.{◌≡◌, OnOk, Option, true, false};
-ghost use Rattle.ts_core.specs.History.{Begin};
-ghost use Rattle.ts_core.specs.StoreData.{GoesOn};
-ghost use Rattle.ts_core.specs.StoreMoves.{run_begun};
+ghost use Rattle.ts_core.specs.store.History.{Begin};
+ghost use Rattle.ts_core.specs.store.StoreData.{GoesOn};
+ghost use Rattle.ts_core.specs.moves.StoreMoves.{run_begun};
 ghost use Rattle.ts_http.specs.Maintaining.{steps_asked, steps_in, run_opened, progress_text};
 ghost use Rattle.ts_http.specs.MaintainSteps.{HasStepped};
 ghost use Rattle.ts_http.specs.Outcomes.{IsAsked, MaintainsAs};

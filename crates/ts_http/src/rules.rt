@@ -1,6 +1,6 @@
 //! `/rules`: adds a rollup rule, or drops one.
 ghost use Rattle.std.specs.Prelude.{◌≡◌, ◌⊎◌, ◌≤◌, IfOk, length, string_bytes, false};
-ghost use Rattle.ts_core.specs.SettingsFaults.{settings_fault_text};
+ghost use Rattle.ts_core.specs.settings.SettingsFaults.{settings_fault_text};
 ghost use Rattle.ts_http.specs.Acts.{bad_reply, added_text, dropped_text};
 ghost use Rattle.ts_http.specs.HttpReplies.{error_text};
 ghost use Rattle.ts_http.specs.Outcomes.{AddsAs, DropsAs, DropsNamed, reply_of};

@@ -2,7 +2,7 @@
 ghost use Rattle.std.specs.Prelude.{◌≡◌, ◌≤◌, length, map, drop, false, true};
 ghost use Rattle.std.specs.List.{AllByRecursion};
 ghost use Rattle.httparse.specs.Spans.{IsHeaderWithin, IsRequestWithin, header_bytes, span_bytes};
-ghost use Rattle.ts_core.specs.Devices.{one_if_err};
+ghost use Rattle.ts_core.specs.io.Devices.{one_if_err};
 ghost use Rattle.ts_http.specs.Heads.{head_limit};
 ghost use Rattle.ts_http.specs.Requests.{path_of, query_of, route_of, method_of, is_allowed, body_limit, refused, body_length};
 ghost use Rattle.ts_http.specs.Outcomes.{ActsAs, reply_of};

@@ -1,8 +1,8 @@
 -- One for each member of a list, all of the same format, are so many; and such a list that is read in a loop.
 use Rattle.std.proofs.Common.{◌≡◌, ◌≤◌, arith, ℕ, suc, ◌+◌, ◌<◌, map, drop, get_or, add-one, drop-cons, List, [], ◌∷◌, ◌++◌, length, replicate, Result, Ok, Err, refl, sym, ap, subst, ◌∙◌, append_assoc}
 use Rattle.std.proofs.lemmas.List.{append-nil, nil_from_length, length-drop}
-use Rattle.ts_core.specs.Devices.{Input}
-use Rattle.ts_core.specs.ReadingAhead.{EndIsEnd}
+use Rattle.ts_core.specs.io.Devices.{Input}
+use Rattle.ts_core.specs.io.ReadingAhead.{EndIsEnd}
 use Rattle.ts_image.specs.declared.field_fault.FieldFault.{FieldFault}
 use Rattle.ts_image.specs.declared.field_fault.FieldFault.TheVariants.{Misshapen, Device, Turns, OutOfMemory}
 use Rattle.ts_image.specs.Formats.{Place, Read, ◌>>=◌, Format, read_along, along, times}

@@ -1,16 +1,16 @@
 -- A store that was built from all parts of an image is made of its data.
 use Rattle.std.proofs.Common.{◌≡◌, ◌↔◌, ℕ, zero, suc, ◌≤◌, ◌<◌, ℤ, ◌==◌, Bool, true, false, cond, List, [], ◌∷◌, ◌++◌, length, map, filter, refl, sym, ◌∙◌, ap, subst, inl, inr, ⊎_elim, arith}
-use Rattle.ts_core.specs.Members.{Among, AllDistinct}
-use Rattle.ts_core.specs.Facts.{Series, Column, Fact}
-use Rattle.ts_core.specs.Settings.{Settings}
-use Rattle.ts_core.specs.Marks.{Marks}
-use Rattle.ts_core.specs.Aggregates.{Aggregate, empty_aggregate}
-use Rattle.ts_core.specs.Cells.{Cell}
-use Rattle.ts_core.specs.ReadingAhead.{bit}
-use Rattle.ts_core.specs.StoreStates.{ColumnPoints, column_of, facts_of}
-use Rattle.ts_core.specs.StoreData.{CellMap, StoreData, AreLive}
-use Rattle.ts_store.specs.LinesPut.{OfEachRule, PutsCells}
-use Rattle.ts_store.specs.Building.{IsBuiltFrom, waiting_of, HaveCells}
+use Rattle.ts_core.specs.lists.Members.{Among, AllDistinct}
+use Rattle.ts_core.specs.facts.Facts.{Series, Column, Fact}
+use Rattle.ts_core.specs.settings.Settings.{Settings}
+use Rattle.ts_core.specs.store.Marks.{Marks}
+use Rattle.ts_core.specs.aggregates.Aggregates.{Aggregate, empty_aggregate}
+use Rattle.ts_core.specs.store.Cells.{Cell}
+use Rattle.ts_core.specs.io.ReadingAhead.{bit}
+use Rattle.ts_core.specs.store.StoreStates.{ColumnPoints, column_of, facts_of}
+use Rattle.ts_core.specs.store.StoreData.{CellMap, StoreData, AreLive}
+use Rattle.ts_store.specs.write.LinesPut.{OfEachRule, PutsCells}
+use Rattle.ts_store.specs.image.Building.{IsBuiltFrom, waiting_of, HaveCells}
 use Rattle.ts_image.specs.declared.version.Version.{Version}
 use Rattle.ts_image.specs.Images.{ImageRule, ImageColumn, ImageSeries, ImageCell, ImageData}
 use Rattle.ts_image.specs.ImageTests.{rule_in, settings_in, AreLows, IsImageCell, AreImageCells, CellsAre, IsImageSeries, IsPossible}

@@ -4,13 +4,13 @@ use Rattle.std.proofs.lemmas.List.{set-get_or, get_or-set_same}
 use Rattle.std.specs.Prelude.{None}
 use Rattle.std.specs.FinMap as finmap
 use Rattle.std.specs.FinMap.{get-empty}
-use Rattle.ts_core.specs.Members.{Among}
-use Rattle.ts_core.specs.Settings.{Rule}
-use Rattle.ts_core.specs.Cells.{Cell, cell_cmp}
-use Rattle.ts_core.specs.StoreStates.{CellParts}
-use Rattle.ts_core.specs.StoreData.{CellMap}
-use Rattle.ts_core.proofs.PieceCells.{cells_total}
-use Rattle.ts_store.specs.Building.{Built, cells_at, with_cell}
+use Rattle.ts_core.specs.lists.Members.{Among}
+use Rattle.ts_core.specs.settings.Settings.{Rule}
+use Rattle.ts_core.specs.store.Cells.{Cell, cell_cmp}
+use Rattle.ts_core.specs.store.StoreStates.{CellParts}
+use Rattle.ts_core.specs.store.StoreData.{CellMap}
+use Rattle.ts_core.proofs.plans.PieceCells.{cells_total}
+use Rattle.ts_store.specs.image.Building.{Built, cells_at, with_cell}
 use Rattle.ts_image.specs.Images.{ImageCell}
 use Rattle.ts_image.specs.ImageTests.{AreRising}
 use Rattle.ts_image.specs.Pictures.{part_of}

@@ -3,24 +3,24 @@ use Rattle.std.proofs.Common.{◌≡◌, ℕ, ◌+◌, ◌≤◌, ◌≤ℤ◌, 
 use Rattle.std.specs.List.{sum_by}
 use Rattle.std.proofs.lemmas.List.Sums.{sum_by-cons}
 use Rattle.std.proofs.lemmas.Bool.{and_parts}
-use Rattle.ts_core.specs.Members.{Among, AllDistinct}
-use Rattle.ts_core.specs.Facts.{Column, Fact, id_of, same_id}
-use Rattle.ts_core.specs.Settings.{Rule, Settings}
-use Rattle.ts_core.specs.History.{History, accepted}
-use Rattle.ts_core.specs.Latest.{latest, latest_of}
-use Rattle.ts_core.specs.Aggregates.{Aggregate}
-use Rattle.ts_core.specs.MergeLaws.{aggregate_laws}
-use Rattle.ts_core.specs.RawFacts.{is_kept, kept_from}
-use Rattle.ts_core.specs.StoreStates.{StandsFor, facts_of}
-use Rattle.ts_core.specs.StoreData.{CellMap, StoreData, state_of}
-use Rattle.ts_core.proofs.Cuts.{one_fact, Holds}
-use Rattle.ts_core.proofs.Folds.{fold-count, length-same}
-use Rattle.ts_core.proofs.Latests.{latest-distinct}
-use Rattle.ts_core.proofs.MembersLemmas.{AllDistinct-filter, Among-filter_was, Among-filter_passes, Among-filter_stays}
-use Rattle.ts_core.proofs.StateLemmas.{StandsFor-Holds}
+use Rattle.ts_core.specs.lists.Members.{Among, AllDistinct}
+use Rattle.ts_core.specs.facts.Facts.{Column, Fact, id_of, same_id}
+use Rattle.ts_core.specs.settings.Settings.{Rule, Settings}
+use Rattle.ts_core.specs.store.History.{History, accepted}
+use Rattle.ts_core.specs.facts.Latest.{latest, latest_of}
+use Rattle.ts_core.specs.aggregates.Aggregates.{Aggregate}
+use Rattle.ts_core.specs.aggregates.MergeLaws.{aggregate_laws}
+use Rattle.ts_core.specs.store.RawFacts.{is_kept, kept_from}
+use Rattle.ts_core.specs.store.StoreStates.{StandsFor, facts_of}
+use Rattle.ts_core.specs.store.StoreData.{CellMap, StoreData, state_of}
+use Rattle.ts_core.proofs.store.Cuts.{one_fact, Holds}
+use Rattle.ts_core.proofs.aggregates.Folds.{fold-count, length-same}
+use Rattle.ts_core.proofs.facts.Latests.{latest-distinct}
+use Rattle.ts_core.proofs.lists.MembersLemmas.{AllDistinct-filter, Among-filter_was, Among-filter_passes, Among-filter_stays}
+use Rattle.ts_core.proofs.store.StateLemmas.{StandsFor-Holds}
 use Rattle.ts_image.specs.Pictures.{part_at}
-use Rattle.ts_core.specs.Cells.{Cell, is_rolled, is_in_cell, same_cell, cell_of, frozen_of}
-use Rattle.ts_core.proofs.PieceCells.{same_cell-eq}
+use Rattle.ts_core.specs.store.Cells.{Cell, is_rolled, is_in_cell, same_cell, cell_of, frozen_of}
+use Rattle.ts_core.proofs.plans.PieceCells.{same_cell-eq}
 
 -- how many members of a list pass
 abbrev pub number_of : {X : Type 0} → (X → Bool) → List X → ℕ

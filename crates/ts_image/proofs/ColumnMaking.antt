@@ -1,13 +1,13 @@
 -- A store under construction, column by column.
 use Rattle.std.proofs.Common.{◌≡◌, ◌<◌, ℕ, zero, suc, Bool, List, [], ◌∷◌, ◌++◌, length, map, refl, sym, ap, subst, ◌∙◌, inl, inr, ⊎_elim, arith, append_assoc, append-nil}
 use Rattle.std.proofs.lemmas.List.{map-append}
-use Rattle.ts_core.specs.Members.{Among}
-use Rattle.ts_core.specs.Numbered.{IsAt}
-use Rattle.ts_core.specs.Facts.{Text, Series, Column, text_cmp}
-use Rattle.ts_core.specs.StoreStates.{ColumnPoints, column_of}
-use Rattle.ts_core.proofs.MembersLemmas.{Among-append}
+use Rattle.ts_core.specs.lists.Members.{Among}
+use Rattle.ts_core.specs.lists.Numbered.{IsAt}
+use Rattle.ts_core.specs.facts.Facts.{Text, Series, Column, text_cmp}
+use Rattle.ts_core.specs.store.StoreStates.{ColumnPoints, column_of}
+use Rattle.ts_core.proofs.lists.MembersLemmas.{Among-append}
 use Rattle.std.proofs.lemmas.Cmp.{nat_list_cmp_total}
-use Rattle.ts_store.specs.Building.{Built, with_column}
+use Rattle.ts_store.specs.image.Building.{Built, with_column}
 use Rattle.ts_image.specs.Images.{ImageColumn}
 use Rattle.ts_image.specs.ImageTests.{AreRising}
 use Rattle.ts_image.specs.Pictures.{points_in}

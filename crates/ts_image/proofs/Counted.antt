@@ -2,17 +2,17 @@
 use Rattle.std.proofs.Common.{◌≡◌, ◌⊎◌, ℕ, zero, ℤ, ◌+◌, ◌≤◌, ◌<◌, Bool, true, false, cond, ◌&&◌, List, [], ◌∷◌, ◌++◌, length, map, filter, suc, refl, sym, ◌∙◌, ap, inl, inr, ⊎_elim, arith, length-append, append_assoc}
 use Rattle.std.specs.List.{sum_by}
 use Rattle.std.proofs.lemmas.List.Sums.{sum_by-cons}
-use Rattle.ts_core.specs.Members.{Among}
-use Rattle.ts_core.specs.Facts.{Series, Column, Fact, same_text}
-use Rattle.ts_core.specs.Settings.{Rule}
-use Rattle.ts_core.specs.Cells.{Cell, is_in_cell, same_cell, cell_of}
-use Rattle.ts_core.specs.StoreStates.{ColumnPoints, fact_at, facts_at, facts_of}
-use Rattle.ts_core.proofs.RunSteps.{filter-append}
+use Rattle.ts_core.specs.lists.Members.{Among}
+use Rattle.ts_core.specs.facts.Facts.{Series, Column, Fact, same_text}
+use Rattle.ts_core.specs.settings.Settings.{Rule}
+use Rattle.ts_core.specs.store.Cells.{Cell, is_in_cell, same_cell, cell_of}
+use Rattle.ts_core.specs.store.StoreStates.{ColumnPoints, fact_at, facts_at, facts_of}
+use Rattle.ts_core.proofs.store.RunSteps.{filter-append}
 use Rattle.ts_image.specs.Images.{ImageColumn, ImageSeries, ImageCell}
 use Rattle.ts_image.specs.ImageTests.{points_of_series, points_in_all, points_of_measurement, frozen_in}
 use Rattle.ts_image.specs.Pictures.{column_in, points_in, columns_in, part_of, part_at}
-use Rattle.ts_core.specs.Aggregates.{Aggregate}
-use Rattle.ts_core.specs.StoreData.{CellMap}
+use Rattle.ts_core.specs.aggregates.Aggregates.{Aggregate}
+use Rattle.ts_core.specs.store.StoreData.{CellMap}
 
 length-left : {X : Type 0} (p : X → Bool) (xs : List X) → length (filter p xs) ≤ length xs
 length-left p [] = omega arith

@@ -5,33 +5,33 @@ use Rattle.std.specs.FinMap as finmap
 use Rattle.std.proofs.lemmas.Int.{ints}
 use Rattle.std.proofs.lemmas.List.{length-map}
 use Rattle.std.proofs.lemmas.List.Sums.{sum_by-cons}
-use Rattle.ts_core.specs.Members.{Among}
-use Rattle.ts_core.specs.Times.{IsTime, least_time}
-use Rattle.ts_core.specs.Facts.{Series, Column, Fact}
-use Rattle.ts_core.specs.Settings.{Rule, IsPossibleRule, Settings, Outlasts, AreSettings}
-use Rattle.ts_core.specs.Tags.{tag_value}
-use Rattle.ts_core.specs.History.{History, settings_of, raw_mark}
-use Rattle.ts_core.specs.Latest.{latest_of}
-use Rattle.ts_core.specs.Aggregates.{Aggregate}
-use Rattle.ts_core.specs.Marks.{Marks, index_of, first_from, low_of}
-use Rattle.ts_core.specs.RawFacts.{kept_from}
-use Rattle.ts_core.specs.Cells.{Cell}
-use Rattle.ts_core.specs.StoreStates.{StandsFor, HasCells}
-use Rattle.ts_core.specs.StoreData.{CellMap, StoreData, rule_cells, rules_of, state_of}
-use Rattle.ts_core.proofs.IndicesFit.{indices_fit}
-use Rattle.ts_core.proofs.Intervals.{settings_faultless}
-use Rattle.ts_core.proofs.LowIndices.{low_of-near}
-use Rattle.ts_core.proofs.PieceCells.{cells_total}
-use Rattle.ts_core.proofs.Ids.{series_total}
-use Rattle.ts_core.proofs.MembersLemmas.{Among-map, map_back}
-use Rattle.ts_core.proofs.SettingsLaws.{settings_are}
-use Rattle.ts_core.proofs.StateLemmas.{raw_duration_of}
-use Rattle.ts_core.proofs.StepStands.{few_accepted}
+use Rattle.ts_core.specs.lists.Members.{Among}
+use Rattle.ts_core.specs.facts.Times.{IsTime, least_time}
+use Rattle.ts_core.specs.facts.Facts.{Series, Column, Fact}
+use Rattle.ts_core.specs.settings.Settings.{Rule, IsPossibleRule, Settings, Outlasts, AreSettings}
+use Rattle.ts_core.specs.facts.Tags.{tag_value}
+use Rattle.ts_core.specs.store.History.{History, settings_of, raw_mark}
+use Rattle.ts_core.specs.facts.Latest.{latest_of}
+use Rattle.ts_core.specs.aggregates.Aggregates.{Aggregate}
+use Rattle.ts_core.specs.store.Marks.{Marks, index_of, first_from, low_of}
+use Rattle.ts_core.specs.store.RawFacts.{kept_from}
+use Rattle.ts_core.specs.store.Cells.{Cell}
+use Rattle.ts_core.specs.store.StoreStates.{StandsFor, HasCells}
+use Rattle.ts_core.specs.store.StoreData.{CellMap, StoreData, rule_cells, rules_of, state_of}
+use Rattle.ts_core.proofs.aggregates.IndicesFit.{indices_fit}
+use Rattle.ts_core.proofs.settings.Intervals.{settings_faultless}
+use Rattle.ts_core.proofs.store.LowIndices.{low_of-near}
+use Rattle.ts_core.proofs.plans.PieceCells.{cells_total}
+use Rattle.ts_core.proofs.facts.Ids.{series_total}
+use Rattle.ts_core.proofs.lists.MembersLemmas.{Among-map, map_back}
+use Rattle.ts_core.proofs.settings.SettingsLaws.{settings_are}
+use Rattle.ts_core.proofs.store.StateLemmas.{raw_duration_of}
+use Rattle.ts_core.proofs.moves.StepStands.{few_accepted}
 use Rattle.ts_line.specs.Names.{IsNamed}
 use Rattle.ts_image.specs.Images.{ImageCell}
 use Rattle.ts_image.specs.Pictures.{part_at}
 use Rattle.ts_image.specs.SavedImages.{IsWellFormed}
-use Rattle.ts_store.specs.Saving.{SavedSeries, saved_key, FrozenCell, frozen_from}
+use Rattle.ts_store.specs.image.Saving.{SavedSeries, saved_key, FrozenCell, frozen_from}
 use Rattle.ts_image.specs.Saving.{image_of, image_cell_of, cells_at, FitsCell, FitCells, FitCellsFrom, FitsImage, IsOrder}
 use Rattle.ts_image.specs.WrittenImages.{WrittenImagesAreAcceptable}
 use Rattle.ts_image.proofs.CellSums.{rule_counted}

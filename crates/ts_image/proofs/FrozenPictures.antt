@@ -4,22 +4,22 @@ use Rattle.std.specs.List.{AllByRecursion}
 use Rattle.std.specs.Int.Signed.{≤ℤ_refl}
 use Rattle.std.proofs.lemmas.Int.{ints, by_lt_z}
 use Rattle.std.proofs.lemmas.Bool.{and_parts, not-true}
-use Rattle.ts_core.specs.Members.{Among}
-use Rattle.ts_core.specs.Times.{IsTime}
-use Rattle.ts_core.specs.Facts.{Column, Fact}
-use Rattle.ts_core.specs.Settings.{Rule, Settings}
-use Rattle.ts_core.specs.History.{History, Line, Begin, Step, AddRule, DropRule, accepted, put_before, raw_mark, MayBeTaken, IsLawful}
-use Rattle.ts_core.specs.Latest.{latest_of}
-use Rattle.ts_core.specs.Aggregates.{points_of, IsSound, AreExtremesOf, IsAggregateOf}
-use Rattle.ts_core.specs.RawFacts.{is_kept, is_waiting, earlier_mark, kept_from}
-use Rattle.ts_core.specs.Cells.{Cell, cell_of, is_rolled, is_in_cell, same_cell, frozen_of}
-use Rattle.ts_core.proofs.AggregatesLemmas.{aggregate_of-is}
-use Rattle.ts_core.proofs.LiveWays.{facts_possible}
-use Rattle.ts_core.proofs.Comparisons.{le_true}
-use Rattle.ts_core.proofs.Latests.{latest-was}
-use Rattle.ts_core.proofs.MembersLemmas.{Among-filter_was, Among-filter_passes, map_back}
-use Rattle.ts_core.proofs.PieceCells.{same_cell-eq}
-use Rattle.ts_core.proofs.StateLemmas.{earlier_mark-le, le_trans}
+use Rattle.ts_core.specs.lists.Members.{Among}
+use Rattle.ts_core.specs.facts.Times.{IsTime}
+use Rattle.ts_core.specs.facts.Facts.{Column, Fact}
+use Rattle.ts_core.specs.settings.Settings.{Rule, Settings}
+use Rattle.ts_core.specs.store.History.{History, Line, Begin, Step, AddRule, DropRule, accepted, put_before, raw_mark, MayBeTaken, IsLawful}
+use Rattle.ts_core.specs.facts.Latest.{latest_of}
+use Rattle.ts_core.specs.aggregates.Aggregates.{points_of, IsSound, AreExtremesOf, IsAggregateOf}
+use Rattle.ts_core.specs.store.RawFacts.{is_kept, is_waiting, earlier_mark, kept_from}
+use Rattle.ts_core.specs.store.Cells.{Cell, cell_of, is_rolled, is_in_cell, same_cell, frozen_of}
+use Rattle.ts_core.proofs.aggregates.AggregatesLemmas.{aggregate_of-is}
+use Rattle.ts_core.proofs.moves.LiveWays.{facts_possible}
+use Rattle.ts_core.proofs.lists.Comparisons.{le_true}
+use Rattle.ts_core.proofs.facts.Latests.{latest-was}
+use Rattle.ts_core.proofs.lists.MembersLemmas.{Among-filter_was, Among-filter_passes, map_back}
+use Rattle.ts_core.proofs.plans.PieceCells.{same_cell-eq}
+use Rattle.ts_core.proofs.store.StateLemmas.{earlier_mark-le, le_trans}
 use Rattle.ts_image.specs.Images.{ImageRule, ImageCell}
 use Rattle.ts_image.specs.ImageTests.{IsName, IsFrozenTime, IsImageCell, rule_in}
 use Rattle.ts_image.specs.Pictures.{part_of}

@@ -5,9 +5,9 @@ use Rattle.std.specs.Int.{from_be_bytes}
 use Rattle.std.specs.Str.{bytes_eq}
 use Rattle.std.proofs.lemmas.Bool.{le-ltb}
 use Rattle.std.proofs.lemmas.List.{take_at, append-nil}
-use Rattle.ts_core.proofs.Ids.{same_text-eq}
-use Rattle.ts_core.proofs.Comparisons.{same_text-from_eq}
-use Rattle.ts_core.specs.Devices.{Input}
+use Rattle.ts_core.proofs.facts.Ids.{same_text-eq}
+use Rattle.ts_core.proofs.lists.Comparisons.{same_text-from_eq}
+use Rattle.ts_core.specs.io.Devices.{Input}
 use Rattle.ts_image.specs.declared.version.Version.{Version}
 use Rattle.ts_image.specs.declared.image_reading.Head.{Head}
 use Rattle.ts_image.specs.declared.image_reading.Head.TheVariants as head

@@ -5,8 +5,8 @@ use Rattle.std.specs.Str.{IsUtf8}
 use Rattle.std.proofs.Math.Nat.{mod-lt}
 use Rattle.std.proofs.lemmas.Bool.{and_parts, cases_lt, ltb-true, ltb-false, le-ltb}
 use lib.Utf8.{scalar, scalars, scalar_cases, next, encode, encodes}
-use Rattle.ts_core.specs.Facts.{Text}
-use Rattle.ts_core.specs.Marks.{Marks}
+use Rattle.ts_core.specs.facts.Facts.{Text}
+use Rattle.ts_core.specs.store.Marks.{Marks}
 use Rattle.ts_image.specs.Formats.{concat, Format, number, signed, text, nothing, and, also, iso, FitAlong, fields_along, along, times, list_of}
 use Rattle.ts_image.specs.FormatLaws.{AreBytes}
 use Rattle.ts_image.specs.declared.version.Version.{Version}

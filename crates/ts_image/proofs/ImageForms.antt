@@ -1,7 +1,7 @@
 -- The format of images is one.
 use Rattle.std.proofs.Common.{List, refl}
 use Rattle.std.specs.Int.{w8, w32, w64, w128}
-use Rattle.ts_core.specs.Facts.{Text}
+use Rattle.ts_core.specs.facts.Facts.{Text}
 use Rattle.ts_image.specs.Formats.{Format, number, signed, text, also, list_of}
 use Rattle.ts_image.specs.FormatLaws.{IsFormat}
 use Rattle.ts_image.specs.declared.version.Version.{Version}

@@ -1,7 +1,7 @@
 -- Lists of lent texts, one longer.
 use Rattle.std.proofs.Common.{◌≡◌, ℕ, zero, suc, add-one, ◌+◌, ◌<◌, ◌≤◌, List, [], ◌∷◌, ◌++◌, length, map, take, get_or, refl, sym, ap, ◌∙◌, arith, Bor}
-use Rattle.ts_core.specs.Facts.{Text}
-use Rattle.ts_core.specs.Texts.{lent_pairs}
+use Rattle.ts_core.specs.facts.Facts.{Text}
+use Rattle.ts_core.specs.text.Texts.{lent_pairs}
 
 pub lent_length : (xs : List (Bor Text × Bor Text)) → length (lent_pairs xs) ≡ length xs
 lent_length [] = refl

@@ -2,8 +2,8 @@
 use Rattle.std.proofs.Common.{◌≡◌, ◌≤ℤ◌, ℕ, List, [], ◌∷◌, map, Option, Some, None, Result, Ok, Err, ap, subst}
 use Rattle.std.specs.Prelude.{pos, IfSome}
 use Rattle.std.specs.List.{AllByRecursion}
-use Rattle.ts_core.specs.Devices.{Input}
-use Rattle.ts_core.specs.Settings.{Rule, Settings}
+use Rattle.ts_core.specs.io.Devices.{Input}
+use Rattle.ts_core.specs.settings.Settings.{Rule, Settings}
 use Rattle.ts_image.specs.declared.rule_reading.RuleParts.{RuleParts}
 use Rattle.ts_image.specs.declared.image_reading.ImageParts.{ImageParts}
 use Rattle.ts_image.specs.declared.image_loading.LoadedImage.{LoadedImage}
@@ -15,7 +15,7 @@ use Rattle.ts_image.specs.RuleParts.{rule_of, settings_of_parts}
 use Rattle.ts_image.specs.ImageTests.{IsPossible, rule_in, settings_in}
 use Rattle.ts_image.specs.TestParts.{IsLong}
 use Rattle.ts_image.specs.ImageFaults.{IsImageOf, IsFaultOf}
-use Rattle.ts_core.specs.StoreData.{StoreData, StaysFor}
+use Rattle.ts_core.specs.store.StoreData.{StoreData, StaysFor}
 use Rattle.ts_image.specs.Images.{ImageData}
 use Rattle.ts_image.specs.ImageReading.{image_of, LoadsParts}
 use Rattle.ts_image.specs.ImageLoading.{LoadsImage, LoadsStore, StandsAsSaved}

@@ -1,8 +1,8 @@
 -- Values that are read one after another, as a loop does.
 use Rattle.std.proofs.Common.{◌≡◌, ℕ, suc, List, [], ◌∷◌, ◌++◌, replicate, Ok, Err, refl, sym, ap, ◌∙◌, append_assoc}
 use Rattle.std.proofs.lemmas.List.{append-nil}
-use Rattle.ts_core.specs.Devices.{Input}
-use Rattle.ts_core.specs.ReadingAhead.{EndIsEnd}
+use Rattle.ts_core.specs.io.Devices.{Input}
+use Rattle.ts_core.specs.io.ReadingAhead.{EndIsEnd}
 use Rattle.ts_image.specs.declared.field_fault.FieldFault.{FieldFault}
 use Rattle.ts_image.specs.declared.field_fault.FieldFault.TheVariants.{Misshapen, Device, Turns, OutOfMemory}
 use Rattle.ts_image.specs.Formats.{Place, Read, ◌>>=◌, Format, read_along, times}

@@ -2,16 +2,16 @@
 use Rattle.std.proofs.Common.{◌≡◌, ◌⊎◌, ℕ, ◌+◌, ◌≤◌, ◌<◌, ℤ, true, false, cond, List, [], ◌∷◌, map, refl, sym, ◌∙◌, ap, subst, inl, inr, ⊎_elim, true≢false, arith, Some, None, Option}
 use Rattle.std.specs.FinMap as finmap
 use Rattle.std.specs.FinMap.{get-insert, get-empty}
-use Rattle.ts_core.specs.Members.{Among, AllDistinct}
-use Rattle.ts_core.specs.Aggregates.{Aggregate, empty_aggregate}
-use Rattle.ts_core.specs.Cells.{Cell, cell_cmp, same_cell}
-use Rattle.ts_core.specs.Changes.{or_else}
-use Rattle.ts_core.specs.StoreStates.{CellParts}
-use Rattle.ts_core.specs.StoreData.{CellMap, no_parts}
-use Rattle.ts_core.proofs.MovesStand.{key_not}
-use Rattle.ts_core.proofs.PieceCells.{cells_total, same_cell-eq, same_cell-refl}
-use Rattle.ts_store.specs.CellCounts.{HoldsFew, HoldFew}
-use Rattle.ts_store.specs.CellIndices.{HasIndices, HaveIndices}
+use Rattle.ts_core.specs.lists.Members.{Among, AllDistinct}
+use Rattle.ts_core.specs.aggregates.Aggregates.{Aggregate, empty_aggregate}
+use Rattle.ts_core.specs.store.Cells.{Cell, cell_cmp, same_cell}
+use Rattle.ts_core.specs.lists.Changes.{or_else}
+use Rattle.ts_core.specs.store.StoreStates.{CellParts}
+use Rattle.ts_core.specs.store.StoreData.{CellMap, no_parts}
+use Rattle.ts_core.proofs.moves.MovesStand.{key_not}
+use Rattle.ts_core.proofs.plans.PieceCells.{cells_total, same_cell-eq, same_cell-refl}
+use Rattle.ts_store.specs.store.CellCounts.{HoldsFew, HoldFew}
+use Rattle.ts_store.specs.store.CellIndices.{HasIndices, HaveIndices}
 use Rattle.ts_image.specs.declared.version.Version.{Version}
 use Rattle.ts_image.specs.Images.{ImageRule, ImageSeries, ImageCell, ImageData}
 use Rattle.ts_image.specs.ImageTests.{rule_in, AreLows, AreImageCells, IsImageCell, CellsAre, AreCounted, frozen_in, points_of_measurement}

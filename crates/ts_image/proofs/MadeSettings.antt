@@ -1,8 +1,8 @@
 -- Rules and settings of equal parts.
 use Rattle.std.proofs.Common.{◌≡◌, ℤ, List}
 use Rattle.std.specs.Prelude.{unsigned_abs}
-use Rattle.ts_core.specs.Facts.{Text}
-use Rattle.ts_core.specs.Settings.{Rule, Settings}
+use Rattle.ts_core.specs.facts.Facts.{Text}
+use Rattle.ts_core.specs.settings.Settings.{Rule, Settings}
 use Rattle.ts_image.specs.Images.{ImageRule}
 
 pub same_rule : {n n' m m' : Text} {i i' o o' d d' : ℤ} {t t' : List Text} → n ≡ n' → m ≡ m' → i ≡ i' → o ≡ o' → d ≡ d' → t ≡ t'

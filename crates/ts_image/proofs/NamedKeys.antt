@@ -2,7 +2,7 @@
 use Rattle.std.proofs.Common.{◌≡◌, ◌≢◌, List, [], ◌∷◌, length, refl, ap, arith}
 use Rattle.std.specs.List.{AllByRecursion}
 use Rattle.std.proofs.lemmas.Cmp.{nat_list_cmp_total}
-use Rattle.ts_core.specs.Facts.{Text, Series, text_cmp}
+use Rattle.ts_core.specs.facts.Facts.{Text, Series, text_cmp}
 use Rattle.ts_line.specs.Names.{IsName as IsStated, IsKey, IsNamed}
 use Rattle.ts_image.specs.ImageTests.{IsName, IsImageSeriesKey}
 use Rattle.ts_image.proofs.Orders.{rising_keys, keys_rising}

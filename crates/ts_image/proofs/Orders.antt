@@ -5,9 +5,9 @@ use Rattle.std.specs.List.{AllByRecursion}
 use Rattle.std.specs.FinMap.{is_sorted}
 use Rattle.std.specs.FinMap.Entries.{below_all}
 use Rattle.std.proofs.lemmas.Cmp.{tied_itself}
-use Rattle.ts_core.specs.Members.{Among, AllDistinct}
-use Rattle.ts_core.proofs.MembersLemmas.{Split, split_at, out_of_middle, Among-map, map_back}
-use Rattle.ts_core.proofs.Places.{both_of}
+use Rattle.ts_core.specs.lists.Members.{Among, AllDistinct}
+use Rattle.ts_core.proofs.lists.MembersLemmas.{Split, split_at, out_of_middle, Among-map, map_back}
+use Rattle.ts_core.proofs.lists.Places.{both_of}
 use Rattle.ts_image.specs.ImageTests.{AreRising}
 
 -- ---- tests

@@ -1,14 +1,14 @@
 -- A store that was made of another one's picture is that store read back.
 use Rattle.std.proofs.Common.{◌≡◌, ◌↔◌, ℕ, zero, suc, ℤ, ◌≤ℤ◌, ◌<◌, Bool, true, false, List, [], ◌∷◌, refl, sym, ◌∙◌, ap, subst, arith, inl, inr, ◌⊎◌, ⊎_elim}
-use Rattle.ts_core.specs.Members.{Among}
-use Rattle.ts_core.specs.Facts.{Fact}
-use Rattle.ts_core.specs.Settings.{Rule, Settings}
-use Rattle.ts_core.specs.Marks.{Marks}
-use Rattle.ts_core.specs.Cells.{Cell}
-use Rattle.ts_core.specs.StoreStates.{ColumnPoints, facts_of}
-use Rattle.ts_core.specs.StoreData.{CellMap, StoreData, AreLive, StaysFor}
-use Rattle.ts_core.specs.ReadingAhead.{bit}
-use Rattle.ts_store.specs.Building.{HaveCells}
+use Rattle.ts_core.specs.lists.Members.{Among}
+use Rattle.ts_core.specs.facts.Facts.{Fact}
+use Rattle.ts_core.specs.settings.Settings.{Rule, Settings}
+use Rattle.ts_core.specs.store.Marks.{Marks}
+use Rattle.ts_core.specs.store.Cells.{Cell}
+use Rattle.ts_core.specs.store.StoreStates.{ColumnPoints, facts_of}
+use Rattle.ts_core.specs.store.StoreData.{CellMap, StoreData, AreLive, StaysFor}
+use Rattle.ts_core.specs.io.ReadingAhead.{bit}
+use Rattle.ts_store.specs.image.Building.{HaveCells}
 use Rattle.ts_image.specs.Images.{ImageCell, ImageData}
 use Rattle.ts_image.specs.Pictures.{part_at, PicturesCells, PictureCells, IsPictureOf, IsMadeOf}
 use Rattle.ts_image.specs.Reloading.{HaveSameParts, IsReloaded}

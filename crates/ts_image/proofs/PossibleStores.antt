@@ -4,10 +4,10 @@ use Rattle.std.specs.FinMap as finmap
 use Rattle.std.specs.List.{AllByRecursion}
 use Rattle.std.proofs.lemmas.Int.{ints}
 use Rattle.std.proofs.lemmas.Bool.Decides.{nat_tests}
-use Rattle.ts_core.specs.Members.{Among}
-use Rattle.ts_core.specs.Times.{IsTime}
-use Rattle.ts_core.specs.Settings.{Rule}
-use Rattle.ts_store.specs.Building.{IsLowIndex, AreLowIndices, IsBuildable}
+use Rattle.ts_core.specs.lists.Members.{Among}
+use Rattle.ts_core.specs.facts.Times.{IsTime}
+use Rattle.ts_core.specs.settings.Settings.{Rule}
+use Rattle.ts_store.specs.image.Building.{IsLowIndex, AreLowIndices, IsBuildable}
 use Rattle.ts_image.specs.declared.version.Version.{Version}
 use Rattle.ts_image.specs.declared.version.Version.TheVariants.{V1, V2}
 use Rattle.ts_image.specs.Images.{ImageRule, ImageColumn, ImageSeries, ImageCell, ImageData}

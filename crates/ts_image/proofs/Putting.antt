@@ -4,11 +4,11 @@ use Rattle.std.specs.Prelude.{OnOk}
 use Rattle.std.specs.Int.{Width, w64, to_be_bytes}
 use Rattle.std.specs.Str.{IsUtf8}
 use Rattle.std.proofs.lemmas.List.{take_all}
-use Rattle.ts_core.specs.Facts.{Text}
-use Rattle.ts_core.specs.Devices.{Output}
-use Rattle.ts_core.specs.declared.sink.Refused.{Refused}
-use Rattle.ts_core.specs.OutputBuffering.{IsBuffered}
-use Rattle.ts_core.proofs.OutputBufferLemmas.{done, refused, puts_join, refused_part, no_put}
+use Rattle.ts_core.specs.facts.Facts.{Text}
+use Rattle.ts_core.specs.io.Devices.{Output}
+use Rattle.ts_core.specs.declared.io.sink.Refused.{Refused}
+use Rattle.ts_core.specs.io.OutputBuffering.{IsBuffered}
+use Rattle.ts_core.proofs.io.OutputBufferLemmas.{done, refused, puts_join, refused_part, no_put}
 use Rattle.ts_image.specs.Formats.{Format, concat, spelling, number, text, and, also, iso, FitAlong, fields_along, along, times, list_of}
 use Rattle.ts_image.specs.FieldWriting.{Puts, PutsAll}
 use Rattle.ts_image.proofs.Parts.{concat-append}

@@ -3,14 +3,14 @@ use Rattle.std.proofs.Common.{◌≡◌, ◌≤◌, ℤ, Bool, true, false, cond
 use Rattle.std.proofs.lemmas.List.{map-append}
 use Rattle.std.proofs.lemmas.List.Sums.{sum_by-cons}
 use Rattle.std.proofs.lemmas.Cmp.{nat_list_cmp_total}
-use Rattle.ts_core.specs.Members.{Among, AllDistinct}
-use Rattle.ts_core.specs.Facts.{Series, Column, Fact, Text, same_text, text_cmp, series_cmp}
-use Rattle.ts_core.specs.Settings.{Rule}
-use Rattle.ts_core.specs.Cells.{is_rolled}
-use Rattle.ts_core.specs.StoreStates.{ColumnPoints, column_of, fact_at, facts_at, facts_of}
-use Rattle.ts_core.proofs.RunSteps.{filter-append}
-use Rattle.ts_core.proofs.MembersLemmas.{Among-left, Among-right, Among-append, Among-map, map_back, AllDistinct-append, Among-filter_was, Among-filter_passes, Among-filter_stays}
-use Rattle.ts_core.proofs.Ids.{series_total}
+use Rattle.ts_core.specs.lists.Members.{Among, AllDistinct}
+use Rattle.ts_core.specs.facts.Facts.{Series, Column, Fact, Text, same_text, text_cmp, series_cmp}
+use Rattle.ts_core.specs.settings.Settings.{Rule}
+use Rattle.ts_core.specs.store.Cells.{is_rolled}
+use Rattle.ts_core.specs.store.StoreStates.{ColumnPoints, column_of, fact_at, facts_at, facts_of}
+use Rattle.ts_core.proofs.store.RunSteps.{filter-append}
+use Rattle.ts_core.proofs.lists.MembersLemmas.{Among-left, Among-right, Among-append, Among-map, map_back, AllDistinct-append, Among-filter_was, Among-filter_passes, Among-filter_stays}
+use Rattle.ts_core.proofs.facts.Ids.{series_total}
 use Rattle.ts_image.specs.Images.{ImageColumn, ImageSeries}
 use Rattle.ts_image.specs.ImageTests.{AreRising, points_of_series, points_in_all, points_of_measurement}
 use Rattle.ts_image.specs.Pictures.{column_in, points_in, columns_in, waiting_in}

@@ -3,27 +3,27 @@
 use Rattle.std.proofs.Common.{◌≡◌, IsTrue, ℤ, ◌≤ℤ◌, Bool, true, false, cond, not, ◌&&◌, ◌||◌, ◌+◌, ◌<◌, List, [], ◌∷◌, ◌++◌, map, filter, refl, sym, ◌∙◌, ap, ap₂, subst, inl, inr, ⊎_elim, true≢false, arith, Option, Some, None}
 use Rattle.std.specs.FinMap as finmap
 use Rattle.std.specs.List.{AllByRecursion}
-use Rattle.ts_core.specs.Members.{Among, AllDistinct}
-use Rattle.ts_core.specs.Facts.{Series, Column, Fact}
-use Rattle.ts_core.specs.Settings.{Rule, Settings}
-use Rattle.ts_core.specs.History.{History, accepted, raw_mark}
-use Rattle.ts_core.specs.Latest.{latest_of}
-use Rattle.ts_core.specs.Aggregates.{Aggregate, empty_aggregate, aggregate_of}
-use Rattle.ts_core.specs.MergeLaws.{aggregate_laws}
-use Rattle.ts_core.specs.RawFacts.{same_column, is_waiting, earlier_mark, kept_from, is_kept}
-use Rattle.ts_core.specs.Cells.{Cell, cell_of, is_rolled, is_in_cell, same_cell, total_of, frozen_of, live_of}
-use Rattle.ts_core.specs.Changes.{or_else}
-use Rattle.ts_core.specs.StoreStates.{ColumnPoints, CellParts, StandsFor, HasCells, column_of, rule_of, lowest_of, facts_at, facts_of}
-use Rattle.ts_core.specs.StoreData.{CellMap, StoreData, no_parts, rules_of, state_of, IsLive, AreLive}
-use Rattle.ts_core.proofs.Folds.{fold-same}
-use Rattle.ts_core.proofs.Latests.{latest-distinct}
-use Rattle.ts_core.proofs.PieceCells.{same_cell-eq, same_cell-refl}
+use Rattle.ts_core.specs.lists.Members.{Among, AllDistinct}
+use Rattle.ts_core.specs.facts.Facts.{Series, Column, Fact}
+use Rattle.ts_core.specs.settings.Settings.{Rule, Settings}
+use Rattle.ts_core.specs.store.History.{History, accepted, raw_mark}
+use Rattle.ts_core.specs.facts.Latest.{latest_of}
+use Rattle.ts_core.specs.aggregates.Aggregates.{Aggregate, empty_aggregate, aggregate_of}
+use Rattle.ts_core.specs.aggregates.MergeLaws.{aggregate_laws}
+use Rattle.ts_core.specs.store.RawFacts.{same_column, is_waiting, earlier_mark, kept_from, is_kept}
+use Rattle.ts_core.specs.store.Cells.{Cell, cell_of, is_rolled, is_in_cell, same_cell, total_of, frozen_of, live_of}
+use Rattle.ts_core.specs.lists.Changes.{or_else}
+use Rattle.ts_core.specs.store.StoreStates.{ColumnPoints, CellParts, StandsFor, HasCells, column_of, rule_of, lowest_of, facts_at, facts_of}
+use Rattle.ts_core.specs.store.StoreData.{CellMap, StoreData, no_parts, rules_of, state_of, IsLive, AreLive}
+use Rattle.ts_core.proofs.aggregates.Folds.{fold-same}
+use Rattle.ts_core.proofs.facts.Latests.{latest-distinct}
+use Rattle.ts_core.proofs.plans.PieceCells.{same_cell-eq, same_cell-refl}
 use Rattle.std.proofs.lemmas.Bool.{and_parts}
-use Rattle.ts_core.proofs.MembersLemmas.{no_members, Among-left, Among-append, AllDistinct-append, AllDistinct-filter, Among-filter_was, Among-filter_passes, Among-filter_stays, map_back}
-use Rattle.ts_core.proofs.Cuts.{one_fact, aggregate_where, Holds, CutsAgree, Holds-agree, frozen_of-agree, live_of-held}
-use Rattle.ts_core.proofs.StateLemmas.{is_waiting-there, is_waiting-not, same_column-eq, Holds-raw_of, StandsFor-Holds}
-use Rattle.ts_core.proofs.MovesStand.{keys_once, key_there}
-use Rattle.ts_core.proofs.ColumnFacts.{facts_of-there, column_there}
+use Rattle.ts_core.proofs.lists.MembersLemmas.{no_members, Among-left, Among-append, AllDistinct-append, AllDistinct-filter, Among-filter_was, Among-filter_passes, Among-filter_stays, map_back}
+use Rattle.ts_core.proofs.store.Cuts.{one_fact, aggregate_where, Holds, CutsAgree, Holds-agree, frozen_of-agree, live_of-held}
+use Rattle.ts_core.proofs.store.StateLemmas.{is_waiting-there, is_waiting-not, same_column-eq, Holds-raw_of, StandsFor-Holds}
+use Rattle.ts_core.proofs.moves.MovesStand.{keys_once, key_there}
+use Rattle.ts_core.proofs.store.ColumnFacts.{facts_of-there, column_there}
 use Rattle.ts_image.specs.Reloading.{HasSameParts, HaveSameParts, IsReloaded, Reloads}
 
 -- ---- facts of columns in another order

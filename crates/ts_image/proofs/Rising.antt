@@ -3,7 +3,7 @@ use Rattle.std.proofs.Common.{◌≡◌, ℕ, zero, suc, ◌<◌, List, [], ◌�
 use Rattle.std.specs.declared.cmp.Ordering.{Ordering}
 use Rattle.std.specs.Cmp.{IsTotalOrder}
 use Rattle.std.specs.List.{AllByRecursion}
-use Rattle.ts_core.specs.Members.{Among}
+use Rattle.ts_core.specs.lists.Members.{Among}
 use Rattle.ts_image.specs.ImageTests.{AreRising}
 use Rattle.ts_image.proofs.Orders.{rising_distinct, rising_rest}
 

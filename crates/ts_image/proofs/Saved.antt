@@ -4,8 +4,8 @@ use Rattle.std.specs.Prelude.{IsTrue}
 use Rattle.std.specs.Int.{from_bool}
 use Rattle.std.specs.List.{AllByRecursion}
 use Rattle.std.proofs.lemmas.List.{length-append}
-use Rattle.ts_core.specs.ReadingAhead.{bit}
-use Rattle.ts_core.specs.Texts.{owned_pairs}
+use Rattle.ts_core.specs.io.ReadingAhead.{bit}
+use Rattle.ts_core.specs.text.Texts.{owned_pairs}
 use Rattle.ts_image.specs.SeriesParts.{tag_of}
 
 -- the pairs of tags, in two words

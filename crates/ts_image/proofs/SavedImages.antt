@@ -4,31 +4,31 @@ use Rattle.std.specs.List.{AllByRecursion, sum_by}
 use Rattle.std.proofs.lemmas.List.{length-map}
 use Rattle.std.proofs.lemmas.List.Sums.{sum_by-cons}
 use Rattle.std.proofs.lemmas.Bool.Decides.{nat_tests}
-use Rattle.ts_core.specs.Members.{Among, AllDistinct}
-use Rattle.ts_core.specs.Times.{IsTime}
-use Rattle.ts_core.specs.Facts.{Column, Fact}
-use Rattle.ts_core.specs.Settings.{Rule, IsPossibleRule, Settings, Outlasts}
-use Rattle.ts_core.specs.SettingsFaults.{settings_fault}
-use Rattle.ts_core.specs.History.{History, settings_of, accepted, raw_mark}
-use Rattle.ts_core.specs.Latest.{latest_of}
-use Rattle.ts_core.specs.Marks.{Marks, low_of}
-use Rattle.ts_core.specs.Aggregates.{Aggregate}
-use Rattle.ts_core.specs.RawFacts.{is_waiting, earlier_mark, kept_from}
-use Rattle.ts_core.specs.Cells.{Cell, cell_cmp, is_rolled, frozen_of}
-use Rattle.ts_core.specs.StoreStates.{StandsFor, HasCells, fact_at, facts_of}
-use Rattle.ts_core.specs.StoreData.{CellMap, StoreData, rules_of, state_of}
-use Rattle.ts_core.specs.ReadingAhead.{bit}
-use Rattle.ts_core.proofs.Comparisons.{le_from}
-use Rattle.ts_core.proofs.ColumnFacts.{facts_of-there, column_there}
-use Rattle.ts_core.proofs.Cuts.{Holds}
-use Rattle.ts_core.proofs.Folds.{length-same}
-use Rattle.ts_core.proofs.Intervals.{settings_faultless}
-use Rattle.ts_core.proofs.LowIndices.{low_of-near}
-use Rattle.ts_core.proofs.MembersLemmas.{Among-map, AllDistinct-filter, Among-filter_was, Among-filter_passes, Among-filter_stays}
-use Rattle.ts_core.proofs.PieceCells.{cells_total}
-use Rattle.ts_core.proofs.SettingsLaws.{settings_are}
-use Rattle.ts_core.proofs.StateLemmas.{raw_duration_of, StandsFor-Holds}
-use Rattle.ts_core.proofs.StepStands.{few_accepted}
+use Rattle.ts_core.specs.lists.Members.{Among, AllDistinct}
+use Rattle.ts_core.specs.facts.Times.{IsTime}
+use Rattle.ts_core.specs.facts.Facts.{Column, Fact}
+use Rattle.ts_core.specs.settings.Settings.{Rule, IsPossibleRule, Settings, Outlasts}
+use Rattle.ts_core.specs.settings.SettingsFaults.{settings_fault}
+use Rattle.ts_core.specs.store.History.{History, settings_of, accepted, raw_mark}
+use Rattle.ts_core.specs.facts.Latest.{latest_of}
+use Rattle.ts_core.specs.store.Marks.{Marks, low_of}
+use Rattle.ts_core.specs.aggregates.Aggregates.{Aggregate}
+use Rattle.ts_core.specs.store.RawFacts.{is_waiting, earlier_mark, kept_from}
+use Rattle.ts_core.specs.store.Cells.{Cell, cell_cmp, is_rolled, frozen_of}
+use Rattle.ts_core.specs.store.StoreStates.{StandsFor, HasCells, fact_at, facts_of}
+use Rattle.ts_core.specs.store.StoreData.{CellMap, StoreData, rules_of, state_of}
+use Rattle.ts_core.specs.io.ReadingAhead.{bit}
+use Rattle.ts_core.proofs.lists.Comparisons.{le_from}
+use Rattle.ts_core.proofs.store.ColumnFacts.{facts_of-there, column_there}
+use Rattle.ts_core.proofs.store.Cuts.{Holds}
+use Rattle.ts_core.proofs.aggregates.Folds.{length-same}
+use Rattle.ts_core.proofs.settings.Intervals.{settings_faultless}
+use Rattle.ts_core.proofs.store.LowIndices.{low_of-near}
+use Rattle.ts_core.proofs.lists.MembersLemmas.{Among-map, AllDistinct-filter, Among-filter_was, Among-filter_passes, Among-filter_stays}
+use Rattle.ts_core.proofs.plans.PieceCells.{cells_total}
+use Rattle.ts_core.proofs.settings.SettingsLaws.{settings_are}
+use Rattle.ts_core.proofs.store.StateLemmas.{raw_duration_of, StandsFor-Holds}
+use Rattle.ts_core.proofs.moves.StepStands.{few_accepted}
 use Rattle.ts_line.specs.Names.{IsKey}
 use Rattle.ts_image.specs.declared.version.Version.{Version}
 use Rattle.ts_image.specs.declared.version.Version.TheVariants.{V2}

@@ -4,17 +4,17 @@ use Rattle.std.specs.Prelude.{IsTrue, slice_index_or}
 use Rattle.std.specs.Int.{w32, w64}
 use Rattle.std.specs.List.{AllByRecursion}
 use Rattle.std.specs.FinMap as finmap
-use Rattle.ts_core.specs.Members.{Among}
-use Rattle.ts_core.specs.Numbered.{IsAt}
-use Rattle.ts_core.specs.Facts.{Text, Column}
-use Rattle.ts_core.specs.Marks.{Marks}
-use Rattle.ts_core.specs.RawFacts.{is_waiting}
-use Rattle.ts_core.specs.Aggregates.{Aggregate}
-use Rattle.ts_core.specs.Cells.{Cell}
-use Rattle.ts_core.specs.StoreStates.{CellParts}
-use Rattle.ts_core.specs.StoreData.{CellMap}
-use Rattle.ts_core.proofs.StateLemmas.{is_waiting-there, is_waiting-not}
-use Rattle.ts_store.specs.Saving.{FrozenCell, frozen_from}
+use Rattle.ts_core.specs.lists.Members.{Among}
+use Rattle.ts_core.specs.lists.Numbered.{IsAt}
+use Rattle.ts_core.specs.facts.Facts.{Text, Column}
+use Rattle.ts_core.specs.store.Marks.{Marks}
+use Rattle.ts_core.specs.store.RawFacts.{is_waiting}
+use Rattle.ts_core.specs.aggregates.Aggregates.{Aggregate}
+use Rattle.ts_core.specs.store.Cells.{Cell}
+use Rattle.ts_core.specs.store.StoreStates.{CellParts}
+use Rattle.ts_core.specs.store.StoreData.{CellMap}
+use Rattle.ts_core.proofs.store.StateLemmas.{is_waiting-there, is_waiting-not}
+use Rattle.ts_store.specs.image.Saving.{FrozenCell, frozen_from}
 use Rattle.ts_image.specs.declared.version.Version.{Version}
 use Rattle.ts_image.specs.Formats.{Format, number, also, along, list_of}
 use Rattle.ts_image.specs.Images.{ImageRule, ImageSettings, ImageColumn, ImageSeries, ImageCell, flag, image_marks, image_series, image_cell}

@@ -3,20 +3,20 @@ use Rattle.std.proofs.Common.{◌≡◌, ◌<◌, ℕ, zero, suc, List, [], ◌�
 use Rattle.std.proofs.lemmas.List.{length-map}
 use Rattle.std.specs.List.{AllByRecursion}
 use Rattle.std.specs.Io.KnownBytes.{Appends}
-use Rattle.ts_core.specs.Members.{Among}
-use Rattle.ts_core.specs.Numbered.{IsAt}
-use Rattle.ts_core.specs.Facts.{Text}
-use Rattle.ts_core.specs.Devices.{Output, AppendsFront, IsPut}
-use Rattle.ts_core.specs.OutputBuffering.{IsBuffered}
-use Rattle.ts_core.specs.StoreStates.{column_of}
-use Rattle.ts_core.specs.StoreData.{StoreData}
-use Rattle.ts_core.specs.declared.sink.Refused.{Refused}
-use Rattle.ts_core.proofs.OutputBufferLemmas.{done, refused, puts_join, refused_part, all_written}
+use Rattle.ts_core.specs.lists.Members.{Among}
+use Rattle.ts_core.specs.lists.Numbered.{IsAt}
+use Rattle.ts_core.specs.facts.Facts.{Text}
+use Rattle.ts_core.specs.io.Devices.{Output, AppendsFront, IsPut}
+use Rattle.ts_core.specs.io.OutputBuffering.{IsBuffered}
+use Rattle.ts_core.specs.store.StoreStates.{column_of}
+use Rattle.ts_core.specs.store.StoreData.{StoreData}
+use Rattle.ts_core.specs.declared.io.sink.Refused.{Refused}
+use Rattle.ts_core.proofs.io.OutputBufferLemmas.{done, refused, puts_join, refused_part, all_written}
 use Rattle.ts_image.specs.declared.save_fault.SaveFault.{SaveFault}
 use Rattle.ts_image.specs.declared.save_fault.SaveFault.TheVariants.{Device, OutOfMemory, Unfit}
 use Rattle.ts_image.specs.declared.version.Version.TheVariants.{V2}
 use Rattle.ts_image.specs.Images.{image, image_text}
-use Rattle.ts_store.specs.Saving.{SavedColumn, SavedSeries, SavesColumns}
+use Rattle.ts_store.specs.image.Saving.{SavedColumn, SavedSeries, SavesColumns}
 use Rattle.ts_image.specs.Saving.{image_of, HasItsColumns, FitsImage, IsOrder, IsSaved}
 use Rattle.ts_image.proofs.Putting.{Answer}
 

@@ -1,12 +1,12 @@
 -- A store under construction, series by series.
 use Rattle.std.proofs.Common.{◌≡◌, ◌<◌, ◌≤◌, Bool, List, [], ◌∷◌, ◌++◌, length, map, refl, sym, ap, subst, ◌∙◌, inl, inr, ⊎_elim, arith, append_assoc, append-nil, length-append}
 use Rattle.std.proofs.lemmas.List.{map-append, length-map}
-use Rattle.ts_core.specs.Members.{Among}
-use Rattle.ts_core.specs.Facts.{Text, Series, Column, series_cmp}
-use Rattle.ts_core.specs.StoreStates.{ColumnPoints, column_of}
-use Rattle.ts_core.proofs.MembersLemmas.{Among-append}
-use Rattle.ts_core.proofs.Ids.{series_total}
-use Rattle.ts_store.specs.Building.{Built, with_series}
+use Rattle.ts_core.specs.lists.Members.{Among}
+use Rattle.ts_core.specs.facts.Facts.{Text, Series, Column, series_cmp}
+use Rattle.ts_core.specs.store.StoreStates.{ColumnPoints, column_of}
+use Rattle.ts_core.proofs.lists.MembersLemmas.{Among-append}
+use Rattle.ts_core.proofs.facts.Ids.{series_total}
+use Rattle.ts_store.specs.image.Building.{Built, with_series}
 use Rattle.ts_image.specs.Images.{ImageColumn, ImageSeries}
 use Rattle.ts_image.specs.ImageTests.{AreRising}
 use Rattle.ts_image.specs.Pictures.{points_in, columns_in}

@@ -1,6 +1,6 @@
 -- A field that can't be read, and what it is a part of, which can't be read either.
 use Rattle.std.proofs.Common.{◌≡◌, Err, ap, ◌∙◌}
-use Rattle.ts_core.specs.Devices.{Input}
+use Rattle.ts_core.specs.io.Devices.{Input}
 use Rattle.ts_image.specs.declared.field_fault.FieldFault.{FieldFault}
 use Rattle.ts_image.specs.declared.field_fault.FieldFault.TheVariants.{Misshapen, Device, Turns, OutOfMemory}
 use Rattle.ts_image.specs.Formats.{Read, ◌>>=◌, Format, and, iso}

@@ -7,7 +7,7 @@ use Rattle.std.specs.List.{AllByRecursion, sum_by}
 use Rattle.std.proofs.lemmas.List.Sums.{sum_by-cons, sum_by-take-le}
 use Rattle.std.proofs.lemmas.List.{take-map}
 use Rattle.std.proofs.lemmas.List.{take_all}
-use Rattle.ts_core.specs.Facts.{Text, same_text}
+use Rattle.ts_core.specs.facts.Facts.{Text, same_text}
 use Rattle.ts_image.specs.Images.{ImageRule, ImageSeries, ImageCell, ImageData}
 use Rattle.ts_image.specs.TestParts.{points_if, IsTaken, AreCountedAll}
 use Rattle.ts_image.specs.ImageTests.{AreRising, AreCounted, points_of_series, points_of_measurement}

@@ -1,6 +1,6 @@
 -- Parts that are read one after another are read as the whole.
 use Rattle.std.proofs.Common.{◌≡◌, ap, ◌∙◌}
-use Rattle.ts_core.specs.Devices.{Input}
+use Rattle.ts_core.specs.io.Devices.{Input}
 use Rattle.ts_image.specs.Formats.{◌>>=◌, Format, and, also, iso}
 use Rattle.ts_image.specs.declared.field_fault.FieldFault.{FieldFault}
 use Rattle.ts_image.specs.declared.field_fault.FieldFault.TheVariants.{Misshapen, Device, Turns, OutOfMemory}

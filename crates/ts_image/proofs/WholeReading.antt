@@ -3,8 +3,8 @@ use Rattle.std.proofs.Common.{◌≡◌, ℕ, ◌+◌, ◌≤◌, ◌<◌, Bool,
 use Rattle.std.proofs.Math.Dec.{eqb-suc-zero}
 use Rattle.std.specs.Prelude.{IsSome, IfSome, IfOk, IfErr}
 use Rattle.std.specs.Io.KnownBytes.{prepend_known}
-use Rattle.ts_core.specs.Devices.{Input}
-use Rattle.ts_core.specs.ReadingAhead.{nothing_ahead, bit}
+use Rattle.ts_core.specs.io.Devices.{Input}
+use Rattle.ts_core.specs.io.ReadingAhead.{nothing_ahead, bit}
 use Rattle.ts_image.specs.declared.version.Version.{Version}
 use Rattle.ts_image.specs.declared.field_fault.FieldFault.{FieldFault}
 use Rattle.ts_image.specs.declared.field_fault.FieldFault.TheVariants as field

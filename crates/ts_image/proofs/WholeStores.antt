@@ -2,8 +2,8 @@
 use Rattle.std.proofs.Common.{◌≡◌, ◌==◌, length, map, sym, ap, ◌∙◌}
 use Rattle.std.proofs.lemmas.List.{length-map}
 use Rattle.std.specs.Prelude.{Result, Ok, Err, IfOk}
-use Rattle.ts_core.specs.Settings.{Settings}
-use Rattle.ts_store.specs.Building.{Built, new_built}
+use Rattle.ts_core.specs.settings.Settings.{Settings}
+use Rattle.ts_store.specs.image.Building.{Built, new_built}
 use Rattle.ts_image.specs.Images.{ImageData}
 use Rattle.ts_image.specs.ImageTests.{rule_in, settings_in}
 use Rattle.ts_image.specs.Pictures.{columns_in}

@@ -10,37 +10,37 @@ use Rattle.std.proofs.lemmas.Int.{ints}
 use Rattle.std.proofs.lemmas.Bool.{and_parts, and_from}
 use Rattle.std.proofs.lemmas.Bool.Decides.{nat_tests}
 use Rattle.std.proofs.lemmas.Option.{same_Some, get_or_from_slice_get}
-use Rattle.ts_core.specs.Members.{Among}
-use Rattle.ts_core.specs.Numbered.{IsAt}
-use Rattle.ts_core.specs.Facts.{Column, Fact, text_cmp, series_cmp}
-use Rattle.ts_core.specs.Settings.{Rule, Settings}
-use Rattle.ts_core.specs.History.{History}
-use Rattle.ts_core.specs.Latest.{latest_of}
-use Rattle.ts_core.specs.Aggregates.{Aggregate, empty_aggregate, IsSpread, IsSound}
-use Rattle.ts_core.specs.SoundLaws.{empty_by_count}
-use Rattle.ts_core.specs.RawFacts.{is_waiting, is_kept, kept_from}
-use Rattle.ts_core.specs.Cells.{Cell, cell_cmp, is_in_cell}
-use Rattle.ts_core.specs.Changes.{or_else}
-use Rattle.ts_core.specs.StoreStates.{ColumnPoints, CellParts, StandsFor, HasCells, column_of}
-use Rattle.ts_core.specs.StoreData.{CellMap, StoreData, no_parts, rule_cells, rules_of, state_of}
-use Rattle.ts_core.specs.ReadingAhead.{bit}
-use Rattle.ts_core.proofs.ColumnFacts.{column_there}
-use Rattle.ts_core.proofs.Comparisons.{le_from, le_true}
-use Rattle.ts_core.proofs.LiveWays.{facts_possible}
-use Rattle.ts_core.proofs.MembersLemmas.{Among-map, map_back, at_map_of, Among-filter_was, Among-filter_passes, Among-filter_stays}
-use Rattle.ts_core.proofs.NumberedLemmas.{at_among, among_at}
-use Rattle.ts_core.proofs.PieceCells.{cells_total, exact_cells}
-use Rattle.ts_core.proofs.Places.{both_of}
-use Rattle.ts_core.proofs.Sorted.{found_among, among_found}
-use Rattle.ts_core.proofs.StateLemmas.{is_waiting-there, same_head, same_rest, cons_not}
+use Rattle.ts_core.specs.lists.Members.{Among}
+use Rattle.ts_core.specs.lists.Numbered.{IsAt}
+use Rattle.ts_core.specs.facts.Facts.{Column, Fact, text_cmp, series_cmp}
+use Rattle.ts_core.specs.settings.Settings.{Rule, Settings}
+use Rattle.ts_core.specs.store.History.{History}
+use Rattle.ts_core.specs.facts.Latest.{latest_of}
+use Rattle.ts_core.specs.aggregates.Aggregates.{Aggregate, empty_aggregate, IsSpread, IsSound}
+use Rattle.ts_core.specs.aggregates.SoundLaws.{empty_by_count}
+use Rattle.ts_core.specs.store.RawFacts.{is_waiting, is_kept, kept_from}
+use Rattle.ts_core.specs.store.Cells.{Cell, cell_cmp, is_in_cell}
+use Rattle.ts_core.specs.lists.Changes.{or_else}
+use Rattle.ts_core.specs.store.StoreStates.{ColumnPoints, CellParts, StandsFor, HasCells, column_of}
+use Rattle.ts_core.specs.store.StoreData.{CellMap, StoreData, no_parts, rule_cells, rules_of, state_of}
+use Rattle.ts_core.specs.io.ReadingAhead.{bit}
+use Rattle.ts_core.proofs.store.ColumnFacts.{column_there}
+use Rattle.ts_core.proofs.lists.Comparisons.{le_from, le_true}
+use Rattle.ts_core.proofs.moves.LiveWays.{facts_possible}
+use Rattle.ts_core.proofs.lists.MembersLemmas.{Among-map, map_back, at_map_of, Among-filter_was, Among-filter_passes, Among-filter_stays}
+use Rattle.ts_core.proofs.lists.NumberedLemmas.{at_among, among_at}
+use Rattle.ts_core.proofs.plans.PieceCells.{cells_total, exact_cells}
+use Rattle.ts_core.proofs.lists.Places.{both_of}
+use Rattle.ts_core.proofs.lists.Sorted.{found_among, among_found}
+use Rattle.ts_core.proofs.store.StateLemmas.{is_waiting-there, same_head, same_rest, cons_not}
 use Rattle.ts_raw.specs.PlainColumns.{IsRising}
 use Rattle.ts_image.specs.Images.{ImageRule, ImageColumn, ImageSeries, ImageCell}
 use Rattle.ts_image.specs.ImageTests.{AreRising, rule_in, settings_in}
 use Rattle.ts_image.specs.Pictures.{column_in, points_in, columns_in, waiting_in, part_of, part_at, PicturesCells, PictureCells, IsPictureOf}
 use Rattle.ts_image.specs.SavedImages.{IsOrderlyColumn, IsOrderlySeries, AreOrderlyCells, IsOrderly, IsWellFormed}
-use Rattle.ts_store.specs.Saving.{SavedColumn, SavedSeries, saved_field, saved_key, SavesColumns, SavesSeries, FrozenCell, frozen_from}
-use Rattle.ts_store.specs.Seats.{no_points}
-use Rattle.ts_store.specs.SizedStores.{IsSized}
+use Rattle.ts_store.specs.image.Saving.{SavedColumn, SavedSeries, saved_field, saved_key, SavesColumns, SavesSeries, FrozenCell, frozen_from}
+use Rattle.ts_store.specs.read.Seats.{no_points}
+use Rattle.ts_store.specs.store.SizedStores.{IsSized}
 use Rattle.ts_image.specs.SavedParts.{image_rule_of, image_settings_of, extremes_in}
 use Rattle.ts_image.specs.Saving.{image_cell_of, cells_at, image_cells_from, column_at, image_column_of, image_series_of, image_of}
 use Rattle.ts_image.proofs.Orders.{all_among, among_all, rising_keys, of_both}

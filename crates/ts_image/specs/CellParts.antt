@@ -1,8 +1,8 @@
 -- The values of marks and cells that the code reads. (Own rules.)
 use Rattle.std.specs.Prelude.{ℤ, List, map, string_bytes, Vec}
-use Rattle.ts_core.specs.declared.aggregate.Extremes.{Extremes}
-use Rattle.ts_core.specs.Cells.{Cell}
-use Rattle.ts_core.specs.Marks.{Marks}
+use Rattle.ts_core.specs.declared.aggregates.aggregate.Extremes.{Extremes}
+use Rattle.ts_core.specs.store.Cells.{Cell}
+use Rattle.ts_core.specs.store.Marks.{Marks}
 use Rattle.ts_image.specs.declared.cell_reading.MarksParts.{MarksParts}
 use Rattle.ts_image.specs.declared.cell_reading.CellKeyParts.{CellKeyParts}
 use Rattle.ts_image.specs.declared.cell_reading.ExtremesParts.{ExtremesParts}

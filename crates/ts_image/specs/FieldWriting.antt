@@ -1,8 +1,8 @@
 -- The effect of writing values by their formats, through a write buffer. (Own rules.)
 use Rattle.std.specs.Prelude.{List, length, Result, OnOk}
-use Rattle.ts_core.specs.Facts.{Text}
-use Rattle.ts_core.specs.Devices.{Output}
-use Rattle.ts_core.specs.OutputBuffering.{IsBuffered}
+use Rattle.ts_core.specs.facts.Facts.{Text}
+use Rattle.ts_core.specs.io.Devices.{Output}
+use Rattle.ts_core.specs.io.OutputBuffering.{IsBuffered}
 use Rattle.ts_image.specs.Formats.{Format, spelling, times}
 
 -- Writes the value's spelling, and has one only if the value fits the format.

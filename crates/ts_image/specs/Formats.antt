@@ -4,7 +4,7 @@ use Rattle.std.specs.Prelude.{◌≡◌, ℕ, ◌+◌, ◌<◌, ◌^◌, ℤ, Bo
 use Rattle.std.specs.Int.{Width, w64, byte_len, cast_unsigned, cast_signed, to_be_bytes, from_be_bytes}
 use mir.Val.{bits}
 use Rattle.std.specs.Str.{IsUtf8, is_utf8}
-use Rattle.ts_core.specs.Facts.{Text}
+use Rattle.ts_core.specs.facts.Facts.{Text}
 
 -- a place in bytes: its offset, and the bytes from there on
 pub record Place : Type 0 where

@@ -1,6 +1,6 @@
 -- Reading the first fields of an image. (Own rules.)
 use Rattle.std.specs.Prelude.{◌≡◌, ◌≢◌, ℕ, ◌+◌, List, ◌∷◌, ◌++◌, take, Result, Ok, Err}
-use Rattle.ts_core.specs.Devices.{Input}
+use Rattle.ts_core.specs.io.Devices.{Input}
 use Rattle.ts_image.specs.declared.field_fault.FieldFault.{FieldFault}
 use Rattle.ts_image.specs.declared.field_fault.FieldFault.TheVariants.{Misshapen, Device, Turns, OutOfMemory}
 use Rattle.ts_image.specs.declared.image_reading.Head.{Head}

@@ -1,8 +1,8 @@
 -- Messages of the errors of images. (Own rule.)
-use Rattle.ts_core.specs.Facts.{Text}
-use Rattle.ts_core.specs.FaultTexts.{fault_text, memory_text}
-use Rattle.ts_core.specs.declared.fault_code.FaultCode.TheVariants as code
-use Rattle.ts_core.specs.declared.fault_text.FaultDetail.TheVariants.{Alone, At}
+use Rattle.ts_core.specs.facts.Facts.{Text}
+use Rattle.ts_core.specs.text.FaultTexts.{fault_text, memory_text}
+use Rattle.ts_core.specs.declared.text.fault_code.FaultCode.TheVariants as code
+use Rattle.ts_core.specs.declared.text.fault_text.FaultDetail.TheVariants.{Alone, At}
 use Rattle.ts_image.specs.declared.load_fault.LoadFault.{LoadFault}
 use Rattle.ts_image.specs.declared.load_fault.LoadFault.TheVariants as loading
 use Rattle.ts_image.specs.declared.save_fault.SaveFault.{SaveFault}

@@ -1,7 +1,7 @@
 -- Loading an image: exactly those without faults are loaded. (Own rules.)
 use Rattle.std.specs.Prelude.{◌≡◌, ℕ, Result, IfSome}
-use Rattle.ts_core.specs.Devices.{Input}
-use Rattle.ts_core.specs.StoreData.{StoreData, StaysFor}
+use Rattle.ts_core.specs.io.Devices.{Input}
+use Rattle.ts_core.specs.store.StoreData.{StoreData, StaysFor}
 use Rattle.ts_image.specs.declared.image_loading.LoadedImage.{LoadedImage}
 use Rattle.ts_image.specs.declared.load_fault.LoadFault.{LoadFault}
 use Rattle.ts_image.specs.declared.version.Version.{Version}

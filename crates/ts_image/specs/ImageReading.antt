@@ -1,6 +1,6 @@
 -- The value of an image that the code reads, and the effect of reading one. (Own rules.)
 use Rattle.std.specs.Prelude.{◌≡◌, ℕ, ◌+◌, ◌≤◌, true, Result, Ok, Err, IfOk, IfErr, IfSome}
-use Rattle.ts_core.specs.Devices.{Input}
+use Rattle.ts_core.specs.io.Devices.{Input}
 use Rattle.ts_image.specs.declared.version.Version.{Version}
 use Rattle.ts_image.specs.declared.field_fault.FieldFault.{FieldFault}
 use Rattle.ts_image.specs.declared.field_fault.FieldFault.TheVariants as field

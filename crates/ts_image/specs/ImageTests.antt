@@ -4,13 +4,13 @@ use Rattle.std.specs.Prelude.{◌≡◌, ◌≢◌, ◌⊎◌, ℕ, ℤ, pos, �
 use Rattle.std.specs.Ordering.{int_cmp, is_lt}
 use Rattle.std.specs.declared.cmp.Ordering.{Ordering}
 use Rattle.std.specs.List.{AllByRecursion, sum_by}
-use Rattle.ts_core.specs.Facts.{Text, Series, same_text, text_cmp, series_cmp}
-use Rattle.ts_core.specs.Times.{IsTime, least_time}
-use Rattle.ts_core.specs.Settings.{Rule, Settings, IsRule}
-use Rattle.ts_core.specs.SettingsFaults.{settings_fault}
-use Rattle.ts_core.specs.Marks.{index_of}
-use Rattle.ts_core.specs.Cells.{cell_cmp}
-use Rattle.ts_core.specs.Aggregates.{IsSpread}
+use Rattle.ts_core.specs.facts.Facts.{Text, Series, same_text, text_cmp, series_cmp}
+use Rattle.ts_core.specs.facts.Times.{IsTime, least_time}
+use Rattle.ts_core.specs.settings.Settings.{Rule, Settings, IsRule}
+use Rattle.ts_core.specs.settings.SettingsFaults.{settings_fault}
+use Rattle.ts_core.specs.store.Marks.{index_of}
+use Rattle.ts_core.specs.store.Cells.{cell_cmp}
+use Rattle.ts_core.specs.aggregates.Aggregates.{IsSpread}
 use Rattle.ts_image.specs.declared.version.Version.{Version}
 use Rattle.ts_image.specs.declared.version.Version.TheVariants.{V1, V2}
 use Rattle.ts_image.specs.Images.{ImageRule, ImageSettings, ImageColumn, ImageSeries, ImageCell, ImageData}

@@ -2,10 +2,10 @@
 -- eight bytes and its UTF-8 bytes. (Own rules.)
 use Rattle.std.specs.Prelude.{ℕ, ℤ, List, [], ◌∷◌, ◌++◌}
 use Rattle.std.specs.Int.{w8, w32, w64, w128}
-use Rattle.ts_core.specs.declared.aggregate.Extremes.{Extremes}
-use Rattle.ts_core.specs.Facts.{Text, Series}
-use Rattle.ts_core.specs.Marks.{Marks}
-use Rattle.ts_core.specs.Cells.{Cell}
+use Rattle.ts_core.specs.declared.aggregates.aggregate.Extremes.{Extremes}
+use Rattle.ts_core.specs.facts.Facts.{Text, Series}
+use Rattle.ts_core.specs.store.Marks.{Marks}
+use Rattle.ts_core.specs.store.Cells.{Cell}
 use Rattle.ts_image.specs.declared.version.Version.{Version}
 use Rattle.ts_image.specs.declared.version.Version.TheVariants.{V1, V2}
 use Rattle.ts_image.specs.Formats.{Place, Format, spelling, number, signed, text, nothing, and, also, iso, along, list_of}

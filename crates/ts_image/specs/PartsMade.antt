@@ -1,7 +1,7 @@
 -- What parts of an image must be, so that parts of a store are made of them. (Own rules.)
 use Rattle.std.specs.Prelude.{◌≤◌, ◌^◌}
-use Rattle.ts_core.specs.Aggregates.{IsSpread}
-use Rattle.ts_core.specs.Times.{IsTime}
+use Rattle.ts_core.specs.aggregates.Aggregates.{IsSpread}
+use Rattle.ts_core.specs.facts.Times.{IsTime}
 use Rattle.ts_image.specs.Images.{ImageCell}
 
 -- some frozen part has the count, the sum and the extremes of a cell

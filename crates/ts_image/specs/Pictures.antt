@@ -2,15 +2,15 @@
 -- image's order. (Own rules.)
 use Rattle.std.specs.Prelude.{◌≡◌, ◌↔◌, ℤ, ◌≤ℤ◌, ◌<◌, ◌==◌, List, [], ◌∷◌, ◌++◌, map, filter, Some}
 use Rattle.std.specs.FinMap as finmap
-use Rattle.ts_core.specs.Members.{Among, AllDistinct}
-use Rattle.ts_core.specs.Facts.{Series, Column}
-use Rattle.ts_core.specs.Aggregates.{Aggregate, empty_aggregate}
-use Rattle.ts_core.specs.Cells.{Cell}
-use Rattle.ts_core.specs.Changes.{or_else}
-use Rattle.ts_core.specs.StoreStates.{ColumnPoints, column_of, facts_of}
-use Rattle.ts_core.specs.StoreData.{CellMap, StoreData, no_parts, AreLive}
-use Rattle.ts_core.specs.ReadingAhead.{bit}
-use Rattle.ts_store.specs.Building.{HaveCells}
+use Rattle.ts_core.specs.lists.Members.{Among, AllDistinct}
+use Rattle.ts_core.specs.facts.Facts.{Series, Column}
+use Rattle.ts_core.specs.aggregates.Aggregates.{Aggregate, empty_aggregate}
+use Rattle.ts_core.specs.store.Cells.{Cell}
+use Rattle.ts_core.specs.lists.Changes.{or_else}
+use Rattle.ts_core.specs.store.StoreStates.{ColumnPoints, column_of, facts_of}
+use Rattle.ts_core.specs.store.StoreData.{CellMap, StoreData, no_parts, AreLive}
+use Rattle.ts_core.specs.io.ReadingAhead.{bit}
+use Rattle.ts_store.specs.image.Building.{HaveCells}
 use Rattle.ts_image.specs.Images.{ImageColumn, ImageSeries, ImageCell, ImageData}
 use Rattle.ts_image.specs.ImageTests.{settings_in}
 

@@ -1,13 +1,13 @@
 -- A store that was saved and loaded again: what is the same, and what may differ. (Own rules.)
 use Rattle.std.specs.Prelude.{◌≡◌, ◌↔◌, ℤ, ◌≤ℤ◌, true, None, List, [], ◌∷◌, map}
 use Rattle.std.specs.FinMap as finmap
-use Rattle.ts_core.specs.Members.{Among, AllDistinct}
-use Rattle.ts_core.specs.Facts.{Series, Column, Fact}
-use Rattle.ts_core.specs.Settings.{Rule}
-use Rattle.ts_core.specs.Cells.{Cell, cell_of, is_rolled}
-use Rattle.ts_core.specs.Changes.{or_else}
-use Rattle.ts_core.specs.StoreStates.{ColumnPoints, column_of, facts_of}
-use Rattle.ts_core.specs.StoreData.{CellMap, StoreData, no_parts, AreLive, StaysFor}
+use Rattle.ts_core.specs.lists.Members.{Among, AllDistinct}
+use Rattle.ts_core.specs.facts.Facts.{Series, Column, Fact}
+use Rattle.ts_core.specs.settings.Settings.{Rule}
+use Rattle.ts_core.specs.store.Cells.{Cell, cell_of, is_rolled}
+use Rattle.ts_core.specs.lists.Changes.{or_else}
+use Rattle.ts_core.specs.store.StoreStates.{ColumnPoints, column_of, facts_of}
+use Rattle.ts_core.specs.store.StoreData.{CellMap, StoreData, no_parts, AreLive, StaysFor}
 
 -- From the low index of a rule on, the frozen parts are the same, and each raw fact has its cell. Cells below it may
 -- differ, and an empty cell is as good as none.

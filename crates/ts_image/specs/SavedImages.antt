@@ -2,15 +2,15 @@
 use Rattle.std.specs.Prelude.{ℤ, pos, ◌≤◌, ◌≤ℤ◌, List, [], ◌∷◌, map}
 use Rattle.std.specs.Ordering.{int_cmp}
 use Rattle.std.specs.List.{AllByRecursion}
-use Rattle.ts_core.specs.Facts.{text_cmp, series_cmp}
-use Rattle.ts_core.specs.Times.{IsTime}
-use Rattle.ts_core.specs.Settings.{IsPossibleRule, Settings}
-use Rattle.ts_core.specs.History.{History}
-use Rattle.ts_core.specs.Cells.{cell_cmp}
-use Rattle.ts_core.specs.StoreStates.{ColumnPoints, StandsFor}
-use Rattle.ts_core.specs.StoreData.{StoreData, state_of}
+use Rattle.ts_core.specs.facts.Facts.{text_cmp, series_cmp}
+use Rattle.ts_core.specs.facts.Times.{IsTime}
+use Rattle.ts_core.specs.settings.Settings.{IsPossibleRule, Settings}
+use Rattle.ts_core.specs.store.History.{History}
+use Rattle.ts_core.specs.store.Cells.{cell_cmp}
+use Rattle.ts_core.specs.store.StoreStates.{ColumnPoints, StandsFor}
+use Rattle.ts_core.specs.store.StoreData.{StoreData, state_of}
 use Rattle.ts_raw.specs.PlainColumns.{IsRising}
-use Rattle.ts_store.specs.SizedStores.{IsSized}
+use Rattle.ts_store.specs.store.SizedStores.{IsSized}
 use Rattle.ts_image.specs.declared.version.Version.TheVariants.{V2}
 use Rattle.ts_image.specs.Images.{ImageRule, ImageColumn, ImageSeries, ImageCell, ImageData}
 use Rattle.ts_image.specs.ImageTests.{AreRising, IsPossible}

@@ -1,9 +1,9 @@
 -- Parts of an image as they are made of parts of a store. (Own rules.)
 use Rattle.std.specs.Prelude.{pos, map, Option, Some, None}
-use Rattle.ts_core.specs.Settings.{Rule, Settings}
-use Rattle.ts_core.specs.declared.aggregate.Extremes.{Extremes}
-use Rattle.ts_core.specs.Aggregates.{Aggregate}
-use Rattle.ts_core.specs.Cells.{Cell}
+use Rattle.ts_core.specs.settings.Settings.{Rule, Settings}
+use Rattle.ts_core.specs.declared.aggregates.aggregate.Extremes.{Extremes}
+use Rattle.ts_core.specs.aggregates.Aggregates.{Aggregate}
+use Rattle.ts_core.specs.store.Cells.{Cell}
 use Rattle.ts_image.specs.Images.{ImageRule, ImageSettings, ImageCell}
 
 abbrev pub image_rule_of : Rule → ImageRule

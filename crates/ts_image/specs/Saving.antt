@@ -4,14 +4,14 @@ use Rattle.std.specs.Int.{w64}
 use Rattle.std.specs.List.{AllByRecursion}
 use Rattle.std.specs.FinMap as finmap
 use Rattle.std.specs.Io.KnownBytes.{Appends}
-use Rattle.ts_core.specs.Settings.{Rule}
-use Rattle.ts_core.specs.RawFacts.{is_waiting}
-use Rattle.ts_core.specs.StoreStates.{ColumnPoints, column_of}
-use Rattle.ts_core.specs.StoreData.{StoreData}
-use Rattle.ts_core.specs.ReadingAhead.{bit}
-use Rattle.ts_core.specs.Devices.{Output, AppendsFront}
-use Rattle.ts_store.specs.Saving.{SavedColumn, SavedSeries, SavesSeries, FrozenCell, frozen_from}
-use Rattle.ts_store.specs.Seats.{no_points}
+use Rattle.ts_core.specs.settings.Settings.{Rule}
+use Rattle.ts_core.specs.store.RawFacts.{is_waiting}
+use Rattle.ts_core.specs.store.StoreStates.{ColumnPoints, column_of}
+use Rattle.ts_core.specs.store.StoreData.{StoreData}
+use Rattle.ts_core.specs.io.ReadingAhead.{bit}
+use Rattle.ts_core.specs.io.Devices.{Output, AppendsFront}
+use Rattle.ts_store.specs.image.Saving.{SavedColumn, SavedSeries, SavesSeries, FrozenCell, frozen_from}
+use Rattle.ts_store.specs.read.Seats.{no_points}
 use Rattle.ts_image.specs.declared.save_fault.SaveFault.{SaveFault}
 use Rattle.ts_image.specs.declared.save_fault.SaveFault.TheVariants.{Device, OutOfMemory, Unfit}
 use Rattle.ts_image.specs.declared.version.Version.TheVariants.{V2}

@@ -1,6 +1,6 @@
 -- The values of series and columns that the code reads. (Own rules.)
 use Rattle.std.specs.Prelude.{List, map, string_bytes, Vec, String}
-use Rattle.ts_core.specs.Facts.{Text, Series}
+use Rattle.ts_core.specs.facts.Facts.{Text, Series}
 use Rattle.ts_image.specs.declared.series_reading.ColumnParts.{ColumnParts}
 use Rattle.ts_image.specs.declared.series_reading.KeyParts.{KeyParts}
 use Rattle.ts_image.specs.declared.series_reading.SeriesParts.{SeriesParts}

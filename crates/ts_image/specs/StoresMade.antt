@@ -3,14 +3,14 @@ use Rattle.std.specs.Prelude.{◌≡◌, ◌==◌, ℕ, ℤ, Bool, List, [], ◌
 use Rattle.std.specs.FinMap as finmap
 use Rattle.std.specs.Ordering.{int_cmp}
 use Rattle.std.specs.List.{AllByRecursion}
-use Rattle.ts_core.specs.Facts.{Series, text_cmp}
-use Rattle.ts_core.specs.Aggregates.{empty_aggregate}
-use Rattle.ts_core.specs.Cells.{Cell, cell_cmp}
-use Rattle.ts_core.specs.StoreStates.{CellParts, facts_of}
-use Rattle.ts_core.specs.StoreData.{CellMap, StoreData}
+use Rattle.ts_core.specs.facts.Facts.{Series, text_cmp}
+use Rattle.ts_core.specs.aggregates.Aggregates.{empty_aggregate}
+use Rattle.ts_core.specs.store.Cells.{Cell, cell_cmp}
+use Rattle.ts_core.specs.store.StoreStates.{CellParts, facts_of}
+use Rattle.ts_core.specs.store.StoreData.{CellMap, StoreData}
 use Rattle.ts_raw.specs.Columns.{AreTimed}
-use Rattle.ts_store.specs.Building.{Built, cells_at}
-use Rattle.ts_store.specs.LinesPut.{OfEachRule, PutsCells}
+use Rattle.ts_store.specs.image.Building.{Built, cells_at}
+use Rattle.ts_store.specs.write.LinesPut.{OfEachRule, PutsCells}
 use Rattle.ts_image.specs.Images.{ImageColumn, ImageSeries, ImageCell, ImageData}
 use Rattle.ts_image.specs.ImageTests.{IsName, IsImageSeriesKey, AreRising, settings_in}
 use Rattle.ts_image.specs.PartsMade.{HasPart}

@@ -1,8 +1,8 @@
 -- Keys of the parts of images, and tests of parts. (Own rules.)
 use Rattle.std.specs.Prelude.{◌≡◌, ◌≢◌, ◌+◌, ◌<◌, ◌≤◌, ◌≤ℤ◌, ◌^◌, pos, ℕ, List, ◌∷◌, map, length, Option, Some, None, if◌then◌else◌, ℤ, [], string_bytes, String}
-use Rattle.ts_core.specs.Facts.{Text, Series, same_text, series_cmp}
-use Rattle.ts_core.specs.Cells.{Cell}
-use Rattle.ts_core.specs.declared.aggregate.Extremes.{Extremes}
+use Rattle.ts_core.specs.facts.Facts.{Text, Series, same_text, series_cmp}
+use Rattle.ts_core.specs.store.Cells.{Cell}
+use Rattle.ts_core.specs.declared.aggregates.aggregate.Extremes.{Extremes}
 use Rattle.ts_image.specs.declared.series_reading.ColumnParts.{ColumnParts}
 use Rattle.ts_image.specs.declared.series_reading.SeriesParts.{SeriesParts}
 use Rattle.ts_image.specs.declared.cell_reading.CellParts.{CellParts}
@@ -13,7 +13,7 @@ use Rattle.ts_image.specs.declared.rule_reading.RuleParts.{RuleParts}
 use Rattle.ts_image.specs.Images.{ImageRule, ImageSeries, ImageCell, ImageData}
 use Rattle.ts_image.specs.declared.version.Version.{Version}
 use Rattle.std.specs.List.{AllByRecursion}
-use Rattle.ts_core.specs.Times.{IsTime}
+use Rattle.ts_core.specs.facts.Times.{IsTime}
 
 abbrev pub IsTag : Text × Text → Type 0
 IsTag t = IsName t.0 × (t.1 ≢ [])

@@ -1,14 +1,14 @@
 -- What is written of a store that stands for a history. (Own rules.)
-use Rattle.ts_core.specs.Settings.{Settings}
-use Rattle.ts_core.specs.History.{History}
-use Rattle.ts_core.specs.StoreStates.{StandsFor}
-use Rattle.ts_core.specs.StoreData.{StoreData, state_of}
+use Rattle.ts_core.specs.settings.Settings.{Settings}
+use Rattle.ts_core.specs.store.History.{History}
+use Rattle.ts_core.specs.store.StoreStates.{StandsFor}
+use Rattle.ts_core.specs.store.StoreData.{StoreData, state_of}
 use Rattle.std.specs.Prelude.{List}
 use Rattle.ts_image.specs.declared.version.Version.TheVariants.{V2}
 use Rattle.ts_image.specs.ImageTests.{IsPossible}
 use Rattle.ts_image.specs.Pictures.{IsPictureOf}
 use Rattle.ts_image.specs.SavedImages.{IsWellFormed}
-use Rattle.ts_store.specs.Saving.{SavedSeries}
+use Rattle.ts_store.specs.image.Saving.{SavedSeries}
 use Rattle.ts_image.specs.Saving.{image_of, FitsImage, IsOrder}
 
 -- it fits the form of images, is a picture of the store, and has no contradiction

@@ -1,8 +1,8 @@
 //! Reads marks, and cells with their frozen parts, from an image. Whether they are possible is tested later.
 ghost use Rattle.std.specs.Prelude.{◌≡◌, map, length};
 ghost use Rattle.std.specs.Int.{w64};
-ghost use Rattle.ts_core.specs.ReadingAhead.{EndIsEnd};
-ghost use Rattle.ts_core.specs.Facts.{Text};
+ghost use Rattle.ts_core.specs.io.ReadingAhead.{EndIsEnd};
+ghost use Rattle.ts_core.specs.facts.Facts.{Text};
 ghost use Rattle.ts_image.specs.Formats.{signed, text, times, along, list_of};
 ghost use Rattle.ts_image.specs.Images.{ImageRule, image_marks, image_cell_key, image_extremes, image_cell};
 ghost use Rattle.ts_image.specs.FieldReading.{Reads};

@@ -2,8 +2,8 @@
 ghost use Rattle.std.specs.Prelude.{◌≡◌, true, ◌↔◌, pos, ◌*ℤ◌, ◌≤ℤ◌, map, IsTrue};
 ghost use Rattle.std.specs.Ordering.{is_lt};
 ghost use Rattle.std.specs.List.{AllByRecursion};
-ghost use Rattle.ts_core.specs.Aggregates.{IsSpread};
-ghost use Rattle.ts_core.specs.Cells.{cell_cmp};
+ghost use Rattle.ts_core.specs.aggregates.Aggregates.{IsSpread};
+ghost use Rattle.ts_core.specs.store.Cells.{cell_cmp};
 ghost use Rattle.ts_image.specs.ImageTests.{AreRising, IsBetween, IsFrozenTime, IsImageCell, AreImageCells};
 ghost use Rattle.ts_image.specs.RuleParts.{rule_of};
 ghost use Rattle.ts_image.specs.CellParts.{cell_key_of, extremes_of_parts, cell_of_parts};

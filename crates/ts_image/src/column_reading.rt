@@ -1,6 +1,6 @@
 //! Reads the points of a column from an image.
 ghost use Rattle.std.specs.Int.{w64};
-ghost use Rattle.ts_core.specs.ReadingAhead.{EndIsEnd};
+ghost use Rattle.ts_core.specs.io.ReadingAhead.{EndIsEnd};
 ghost use Rattle.ts_image.specs.Formats.{times, list_of};
 ghost use Rattle.ts_image.specs.Images.{image_point};
 ghost use Rattle.ts_image.specs.FieldReading.{Reads};

@@ -1,6 +1,6 @@
 //! Writes columns to an image.
 ghost use Rattle.std.specs.Int.{w64};
-ghost use Rattle.ts_core.specs.ReadingAhead.{bit};
+ghost use Rattle.ts_core.specs.io.ReadingAhead.{bit};
 ghost use Rattle.ts_image.specs.declared.version.Version.TheVariants.{V2};
 ghost use Rattle.ts_image.specs.Formats.{list_of};
 ghost use Rattle.ts_image.specs.Images.{image_point, image_column};

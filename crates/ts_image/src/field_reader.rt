@@ -1,7 +1,7 @@
 //! Reads the fields of an image from a source, in whatever pieces its bytes come.
 ghost use Rattle.std.specs.Prelude.{◌≡◌, true, ◌≤◌, ◌<◌, ◌+◌, ◌^◌, [], length, IfOk, OnOk, OnErr, string_bytes};
 ghost use Rattle.std.specs.Int.{w8, w32, w64, w128};
-ghost use Rattle.ts_core.specs.ReadingAhead.{EndIsEnd, nothing_ahead, IsConsumed};
+ghost use Rattle.ts_core.specs.io.ReadingAhead.{EndIsEnd, nothing_ahead, IsConsumed};
 ghost use Rattle.ts_image.specs.Formats.{number, signed, text};
 ghost use Rattle.ts_image.specs.FieldReading.{place_of, IsKnown, GivesEnd, CallsSource, FillsAhead, IsShaped, TakesByte, FillsRoom, TakesChunk, FillsText, Reads};
 

@@ -1,6 +1,6 @@
 //! Reads an image up to its form. Whether it contradicts itself is tested later.
 ghost use Rattle.std.specs.Prelude.{◌≡◌, ◌≤◌, ◌^◌};
-ghost use Rattle.ts_core.specs.ReadingAhead.{EndIsEnd};
+ghost use Rattle.ts_core.specs.io.ReadingAhead.{EndIsEnd};
 ghost use Rattle.ts_image.specs.Images.{image};
 ghost use Rattle.ts_image.specs.FieldReading.{Reads};
 ghost use Rattle.ts_image.specs.HeadReading.{ReadsHead};

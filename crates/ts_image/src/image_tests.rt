@@ -1,7 +1,7 @@
 //! Tests an image for contradictions. Its settings are tested where they are made. Does not allocate.
 ghost use Rattle.std.specs.Prelude.{◌↔◌, map, IsTrue};
 ghost use Rattle.std.specs.List.{AllByRecursion};
-ghost use Rattle.ts_core.specs.Facts.{series_cmp};
+ghost use Rattle.ts_core.specs.facts.Facts.{series_cmp};
 ghost use Rattle.ts_image.specs.Images.{ImageSeries};
 ghost use Rattle.ts_image.specs.ImageTests.{AreImageSettings, AreRising, IsImageSeries, AreLows, CellsAre, IsPossible, points_in_all};
 ghost use Rattle.ts_image.specs.RuleParts.{rules_of, settings_of_parts};

@@ -16,7 +16,7 @@ ghost use Rattle.ts_image.specs.Formats.{Place, read_whole};
 ghost use Rattle.ts_image.specs.declared.version.Version.{Version};
 ghost use Rattle.ts_image.specs.Images.{ImageData, image};
 ghost use Rattle.ts_image.specs.Pictures.{IsPictureOf, IsMadeOf};
-ghost use Rattle.ts_core.specs.StoreData.{StoreData, StaysFor};
+ghost use Rattle.ts_core.specs.store.StoreData.{StoreData, StaysFor};
 ghost use Rattle.ts_image.specs.ImageFaults.{AreUnambiguous};
 ghost use Rattle.ts_image.specs.Reloading.{Reloads};
 ghost use Rattle.ts_image.specs.SavedImages.{SavedImagesArePossible};

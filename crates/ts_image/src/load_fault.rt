@@ -1,7 +1,7 @@
 //! Errors of loading an image.
 ghost use Rattle.std.specs.Prelude.{◌≡◌};
 ghost use Rattle.ts_image.specs.declared.load_fault.LoadFault.TheVariants.{OutOfMemory};
-ghost use Rattle.ts_core.specs.FaultTexts.{IsAppended};
+ghost use Rattle.ts_core.specs.text.FaultTexts.{IsAppended};
 ghost use Rattle.ts_image.specs.ImageFaultTexts.{load_fault_text};
 ghost use Rattle.ts_image.specs.LoadFaults.{fault_of};
 

@@ -1,7 +1,7 @@
 //! Marks, tags, points and frozen parts made of what an image says of them.
 ghost use Rattle.std.specs.Prelude.{◌≡◌, ◌≤◌, [], length, map, string_bytes, IfOk};
-ghost use Rattle.ts_core.specs.Texts.{lent_pairs};
-ghost use Rattle.ts_core.specs.Times.{IsTime};
+ghost use Rattle.ts_core.specs.text.Texts.{lent_pairs};
+ghost use Rattle.ts_core.specs.facts.Times.{IsTime};
 ghost use Rattle.ts_cells.specs.Grids.{lent_texts};
 ghost use Rattle.ts_raw.specs.Columns.{AreTimed};
 ghost use Rattle.ts_image.specs.CellParts.{marks_of_parts, cell_of_parts};

@@ -1,7 +1,7 @@
 //! Reads rules and settings from an image. Whether they are possible is tested later.
 ghost use Rattle.std.specs.Prelude.{◌≡◌, map, string_bytes};
 ghost use Rattle.std.specs.Int.{w8};
-ghost use Rattle.ts_core.specs.ReadingAhead.{EndIsEnd};
+ghost use Rattle.ts_core.specs.io.ReadingAhead.{EndIsEnd};
 ghost use Rattle.ts_image.specs.Formats.{text, times, list_of};
 ghost use Rattle.ts_image.specs.Images.{image_rule, image_settings};
 ghost use Rattle.ts_image.specs.FieldReading.{Reads};

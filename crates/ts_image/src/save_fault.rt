@@ -1,5 +1,5 @@
 //! Errors of saving an image.
-ghost use Rattle.ts_core.specs.FaultTexts.{IsAppended};
+ghost use Rattle.ts_core.specs.text.FaultTexts.{IsAppended};
 ghost use Rattle.ts_image.specs.ImageFaultTexts.{save_fault_text};
 
 use std::alloc::{AllocError, Allocator};

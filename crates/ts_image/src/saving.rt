@@ -1,7 +1,7 @@
 //! Writes the image of a store.
 ghost use Rattle.std.specs.Prelude.{◌≡◌, [], OnOk, IfOk, IsTrue};
 ghost use Rattle.std.specs.List.{AllByRecursion};
-ghost use Rattle.ts_core.specs.Devices.{IsPut};
+ghost use Rattle.ts_core.specs.io.Devices.{IsPut};
 ghost use Rattle.ts_image.specs.declared.version.Version.TheVariants.{V2};
 ghost use Rattle.ts_image.specs.Images.{image, image_text};
 ghost use Rattle.ts_image.specs.FieldWriting.{Puts};

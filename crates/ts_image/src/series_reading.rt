@@ -1,7 +1,7 @@
 //! Reads series with their columns from an image. Whether they are possible is tested later.
 ghost use Rattle.std.specs.Prelude.{string_bytes};
 ghost use Rattle.std.specs.Int.{w8, w32, w64};
-ghost use Rattle.ts_core.specs.ReadingAhead.{EndIsEnd};
+ghost use Rattle.ts_core.specs.io.ReadingAhead.{EndIsEnd};
 ghost use Rattle.ts_image.specs.Formats.{text, also, times, list_of};
 ghost use Rattle.ts_image.specs.Images.{flag, image_series_key, image_column, image_series};
 ghost use Rattle.ts_image.specs.FieldReading.{Reads};

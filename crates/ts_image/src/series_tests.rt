@@ -2,8 +2,8 @@
 ghost use Rattle.std.specs.Prelude.{◌≡◌, true, ◌≢◌, ◌⊎◌, ◌↔◌, ◌≤ℤ◌, [], map, IsTrue, length};
 ghost use Rattle.std.specs.Ordering.{int_cmp, is_lt};
 ghost use Rattle.std.specs.List.{AllByRecursion};
-ghost use Rattle.ts_core.specs.Facts.{Text, Series, text_cmp, series_cmp};
-ghost use Rattle.ts_core.specs.Times.{IsTime};
+ghost use Rattle.ts_core.specs.facts.Facts.{Text, Series, text_cmp, series_cmp};
+ghost use Rattle.ts_core.specs.facts.Times.{IsTime};
 ghost use Rattle.ts_image.specs.Images.{ImageColumn, ImageSeries};
 ghost use Rattle.ts_image.specs.ImageTests.{AreRising, IsName, IsImagePoint, IsImageColumn, IsImageSeriesKey, IsImageSeries};
 ghost use Rattle.ts_image.specs.PointParts.{point_of};

@@ -1,7 +1,7 @@
 //! Writes keys of series to an image.
 ghost use Rattle.std.specs.Prelude.{◌<◌, length, map};
 ghost use Rattle.std.specs.Int.{w8};
-ghost use Rattle.ts_core.specs.Texts.{owned_pairs};
+ghost use Rattle.ts_core.specs.text.Texts.{owned_pairs};
 ghost use Rattle.ts_image.specs.Formats.{text, also, list_of};
 ghost use Rattle.ts_image.specs.Images.{image_series_key};
 ghost use Rattle.ts_image.specs.SeriesParts.{tag_of};

@@ -2,7 +2,7 @@
 ghost use Rattle.std.specs.Prelude.{◌≡◌, ◌≤◌, ◌<◌, List, FitsSigned, length, map, string_bytes};
 ghost use Rattle.std.specs.List.{AllByRecursion};
 ghost use Rattle.std.specs.Int.{w8, w64};
-ghost use Rattle.ts_core.specs.Settings.{AreKeptTags};
+ghost use Rattle.ts_core.specs.settings.Settings.{AreKeptTags};
 ghost use Rattle.ts_image.specs.Formats.{text, signed, list_of};
 ghost use Rattle.ts_image.specs.Images.{ImageRule, image_rule, image_settings, image_marks};
 ghost use Rattle.ts_image.specs.FieldWriting.{Puts, PutsAll};

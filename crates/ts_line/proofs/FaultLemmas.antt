@@ -2,7 +2,7 @@
 use Rattle.std.proofs.Common.{◌<◌, ◌≤◌, ◌^◌, length, arith, length-append}
 use Rattle.std.specs.Fmt.{decimal}
 use Rattle.std.proofs.lemmas.Fmt.{length-decimal-le}
-use Rattle.ts_core.specs.FaultCodes.{code_number}
+use Rattle.ts_core.specs.text.FaultCodes.{code_number}
 use Rattle.ts_line.specs.declared.fault.LineFaultKind.{LineFaultKind}
 use Rattle.ts_line.specs.declared.fault.LineFaultKind.TheVariants.{NoMeasurement, BadTag, RepeatedTagKey, NoField, BadField, FieldType, IntegerRange, BadTimestamp, TimestampRange, OverLimit, ReservedKey}
 use Rattle.ts_line.specs.declared.fault.LineFault.{LineFault}

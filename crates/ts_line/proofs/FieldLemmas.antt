@@ -3,11 +3,11 @@ use Rattle.std.proofs.Common.{◌≡◌, ℕ, ℤ, zero, suc, ◌+◌, ◌-◌, 
 use Rattle.std.proofs.lemmas.Bool.{both_ways}
 use Rattle.std.proofs.lemmas.Bool.Decides.{nat_tests}
 use Rattle.std.proofs.lemmas.Slice.Eq.{bytes_eq-Decides}
-use Rattle.ts_core.specs.Facts.{Text}
+use Rattle.ts_core.specs.facts.Facts.{Text}
 use Rattle.ts_line.specs.declared.fault.LineFault.{LineFault}
 use Rattle.ts_line.specs.declared.fault.LineFaultKind.TheVariants.{OverLimit}
 use Rattle.ts_line.specs.FaultText.{fault_at}
-use Rattle.ts_core.specs.Members.{Among, AllDistinct}
+use Rattle.ts_core.specs.lists.Members.{Among, AllDistinct}
 use Rattle.ts_line.specs.Parts.{LinePart, AreFields, field_text}
 use Rattle.ts_line.specs.declared.fault.ReadLineError.{ReadLineError}
 use Rattle.ts_line.specs.declared.fault.ReadLineError.TheVariants as errors

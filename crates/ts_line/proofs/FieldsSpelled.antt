@@ -7,16 +7,16 @@ use Rattle.std.proofs.lemmas.Bool.{and_parts, and_from, or_left, or_right, false
 use Rattle.std.proofs.lemmas.Bool.Decides.{nat_tests}
 use Rattle.std.proofs.lemmas.List.{take_at, length_push, get_or_push, get_or-drop}
 use Rattle.std.proofs.lemmas.Slice.Eq.{bytes_eq-Decides}
-use Rattle.ts_core.specs.Facts.{Text}
+use Rattle.ts_core.specs.facts.Facts.{Text}
 use Rattle.ts_line.specs.declared.scan.Stops.TheVariants.{Space, Equals, Plain}
-use Rattle.ts_core.specs.Numbers.{is_number, without_minus, is_from_to, whole_of}
+use Rattle.ts_core.specs.text.Numbers.{is_number, without_minus, is_from_to, whole_of}
 use Rattle.ts_line.specs.Parts.{LinePart}
 use Rattle.ts_line.specs.Scan.{end_of}
 use Rattle.ts_line.specs.PartTexts.{unescaped}
 use Rattle.ts_line.specs.Values.{value_said, value_begun_at, integer_by}
 use Rattle.ts_line.specs.Fields.{next_field, with_field, fields_at}
 use Rattle.ts_line.specs.Spelling.{is_closed, field_spelling, more_fields_text, IsWrittenField, field_from, with_fields}
-use Rattle.ts_core.proofs.NumberLemmas.{fits_within}
+use Rattle.ts_core.proofs.text.NumberLemmas.{fits_within}
 use Rattle.ts_line.proofs.Suffixes.{At, at_next, at_byte, at_after, at_slice, is_end, at_end}
 use Rattle.ts_line.proofs.TagsSpelled.{not_eqb}
 

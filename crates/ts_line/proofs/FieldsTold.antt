@@ -7,12 +7,12 @@ use Rattle.std.proofs.lemmas.Bool.Decides.{nat_tests}
 use Rattle.std.proofs.lemmas.List.{take_all, take_more, length_push}
 use Rattle.std.proofs.lemmas.Option.{cond_some}
 use Rattle.std.proofs.lemmas.Slice.Eq.{bytes_eq-Decides}
-use Rattle.ts_core.specs.Facts.{Text}
+use Rattle.ts_core.specs.facts.Facts.{Text}
 use Rattle.ts_line.specs.declared.fault.LineFault.{LineFault}
 use Rattle.ts_line.specs.declared.fault.LineFaultKind.TheVariants.{BadField, FieldType, ReservedKey}
 use Rattle.ts_line.specs.FaultText.{fault_at}
 use Rattle.ts_line.specs.declared.scan.Stops.TheVariants.{Equals, Plain}
-use Rattle.ts_core.specs.Numbers.{is_number, is_from_to, whole_of}
+use Rattle.ts_core.specs.text.Numbers.{is_number, is_from_to, whole_of}
 use Rattle.ts_line.specs.Parts.{LinePart}
 use Rattle.ts_line.specs.Scan.{is_stop, end_of}
 use Rattle.ts_line.specs.PartTexts.{unescaped, piece_at}
@@ -20,7 +20,7 @@ use Rattle.ts_line.specs.Values.{is_integer, is_unsigned, is_boolean, is_float, 
 use Rattle.ts_line.specs.Fields.{next_field, with_field, fields_at}
 use Rattle.ts_line.specs.ReadSteps.{◌>>=◌}
 use Rattle.ts_line.specs.Spelling.{is_closed, written_piece, field_spelling, more_fields_text, IsWrittenField, field_from, with_fields}
-use Rattle.ts_core.proofs.NumberLemmas.{within_fits}
+use Rattle.ts_core.proofs.text.NumberLemmas.{within_fits}
 use Rattle.ts_line.proofs.PartsTold.{bind_ok, not_err, cut, first_of, slice_len, within, end_within, part_closes}
 use Rattle.ts_line.proofs.FieldsSpelled.{flat}
 use Rattle.ts_line.proofs.TagsTold.{EndsKey}

@@ -1,6 +1,6 @@
 -- The laws of a call's result.
 use Rattle.std.proofs.Common.{ℤ, Option, Some, None, IfSome, Result, Ok, Err, IfOk, subst}
-use Rattle.ts_core.specs.Facts.{Text}
+use Rattle.ts_core.specs.facts.Facts.{Text}
 use Rattle.ts_line.specs.declared.fault.LineFault.{LineFault}
 use Rattle.ts_line.specs.declared.fault.ReadLineError.{ReadLineError}
 use Rattle.ts_line.specs.Parts.{Parts}

@@ -1,16 +1,16 @@
 -- One step back over the spaces at a line's end, and how its parts are read in turn.
 use Rattle.std.proofs.Common.{FitsSigned, w64}
 use Rattle.std.proofs.lemmas.Int.{ints}
-use Rattle.ts_core.specs.TimeUnits.{nanoseconds_of}
-use Rattle.ts_core.specs.declared.time_unit.TimeUnit.{TimeUnit}
-use Rattle.ts_core.specs.declared.time_unit.TimeUnit.TheVariants.{Nanoseconds, Microseconds, Milliseconds, Seconds, Minutes, Hours, Days, Weeks}
+use Rattle.ts_core.specs.facts.TimeUnits.{nanoseconds_of}
+use Rattle.ts_core.specs.declared.facts.time_unit.TimeUnit.{TimeUnit}
+use Rattle.ts_core.specs.declared.facts.time_unit.TimeUnit.TheVariants.{Nanoseconds, Microseconds, Milliseconds, Seconds, Minutes, Hours, Days, Weeks}
 use Rattle.std.specs.Option.{ok_or}
 use Rattle.std.proofs.lemmas.List.{take_all}
 use Rattle.ts_line.specs.declared.fault.LineFaultKind.TheVariants.{TimestampRange}
 use Rattle.ts_line.specs.FaultText.{fault_at}
 use Rattle.std.proofs.Common.{◌≡◌, true, slice_range, drop, Option, None, length-drop, ℕ, ℤ, zero, suc, ◌+◌, ◌-◌, ◌<◌, ◌≤◌, false, eqb, ltb, cond, List, [], length, slice_index, Result, Ok, Err, Some, refl, arith}
 use Rattle.std.proofs.lemmas.Bool.{le-ltb}
-use Rattle.ts_core.specs.Facts.{Text}
+use Rattle.ts_core.specs.facts.Facts.{Text}
 use Rattle.ts_line.specs.declared.fault.LineFault.{LineFault}
 use Rattle.ts_line.specs.Parts.{LinePart, Parts}
 use Rattle.ts_line.specs.declared.scan.Stops.TheVariants.{Space}
@@ -18,7 +18,7 @@ use Rattle.ts_line.specs.Scan.{end_of, spaces_end}
 use Rattle.ts_line.specs.TagParts.{tags_at}
 use Rattle.ts_line.specs.Fields.{fields_at}
 use Rattle.ts_line.specs.Lines.{is_bare_space, trimmed, content, measurement_at, time_at, time_by, time_of, parts_at, line_of}
-use Rattle.ts_core.specs.Numbers.{is_number}
+use Rattle.ts_core.specs.text.Numbers.{is_number}
 use Rattle.ts_line.specs.ReadSteps.{◌>>=◌}
 use Rattle.ts_line.specs.Readings.{NeedsMemory, IfOutOfMemory}
 use Rattle.ts_line.specs.declared.fault.ReadLineError.{ReadLineError}

@@ -6,16 +6,16 @@ use Rattle.std.proofs.lemmas.Bool.Decides.{nat_tests}
 use Rattle.std.proofs.lemmas.List.{take-append-drop}
 use Rattle.std.proofs.lemmas.List.Folds.{list_all-append}
 use Rattle.std.proofs.lemmas.Option.{cond_some}
-use Rattle.ts_core.specs.Facts.{Text}
-use Rattle.ts_core.specs.Times.{least_time, greatest_time}
+use Rattle.ts_core.specs.facts.Facts.{Text}
+use Rattle.ts_core.specs.facts.Times.{least_time, greatest_time}
 use Rattle.ts_line.specs.declared.fault.LineFaultKind.TheVariants.{BadTimestamp}
 use Rattle.ts_line.specs.FaultText.{fault_at}
-use Rattle.ts_core.specs.Numbers.{is_number, is_from_to}
+use Rattle.ts_core.specs.text.Numbers.{is_number, is_from_to}
 use Rattle.ts_line.specs.Scan.{spaces, spaces_end}
 use Rattle.ts_line.specs.Lines.{is_bare_space, trimmed, without_return, content, time_of, time_by, time_at}
 use Rattle.ts_line.specs.Spelling.{are_spaces, IsStamp, SaysTime}
 use Rattle.ts_line.proofs.MomentLemmas.{within_time}
-use Rattle.ts_core.proofs.ListSteps.{slice_step}
+use Rattle.ts_core.proofs.lists.ListSteps.{slice_step}
 use Rattle.ts_line.proofs.PartsTold.{cut, first_of, nothing_left, slice_len, spaces_within, spaces_are}
 
 -- ---- a gap: one space or more

@@ -2,7 +2,7 @@
 use Rattle.std.proofs.Common.{◌≡◌, ℕ, ℤ, zero, suc, ◌+◌, ◌<◌, Bool, true, false, List, [], ◌∷◌, ◌++◌, length, get_or, set, bytes_eq, None, refl, sym, ap, ◌∙◌, slice_index_or}
 use Rattle.std.proofs.lemmas.List.{get_or-set_same}
 use Rattle.std.proofs.lemmas.Slice.Eq.{bytes_eq-Decides}
-use Rattle.ts_core.specs.Facts.{Text}
+use Rattle.ts_core.specs.facts.Facts.{Text}
 use Rattle.ts_line.specs.Parts.{LinePart}
 use Rattle.ts_line.specs.Fields.{place_from, with_field}
 use Rattle.ts_line.specs.NameMarks.{slot_of, AreMarked, AreKeysMarked}

@@ -5,10 +5,10 @@ use Rattle.std.proofs.lemmas.Bool.{false_from_ne_true, false≢true}
 use Rattle.std.proofs.lemmas.Int.{ints, to_z-of_z}
 use Rattle.std.proofs.lemmas.Option.{cond_some}
 use Rattle.std.proofs.Math.Nat.{mul-le-mul_left}
-use Rattle.ts_core.specs.Facts.{Text}
-use Rattle.ts_core.specs.Numbers.{is_from_to, whole_of}
-use Rattle.ts_core.specs.Times.{IsTime, least_time, greatest_time}
-use Rattle.ts_core.proofs.NumberLemmas.{none_within}
+use Rattle.ts_core.specs.facts.Facts.{Text}
+use Rattle.ts_core.specs.text.Numbers.{is_from_to, whole_of}
+use Rattle.ts_core.specs.facts.Times.{IsTime, least_time, greatest_time}
+use Rattle.ts_core.proofs.text.NumberLemmas.{none_within}
 use Rattle.ts_line.specs.Lines.{time_of}
 
 -- a product of what has 64 bits is that of the numbers

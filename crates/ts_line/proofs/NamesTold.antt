@@ -7,7 +7,7 @@ use Rattle.std.specs.FinMap as finmap
 use Rattle.std.specs.FinMap.{put, entries_sorted}
 use Rattle.std.specs.declared.cmp.Ordering.{Ordering}
 use Rattle.std.specs.declared.cmp.Ordering.TheVariants.{Less, Equal, Greater}
-use Rattle.ts_core.specs.Facts.{Text, text_cmp}
+use Rattle.ts_core.specs.facts.Facts.{Text, text_cmp}
 use Rattle.ts_line.specs.declared.scan.Stops.{Stops}
 use Rattle.ts_line.specs.declared.scan.Stops.TheVariants.{Comma, Equals}
 use Rattle.ts_line.specs.Names.{IsName, IsKey, AreKeys, AreTagTexts, IsNamed}

@@ -4,11 +4,11 @@ use Rattle.std.specs.List.{list_any}
 use Rattle.std.proofs.Math.Bool.{and-false}
 use Rattle.std.proofs.lemmas.Bool.{or_parts}
 use Rattle.std.proofs.lemmas.List.{at_drop_more}
-use Rattle.ts_core.specs.Facts.{Text}
+use Rattle.ts_core.specs.facts.Facts.{Text}
 use Rattle.ts_line.specs.declared.scan.Stops.{Stops}
 use Rattle.ts_line.specs.Scan.{is_backslash, is_stop}
 use Rattle.ts_line.specs.PartTexts.{begins_escapable, unescaped}
-use Rattle.ts_core.proofs.ListSteps.{slice_step}
+use Rattle.ts_core.proofs.lists.ListSteps.{slice_step}
 
 abbrev pub is_escape_at : Stops → Text → ℕ → Bool
 is_escape_at stops raw i = is_backslash (get_or raw i 0) && begins_escapable stops (drop (i + 1) raw)

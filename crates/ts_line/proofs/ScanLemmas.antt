@@ -5,8 +5,8 @@ use Rattle.std.proofs.lemmas.List.{at_drop_more, at_drop_all}
 use Rattle.std.proofs.lemmas.List.Folds.{list_any-append}
 use Rattle.std.proofs.Math.Bool.{or-false}
 use Rattle.std.proofs.lemmas.Bool.Decides.{nat_tests}
-use Rattle.ts_core.proofs.ListSteps.{slice_step}
-use Rattle.ts_core.specs.Facts.{Text}
+use Rattle.ts_core.proofs.lists.ListSteps.{slice_step}
+use Rattle.ts_core.specs.facts.Facts.{Text}
 use Rattle.ts_line.specs.declared.scan.Stops.{Stops}
 use Rattle.ts_line.specs.declared.scan.Stops.TheVariants.{Space, Comma, Equals, Plain}
 use Rattle.ts_line.specs.Scan.{is_stop, is_backslash, ends, part_len, spaces}

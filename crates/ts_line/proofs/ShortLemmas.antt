@@ -10,12 +10,12 @@ use Rattle.std.proofs.lemmas.Int.Digits.{digits_value-lt, digits_value_push}
 use Rattle.std.proofs.lemmas.List.{take-append-drop, drop_more, drop-drop}
 use Rattle.std.proofs.lemmas.List.Folds.{list_all-append}
 use Rattle.std.proofs.Math.Nat.{pow-le-pow_right}
-use Rattle.ts_core.specs.Facts.{Text}
+use Rattle.ts_core.specs.facts.Facts.{Text}
 use Rattle.ts_line.specs.declared.scan.Stops.TheVariants.{Plain}
-use Rattle.ts_core.specs.Numbers.{is_number, are_digits, is_from_to, whole_of}
+use Rattle.ts_core.specs.text.Numbers.{is_number, are_digits, is_from_to, whole_of}
 use Rattle.ts_line.specs.Values.{value_begun_at, is_value_end}
-use Rattle.ts_core.proofs.NumberLemmas.{all_digits, digit_not_plus, fits_within}
-use Rattle.ts_core.proofs.ListSteps.{slice_step}
+use Rattle.ts_core.proofs.text.NumberLemmas.{all_digits, digit_not_plus, fits_within}
+use Rattle.ts_core.proofs.lists.ListSteps.{slice_step}
 use Rattle.ts_line.proofs.Suffixes.{At, is_end}
 use Rattle.ts_line.proofs.FieldsSpelled.{value_read}
 

@@ -5,8 +5,8 @@ use Rattle.std.specs.FinMap.{put, is_sorted, slice_cmp-IsAntisymmetric, nat_cmp-
 use Rattle.std.specs.Cmp.Lexicographic.{nat_list_cmp_total}
 use Rattle.std.specs.declared.cmp.Ordering.{Ordering}
 use Rattle.std.specs.declared.cmp.Ordering.TheVariants.{Less, Equal, Greater}
-use Rattle.ts_core.specs.Facts.{Text, text_cmp}
-use Rattle.ts_core.specs.Texts.{lent_pairs, IsTagSet}
+use Rattle.ts_core.specs.facts.Facts.{Text, text_cmp}
+use Rattle.ts_core.specs.text.Texts.{lent_pairs, IsTagSet}
 use Rattle.ts_line.specs.Parts.{LinePart, tag_texts}
 use Rattle.ts_line.specs.Sorting.{key_place_from, rise}
 use Rattle.std.specs.Ordering.{is_lt}

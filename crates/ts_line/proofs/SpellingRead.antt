@@ -5,10 +5,10 @@ use Rattle.std.specs.Str.Parse.{signed_digits_value}
 use Rattle.std.proofs.lemmas.Bool.{not-true, and_parts, and_from, cond-true, le-ltb}
 use Rattle.std.proofs.lemmas.Bool.Decides.{nat_tests}
 use Rattle.std.proofs.lemmas.List.{drop_at}
-use Rattle.ts_core.specs.Facts.{Text}
-use Rattle.ts_core.specs.Times.{IsTime, least_time, greatest_time}
+use Rattle.ts_core.specs.facts.Facts.{Text}
+use Rattle.ts_core.specs.facts.Times.{IsTime, least_time, greatest_time}
 use Rattle.ts_line.specs.declared.scan.Stops.TheVariants.{Space, Comma, Equals}
-use Rattle.ts_core.specs.Numbers.{is_number, is_from_to}
+use Rattle.ts_core.specs.text.Numbers.{is_number, is_from_to}
 use Rattle.ts_line.specs.Scan.{is_backslash, ends, end_of, spaces_end}
 use Rattle.ts_line.specs.Fields.{fields_at}
 use Rattle.ts_line.specs.Lines.{content, measurement_at, time_of, time_at, line_of}

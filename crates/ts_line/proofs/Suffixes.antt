@@ -2,7 +2,7 @@
 use Rattle.std.proofs.Common.{◌≡◌, ℕ, ◌+◌, ◌-◌, Bool, true, not, eqb, [], ◌∷◌, ◌++◌, length, get_or, take, drop, slice_range, slice_index, refl, sym, ap, ◌∙◌, arith}
 use Rattle.std.proofs.lemmas.Bool.{not-true, and_parts}
 use Rattle.std.proofs.lemmas.List.{take_at, drop_at, drop-drop, get_or-drop}
-use Rattle.ts_core.specs.Facts.{Text}
+use Rattle.ts_core.specs.facts.Facts.{Text}
 use Rattle.ts_line.specs.declared.scan.Stops.{Stops}
 use Rattle.ts_line.specs.Scan.{is_stop, ends, part_len, end_of, spaces, spaces_end}
 use Rattle.ts_line.specs.Spelling.{are_spaces, is_closed}

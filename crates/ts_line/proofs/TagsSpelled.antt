@@ -3,8 +3,8 @@ use Rattle.std.proofs.Common.{◌≡◌, ℕ, zero, suc, ◌+◌, ◌≤◌, Boo
 use Rattle.std.proofs.lemmas.Bool.{false_from_ne_true}
 use Rattle.std.proofs.lemmas.Bool.Decides.{nat_tests}
 use Rattle.std.proofs.lemmas.Slice.Eq.{bytes_eq-Decides}
-use Rattle.ts_core.specs.Facts.{Text}
-use Rattle.ts_core.specs.Members.{Among, AllDistinct}
+use Rattle.ts_core.specs.facts.Facts.{Text}
+use Rattle.ts_core.specs.lists.Members.{Among, AllDistinct}
 use Rattle.ts_line.specs.declared.scan.Stops.TheVariants.{Equals}
 use Rattle.ts_line.specs.Parts.{LinePart}
 use Rattle.ts_line.specs.Scan.{end_of}

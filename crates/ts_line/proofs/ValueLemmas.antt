@@ -1,7 +1,7 @@
 -- One byte of a value's shape.
 use Rattle.std.proofs.Common.{◌≡◌, ◌<◌, ◌≤◌, Bool, true, false, cond, ◌&&◌, ◌||◌, eqb, [], ◌∷◌, length, drop, get_or, Some, None, refl, arith}
 use Rattle.std.specs.Char.{is_ascii_digit}
-use Rattle.ts_core.specs.Facts.{Text}
+use Rattle.ts_core.specs.facts.Facts.{Text}
 use Rattle.ts_line.specs.Values.{behind_digits, behind_quotes}
 
 pub digits_step : (some : Bool) (text : Text) → 0 < length text

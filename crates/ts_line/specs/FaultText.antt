@@ -1,10 +1,10 @@
 -- Codes and messages of the errors of a line. (Own rules.)
 use Rattle.std.specs.Prelude.{ℕ}
-use Rattle.ts_core.specs.Facts.{Text}
-use Rattle.ts_core.specs.declared.fault_code.FaultCode.{FaultCode}
-use Rattle.ts_core.specs.declared.fault_code.FaultCode.TheVariants as coded
-use Rattle.ts_core.specs.declared.fault_text.FaultDetail.TheVariants.{At}
-use Rattle.ts_core.specs.FaultTexts.{fault_text, memory_text}
+use Rattle.ts_core.specs.facts.Facts.{Text}
+use Rattle.ts_core.specs.declared.text.fault_code.FaultCode.{FaultCode}
+use Rattle.ts_core.specs.declared.text.fault_code.FaultCode.TheVariants as coded
+use Rattle.ts_core.specs.declared.text.fault_text.FaultDetail.TheVariants.{At}
+use Rattle.ts_core.specs.text.FaultTexts.{fault_text, memory_text}
 use Rattle.ts_line.specs.declared.fault.LineFaultKind.{LineFaultKind}
 use Rattle.ts_line.specs.declared.fault.LineFaultKind.TheVariants.{NoMeasurement, BadTag, RepeatedTagKey, NoField, BadField, FieldType, IntegerRange, BadTimestamp, TimestampRange, OverLimit, ReservedKey}
 use Rattle.ts_line.specs.declared.fault.LineFault.{LineFault}

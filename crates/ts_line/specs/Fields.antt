@@ -1,6 +1,6 @@
 -- The fields of a line. (InfluxData 1.8, line protocol reference, field set; own limits and refusals.)
 use Rattle.std.specs.Prelude.{ℕ, ℤ, zero, suc, ◌+◌, List, [], ◌∷◌, not, ◌||◌, ◌==◌, if◌then◌else◌, slice_index, Option, Some, None, Result, Ok, Err, bytes_eq, codes}
-use Rattle.ts_core.specs.Facts.{Text}
+use Rattle.ts_core.specs.facts.Facts.{Text}
 use Rattle.ts_line.specs.declared.fault.LineFault.{LineFault}
 use Rattle.ts_line.specs.declared.fault.LineFaultKind.TheVariants.{BadField, OverLimit, ReservedKey}
 use Rattle.ts_line.specs.FaultText.{fault_at}

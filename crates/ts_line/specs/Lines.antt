@@ -2,14 +2,14 @@
 -- (InfluxData 1.8, line protocol reference, syntax, comments, whitespace; own limits.)
 use Rattle.std.specs.Prelude.{ℕ, ℤ, zero, suc, ◌+◌, ◌-◌, ◌*ℤ◌, length, take, Bool, not, ◌&&◌, ◌||◌, ◌==◌, nat_lt, if◌then◌else◌, slice_index, slice_range, Option, Some, None, Result, Ok, Err, []}
 use Rattle.std.specs.Str.Parse.{signed_digits_value}
-use Rattle.ts_core.specs.Facts.{Text}
-use Rattle.ts_core.specs.Times.{least_time, greatest_time}
+use Rattle.ts_core.specs.facts.Facts.{Text}
+use Rattle.ts_core.specs.facts.Times.{least_time, greatest_time}
 use Rattle.ts_line.specs.declared.fault.LineFault.{LineFault}
 use Rattle.ts_line.specs.declared.fault.LineFaultKind.TheVariants.{NoMeasurement, NoField, BadTimestamp, TimestampRange, OverLimit}
 use Rattle.ts_line.specs.FaultText.{fault_at}
 use Rattle.ts_line.specs.declared.scan.Stops.TheVariants.{Space, Comma}
 use Rattle.ts_line.specs.Parts.{LinePart, Parts}
-use Rattle.ts_core.specs.Numbers.{is_number, is_from_to}
+use Rattle.ts_core.specs.text.Numbers.{is_number, is_from_to}
 use Rattle.ts_line.specs.Scan.{is_backslash, end_of, spaces_end}
 use Rattle.ts_line.specs.PartTexts.{piece_at}
 use Rattle.ts_line.specs.ReadSteps.{◌>>=◌}

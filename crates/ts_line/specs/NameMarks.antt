@@ -1,7 +1,7 @@
 -- A 64-slot filter over names that spares most names the search for duplicates.
 use Rattle.std.specs.Prelude.{◌≡◌, ℕ, ℤ, ◌+◌, ◌*◌, ◌-◌, ◌%◌, List, length, nat_lt, if◌then◌else◌, slice_index, slice_index_or, Bool, true, false}
 use Rattle.std.specs.List.{AllByRecursion}
-use Rattle.ts_core.specs.Facts.{Text}
+use Rattle.ts_core.specs.facts.Facts.{Text}
 use Rattle.ts_line.specs.Parts.{LinePart}
 
 abbrev pub slot_of : Text → ℕ

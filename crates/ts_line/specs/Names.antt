@@ -2,8 +2,8 @@
 -- `time`. Own: no name is empty, a line has at most 64 tags and 256 fields.)
 use Rattle.std.specs.Prelude.{◌≡◌, ◌≤◌, List, length, codes}
 use Rattle.std.specs.List.{AllByRecursion}
-use Rattle.ts_core.specs.Facts.{Text, Series}
-use Rattle.ts_core.specs.Texts.{IsTagSet}
+use Rattle.ts_core.specs.facts.Facts.{Text, Series}
+use Rattle.ts_core.specs.text.Texts.{IsTagSet}
 
 -- the name isn't empty
 abbrev pub IsName : Text → Type 0

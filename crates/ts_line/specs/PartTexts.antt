@@ -2,7 +2,7 @@
 -- (InfluxData 1.8, line protocol reference, special characters. Own: a backslash before anything else is itself, and
 -- nothing escapes the backslash.)
 use Rattle.std.specs.Prelude.{ℕ, [], ◌∷◌, slice_range, Bool, false, ◌&&◌, if◌then◌else◌}
-use Rattle.ts_core.specs.Facts.{Text}
+use Rattle.ts_core.specs.facts.Facts.{Text}
 use Rattle.ts_line.specs.declared.scan.Stops.{Stops}
 use Rattle.ts_line.specs.Parts.{LinePart}
 use Rattle.ts_line.specs.Scan.{is_backslash, is_stop}

@@ -2,8 +2,8 @@
 -- (InfluxData 1.8, line protocol reference, syntax: measurement, tag set, field set, timestamp.)
 use Rattle.std.specs.Prelude.{ℕ, ℤ, ◌≤◌, List, map, length}
 use Rattle.std.specs.FinMap as finmap
-use Rattle.ts_core.specs.Facts.{Text, text_cmp, Series, Fact}
-use Rattle.ts_core.specs.Members.{AllDistinct}
+use Rattle.ts_core.specs.facts.Facts.{Text, text_cmp, Series, Fact}
+use Rattle.ts_core.specs.lists.Members.{AllDistinct}
 use Rattle.ts_line.specs.Names.{IsName, AreKeys, AreTagTexts}
 
 -- a part of a line: its byte offset, its bytes as written, and its unescaped text

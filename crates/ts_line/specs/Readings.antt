@@ -1,6 +1,6 @@
 -- Reading a line against spelling it, and when it needs memory. (Own rules.)
 use Rattle.std.specs.Prelude.{◌≡◌, ◌≤◌, ℤ, length, Option, Some, None, IfSome, Result, Ok, Err, IfOk}
-use Rattle.ts_core.specs.Facts.{Text}
+use Rattle.ts_core.specs.facts.Facts.{Text}
 use Rattle.ts_line.specs.declared.fault.ReadLineError.{ReadLineError}
 use Rattle.ts_line.specs.declared.fault.ReadLineError.TheVariants as errors
 use Rattle.ts_line.specs.Lines.{line_of}

@@ -1,7 +1,7 @@
 -- Ends of the parts of a line.
 -- (InfluxData 1.8, line protocol reference, special characters; own in all corner cases of backslashes.)
 use Rattle.std.specs.Prelude.{ℕ, ◌+◌, [], ◌∷◌, drop, Bool, false, not, ◌&&◌, ◌||◌, ◌==◌, if◌then◌else◌}
-use Rattle.ts_core.specs.Facts.{Text}
+use Rattle.ts_core.specs.facts.Facts.{Text}
 use Rattle.ts_line.specs.declared.scan.Stops.{Stops}
 use Rattle.ts_line.specs.declared.scan.Stops.TheVariants.{Space, Comma, Equals, Plain}
 

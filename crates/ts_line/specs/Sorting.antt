@@ -2,7 +2,7 @@
 use Rattle.std.specs.Prelude.{ℕ, ◌+◌, List, [], ◌∷◌, Result, Ok, Err, Bool, true, ◌&&◌}
 use Rattle.std.specs.Ordering.{is_lt}
 use Rattle.std.specs.FinMap.Entries.{by_order}
-use Rattle.ts_core.specs.Facts.{Text, text_cmp}
+use Rattle.ts_core.specs.facts.Facts.{Text, text_cmp}
 
 -- index of the first pair whose key isn't less: `Ok` if it has this key, else `Err`; `at` is the index of the list's
 -- head

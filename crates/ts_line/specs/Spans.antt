@@ -1,6 +1,6 @@
 -- Offsets of the parts of a line. (InfluxData 1.8, line protocol reference, syntax.)
 use Rattle.std.specs.Prelude.{◌≡◌, ℕ, ℤ, ◌+◌, ◌≤◌, List, [], ◌∷◌, ◌++◌, length, map, slice_range}
-use Rattle.ts_core.specs.Facts.{Text}
+use Rattle.ts_core.specs.facts.Facts.{Text}
 use Rattle.ts_line.specs.Parts.{LinePart, Parts}
 
 -- the part is the slice of the line at its span

@@ -4,12 +4,12 @@ use Rattle.std.specs.Prelude.{◌≡◌, ◌⊎◌, ℕ, ℤ, ◌+◌, ◌≤◌
 use Rattle.std.specs.Int.{w64}
 use Rattle.std.specs.List.{list_all, AllByRecursion}
 use Rattle.std.specs.Str.Parse.{signed_digits_value}
-use Rattle.ts_core.specs.Facts.{Text}
-use Rattle.ts_core.specs.Members.{AllDistinct}
-use Rattle.ts_core.specs.Times.{IsTime}
+use Rattle.ts_core.specs.facts.Facts.{Text}
+use Rattle.ts_core.specs.lists.Members.{AllDistinct}
+use Rattle.ts_core.specs.facts.Times.{IsTime}
 use Rattle.ts_line.specs.declared.scan.Stops.{Stops}
 use Rattle.ts_line.specs.declared.scan.Stops.TheVariants.{Comma, Equals}
-use Rattle.ts_core.specs.Numbers.{is_number}
+use Rattle.ts_core.specs.text.Numbers.{is_number}
 use Rattle.ts_line.specs.Parts.{LinePart, Parts}
 use Rattle.ts_line.specs.Scan.{is_escaped, ends}
 use Rattle.ts_line.specs.PartTexts.{unescaped}

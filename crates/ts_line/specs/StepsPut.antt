@@ -1,8 +1,8 @@
 -- One step of the parser: it inserts the next field or tag into those before it. (Own rule.)
 use Rattle.std.specs.Prelude.{◌≤◌, ℕ, ℤ, ◌+◌, List, [], ◌∷◌, ◌++◌, length, Bool, Result, Ok, Err, IfOk}
 use Rattle.std.specs.Str.{IsCharBoundary}
-use Rattle.ts_core.specs.Cursors.{IsPlaceFrom}
-use Rattle.ts_core.specs.Facts.{Text}
+use Rattle.ts_core.specs.text.Cursors.{IsPlaceFrom}
+use Rattle.ts_core.specs.facts.Facts.{Text}
 use Rattle.ts_line.specs.declared.fault.LineFault.{LineFault}
 use Rattle.ts_line.specs.declared.fault.ReadLineError.{ReadLineError}
 use Rattle.ts_line.specs.Parts.{LinePart}

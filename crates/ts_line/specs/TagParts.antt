@@ -1,7 +1,7 @@
 -- The tags of a line. (InfluxData 1.8, line protocol reference, tag set; own limits and refusals.)
 use Rattle.std.specs.Prelude.{ℕ, zero, suc, ◌+◌, List, [], ◌∷◌, ◌++◌, length, Bool, not, ◌||◌, ◌==◌, nat_le, if◌then◌else◌, slice_index, Result, Ok, Err, bytes_eq, codes}
 use Rattle.std.specs.List.{list_any}
-use Rattle.ts_core.specs.Facts.{Text}
+use Rattle.ts_core.specs.facts.Facts.{Text}
 use Rattle.ts_line.specs.declared.fault.LineFault.{LineFault}
 use Rattle.ts_line.specs.declared.fault.LineFaultKind.TheVariants.{BadTag, RepeatedTagKey, OverLimit, ReservedKey}
 use Rattle.ts_line.specs.FaultText.{fault_at}

@@ -2,12 +2,12 @@
 -- takes integers alone.)
 use Rattle.std.specs.Prelude.{ℕ, ℤ, ◌+◌, ◌-◌, [], ◌∷◌, length, take, drop, Bool, true, false, not, ◌&&◌, ◌||◌, ◌==◌, if◌then◌else◌, slice_index, slice_range, Option, Some, None, Result, Ok, Err, bytes_eq, codes}
 use Rattle.std.specs.Char.{is_ascii_digit}
-use Rattle.ts_core.specs.Facts.{Text}
+use Rattle.ts_core.specs.facts.Facts.{Text}
 use Rattle.ts_line.specs.declared.fault.LineFault.{LineFault}
 use Rattle.ts_line.specs.declared.fault.LineFaultKind.TheVariants.{BadField, FieldType, IntegerRange}
 use Rattle.ts_line.specs.FaultText.{fault_at}
 use Rattle.ts_line.specs.declared.scan.Stops.TheVariants.{Plain}
-use Rattle.ts_core.specs.Numbers.{are_digits, is_number, without_minus, whole_of}
+use Rattle.ts_core.specs.text.Numbers.{are_digits, is_number, without_minus, whole_of}
 use Rattle.ts_line.specs.Scan.{end_of}
 use Rattle.ts_line.specs.ReadSteps.{◌>>=◌}
 

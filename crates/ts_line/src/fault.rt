@@ -1,6 +1,6 @@
 //! Errors of a line: their kinds, their byte offsets and their texts.
 ghost use Rattle.std.specs.Prelude.{◌≡◌, ◌≤◌, length};
-ghost use Rattle.ts_core.specs.FaultTexts.{IsAppended};
+ghost use Rattle.ts_core.specs.text.FaultTexts.{IsAppended};
 ghost use Rattle.ts_line.specs.FaultText.{fault_at, line_fault_code, line_fault_text, read_line_error_text};
 ghost use Rattle.ts_line.specs.declared.fault.ReadLineError.TheVariants as errors;
 

@@ -3,9 +3,9 @@ ghost use Rattle.std.specs.Prelude.{◌≡◌, ◌<◌, ◌≤◌, ◌+◌, [], 
 ghost use Rattle.arrayvec.specs.ArrayVec.{array_vec_len};
 ghost use Rattle.std.specs.Cow.{cow_str_bytes};
 ghost use Rattle.std.specs.FinMap.{put};
-ghost use Rattle.ts_core.specs.Facts.{text_cmp};
-ghost use Rattle.ts_core.specs.Members.{AllDistinct};
-ghost use Rattle.ts_core.specs.Texts.{lent_pairs, IsTagSet};
+ghost use Rattle.ts_core.specs.facts.Facts.{text_cmp};
+ghost use Rattle.ts_core.specs.lists.Members.{AllDistinct};
+ghost use Rattle.ts_core.specs.text.Texts.{lent_pairs, IsTagSet};
 ghost use Rattle.ts_line.specs.Names.{AreKeys, AreTagTexts, IsNamed};
 ghost use Rattle.ts_line.specs.Parts.{field_text, series_of, tag_texts};
 ghost use Rattle.ts_line.specs.Sorting.{key_place_from, rise};

@@ -3,7 +3,7 @@ ghost use Rattle.std.specs.Prelude.{◌≡◌, ◌<◌, ◌+◌, ◌&&◌, lengt
 ghost use Rattle.std.specs.Cow.{cow_str_bytes};
 ghost use Rattle.std.specs.List.{list_any};
 ghost use Rattle.std.specs.Str.{IsCharBoundary};
-ghost use Rattle.ts_core.specs.Cursors.{IsPlaceFrom};
+ghost use Rattle.ts_core.specs.text.Cursors.{IsPlaceFrom};
 ghost use Rattle.ts_line.specs.Scan.{is_backslash, is_stop};
 ghost use Rattle.ts_line.specs.PartTexts.{begins_escapable, unescaped, piece_at};
 

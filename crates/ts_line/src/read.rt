@@ -5,7 +5,7 @@ ghost use Rattle.ts_line.specs.EscapeLaws.{ReadsPairs};
 ghost use Rattle.ts_line.specs.Spans.{ArePlaced, pieces_of};
 ghost use Rattle.ts_line.specs.Readings.{IsReadAsSpelled, NeedsMemory, IfOutOfMemory};
 ghost use Rattle.ts_line.specs.ReadSteps.{GivesIfRoom};
-ghost use Rattle.ts_core.specs.TimeUnits.{nanoseconds_of};
+ghost use Rattle.ts_core.specs.facts.TimeUnits.{nanoseconds_of};
 ghost use Rattle.ts_line.specs.Lines.{is_bare_space, trimmed, without_return, content, measurement_at, time_at, parts_at, line_of};
 
 use crate::fault::{LineFault, LineFaultKind, ReadLineError};

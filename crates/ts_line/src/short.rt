@@ -1,8 +1,8 @@
 //! One-pass parsers for short numbers.
 ghost use Rattle.std.specs.Prelude.{◌≡◌, ◌≤◌, ◌<◌, length, slice_range, true, Ok, Some, IfSome, ℕ};
-ghost use Rattle.ts_core.specs.Cursors.{IsPlaceFrom};
+ghost use Rattle.ts_core.specs.text.Cursors.{IsPlaceFrom};
 ghost use Rattle.ts_line.specs.Digits.{AreDigits, IsShortInteger};
-ghost use Rattle.ts_core.specs.Numbers.{is_number, whole_of};
+ghost use Rattle.ts_core.specs.text.Numbers.{is_number, whole_of};
 ghost use Rattle.ts_line.specs.Values.{value_begun_at};
 
 use crate::value::is_value_end;

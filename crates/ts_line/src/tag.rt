@@ -1,7 +1,7 @@
 //! Parses the tags of a line: at most 64, with distinct keys.
 ghost use Rattle.std.specs.Prelude.{◌≡◌, ◌<◌, ◌≤◌, ◌+◌, length, [], Ok, IfOk, IfSome, bytes_eq, codes, false};
 ghost use Rattle.std.specs.Str.{IsCharBoundary};
-ghost use Rattle.ts_core.specs.Cursors.{IsPlaceFrom};
+ghost use Rattle.ts_core.specs.text.Cursors.{IsPlaceFrom};
 ghost use Rattle.ts_line.specs.ReadSteps.{GivesIfRoom};
 ghost use Rattle.ts_line.specs.NameMarks.{AreKeysMarked};
 ghost use Rattle.ts_line.specs.TagParts.{pair_at, has_key, next_tag, tags_at};

@@ -1,6 +1,6 @@
 //! Parses timestamps.
 ghost use Rattle.std.specs.Prelude.{◌≡◌, ◌≤ℤ◌, pos, true, Some};
-ghost use Rattle.ts_core.specs.Numbers.{is_number, whole_of};
+ghost use Rattle.ts_core.specs.text.Numbers.{is_number, whole_of};
 ghost use Rattle.ts_line.specs.Lines.{time_of};
 
 use ts_core::{Time, whole};

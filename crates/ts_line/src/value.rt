@@ -1,9 +1,9 @@
 //! Parses field values and classifies those of other types.
 ghost use Rattle.std.specs.Prelude.{◌≡◌, IfOk, option_map, if◌then◌else◌, false};
 ghost use Rattle.std.specs.Str.{IsCharBoundary};
-ghost use Rattle.ts_core.specs.Cursors.{IsPlaceFrom};
+ghost use Rattle.ts_core.specs.text.Cursors.{IsPlaceFrom};
 ghost use Rattle.ts_line.specs.FaultText.{fault_at};
-ghost use Rattle.ts_core.specs.Numbers.{are_digits};
+ghost use Rattle.ts_core.specs.text.Numbers.{are_digits};
 ghost use Rattle.ts_line.specs.Values.{is_unsigned, is_boolean, is_float, behind_digits, behind_fraction, is_exponent, without_sign, behind_quotes, is_value_end, then_is, value_said, value_begun_at};
 
 use crate::fault::{LineFault, LineFaultKind};

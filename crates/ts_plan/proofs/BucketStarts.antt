@@ -4,12 +4,12 @@ use Rattle.std.specs.Int.Signed.{≤ℤ_refl}
 use Rattle.std.proofs.Math.IntN.{negsuc-*ℤ-pos, pos-*ℤ-pos}
 use Rattle.std.proofs.lemmas.Int.{ints}
 use Rattle.std.specs.Int.{int_div_euclid, int_rem_euclid}
-use Rattle.ts_core.specs.Marks.{index_of}
-use Rattle.ts_core.specs.Pieces.{start_of, IsBoundary}
-use Rattle.ts_core.specs.Settings.{Rule}
+use Rattle.ts_core.specs.store.Marks.{index_of}
+use Rattle.ts_core.specs.plans.Pieces.{start_of, IsBoundary}
+use Rattle.ts_core.specs.settings.Settings.{Rule}
 use Rattle.ts_plan.specs.Steps.{IsFirstStart}
-use Rattle.ts_core.proofs.BucketsOrder.{bucket_is}
-use Rattle.ts_core.proofs.GoodPlaces.{index_of-start, start_more, next_boundary, to_next}
+use Rattle.ts_core.proofs.aggregates.BucketsOrder.{bucket_is}
+use Rattle.ts_core.proofs.plans.GoodPlaces.{index_of-start, start_more, next_boundary, to_next}
 
 rem_is : (d i : ℤ) → pos 1 ≤ℤ i → (int_div_euclid d i *ℤ i) +ℤ int_rem_euclid d i ≡ d
 rem_is (pos a) (pos b) h = let e : int_div_euclid (pos a) (pos b) *ℤ pos b ≡ pos (a / b * b) = pos-*ℤ-pos (a / b) b in omega (arith, ints, div-add-mod' a b)

@@ -4,20 +4,20 @@ use Rattle.std.specs.Prelude.{slice_get}
 use Rattle.std.specs.List.{list_all}
 use Rattle.std.proofs.lemmas.Bool.{and_parts, and_from}
 use Rattle.std.proofs.lemmas.Bool.Decides.{Decides-int_eq}
-use Rattle.ts_core.specs.Facts.{Text, same_text}
-use Rattle.ts_core.specs.Queries.{Query}
-use Rattle.ts_core.specs.Marks.{index_of}
-use Rattle.ts_core.specs.Settings.{Rule}
-use Rattle.ts_core.specs.SettingsFaults.{unless}
-use Rattle.ts_core.specs.Pieces.{MarkedRule, Asked, rule_named, start_of, IsBoundary, RuleServes, tags_of}
-use Rattle.ts_core.specs.declared.fault.Fault.{Fault}
-use Rattle.ts_core.specs.Faults.{is_boundary, divides, is_in_one_bucket, keeps, rule_fault, piece_fault}
-use Rattle.ts_core.specs.Plans.{is_same_rule, is_faultless, drawn}
-use Rattle.ts_core.proofs.Ids.{same_text-eq}
-use Rattle.ts_core.proofs.RuleNames.{name_of, rule_named-at}
-use Rattle.ts_core.proofs.Comparisons.{le_true, same_text-from_eq, among_all}
-use Rattle.ts_core.proofs.Validity.{serves_from, serves_none, source_from}
-use Rattle.ts_core.proofs.Walks.{faultless_none}
+use Rattle.ts_core.specs.facts.Facts.{Text, same_text}
+use Rattle.ts_core.specs.queries.Queries.{Query}
+use Rattle.ts_core.specs.store.Marks.{index_of}
+use Rattle.ts_core.specs.settings.Settings.{Rule}
+use Rattle.ts_core.specs.settings.SettingsFaults.{unless}
+use Rattle.ts_core.specs.plans.Pieces.{MarkedRule, Asked, rule_named, start_of, IsBoundary, RuleServes, tags_of}
+use Rattle.ts_core.specs.declared.plans.fault.Fault.{Fault}
+use Rattle.ts_core.specs.plans.Faults.{is_boundary, divides, is_in_one_bucket, keeps, rule_fault, piece_fault}
+use Rattle.ts_core.specs.plans.Plans.{is_same_rule, is_faultless, drawn}
+use Rattle.ts_core.proofs.facts.Ids.{same_text-eq}
+use Rattle.ts_core.proofs.settings.RuleNames.{name_of, rule_named-at}
+use Rattle.ts_core.proofs.lists.Comparisons.{le_true, same_text-from_eq, among_all}
+use Rattle.ts_core.proofs.plans.Validity.{serves_from, serves_none, source_from}
+use Rattle.ts_core.proofs.plans.Walks.{faultless_none}
 use Rattle.ts_plan.specs.declared.steps.Step.{Step}
 use Rattle.ts_plan.specs.declared.walk.Held.{Held}
 use Rattle.ts_plan.specs.Steps.{IsPlannable, IsStep, has_columns, bucket_serves, name_or_none, bucket_piece}

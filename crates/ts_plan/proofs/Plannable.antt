@@ -1,13 +1,13 @@
 -- A query of a store can be planned: no interval is empty, and the names of rules differ and have the form of names.
 use Rattle.std.proofs.Common.{◌≡◌, None, length, sym, subst}
-use Rattle.ts_core.specs.Members.{AllDistinct}
-use Rattle.ts_core.specs.Settings.{Settings, AreSettings}
-use Rattle.ts_core.specs.SettingsFaults.{settings_fault}
-use Rattle.ts_core.specs.Marks.{Marks}
-use Rattle.ts_core.specs.Queries.{Query}
-use Rattle.ts_core.specs.Pieces.{Asked, asked}
-use Rattle.ts_core.proofs.Intervals.{IsWide}
-use Rattle.ts_core.proofs.RuleNames.{marked_names}
+use Rattle.ts_core.specs.lists.Members.{AllDistinct}
+use Rattle.ts_core.specs.settings.Settings.{Settings, AreSettings}
+use Rattle.ts_core.specs.settings.SettingsFaults.{settings_fault}
+use Rattle.ts_core.specs.store.Marks.{Marks}
+use Rattle.ts_core.specs.queries.Queries.{Query}
+use Rattle.ts_core.specs.plans.Pieces.{Asked, asked}
+use Rattle.ts_core.proofs.settings.Intervals.{IsWide}
+use Rattle.ts_core.proofs.settings.RuleNames.{marked_names}
 use Rattle.ts_plan.specs.Steps.{IsPlannable}
 use Rattle.ts_plan.proofs.Spellings.{settings_named}
 use Rattle.ts_check.specs.Checks.{HasPositiveIntervals}

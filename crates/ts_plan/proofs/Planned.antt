@@ -2,13 +2,13 @@
 use Rattle.std.proofs.Common.{◌≡◌, List, sym, subst, ◌∙◌, false, true≢false}
 use Rattle.std.specs.Bool.{IsTrue}
 use Rattle.std.specs.Prelude.{◌↔◌, Bool}
-use Rattle.ts_core.specs.Settings.{Settings}
-use Rattle.ts_core.specs.Marks.{Marks}
-use Rattle.ts_core.specs.Queries.{Query}
-use Rattle.ts_core.specs.Pieces.{Piece, Asked, asked}
-use Rattle.ts_core.proofs.Intervals.{IsWide}
-use Rattle.ts_core.specs.Plans.{IsWalk, joined, IsPlan, IsPlanOf, IsTooMany}
-use Rattle.ts_core.proofs.Walks.{plan_valid}
+use Rattle.ts_core.specs.settings.Settings.{Settings}
+use Rattle.ts_core.specs.store.Marks.{Marks}
+use Rattle.ts_core.specs.queries.Queries.{Query}
+use Rattle.ts_core.specs.plans.Pieces.{Piece, Asked, asked}
+use Rattle.ts_core.proofs.settings.Intervals.{IsWide}
+use Rattle.ts_core.specs.plans.Plans.{IsWalk, joined, IsPlan, IsPlanOf, IsTooMany}
+use Rattle.ts_core.proofs.plans.Walks.{plan_valid}
 use Rattle.ts_plan.specs.Planning.{IsPlanned}
 
 -- a test that fails

@@ -1,9 +1,9 @@
 -- Where names differ, rules of one name have one number.
 use Rattle.std.proofs.Common.{◌≡◌, ℕ, suc, zero, refl, sym, ap, ◌∙◌, subst, List, [], ◌∷◌, map, Some, None}
 use Rattle.std.specs.Prelude.{slice_get}
-use Rattle.ts_core.specs.Members.{Among, AllDistinct}
-use Rattle.ts_core.specs.Pieces.{MarkedRule}
-use Rattle.ts_core.proofs.RuleNames.{name_of, name_there}
+use Rattle.ts_core.specs.lists.Members.{Among, AllDistinct}
+use Rattle.ts_core.specs.plans.Pieces.{MarkedRule}
+use Rattle.ts_core.proofs.settings.RuleNames.{name_of, name_there}
 
 -- the first name is at number 0 alone
 first_alone : (x : MarkedRule) (rs : List MarkedRule) (n : ℕ) (r u : MarkedRule) → AllDistinct (map name_of (x ∷ rs)) → Some x ≡ Some r → slice_get rs n ≡ Some u → name_of r ≡ name_of u → ⊥

@@ -4,14 +4,14 @@ use Rattle.std.proofs.lemmas.Int.{ints, by_lt_z}
 use Rattle.std.specs.Prelude.{slice_get}
 use Rattle.std.specs.List.{AllByRecursion}
 use Rattle.std.specs.Ordering.{ordering_then, int_cmp}
-use Rattle.ts_core.specs.Members.{Among}
-use Rattle.ts_core.specs.Settings.{Rule}
-use Rattle.ts_core.specs.Pieces.{MarkedRule, Asked, IsBoundary, RuleServes}
-use Rattle.ts_core.proofs.GoodPlaces.{rule_wide, to_next, next_boundary}
+use Rattle.ts_core.specs.lists.Members.{Among}
+use Rattle.ts_core.specs.settings.Settings.{Rule}
+use Rattle.ts_core.specs.plans.Pieces.{MarkedRule, Asked, IsBoundary, RuleServes}
+use Rattle.ts_core.proofs.plans.GoodPlaces.{rule_wide, to_next, next_boundary}
 use Rattle.ts_plan.specs.declared.steps.Step.{Step}
 use Rattle.ts_plan.specs.Steps.{IsPlannable, IsStep, Upto, Ascends, has_columns, bucket_serves, IsFirstStart, IsNextPlace, step_of, with_step, Adds}
 use Rattle.ts_plan.proofs.WalkSteps.{in_range}
-use Rattle.ts_core.proofs.ListSteps.{all_push}
+use Rattle.ts_core.proofs.lists.ListSteps.{all_push}
 use Rattle.ts_plan.proofs.ListLemmas.{among_push, among_last}
 use Rattle.ts_plan.proofs.RuleNumbers.{same_rule}
 use Rattle.ts_plan.proofs.BucketsAsked.{test_serves, serves_test, serves_columns}

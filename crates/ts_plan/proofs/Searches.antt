@@ -4,7 +4,7 @@ use Rattle.std.specs.Ordering.{ordering_index, int_cmp, int_eq}
 use Rattle.std.specs.List.{AllByRecursion}
 use Rattle.std.specs.List.Sorted.{IsNonDecreasingBy, IsBinarySearchResult, IsSearchInRange}
 use Rattle.std.specs.Result.{is_ok}
-use Rattle.ts_core.specs.Pieces.{Asked}
+use Rattle.ts_core.specs.plans.Pieces.{Asked}
 use Rattle.std.proofs.lemmas.Int.{ints, by_lt_z}
 use Rattle.std.proofs.lemmas.Bool.Decides.{Decides-int_eq}
 use Rattle.ts_plan.specs.declared.steps.Step.{Step}

@@ -3,14 +3,14 @@ use Rattle.std.proofs.Common.{◌≡◌, ℕ, zero, suc, ℤ, ◌<ℤ◌, ◌≤
 use Rattle.std.proofs.lemmas.Int.{ints}
 use Rattle.std.specs.Prelude.{slice_get}
 use Rattle.std.specs.List.{AllByRecursion}
-use Rattle.ts_core.specs.Facts.{Text}
-use Rattle.ts_core.specs.Settings.{Rule, Settings}
-use Rattle.ts_core.specs.SettingsFaults.{is_rule_name, fault_of_rule, rules_fault, settings_fault}
-use Rattle.ts_core.specs.Marks.{Marks}
-use Rattle.ts_core.specs.Queries.{Query}
-use Rattle.ts_core.specs.Pieces.{Source, Raw, Rollup, Piece, MarkedRule, marked_rules, Asked, asked, SourceServes, IsValidPiece, Covers, IsValid}
-use Rattle.ts_core.proofs.GoodPlaces.{number_of}
-use Rattle.ts_core.proofs.SettingsLaws.{well, or_none, few}
+use Rattle.ts_core.specs.facts.Facts.{Text}
+use Rattle.ts_core.specs.settings.Settings.{Rule, Settings}
+use Rattle.ts_core.specs.settings.SettingsFaults.{is_rule_name, fault_of_rule, rules_fault, settings_fault}
+use Rattle.ts_core.specs.store.Marks.{Marks}
+use Rattle.ts_core.specs.queries.Queries.{Query}
+use Rattle.ts_core.specs.plans.Pieces.{Source, Raw, Rollup, Piece, MarkedRule, marked_rules, Asked, asked, SourceServes, IsValidPiece, Covers, IsValid}
+use Rattle.ts_core.proofs.plans.GoodPlaces.{number_of}
+use Rattle.ts_core.proofs.settings.SettingsLaws.{well, or_none, few}
 use Rattle.ts_check.specs.CertificateTexts.{HasRuleName, EachHasSpelling}
 use Rattle.ts_plan.specs.Steps.{AreNamed}
 

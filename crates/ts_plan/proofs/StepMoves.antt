@@ -1,7 +1,7 @@
 -- Pruning in place: the remaining steps are at the back.
 use Rattle.std.proofs.Common.{◌≡◌, ℕ, ◌≤◌, List, length, take, drop}
 use Rattle.ts_plan.specs.declared.steps.Step.{Step}
-use Rattle.ts_core.specs.Pieces.{Asked}
+use Rattle.ts_core.specs.plans.Pieces.{Asked}
 use Rattle.ts_plan.specs.Steps.{kept_steps}
 
 -- from begin on there are the steps that remain of those from index on; below index nothing has moved

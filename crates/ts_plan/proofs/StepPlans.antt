@@ -3,9 +3,9 @@ use Rattle.std.proofs.Common.{◌≡◌, pos, ◌-ℤ◌, ◌≤ℤ◌, arith, r
 use Rattle.std.specs.Int.Signed.{≤ℤ_refl}
 use Rattle.std.specs.List.{AllByRecursion}
 use Rattle.std.proofs.lemmas.Int.{ints}
-use Rattle.ts_core.specs.Members.{Among}
-use Rattle.ts_core.specs.Pieces.{Asked}
-use Rattle.ts_core.specs.Plans.{IsGood, IsPlanOf, joined}
+use Rattle.ts_core.specs.lists.Members.{Among}
+use Rattle.ts_core.specs.plans.Pieces.{Asked}
+use Rattle.ts_core.specs.plans.Plans.{IsGood, IsPlanOf, joined}
 use Rattle.ts_plan.specs.declared.steps.Step.{Step}
 use Rattle.ts_plan.specs.Steps.{IsPlannable, IsStep, Ascends, leads_on, kept_steps, walked}
 use Rattle.ts_plan.proofs.Sweeps.{Closed, closed_from, kept_good, kept_among, leads_good, good_leads_on}

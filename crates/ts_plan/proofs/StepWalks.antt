@@ -6,9 +6,9 @@ use Rattle.std.specs.Ordering.{int_eq}
 use Rattle.std.proofs.lemmas.Int.{ints, by_lt_z}
 use Rattle.std.proofs.lemmas.Bool.Decides.{Decides-int_eq}
 use Rattle.std.specs.List.{AllByRecursion}
-use Rattle.ts_core.specs.Members.{Among}
-use Rattle.ts_core.specs.Pieces.{Asked}
-use Rattle.ts_core.specs.Plans.{IsGood, raw_piece, LeadsOn, NoneBefore, IsFirstToLead, IsWalk}
+use Rattle.ts_core.specs.lists.Members.{Among}
+use Rattle.ts_core.specs.plans.Pieces.{Asked}
+use Rattle.ts_core.specs.plans.Plans.{IsGood, raw_piece, LeadsOn, NoneBefore, IsFirstToLead, IsWalk}
 use Rattle.ts_plan.specs.declared.steps.Step.{Step}
 use Rattle.ts_plan.specs.Steps.{IsPlannable, Upto, Ascends, name_or_none, bucket_piece, walked}
 use Rattle.ts_plan.proofs.ListLemmas.{pick}

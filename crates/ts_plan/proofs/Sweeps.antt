@@ -6,12 +6,12 @@ use Rattle.std.proofs.lemmas.Int.{ints, by_lt_z}
 use Rattle.std.proofs.lemmas.Bool.{or_cases, or_left, or_right}
 use Rattle.std.proofs.lemmas.Bool.Decides.{Decides-int_eq}
 use Rattle.std.specs.List.{AllByRecursion}
-use Rattle.ts_core.specs.Members.{Among}
-use Rattle.ts_core.specs.Pieces.{Asked, RuleServes}
-use Rattle.ts_core.specs.Plans.{IsGood, rollup_piece, raw_piece, LeadsOn}
-use Rattle.ts_core.proofs.GoodPlaces.{rule_wide, good_within, good_leads}
-use Rattle.ts_core.proofs.RuleNames.{rule_named-at}
-use Rattle.ts_core.proofs.Comparisons.{le_from, le_true}
+use Rattle.ts_core.specs.lists.Members.{Among}
+use Rattle.ts_core.specs.plans.Pieces.{Asked, RuleServes}
+use Rattle.ts_core.specs.plans.Plans.{IsGood, rollup_piece, raw_piece, LeadsOn}
+use Rattle.ts_core.proofs.plans.GoodPlaces.{rule_wide, good_within, good_leads}
+use Rattle.ts_core.proofs.settings.RuleNames.{rule_named-at}
+use Rattle.ts_core.proofs.lists.Comparisons.{le_from, le_true}
 use Rattle.ts_plan.specs.declared.steps.Step.{Step}
 use Rattle.ts_plan.specs.Steps.{IsPlannable, IsStep, Upto, Ascends, starts_first, starts_at, leads_on, kept_if, kept_steps}
 

@@ -3,10 +3,10 @@ use Rattle.std.proofs.Common.{◌≡◌, ◌↔◌, ℤ, pos, ◌+◌, ◌^◌, 
 use Rattle.std.specs.Bool.{IsTrue}
 use Rattle.std.specs.Int.{w64, w128}
 use Rattle.std.proofs.lemmas.Int.{ints, fits_signed_from_abs}
-use Rattle.ts_core.specs.Settings.{Rule, Settings}
-use Rattle.ts_core.specs.Marks.{Marks}
-use Rattle.ts_core.specs.Queries.{Query}
-use Rattle.ts_core.specs.Plans.{whole_buckets, IsTooMany}
+use Rattle.ts_core.specs.settings.Settings.{Rule, Settings}
+use Rattle.ts_core.specs.store.Marks.{Marks}
+use Rattle.ts_core.specs.queries.Queries.{Query}
+use Rattle.ts_core.specs.plans.Plans.{whole_buckets, IsTooMany}
 
 -- an index that is near the moment t, or the one before it
 pub near_at : (x y u t : ℤ) → x ≡ y → u ≡ t → SFits w64 t → unsigned_abs y ≤ unsigned_abs u + 2 ^ 64 → unsigned_abs x ≤ 2 ^ 66

@@ -2,15 +2,15 @@
 use Rattle.std.proofs.Common.{◌≡◌, ℕ, zero, suc, ℤ, pos, ◌+◌, ◌*◌, ◌<◌, ◌≤◌, ◌+ℤ◌, ◌-ℤ◌, ◌≤ℤ◌, ◌<ℤ◌, int_le, int_lt, false, unsigned_abs, arith, refl, sym, ◌∙◌, List, [], ◌∷◌, length, Some, None}
 use Rattle.std.specs.Prelude.{slice_get}
 use Rattle.std.proofs.lemmas.Int.{ints, by_lt_z}
-use Rattle.ts_core.specs.declared.fault.Fault.{Fault}
-use Rattle.ts_core.specs.Faults.{piece_fault}
-use Rattle.ts_core.specs.Pieces.{Piece, MarkedRule, Asked, IsValidPiece}
-use Rattle.ts_core.proofs.Intervals.{IsWide}
-use Rattle.ts_core.specs.Plans.{IsGood, rollup_piece, LeadsOn, NoneBefore, IsWalk}
-use Rattle.ts_core.proofs.Comparisons.{lt_not}
-use Rattle.ts_core.proofs.Validity.{source_from, source_none}
-use Rattle.ts_core.proofs.GoodPlaces.{good_leads}
-use Rattle.ts_core.proofs.Walks.{walk_valid}
+use Rattle.ts_core.specs.declared.plans.fault.Fault.{Fault}
+use Rattle.ts_core.specs.plans.Faults.{piece_fault}
+use Rattle.ts_core.specs.plans.Pieces.{Piece, MarkedRule, Asked, IsValidPiece}
+use Rattle.ts_core.proofs.settings.Intervals.{IsWide}
+use Rattle.ts_core.specs.plans.Plans.{IsGood, rollup_piece, LeadsOn, NoneBefore, IsWalk}
+use Rattle.ts_core.proofs.lists.Comparisons.{lt_not}
+use Rattle.ts_core.proofs.plans.Validity.{source_from, source_none}
+use Rattle.ts_core.proofs.plans.GoodPlaces.{good_leads}
+use Rattle.ts_core.proofs.plans.Walks.{walk_valid}
 
 pub in_range : {X : Type 0} (xs : List X) (n : ℕ) (x : X) → slice_get xs n ≡ Some x → n < length xs
 in_range [] n x e = absurd (let q : None ≡ Some x = e in cc)

@@ -1,9 +1,9 @@
 -- Pieces that the next bucket may extend. (Own rules.)
 use Rattle.std.specs.Prelude.{◌≡◌, Bool, true, ◌&&◌, List, [], ◌∷◌, Option, Some, None, slice_get}
-use Rattle.ts_core.specs.SettingsFaults.{is_rule_name}
-use Rattle.ts_core.specs.Pieces.{Piece, MarkedRule, Asked, RuleServes}
-use Rattle.ts_core.specs.Faults.{piece_fault, divides}
-use Rattle.ts_core.specs.Plans.{rollup_piece, is_same_rule, is_faultless, drawn, joined_onto, joined}
+use Rattle.ts_core.specs.settings.SettingsFaults.{is_rule_name}
+use Rattle.ts_core.specs.plans.Pieces.{Piece, MarkedRule, Asked, RuleServes}
+use Rattle.ts_core.specs.plans.Faults.{piece_fault, divides}
+use Rattle.ts_core.specs.plans.Plans.{rollup_piece, is_same_rule, is_faultless, drawn, joined_onto, joined}
 use Rattle.ts_plan.specs.Steps.{name_or_none}
 use Rattle.ts_plan.specs.declared.walk.Held.{Held}
 

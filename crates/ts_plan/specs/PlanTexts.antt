@@ -1,9 +1,9 @@
 -- Codes and messages of the errors of planning. (Own rule.)
-use Rattle.ts_core.specs.Facts.{Text}
-use Rattle.ts_core.specs.declared.fault_code.FaultCode.{FaultCode}
-use Rattle.ts_core.specs.declared.fault_code.FaultCode.TheVariants as coded
-use Rattle.ts_core.specs.declared.fault_text.FaultDetail.TheVariants.{Alone}
-use Rattle.ts_core.specs.FaultTexts.{fault_text, memory_text}
+use Rattle.ts_core.specs.facts.Facts.{Text}
+use Rattle.ts_core.specs.declared.text.fault_code.FaultCode.{FaultCode}
+use Rattle.ts_core.specs.declared.text.fault_code.FaultCode.TheVariants as coded
+use Rattle.ts_core.specs.declared.text.fault_text.FaultDetail.TheVariants.{Alone}
+use Rattle.ts_core.specs.text.FaultTexts.{fault_text, memory_text}
 use Rattle.ts_plan.specs.declared.fault.PlanError.{PlanError}
 use Rattle.ts_plan.specs.declared.fault.PlanError.TheVariants as errors
 use Rattle.ts_plan.specs.declared.fault.PlanFault.{PlanFault}

@@ -1,10 +1,10 @@
 -- Results of a planner. (Own rules.)
 use Rattle.std.specs.Prelude.{List, Result, Ok, Err}
-use Rattle.ts_core.specs.Settings.{Settings}
-use Rattle.ts_core.specs.Marks.{Marks}
-use Rattle.ts_core.specs.Queries.{Query}
-use Rattle.ts_core.specs.Pieces.{Piece, IsValid}
-use Rattle.ts_core.specs.Plans.{IsPlan, IsTooMany}
+use Rattle.ts_core.specs.settings.Settings.{Settings}
+use Rattle.ts_core.specs.store.Marks.{Marks}
+use Rattle.ts_core.specs.queries.Queries.{Query}
+use Rattle.ts_core.specs.plans.Pieces.{Piece, IsValid}
+use Rattle.ts_core.specs.plans.Plans.{IsPlan, IsTooMany}
 use Rattle.ts_plan.specs.declared.fault.PlanError.{PlanError}
 use Rattle.ts_plan.specs.declared.fault.PlanError.TheVariants as errors
 use Rattle.ts_plan.specs.declared.fault.PlanFault.TheVariants.{NoPlan, TooManyBuckets}

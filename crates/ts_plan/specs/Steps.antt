@@ -2,16 +2,16 @@
 use Rattle.std.specs.Prelude.{◌≡◌, ℕ, ◌≤◌, ℤ, ◌+ℤ◌, ◌≤ℤ◌, ◌<ℤ◌, int_le, Bool, true, false, ◌&&◌, ◌||◌, List, [], ◌∷◌, ◌++◌, map, Option, Some, None, MatchOption, slice_get, if◌then◌else◌}
 use Rattle.std.specs.Ordering.{int_eq}
 use Rattle.std.specs.List.{AllByRecursion, list_all}
-use Rattle.ts_core.specs.Members.{Among, AllDistinct}
-use Rattle.ts_core.specs.Facts.{Text, same_text}
-use Rattle.ts_core.specs.Settings.{Rule}
-use Rattle.ts_core.specs.SettingsFaults.{is_rule_name}
-use Rattle.ts_core.specs.Marks.{index_of}
-use Rattle.ts_core.specs.Queries.{Query}
-use Rattle.ts_core.specs.Pieces.{Piece, MarkedRule, Asked, IsBoundary, tags_of, RuleServes, IsValidPiece}
-use Rattle.ts_core.specs.Faults.{divides, is_in_one_bucket, keeps}
-use Rattle.ts_core.specs.Plans.{rollup_piece, raw_piece}
-use Rattle.ts_core.proofs.Intervals.{IsWide}
+use Rattle.ts_core.specs.lists.Members.{Among, AllDistinct}
+use Rattle.ts_core.specs.facts.Facts.{Text, same_text}
+use Rattle.ts_core.specs.settings.Settings.{Rule}
+use Rattle.ts_core.specs.settings.SettingsFaults.{is_rule_name}
+use Rattle.ts_core.specs.store.Marks.{index_of}
+use Rattle.ts_core.specs.queries.Queries.{Query}
+use Rattle.ts_core.specs.plans.Pieces.{Piece, MarkedRule, Asked, IsBoundary, tags_of, RuleServes, IsValidPiece}
+use Rattle.ts_core.specs.plans.Faults.{divides, is_in_one_bucket, keeps}
+use Rattle.ts_core.specs.plans.Plans.{rollup_piece, raw_piece}
+use Rattle.ts_core.proofs.settings.Intervals.{IsWide}
 use Rattle.ts_plan.specs.declared.steps.Step.{Step}
 
 -- each rule's name is 1 to 32 of a to z, 0 to 9 and _

@@ -1,6 +1,6 @@
 //! Errors of planning, with their messages.
 ghost use Rattle.std.specs.Prelude.{◌≡◌};
-ghost use Rattle.ts_core.specs.FaultTexts.{IsAppended};
+ghost use Rattle.ts_core.specs.text.FaultTexts.{IsAppended};
 ghost use Rattle.ts_plan.specs.PlanTexts.{plan_fault_code, plan_fault_text, plan_error_text};
 ghost use Rattle.ts_plan.specs.declared.fault.PlanError.TheVariants as errors;
 

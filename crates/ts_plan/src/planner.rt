@@ -1,8 +1,8 @@
 //! Plans a query: lists the valid buckets, prunes those that can't reach the end, and walks over the rest.
 ghost use Rattle.std.specs.Prelude.{◌≡◌, length, IfOk, MatchOption};
 ghost use Rattle.std.specs.List.{AllByRecursion};
-ghost use Rattle.ts_core.specs.Members.{Among};
-ghost use Rattle.ts_core.specs.Plans.{IsGood, IsPlanOf};
+ghost use Rattle.ts_core.specs.lists.Members.{Among};
+ghost use Rattle.ts_core.specs.plans.Plans.{IsGood, IsPlanOf};
 ghost use Rattle.ts_plan.specs.declared.steps.Step.{Step};
 ghost use Rattle.ts_plan.specs.Planning.{IsPlanFor};
 ghost use Rattle.ts_plan.specs.Steps.{IsPlannable, IsStep, Ascends};

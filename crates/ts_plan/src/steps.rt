@@ -2,9 +2,9 @@
 ghost use Rattle.std.specs.Prelude.{◌≡◌, ◌-ℤ◌, ◌≤ℤ◌, pos, int_le, ◌&&◌, ◌||◌, Some, slice_get, IfOk};
 ghost use Rattle.std.specs.Int.{int_rem_euclid};
 ghost use Rattle.std.specs.List.{AllByRecursion};
-ghost use Rattle.ts_core.specs.Faults.{divides, is_in_one_bucket};
-ghost use Rattle.ts_core.specs.Marks.{index_of};
-ghost use Rattle.ts_core.specs.Members.{Among};
+ghost use Rattle.ts_core.specs.plans.Faults.{divides, is_in_one_bucket};
+ghost use Rattle.ts_core.specs.store.Marks.{index_of};
+ghost use Rattle.ts_core.specs.lists.Members.{Among};
 ghost use Rattle.ts_plan.specs.declared.steps.Step.{Step};
 ghost use Rattle.ts_plan.specs.Steps.{IsPlannable, IsStep, Ascends, IsFirstStart, IsNextPlace, with_step, Adds};
 

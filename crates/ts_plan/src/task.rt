@@ -1,7 +1,7 @@
 //! Planning context: a query with the settings and marks of a store.
 ghost use Rattle.std.specs.Prelude.{◌≡◌, ◌≤◌, ◌≤ℤ◌, length, slice_get};
-ghost use Rattle.ts_core.specs.Pieces.{asked};
-ghost use Rattle.ts_core.specs.Faults.{is_in_one_bucket};
+ghost use Rattle.ts_core.specs.plans.Pieces.{asked};
+ghost use Rattle.ts_core.specs.plans.Faults.{is_in_one_bucket};
 ghost use Rattle.ts_plan.specs.Steps.{IsPlannable};
 
 use crate::place::Place;
@@ -20,7 +20,7 @@ pub(crate) struct Task<'a, A: Allocator> {
 
 impl<'a, A: Allocator> Model for Task<'a, A> {
     ghost use Rattle.std.specs.Prelude.{◌≡◌};
-    ghost use Rattle.ts_core.specs.Pieces.{Asked as AskedValue};
+    ghost use Rattle.ts_core.specs.plans.Pieces.{Asked as AskedValue};
 
     ghost Value = { AskedValue };
 

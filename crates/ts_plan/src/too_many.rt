@@ -1,9 +1,9 @@
 //! Limits the search for a plan.
 ghost use Rattle.std.specs.Prelude.{◌≡◌, ◌↔◌, ◌<◌, pos, ◌≤ℤ◌, IsTrue, if◌then◌else◌};
 ghost use Rattle.std.specs.List.{AllByRecursion};
-ghost use Rattle.ts_core.specs.Answers.{at_least_none};
-ghost use Rattle.ts_core.specs.Facts.{same_text};
-ghost use Rattle.ts_core.specs.Plans.{whole_between, whole_buckets, IsTooMany};
+ghost use Rattle.ts_core.specs.queries.Answers.{at_least_none};
+ghost use Rattle.ts_core.specs.facts.Facts.{same_text};
+ghost use Rattle.ts_core.specs.plans.Plans.{whole_between, whole_buckets, IsTooMany};
 
 use std::alloc::Allocator;
 use ts_core::{Marks, Rule, Settings, index_of};

@@ -1,8 +1,8 @@
 //! Walks over the steps that reach the end of the range and merges neighbours.
 ghost use Rattle.std.specs.Prelude.{◌≡◌, List, [], ◌++◌, ◌∷◌, IfOk};
 ghost use Rattle.std.specs.List.{AllByRecursion};
-ghost use Rattle.ts_core.specs.Pieces.{Piece as PieceValue};
-ghost use Rattle.ts_core.specs.Plans.{joined, joined_onto};
+ghost use Rattle.ts_core.specs.plans.Pieces.{Piece as PieceValue};
+ghost use Rattle.ts_core.specs.plans.Plans.{joined, joined_onto};
 ghost use Rattle.ts_plan.specs.Steps.{IsPlannable, IsStep, bucket_piece, walked};
 ghost use Rattle.ts_plan.specs.Joins.{held_piece, held_pieces, joins, joined_after, IsHeldPiece, AreHeld};
 

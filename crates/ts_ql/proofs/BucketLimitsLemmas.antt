@@ -1,10 +1,10 @@
 -- Queries within the limits on their buckets.
 use Rattle.std.proofs.Common.{◌≡◌, ℕ, zero, suc, ◌≤◌, ℤ, pos, negsuc, ◌+ℤ◌, ◌-ℤ◌, ◌≤ℤ◌, ◌<ℤ◌, int_le, int_lt, arith, refl, sym, ap, subst, [], length, Bool, true, false, cond, Some, None}
 use Rattle.std.proofs.lemmas.Int.{ints}
-use Rattle.ts_core.specs.Times.{least_time}
-use Rattle.ts_core.specs.Queries.{Query}
-use Rattle.ts_core.specs.Answers.{at_least_none, numbers_from, bucket_in}
-use Rattle.ts_core.proofs.Comparisons.{lt_from}
+use Rattle.ts_core.specs.facts.Times.{least_time}
+use Rattle.ts_core.specs.queries.Queries.{Query}
+use Rattle.ts_core.specs.queries.Answers.{at_least_none, numbers_from, bucket_in}
+use Rattle.ts_core.proofs.lists.Comparisons.{lt_from}
 use Rattle.ts_ql.specs.declared.query.Span.{Span}
 use Rattle.ts_ql.specs.BucketLimits.{IsLimited}
 use Rattle.ts_ql.specs.QueryFaults.{Fault}

@@ -1,7 +1,7 @@
 -- At each place the text may go on to its end.
 use Rattle.std.proofs.Common.{◌≡◌, ℕ, zero, suc, ℤ, [], ◌∷◌, true, false, Some, None, refl, arith}
 use Rattle.std.specs.Prelude.{codes}
-use Rattle.ts_core.specs.Facts.{Text}
+use Rattle.ts_core.specs.facts.Facts.{Text}
 use Rattle.ts_ql.specs.declared.moment.Comparison.TheVariants as comparisons
 use Rattle.ts_ql.specs.declared.place.Place.{Place}
 use Rattle.ts_ql.specs.declared.place.Place.TheVariants as places

@@ -2,12 +2,12 @@
 use Rattle.std.proofs.Common.{◌≡◌, ◌∙◌, ◌≤◌, ℤ, pos, ◌+ℤ◌, ◌-ℤ◌, ◌*ℤ◌, ◌≤ℤ◌, ◌<ℤ◌, arith, sym, ap, subst, List, [], ◌∷◌, length, Bool, true, cond}
 use Rattle.std.proofs.Math.IntN.{zero-*ℤ}
 use Rattle.std.proofs.lemmas.Int.{ints}
-use Rattle.ts_core.specs.Buckets.{IsBucketOf, bucket_of, bucket_start}
-use Rattle.ts_core.specs.Times.{least_time}
-use Rattle.ts_core.specs.Queries.{Query}
-use Rattle.ts_core.specs.Answers.{at_least_none, numbers_from, bucket_in, buckets_in}
-use Rattle.ts_core.proofs.BucketsOrder.{bucket_same, bucket_is, one_more}
-use Rattle.ts_core.proofs.Comparisons.{lt_true}
+use Rattle.ts_core.specs.aggregates.Buckets.{IsBucketOf, bucket_of, bucket_start}
+use Rattle.ts_core.specs.facts.Times.{least_time}
+use Rattle.ts_core.specs.queries.Queries.{Query}
+use Rattle.ts_core.specs.queries.Answers.{at_least_none, numbers_from, bucket_in, buckets_in}
+use Rattle.ts_core.proofs.aggregates.BucketsOrder.{bucket_same, bucket_is, one_more}
+use Rattle.ts_core.proofs.lists.Comparisons.{lt_true}
 use Rattle.ts_ql.specs.BucketLimits.{IsLimited}
 
 -- each moment of a range lies in its first bucket, where that is as long as the range

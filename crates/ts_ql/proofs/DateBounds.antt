@@ -4,7 +4,7 @@ use Rattle.std.specs.Prelude.{⊤, if◌then◌else◌, nat_lt, nat_le, ◌==◌
 use Rattle.std.proofs.lemmas.Bool.{leb-true, ltb-true}
 use Rattle.std.proofs.lemmas.Int.{ints, unsigned_abs-mul}
 use Rattle.jiff_core.specs.Calendar.{is_leap_year, days_in_month, days_of_years, days_of_months, day_count, days_from_civil}
-use Rattle.ts_core.specs.Facts.{Text}
+use Rattle.ts_core.specs.facts.Facts.{Text}
 use Rattle.ts_ql.specs.Dates.{digits, midnight, date_of, fraction, place_value, clock_nanos, time_of_day, without_zone, later, moment_told}
 use Rattle.ts_ql.specs.Literals.{within, magnitude, literal}
 

@@ -20,7 +20,7 @@ use Rattle.ts_ql.specs.Tokens.{Lexeme}
 use Rattle.ts_ql.proofs.Rests.{SelectTail, Rest, left_at, left_ending, left_statement, said_ending, said_at, said_statement, SoundAt, SuitsAt}
 use Rattle.ts_ql.proofs.Completions.{aggregate as any_aggregate, select_tail as any_tail}
 use Rattle.ts_ql.proofs.Steps.{at, Back, Faulty, Answer, Leads, passes, fails, passed, failed}
-use Rattle.ts_core.proofs.LowIndices.{not_zero}
+use Rattle.ts_core.proofs.store.LowIndices.{not_zero}
 
 -- ---- the end of a statement
 

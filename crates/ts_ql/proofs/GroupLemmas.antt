@@ -6,7 +6,7 @@ use Rattle.std.specs.List.Sorted.{IsStrictlySortedBy}
 use Rattle.std.specs.Ordering.{match_ordering}
 use Rattle.std.specs.declared.cmp.Ordering.{Ordering}
 use Rattle.std.specs.declared.cmp.Ordering.TheVariants.{Less, Equal, Greater}
-use Rattle.ts_core.specs.Facts.{Text, text_cmp}
+use Rattle.ts_core.specs.facts.Facts.{Text, text_cmp}
 use Rattle.ts_ql.specs.Selects.{texts, insert_by, with_text}
 
 abbrev pub name_cmp : {A : Type 0} → String A → String A → Ordering

@@ -8,13 +8,13 @@ use Rattle.std.specs.Char.{is_ascii_digit}
 use lib.Utf8.{encode}
 use Rattle.std.proofs.lemmas.Bool.{cases_lt}
 use Rattle.std.proofs.lemmas.Bool.Decides.{nat_tests}
-use Rattle.ts_core.specs.Facts.{Text}
+use Rattle.ts_core.specs.facts.Facts.{Text}
 use Rattle.ts_ql.specs.declared.bytes.Class.{Class}
 use Rattle.ts_ql.specs.declared.bytes.Class.TheVariants.{Space, Name, Digit}
 use Rattle.ts_ql.specs.Lexing.{is_in, run_end, is_escape_byte, closing, parts_end}
-use Rattle.ts_core.specs.declared.time_unit.TimeUnit.{TimeUnit}
-use Rattle.ts_core.specs.TimeUnits.{unit_begun}
-use Rattle.ts_core.proofs.UnitLemmas.{Begun, begun_fits}
+use Rattle.ts_core.specs.declared.facts.time_unit.TimeUnit.{TimeUnit}
+use Rattle.ts_core.specs.facts.TimeUnits.{unit_begun}
+use Rattle.ts_core.proofs.facts.UnitLemmas.{Begun, begun_fits}
 use Rattle.ts_ql.specs.DurationUnits.{unit_len, begun_len}
 
 pub run_end_step : (class : Class) (at : ℕ) (text : Text) (i : ℕ) → i < length text

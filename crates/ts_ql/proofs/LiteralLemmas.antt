@@ -7,12 +7,12 @@ use Rattle.std.specs.Char.{encode_utf8}
 use Rattle.std.specs.Str.{encode_utf8_all, chars, IsUtf8}
 use Rattle.std.proofs.lemmas.Bool.{le-ltb, eq-eqb, ne_eqb}
 use Rattle.std.proofs.Math.Nat.{mul-le-mul_left}
-use Rattle.ts_core.specs.Facts.{Text}
+use Rattle.ts_core.specs.facts.Facts.{Text}
 use Rattle.ts_ql.proofs.LexingLemmas.{next_byte}
 use Rattle.ts_ql.specs.Literals.{units_added_up, within, escape, characters_spelled}
-use Rattle.ts_core.specs.declared.time_unit.TimeUnit.{TimeUnit}
-use Rattle.ts_core.specs.TimeUnits.{unit_begun}
-use Rattle.ts_core.proofs.DurationSteps.{unit_counts}
+use Rattle.ts_core.specs.declared.facts.time_unit.TimeUnit.{TimeUnit}
+use Rattle.ts_core.specs.facts.TimeUnits.{unit_begun}
+use Rattle.ts_core.proofs.facts.DurationSteps.{unit_counts}
 use Rattle.ts_ql.specs.DurationUnits.{nanoseconds_of_unit, begun_nanoseconds}
 
 -- ---- numbers

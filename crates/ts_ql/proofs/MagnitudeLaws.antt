@@ -3,12 +3,12 @@ use Rattle.std.proofs.Common.{◌≡◌, ℕ, ◌+◌, ◌*◌, ◌-◌, ◌==�
 use Rattle.std.proofs.lemmas.Bool.Decides.{nat_tests}
 use Rattle.std.specs.Char.{is_ascii_digit, digit_value}
 use Rattle.std.specs.Str.Parse.{IsNumeral, AllDigits, digits_value, digits_value_after}
-use Rattle.ts_core.specs.Facts.{Text}
-use Rattle.ts_core.specs.declared.time_unit.TimeUnit.{TimeUnit}
-use Rattle.ts_core.specs.TimeUnits.{nanoseconds_of, duration_unit_of, duration_names, unit_begun}
-use Rattle.ts_core.specs.Durations.{Term, AreTerms, spelled, total}
-use Rattle.ts_core.proofs.DurationLaws.{digit_is, value_is}
-use Rattle.ts_core.proofs.UnitLemmas.{of_called}
+use Rattle.ts_core.specs.facts.Facts.{Text}
+use Rattle.ts_core.specs.declared.facts.time_unit.TimeUnit.{TimeUnit}
+use Rattle.ts_core.specs.facts.TimeUnits.{nanoseconds_of, duration_unit_of, duration_names, unit_begun}
+use Rattle.ts_core.specs.facts.Durations.{Term, AreTerms, spelled, total}
+use Rattle.ts_core.proofs.facts.DurationLaws.{digit_is, value_is}
+use Rattle.ts_core.proofs.facts.UnitLemmas.{of_called}
 use Rattle.ts_ql.specs.Laws.{LiteralsCount, DurationsCount, IntegersCount}
 use Rattle.ts_ql.specs.Literals.{units_added_up, magnitude}
 use Rattle.ts_ql.specs.DurationUnits.{nanoseconds_of_unit}

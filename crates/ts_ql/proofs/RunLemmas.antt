@@ -1,7 +1,7 @@
 -- The reading of a text as a run over its tokens.
 use Rattle.std.proofs.Common.{◌≡◌, ℕ, zero, suc, ℤ, ◌+◌, ◌<◌, ◌≤◌, Bool, true, false, List, [], ◌∷◌, ◌++◌, length, take, Result, Ok, Err, arith, refl, sym, ap, ◌∙◌, length-append}
 use Rattle.std.proofs.Math.Seq.{take-append_seam, take-append-add}
-use Rattle.ts_core.specs.Facts.{Text}
+use Rattle.ts_core.specs.facts.Facts.{Text}
 use Rattle.ts_ql.specs.QueryFaults.{Fault}
 use Rattle.ts_ql.specs.Lexing.{token_at}
 use Rattle.ts_ql.specs.Reading.{Progress, Advance, start_progress, step, is_done, goes_on, read_on, queries_of}

@@ -10,7 +10,7 @@ use Rattle.std.specs.List.{list_any}
 use Rattle.std.specs.Ordering.{is_eq, match_ordering}
 use Rattle.std.specs.declared.cmp.Ordering.{Ordering}
 use Rattle.std.specs.declared.cmp.Ordering.TheVariants.{Less, Equal, Greater}
-use Rattle.ts_core.specs.Facts.{Text, text_cmp}
+use Rattle.ts_core.specs.facts.Facts.{Text, text_cmp}
 use Rattle.ts_ql.specs.Selects.{Projection}
 use Rattle.ts_ql.specs.Statements.{has_column, repeats}
 

@@ -2,13 +2,13 @@
 use Rattle.std.proofs.Common.{◌≡◌, ℕ, ◌+◌, ◌-◌, ℤ, pos, Bool, true, false, eqb, ◌&&◌, ◌||◌, codes, refl, sym, subst, Option, Some, None, Result, Ok, Err}
 use Rattle.std.proofs.lemmas.Bool.{cond_both, and_parts}
 use Rattle.std.specs.Prelude.{if◌then◌else◌, nat_lt, nat_le, int_le, bytes_eq}
-use Rattle.ts_core.specs.Facts.{Text}
+use Rattle.ts_core.specs.facts.Facts.{Text}
 use Rattle.ts_ql.specs.declared.filling.Filling.{Filling}
 use Rattle.ts_ql.specs.declared.moment.Moment.{Moment}
 use Rattle.ts_ql.specs.declared.place.Place.{Place}
 use Rattle.ts_ql.specs.declared.place.Place.TheVariants as places
-use Rattle.ts_core.specs.declared.fill.Fill.TheVariants as fills
-use Rattle.ts_core.specs.declared.value.Function.{Function}
+use Rattle.ts_core.specs.declared.queries.fill.Fill.TheVariants as fills
+use Rattle.ts_core.specs.declared.queries.value.Function.{Function}
 use Rattle.ts_ql.specs.declared.token.Kind.{Kind}
 use Rattle.ts_ql.specs.declared.token.Kind.TheVariants as kinds
 use Rattle.ts_ql.specs.Dates.{moment_told}

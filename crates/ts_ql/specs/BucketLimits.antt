@@ -1,9 +1,9 @@
 -- Limits of every query: the number of its buckets, and the start of the first. (Own rules.)
 use Rattle.std.specs.Prelude.{◌≤◌, ◌≤ℤ◌, ◌<ℤ◌, length}
-use Rattle.ts_core.specs.Buckets.{bucket_start}
-use Rattle.ts_core.specs.Times.{least_time}
-use Rattle.ts_core.specs.Queries.{Query, IsQuery}
-use Rattle.ts_core.specs.Answers.{bucket_in, buckets_in}
+use Rattle.ts_core.specs.aggregates.Buckets.{bucket_start}
+use Rattle.ts_core.specs.facts.Times.{least_time}
+use Rattle.ts_core.specs.queries.Queries.{Query, IsQuery}
+use Rattle.ts_core.specs.queries.Answers.{bucket_in, buckets_in}
 
 -- if the range isn't empty, its first bucket starts at a valid time, and at most 10,000 buckets intersect it
 pub record IsLimited (q : Query) : Type 0 where

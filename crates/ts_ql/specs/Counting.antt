@@ -1,9 +1,9 @@
 -- The query that counts the values of a field in one bucket.
 -- (InfluxData 1.8, InfluxQL functions: COUNT(). Own rule: the range is the bucket.)
 use Rattle.std.specs.Prelude.{◌≡◌, ℤ, pos, ◌-ℤ◌, ◌≤ℤ◌, [], ◌∷◌, Result, Ok, Err}
-use Rattle.ts_core.specs.Facts.{Text}
-use Rattle.ts_core.specs.declared.fill.Fill.TheVariants as fills
-use Rattle.ts_core.specs.declared.value.Function.TheVariants as functions
+use Rattle.ts_core.specs.facts.Facts.{Text}
+use Rattle.ts_core.specs.declared.queries.fill.Fill.TheVariants as fills
+use Rattle.ts_core.specs.declared.queries.value.Function.TheVariants as functions
 use Rattle.ts_ql.specs.declared.fault.ParseError.{ParseError}
 use Rattle.ts_ql.specs.declared.fault.ParseError.TheVariants as errors
 use Rattle.ts_ql.specs.QueryFaults.{OutOfRange, as_fault}

@@ -1,8 +1,8 @@
 -- Duration units, identified by the first two bytes of their names.
 -- (InfluxData 1.8, InfluxQL reference, literals: durations.)
 use Rattle.std.specs.Prelude.{ℕ, unsigned_abs, Option, Some, None}
-use Rattle.ts_core.specs.declared.time_unit.TimeUnit.{TimeUnit}
-use Rattle.ts_core.specs.TimeUnits.{nanoseconds_of, unit_begun}
+use Rattle.ts_core.specs.declared.facts.time_unit.TimeUnit.{TimeUnit}
+use Rattle.ts_core.specs.facts.TimeUnits.{nanoseconds_of, unit_begun}
 
 abbrev pub begun_len : Option (TimeUnit × ℕ) → ℕ
 begun_len None = 0

@@ -17,7 +17,7 @@
 -- Each `spell_` function is one rule: the tokens of a tree, followed by the rest. Checks are placed between the tokens;
 -- each gives the error, if any, of the part before it.
 use Rattle.std.specs.Prelude.{◌≡◌, List, Bool, true, false, Option}
-use Rattle.ts_core.specs.Facts.{Text}
+use Rattle.ts_core.specs.facts.Facts.{Text}
 use Rattle.ts_ql.specs.declared.moment.Comparison.{Comparison}
 use Rattle.ts_ql.specs.declared.token.Kind.{Kind}
 use Rattle.ts_ql.specs.declared.token.Kind.TheVariants as kinds

@@ -1,9 +1,9 @@
 -- Effect of each token in GROUP BY and FILL.
 -- (InfluxData 1.8, InfluxQL: the GROUP BY clause, GROUP BY time intervals, the offset interval, fill().)
 use Rattle.std.specs.Prelude.{ℕ, ℤ, pos, int_le, List, [], true, false, Option, Some, None, Result, Ok, Err, if◌then◌else◌, codes}
-use Rattle.ts_core.specs.Facts.{Text}
-use Rattle.ts_core.specs.declared.fill.Fill.{Fill}
-use Rattle.ts_core.specs.declared.fill.Fill.TheVariants as fills
+use Rattle.ts_core.specs.facts.Facts.{Text}
+use Rattle.ts_core.specs.declared.queries.fill.Fill.{Fill}
+use Rattle.ts_core.specs.declared.queries.fill.Fill.TheVariants as fills
 use Rattle.ts_ql.specs.Selects.{texts, Buckets, with_text, of_interval, moved}
 use Rattle.ts_ql.specs.declared.groups.Groups.{Groups}
 use Rattle.ts_ql.specs.declared.filling.Filling.{Filling}

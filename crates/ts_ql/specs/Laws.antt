@@ -2,8 +2,8 @@
 -- (InfluxData 1.8, InfluxQL reference: queries. Own rule: the tokens before the first error begin some valid text.)
 use Rattle.std.specs.Prelude.{◌≡◌, ◌⊎◌, ◌≤◌, ℤ, List, [], ◌∷◌, ◌++◌, length, map, nat_lt, Bool, true, false, Some, None, Result, Ok, Err, ⊤}
 use Rattle.std.specs.Str.Parse.{AllDigits, digits_value}
-use Rattle.ts_core.specs.Facts.{Text}
-use Rattle.ts_core.specs.Durations.{Term, AreTerms, spelled, total}
+use Rattle.ts_core.specs.facts.Facts.{Text}
+use Rattle.ts_core.specs.facts.Durations.{Term, AreTerms, spelled, total}
 use Rattle.ts_ql.specs.declared.fault.ParseError.{ParseError}
 use Rattle.ts_ql.specs.declared.fault.ParseError.TheVariants as errors
 use Rattle.ts_ql.specs.QueryFaults.{Fault, Syntax, as_fault, unexpected, Gives}

@@ -2,7 +2,7 @@
 -- (InfluxData 1.8, InfluxQL reference: letters, digits, identifiers, strings, integers, durations, operators.)
 use Rattle.std.specs.Prelude.{ℕ, ◌+◌, ◌-◌, [], ◌∷◌, drop, length, slice_index, slice_range, Bool, true, false, ◌&&◌, ◌||◌, ◌==◌, nat_lt, if◌then◌else◌, Option, Some, None}
 use Rattle.std.specs.Char.{is_ascii_alphabetic, is_ascii_digit}
-use Rattle.ts_core.specs.Facts.{Text}
+use Rattle.ts_core.specs.facts.Facts.{Text}
 use Rattle.ts_ql.specs.declared.bytes.Class.{Class}
 use Rattle.ts_ql.specs.declared.bytes.Class.TheVariants.{Space, Name, Digit}
 use Rattle.ts_ql.specs.declared.token.Kind.{Kind}

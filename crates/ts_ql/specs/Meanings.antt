@@ -3,12 +3,12 @@
 -- sums are exact.)
 use Rattle.std.specs.Prelude.{ℕ, ℤ, pos, ◌+ℤ◌, ◌-ℤ◌, List, [], ◌∷◌, ◌++◌, Bool, true, false, Option, Some, None, Result}
 use Rattle.std.specs.Option.{unwrap_or}
-use Rattle.ts_core.specs.Facts.{Text}
-use Rattle.ts_core.specs.Queries.{Condition}
-use Rattle.ts_core.specs.declared.fill.Fill.{Fill}
-use Rattle.ts_core.specs.declared.fill.Fill.TheVariants as fills
-use Rattle.ts_core.specs.declared.value.Function.{Function}
-use Rattle.ts_core.specs.declared.value.Function.TheVariants as functions
+use Rattle.ts_core.specs.facts.Facts.{Text}
+use Rattle.ts_core.specs.queries.Queries.{Condition}
+use Rattle.ts_core.specs.declared.queries.fill.Fill.{Fill}
+use Rattle.ts_core.specs.declared.queries.fill.Fill.TheVariants as fills
+use Rattle.ts_core.specs.declared.queries.value.Function.{Function}
+use Rattle.ts_core.specs.declared.queries.value.Function.TheVariants as functions
 use Rattle.ts_ql.specs.declared.moment.Range.{Range}
 use Rattle.ts_ql.specs.Dates.{moment_told}
 use Rattle.ts_ql.specs.QueryFaults.{Fault}

@@ -1,7 +1,7 @@
 -- Effect of each token in a time comparison, and the resulting range.
 -- (InfluxData 1.8, InfluxQL: time syntax, absolute and relative time. Own rule: sums are exact.)
 use Rattle.std.specs.Prelude.{ℕ, ℤ, pos, ◌+◌, ◌≤◌, ◌^◌, unsigned_abs, ◌+ℤ◌, ◌-ℤ◌, int_le, ◌&&◌, true, false, Option, Some, None, Result, Ok, Err, if◌then◌else◌, codes}
-use Rattle.ts_core.specs.Times.{least_time, greatest_time}
+use Rattle.ts_core.specs.facts.Times.{least_time, greatest_time}
 use Rattle.ts_ql.specs.declared.moment.Comparison.{Comparison}
 use Rattle.ts_ql.specs.declared.moment.Comparison.TheVariants as comparisons
 use Rattle.ts_ql.specs.declared.moment.Moment.{Moment}

@@ -2,9 +2,9 @@
 -- (InfluxData 1.8, InfluxQL reference: queries, statements, clauses, literals. Own rule: the checks and their errors.)
 use Rattle.std.specs.Prelude.{ℕ, ℤ, pos, int_le, ◌+◌, List, [], ◌∷◌, Bool, true, false, nat_le, nat_lt, ◌&&◌, Option, Some, None, Result, Ok, Err, if◌then◌else◌, codes, bytes_eq}
 use Rattle.std.specs.Option.{unwrap_or}
-use Rattle.ts_core.specs.Facts.{Text}
-use Rattle.ts_core.specs.Times.{least_time, greatest_time}
-use Rattle.ts_core.specs.declared.value.Function.{Function}
+use Rattle.ts_core.specs.facts.Facts.{Text}
+use Rattle.ts_core.specs.facts.Times.{least_time, greatest_time}
+use Rattle.ts_core.specs.declared.queries.value.Function.{Function}
 use Rattle.ts_ql.specs.declared.moment.Comparison.{Comparison}
 use Rattle.ts_ql.specs.declared.moment.Comparison.TheVariants as comparisons
 use Rattle.ts_ql.specs.declared.token.Kind.{Kind}

@@ -1,8 +1,8 @@
 -- Codes and messages of the errors of InfluxQL texts. (Own rules.)
-use Rattle.ts_core.specs.Facts.{Text}
-use Rattle.ts_core.specs.declared.fault_code.FaultCode.{FaultCode}
-use Rattle.ts_core.specs.declared.fault_code.FaultCode.TheVariants as coded
-use Rattle.ts_core.specs.FaultTexts.{at_place, at_token, numbered_text, memory_text}
+use Rattle.ts_core.specs.facts.Facts.{Text}
+use Rattle.ts_core.specs.declared.text.fault_code.FaultCode.{FaultCode}
+use Rattle.ts_core.specs.declared.text.fault_code.FaultCode.TheVariants as coded
+use Rattle.ts_core.specs.text.FaultTexts.{at_place, at_token, numbered_text, memory_text}
 use Rattle.ts_ql.specs.declared.fault.ParseError.{ParseError}
 use Rattle.ts_ql.specs.declared.fault.ParseError.TheVariants as errors
 use Rattle.ts_ql.specs.QueryFaults.{Fault, Syntax, OutOfProfile, NoLowerBound, OutOfRange, RepeatedColumn, TooManyStatements, TooManyBuckets, BucketBeforeLeastTime, as_fault}

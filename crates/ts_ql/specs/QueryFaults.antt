@@ -1,7 +1,7 @@
 -- Errors of InfluxQL texts: the first error with its byte offset.
 -- (Own rule.)
 use Rattle.std.specs.Prelude.{◌≡◌, ℕ, if◌then◌else◌, Option, Some, None, Result, Ok, Err}
-use Rattle.ts_core.specs.Facts.{Text}
+use Rattle.ts_core.specs.facts.Facts.{Text}
 use Rattle.ts_ql.specs.declared.fault.QlFault.{QlFault}
 use Rattle.ts_ql.specs.declared.fault.QlFaultKind.{QlFaultKind}
 use Rattle.ts_ql.specs.declared.fault.QlFaultKind.TheVariants as faults

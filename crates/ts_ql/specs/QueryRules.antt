@@ -2,7 +2,7 @@
 -- (InfluxData 1.8, InfluxQL: the GROUP BY clause. Own rules: names of columns, limits on buckets.)
 use Rattle.std.specs.Prelude.{◌≡◌, false}
 use Rattle.std.specs.List.Sorted.{IsStrictlySortedBy}
-use Rattle.ts_core.specs.Facts.{text_cmp}
+use Rattle.ts_core.specs.facts.Facts.{text_cmp}
 use Rattle.ts_ql.specs.BucketLimits.{IsLimited}
 use Rattle.ts_ql.specs.Selects.{Select}
 use Rattle.ts_ql.specs.Statements.{repeats}

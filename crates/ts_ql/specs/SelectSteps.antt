@@ -1,9 +1,9 @@
 -- Effect of each token in SELECT and FROM.
 -- (InfluxData 1.8, InfluxQL: the basic SELECT statement, AS; FROM.)
 use Rattle.std.specs.Prelude.{List, [], ◌∷◌, ◌++◌, ◌||◌, Option, Some, None, option_map, Result, Ok, Err, if◌then◌else◌, codes, bytes_eq, string_bytes}
-use Rattle.ts_core.specs.Facts.{Text}
-use Rattle.ts_core.specs.declared.value.Function.{Function}
-use Rattle.ts_core.specs.declared.value.Function.TheVariants as functions
+use Rattle.ts_core.specs.facts.Facts.{Text}
+use Rattle.ts_core.specs.declared.queries.value.Function.{Function}
+use Rattle.ts_core.specs.declared.queries.value.Function.TheVariants as functions
 use Rattle.ts_ql.specs.declared.place.Place.{Place}
 use Rattle.ts_ql.specs.declared.place.Place.TheVariants as places
 use Rattle.ts_ql.specs.declared.selection.Selection.{Selection}

@@ -3,11 +3,11 @@
 use Rattle.std.specs.Prelude.{ℤ, pos, int_le, List, [], ◌∷◌, map, Option, Some, None, if◌then◌else◌, codes, String, string_bytes}
 use Rattle.std.specs.declared.cmp.Ordering.{Ordering}
 use Rattle.std.specs.declared.cmp.Ordering.TheVariants as orders
-use Rattle.ts_core.specs.Facts.{Text, text_cmp}
-use Rattle.ts_core.specs.declared.fill.Fill.{Fill}
-use Rattle.ts_core.specs.declared.value.Function.{Function}
-use Rattle.ts_core.specs.declared.value.Function.TheVariants.{Count, Sum, Min, Max, First, Last, Mean}
-use Rattle.ts_core.specs.Queries as queries
+use Rattle.ts_core.specs.facts.Facts.{Text, text_cmp}
+use Rattle.ts_core.specs.declared.queries.fill.Fill.{Fill}
+use Rattle.ts_core.specs.declared.queries.value.Function.{Function}
+use Rattle.ts_core.specs.declared.queries.value.Function.TheVariants.{Count, Sum, Min, Max, First, Last, Mean}
+use Rattle.ts_core.specs.queries.Queries as queries
 
 -- name of a column without AS
 abbrev pub function_name : Function → Text

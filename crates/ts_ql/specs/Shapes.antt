@@ -2,8 +2,8 @@
 -- (Own rule.)
 use Rattle.std.specs.Prelude.{◌≡◌, ℕ, ◌+◌, ◌-◌, ◌≤◌, true}
 use Rattle.std.specs.Str.{IsCharBoundary}
-use Rattle.ts_core.specs.Cursors.{IsPlaceFrom}
-use Rattle.ts_core.specs.Facts.{Text}
+use Rattle.ts_core.specs.text.Cursors.{IsPlaceFrom}
+use Rattle.ts_core.specs.facts.Facts.{Text}
 use Rattle.ts_ql.specs.declared.token.Kind.{Kind}
 use Rattle.ts_ql.specs.Lexing.{is_quoted}
 

@@ -4,11 +4,11 @@ use Rattle.std.specs.Prelude.{ℕ, ℤ, pos, ◌+ℤ◌, ◌-ℤ◌, ◌*ℤ◌,
 use Rattle.std.specs.Int.{int_max}
 use Rattle.std.specs.Option.{unwrap_or}
 use Rattle.std.specs.List.{list_any}
-use Rattle.ts_core.specs.Buckets.{bucket_of}
-use Rattle.ts_core.specs.declared.fill.Fill.{Fill}
-use Rattle.ts_core.specs.Facts.{Text}
-use Rattle.ts_core.specs.Queries.{Condition}
-use Rattle.ts_core.specs.Times.{least_time}
+use Rattle.ts_core.specs.aggregates.Buckets.{bucket_of}
+use Rattle.ts_core.specs.declared.queries.fill.Fill.{Fill}
+use Rattle.ts_core.specs.facts.Facts.{Text}
+use Rattle.ts_core.specs.queries.Queries.{Condition}
+use Rattle.ts_core.specs.facts.Times.{least_time}
 use Rattle.ts_ql.specs.declared.moment.Range.{Range}
 use Rattle.ts_ql.specs.declared.query.Span.{Span}
 use Rattle.ts_ql.specs.QueryFaults.{Fault, OutOfProfile, NoLowerBound, RepeatedColumn, TooManyBuckets, BucketBeforeLeastTime}

@@ -1,7 +1,7 @@
 -- Tokens with their offsets.
 -- (InfluxData 1.8, InfluxQL reference: notation, identifiers, keywords, literals. Own rule: the unsupported parts.)
 use Rattle.std.specs.Prelude.{ℕ}
-use Rattle.ts_core.specs.Facts.{Text}
+use Rattle.ts_core.specs.facts.Facts.{Text}
 use Rattle.ts_ql.specs.declared.token.Kind.{Kind}
 use Rattle.ts_ql.specs.declared.token.Token.{Token}
 

@@ -1,8 +1,8 @@
 -- Effect of each token in the conditions of WHERE.
 -- (InfluxData 1.8, InfluxQL: the WHERE clause, tags. Own rule: at most 32 open parentheses.)
 use Rattle.std.specs.Prelude.{ℕ, ◌+◌, ◌-◌, List, [], ◌∷◌, ◌++◌, Bool, true, false, ◌==◌, nat_lt, Result, Ok, Err, if◌then◌else◌, codes, string_bytes}
-use Rattle.ts_core.specs.Facts.{Text}
-use Rattle.ts_core.specs.Queries.{Condition}
+use Rattle.ts_core.specs.facts.Facts.{Text}
+use Rattle.ts_core.specs.queries.Queries.{Condition}
 use Rattle.ts_ql.specs.declared.filter.Filter.{Filter}
 use Rattle.ts_ql.specs.declared.place.Place.{Place}
 use Rattle.ts_ql.specs.declared.place.Place.TheVariants as places

@@ -1,9 +1,9 @@
 -- Keywords, function names and unsupported words, in any case.
 -- (InfluxData 1.8, InfluxQL reference: keywords, functions. Own rule: which of them are unsupported.)
 use Rattle.std.specs.Prelude.{Bool, true, false, ◌||◌, if◌then◌else◌, Option, Some, None, codes, bytes_eq}
-use Rattle.ts_core.specs.Facts.{Text}
-use Rattle.ts_core.specs.declared.value.Function.{Function}
-use Rattle.ts_core.specs.declared.value.Function.TheVariants as functions
+use Rattle.ts_core.specs.facts.Facts.{Text}
+use Rattle.ts_core.specs.declared.queries.value.Function.{Function}
+use Rattle.ts_core.specs.declared.queries.value.Function.TheVariants as functions
 use Rattle.ts_ql.specs.declared.token.Kind.{Kind}
 use Rattle.ts_ql.specs.declared.token.Kind.TheVariants as kinds
 use Rattle.ts_ql.specs.Literals.{is_word, text_spelled}

@@ -1,7 +1,7 @@
 //! Errors of InfluxQL texts: their kinds, their byte offsets and their messages.
 ghost use Rattle.std.specs.Prelude.{◌≡◌};
 ghost use Rattle.ts_ql.specs.QueryFaults.{as_fault, fault_of_kind};
-ghost use Rattle.ts_core.specs.FaultTexts.{detail_text, IsAppended};
+ghost use Rattle.ts_core.specs.text.FaultTexts.{detail_text, IsAppended};
 ghost use Rattle.ts_ql.specs.QueryFaultText.{query_fault_code, query_fault_detail, query_fault_text, error_text};
 ghost use Rattle.ts_ql.specs.declared.fault.ParseError.TheVariants as errors;
 

@@ -1,7 +1,7 @@
 //! Finds the end of a duration literal.
 ghost use Rattle.std.specs.Prelude.{◌≡◌, ◌+◌, ◌<◌, length, slice_index};
 ghost use Rattle.std.specs.Str.{IsCharBoundary};
-ghost use Rattle.ts_core.specs.Cursors.{IsPlaceFrom};
+ghost use Rattle.ts_core.specs.text.Cursors.{IsPlaceFrom};
 ghost use Rattle.ts_ql.specs.Lexing.{duration_end};
 ghost use Rattle.ts_ql.specs.DurationUnits.{unit_len};
 

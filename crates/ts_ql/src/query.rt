@@ -59,7 +59,7 @@ pub struct Condition<A: Allocator> {
 
 impl<A: Allocator> Model for Condition<A> {
     ghost use Rattle.std.specs.Prelude.{string_bytes};
-    ghost use Rattle.ts_core.specs.Queries.{Condition as ConditionValue};
+    ghost use Rattle.ts_core.specs.queries.Queries.{Condition as ConditionValue};
 
     ghost Value = { ConditionValue };
 

@@ -1,7 +1,7 @@
 //! Determines the kind of a token and where it ends.
 ghost use Rattle.std.specs.Prelude.{◌≡◌, ◌≢◌, ◌<◌, IsSome, IfSome, true, false, length, slice_index};
 ghost use Rattle.std.specs.Str.{IsCharBoundary};
-ghost use Rattle.ts_core.specs.Cursors.{IsPlaceFrom};
+ghost use Rattle.ts_core.specs.text.Cursors.{IsPlaceFrom};
 ghost use Rattle.ts_ql.specs.Lexing.{double, single, operator_at, number_at, quoted_at, shape_at, is_quoted, is_in};
 ghost use Rattle.ts_ql.specs.Shapes.{IsTokenFrom};
 ghost use Rattle.ts_ql.specs.declared.bytes.Class.TheVariants as classes;

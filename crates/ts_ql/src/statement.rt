@@ -1,8 +1,8 @@
 //! Turns a complete statement into a query.
 ghost use Rattle.std.specs.Prelude.{◌≡◌, ◌≤ℤ◌, ◌≤◌, ◌^◌, IfOk, IfSome, false, int_le, int_lt, pos, unsigned_abs, [], option_map, string_bytes};
 ghost use Rattle.std.specs.Option.{unwrap_or};
-ghost use Rattle.ts_core.specs.Buckets.{bucket_of};
-ghost use Rattle.ts_core.specs.Times.{least_time};
+ghost use Rattle.ts_core.specs.aggregates.Buckets.{bucket_of};
+ghost use Rattle.ts_core.specs.facts.Times.{least_time};
 ghost use Rattle.ts_ql.specs.BucketLimits.{IsLimited};
 ghost use Rattle.ts_ql.specs.QueryFaults.{Gives, GivesWith, option_as_fault};
 ghost use Rattle.ts_ql.specs.MomentSteps.{HasRoomForMore};

@@ -16,7 +16,7 @@ pub(crate) fn unit_len(byte: u8, next: u8) -> usize
 }
 
 /// Returns the nanoseconds of the unit that begins with `byte` and `next`; 1 if none does.
-#[tactic(auto, using(ts_core::proofs::DurationSteps::unit_counts), unfolding(crate::specs::DurationUnits::nanoseconds_of_unit))]
+#[tactic(auto, using(ts_core::proofs::facts::DurationSteps::unit_counts), unfolding(crate::specs::DurationUnits::nanoseconds_of_unit))]
 pub(crate) fn nanoseconds_of_unit(byte: u8, next: u8) -> u64
     ensures value { result ≡ nanoseconds_of_unit byte next }
     ensures some { 1 ≤ result }

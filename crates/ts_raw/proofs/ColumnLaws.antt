@@ -8,14 +8,14 @@ use Rattle.std.specs.FinMap.Entries.{is_sorted-where_key}
 use Rattle.std.proofs.lemmas.Cmp.{tied_itself}
 use Rattle.std.proofs.lemmas.Option.{same_Some}
 use Rattle.std.proofs.lemmas.Bool.{and_parts, and_from}
-use Rattle.ts_core.specs.Members.{Among, AllDistinct}
-use Rattle.ts_core.specs.Buckets.{bucket_of}
-use Rattle.ts_core.specs.Facts.{is_within}
-use Rattle.ts_core.specs.StoreMoves.{points_below}
-use Rattle.ts_core.proofs.MembersLemmas.{Among-filter_passes, Among-filter_was, Among-filter_stays}
-use Rattle.ts_core.proofs.Sorted.{sorted-distinct, found_among, among_found}
-use Rattle.ts_core.proofs.Comparisons.{le_from, le_true, lt_from, lt_true}
-use Rattle.ts_core.proofs.Ids.{equal_of}
+use Rattle.ts_core.specs.lists.Members.{Among, AllDistinct}
+use Rattle.ts_core.specs.aggregates.Buckets.{bucket_of}
+use Rattle.ts_core.specs.facts.Facts.{is_within}
+use Rattle.ts_core.specs.moves.StoreMoves.{points_below}
+use Rattle.ts_core.proofs.lists.MembersLemmas.{Among-filter_passes, Among-filter_was, Among-filter_stays}
+use Rattle.ts_core.proofs.lists.Sorted.{sorted-distinct, found_among, among_found}
+use Rattle.ts_core.proofs.lists.Comparisons.{le_from, le_true, lt_from, lt_true}
+use Rattle.ts_core.proofs.facts.Ids.{equal_of}
 use Rattle.ts_raw.specs.Columns.{PointMap, points_within, points_from, points_in_bucket}
 use Rattle.ts_raw.specs.PlainColumns.{IsRising}
 

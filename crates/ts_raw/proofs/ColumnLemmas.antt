@@ -5,13 +5,13 @@ use Rattle.std.proofs.lemmas.Bool.{cases_eq, and_parts}
 use Rattle.std.proofs.lemmas.List.{length_push, get_or_push, get_or_append_left, get_or-set_same, get_or-set_other, length-set, append-nil}
 use Rattle.std.proofs.lemmas.Option.{slice_get-get_or, get_or_from_slice_get}
 use Rattle.std.specs.Cmp.Derive.{both_true}
-use Rattle.ts_core.specs.Members.{Among}
-use Rattle.ts_core.proofs.MembersLemmas.{Among-append}
+use Rattle.ts_core.specs.lists.Members.{Among}
+use Rattle.ts_core.proofs.lists.MembersLemmas.{Among-append}
 use Rattle.ts_raw.specs.ColumnTables.{same_numbers, has_field, IsColumnTable}
-use Rattle.ts_core.specs.LastBelow.{last_below, last_with}
-use Rattle.ts_core.specs.Numbered.{IsAt, numbers_where}
-use Rattle.ts_core.proofs.LastBelows.{last_below-some, last_below-none, last_with-push}
-use Rattle.ts_core.proofs.NumberedLemmas.{among_at, at_within, at_among, once_more, numbers_where-push, numbers_from-none}
+use Rattle.ts_core.specs.lists.LastBelow.{last_below, last_with}
+use Rattle.ts_core.specs.lists.Numbered.{IsAt, numbers_where}
+use Rattle.ts_core.proofs.lists.LastBelows.{last_below-some, last_below-none, last_with-push}
+use Rattle.ts_core.proofs.lists.NumberedLemmas.{among_at, at_within, at_among, once_more, numbers_where-push, numbers_from-none}
 
 same_numbers-eq : (x y : ℕ × ℕ) → same_numbers x y ≡ true → x ≡ y
 same_numbers-eq x y h =

@@ -2,10 +2,10 @@
 use Rattle.std.proofs.Common.{◌≡◌, ℤ, pos, ◌+ℤ◌, ◌≤ℤ◌, int_eq, subst, List, filter}
 use Rattle.std.proofs.lemmas.Bool.{and_parts, and_from}
 use Rattle.std.proofs.lemmas.Bool.Decides.{Decides-int_eq}
-use Rattle.ts_core.specs.Buckets.{IsBucketOf, bucket_of, bucket_start}
-use Rattle.ts_core.specs.Facts.{is_within}
-use Rattle.ts_core.proofs.BucketsOrder.{bucket_is, bucket_same}
-use Rattle.ts_core.proofs.Comparisons.{le_from, le_true, lt_from, lt_true, same_bool}
+use Rattle.ts_core.specs.aggregates.Buckets.{IsBucketOf, bucket_of, bucket_start}
+use Rattle.ts_core.specs.facts.Facts.{is_within}
+use Rattle.ts_core.proofs.aggregates.BucketsOrder.{bucket_is, bucket_same}
+use Rattle.ts_core.proofs.lists.Comparisons.{le_from, le_true, lt_from, lt_true, same_bool}
 
 -- a time lies between the starts of a bucket and of the next one just where the bucket is its own
 pub inside_edges : (t i o k : ℤ) → pos 1 ≤ℤ i → is_within (bucket_start k i o) (bucket_start (k +ℤ pos 1) i o) t ≡ int_eq (bucket_of t i o) k

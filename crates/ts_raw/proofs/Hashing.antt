@@ -3,8 +3,8 @@ use Rattle.std.proofs.Common.{◌≡◌, ℕ, ◌<◌, ◌+◌, List, [], ◌∷
 use Rattle.std.proofs.lemmas.List.{take_more}
 use Rattle.std.specs.Hash.FoldHasher.{write}
 use Rattle.std.specs.declared.hash.FoldHasher.{FoldHasher}
-use Rattle.ts_core.specs.Facts.{Text}
-use Rattle.ts_core.specs.Texts.{lent_pairs}
+use Rattle.ts_core.specs.facts.Facts.{Text}
+use Rattle.ts_core.specs.text.Texts.{lent_pairs}
 use Rattle.ts_raw.specs.Hashes.{hash_of_tags}
 
 lent_hash_push : (h : FoldHasher) (xs : List (Bor Text × Bor Text)) (t : Bor Text × Bor Text) → hash_of_tags h (lent_pairs (xs ++ t ∷ [])) ≡ write (write (hash_of_tags h (lent_pairs xs)) t.0.now) t.1.now

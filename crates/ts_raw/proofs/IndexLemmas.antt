@@ -3,17 +3,17 @@ use Rattle.std.proofs.Common.{◌≡◌, ℕ, ◌<◌, true, false, nat_eq, List
 use Rattle.std.proofs.lemmas.Option.{slice_get-get_or, get_or_from_slice_get}
 use Rattle.std.specs.Cmp.Derive.{both_true}
 use Rattle.std.proofs.lemmas.Bool.{and_parts, false_from_ne_true}
-use Rattle.ts_core.specs.Members.{Among}
-use Rattle.ts_core.specs.Facts.{Text, Series, Column, is_of, same_text}
-use Rattle.ts_core.proofs.Ids.{same_text-eq}
-use Rattle.ts_core.proofs.Comparisons.{same_text-from_eq, same_bool}
+use Rattle.ts_core.specs.lists.Members.{Among}
+use Rattle.ts_core.specs.facts.Facts.{Text, Series, Column, is_of, same_text}
+use Rattle.ts_core.proofs.facts.Ids.{same_text-eq}
+use Rattle.ts_core.proofs.lists.Comparisons.{same_text-from_eq, same_bool}
 use Rattle.ts_raw.specs.FieldKeys.{FieldKey, field_key}
 use Rattle.ts_raw.specs.ColumnTables.{ColumnNumbers, has_field}
 use Rattle.ts_raw.specs.Indexed.{IsSoundIndex, no_series, column_in}
 use Rattle.ts_raw.specs.IndexParts.{no_field, column_named, IsNamed, index_by_numbers, IsIndex}
-use Rattle.ts_core.specs.Numbered.{IsAt, numbers_where, numbers_where_from}
-use Rattle.ts_core.proofs.MembersLemmas.{Among-map, map_back}
-use Rattle.ts_core.proofs.NumberedLemmas.{at_among, among_at, at_within, same_place, AllDistinct-map, numbers_from-map, numbers_from-none}
+use Rattle.ts_core.specs.lists.Numbered.{IsAt, numbers_where, numbers_where_from}
+use Rattle.ts_core.proofs.lists.MembersLemmas.{Among-map, map_back}
+use Rattle.ts_core.proofs.lists.NumberedLemmas.{at_among, among_at, at_within, same_place, AllDistinct-map, numbers_from-map, numbers_from-none}
 
 none_pass : {X : Type 0} (n : ℕ) (xs : List X) → numbers_where_from (λ x. false) n xs ≡ []
 none_pass n xs = numbers_from-none (λ x. false) n xs (λ x a. refl)

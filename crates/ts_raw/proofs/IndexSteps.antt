@@ -1,16 +1,16 @@
 -- An index goes on: one more series, one more field, one more column.
 use Rattle.std.proofs.Common.{◌≡◌, ℕ, ◌+◌, ◌<◌, ◌≤◌, List, [], ◌∷◌, ◌++◌, length, map, get_or, sym, ◌∙◌, ap, subst, ◌⊎◌, ⊎_elim, arith}
 use Rattle.std.proofs.lemmas.List.{length_push, length-map, get_or_append_left, map-append}
-use Rattle.ts_core.specs.Members.{Among, AllDistinct}
-use Rattle.ts_core.specs.Facts.{Text, Series, Column}
-use Rattle.ts_core.proofs.MembersLemmas.{Among-append}
+use Rattle.ts_core.specs.lists.Members.{Among, AllDistinct}
+use Rattle.ts_core.specs.facts.Facts.{Text, Series, Column}
+use Rattle.ts_core.proofs.lists.MembersLemmas.{Among-append}
 use Rattle.ts_raw.specs.FieldKeys.{FieldKey, field_key}
 use Rattle.ts_raw.specs.ColumnTables.{ColumnNumbers}
 use Rattle.ts_raw.specs.Indexed.{no_series, column_in}
 use Rattle.ts_raw.specs.IndexParts.{no_field, column_named, IsNamed, index_by_numbers, IsIndex}
-use Rattle.ts_core.specs.Numbered.{IsAt, Gains}
+use Rattle.ts_core.specs.lists.Numbered.{IsAt, Gains}
 use Rattle.ts_raw.proofs.IndexLemmas.{among_named, name_is, both_named, no_numbers}
-use Rattle.ts_core.proofs.NumberedLemmas.{at_among, at_end, at_within, once_more, map_alike}
+use Rattle.ts_core.proofs.lists.NumberedLemmas.{at_among, at_end, at_within, once_more, map_alike}
 
 module _ {X : Type 0} (xs ys : List X) (x : X) where
   pub gains_length : Gains xs ys x → (length xs ≤ length ys) × (length ys ≤ length xs + 1)

@@ -8,9 +8,9 @@ use Rattle.std.specs.FinMap.Entries.{by_order, is_sorted-put, is_sorted-where_ke
 use Rattle.std.specs.List.Sorted.{IsBinarySearchResult}
 use Rattle.std.proofs.lemmas.List.{get_or_default}
 use Rattle.std.proofs.lemmas.List.Edits.{insert_end}
-use Rattle.ts_core.specs.Times.{IsTime}
-use Rattle.ts_core.proofs.Places.{rises, found_at, put_at, put_between}
-use Rattle.ts_core.proofs.Ids.{equal_of}
+use Rattle.ts_core.specs.facts.Times.{IsTime}
+use Rattle.ts_core.proofs.lists.Places.{rises, found_at, put_at, put_between}
+use Rattle.ts_core.proofs.facts.Ids.{equal_of}
 use Rattle.std.proofs.lemmas.Cmp.{tied_itself}
 use Rattle.ts_raw.specs.Columns.{AreTimed}
 use Rattle.ts_raw.specs.PlainColumns.{IsRising, IsPlaceOf}

@@ -4,8 +4,8 @@ use Rattle.std.proofs.lemmas.Int.{ints}
 use Rattle.std.specs.Ordering.{int_cmp}
 use Rattle.std.specs.FinMap.{from_sorted}
 use Rattle.std.specs.FinMap.Entries.{is_sorted-where_key}
-use Rattle.ts_core.specs.StoreMoves.{points_below}
-use Rattle.ts_core.proofs.Windows.{filter-window, filter-rest}
+use Rattle.ts_core.specs.moves.StoreMoves.{points_below}
+use Rattle.ts_core.proofs.lists.Windows.{filter-window, filter-rest}
 use Rattle.ts_raw.specs.Columns.{AreTimed, points_from}
 use Rattle.ts_raw.specs.PlainColumns.{IsRising, IsStartOf}
 use Rattle.ts_raw.proofs.PointMaps.{kept_map, timed-where}

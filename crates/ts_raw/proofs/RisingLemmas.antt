@@ -2,9 +2,9 @@
 use Rattle.std.proofs.Common.{◌≡◌, ℕ, zero, suc, ◌+◌, ◌<◌, Bool, true, false, cond, List, [], ◌∷◌, Some, refl, sym, ◌∙◌, ap, subst, inl, inr, ⊎_elim, arith, add-zero, zero-add}
 use Rattle.std.specs.List.{AllPairs, Contains}
 use Rattle.std.proofs.lemmas.Option.{get_or_from_slice_get, slice_get-get_or, same_Some}
-use Rattle.ts_core.specs.Members.{Among}
-use Rattle.ts_core.specs.Numbered.{IsAt, numbers_where_from, numbers_where}
-use Rattle.ts_core.proofs.NumberedLemmas.{at_among, among_at, at_within}
+use Rattle.ts_core.specs.lists.Members.{Among}
+use Rattle.ts_core.specs.lists.Numbered.{IsAt, numbers_where_from, numbers_where}
+use Rattle.ts_core.proofs.lists.NumberedLemmas.{at_among, among_at, at_within}
 use Rattle.ts_raw.specs.Tagged.{IsRisingList}
 
 pub rising_from_pairs : (ns : List ℕ) → AllPairs (λ x y. x < y) ns → IsRisingList ns

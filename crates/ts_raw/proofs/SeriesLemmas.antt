@@ -2,8 +2,8 @@
 use Rattle.std.proofs.Common.{◌≡◌, Equal, Ordering, ◌==◌, true, false, true≢false, refl, sym, ◌∙◌, ap}
 use Rattle.std.specs.Ordering.{ordering_index}
 use Rattle.std.proofs.lemmas.Cmp.{tied_itself}
-use Rattle.ts_core.specs.Facts.{Series, series_cmp}
-use Rattle.ts_core.proofs.Ids.{series_total, exact_series}
+use Rattle.ts_core.specs.facts.Facts.{Series, series_cmp}
+use Rattle.ts_core.proofs.facts.Ids.{series_total, exact_series}
 
 equal_from : (o : Ordering) → (ordering_index o == 1) ≡ true → o ≡ Equal
 equal_from o h = elim o as (λ r. (ordering_index r == 1) ≡ true → r ≡ Equal) [ Equal ↦ λ _. refl | _ ↦ λ e. absurd (true≢false (sym e)) ] h

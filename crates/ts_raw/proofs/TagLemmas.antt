@@ -1,9 +1,9 @@
 -- Series by their tags: a walk along the chain of a hash, and one more series.
 use Rattle.std.proofs.Common.{◌≡◌, ℕ, zero, suc, ◌+◌, ◌<◌, nat_lt, nat_eq, true, false, cond, List, [], ◌∷◌, ◌++◌, length, get_or, Option, Some, None, unwrap_or, refl, sym, ◌∙◌, ap, subst, inl, inr, ⊎_elim, arith, eq-eqb, length-append, lt-ltb, eqb-true, ltb-true, ◌⊎◌, Result, Ok, Err, IfOk}
 use Rattle.std.proofs.lemmas.Option.{slice_get-get_or, same_Some}
-use Rattle.ts_core.specs.Members.{Among}
-use Rattle.ts_core.specs.Numbered.{IsAt}
-use Rattle.ts_core.specs.Facts.{Text, Series}
+use Rattle.ts_core.specs.lists.Members.{Among}
+use Rattle.ts_core.specs.lists.Numbered.{IsAt}
+use Rattle.ts_core.specs.facts.Facts.{Text, Series}
 use Rattle.ts_raw.specs.declared.index.tags.TagLink.{TagLink}
 use Rattle.ts_raw.specs.TagChains.{TagChains, head_of, no_link, next_of, Leads, LeadsTo, AreHeadsWithin, KeepLeads, AllLead, AreTagged, AreAmongTagged, hash_of_tag}
 

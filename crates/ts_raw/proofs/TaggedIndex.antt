@@ -3,14 +3,14 @@ use Rattle.std.proofs.Common.{◌≡◌, ◌↔◌, ℕ, zero, suc, true, false,
 use Rattle.std.proofs.lemmas.Option.{get_or_from_slice_get, slice_get-get_or, same_Some}
 use Rattle.std.proofs.lemmas.Bool.{and_parts}
 use Rattle.std.specs.Cmp.Derive.{both_true}
-use Rattle.ts_core.specs.Members.{Among}
-use Rattle.ts_core.specs.Facts.{Text, Series, Column, is_of, same_text}
-use Rattle.ts_core.specs.Tags.{value_among, tag_value}
-use Rattle.ts_core.specs.Numbered.{IsAt, numbers_where}
-use Rattle.ts_core.proofs.Ids.{same_text-eq}
-use Rattle.ts_core.proofs.Comparisons.{same_text-from_eq}
-use Rattle.ts_core.proofs.MembersLemmas.{at_map_of}
-use Rattle.ts_core.proofs.NumberedLemmas.{at_among, at_within, same_place}
+use Rattle.ts_core.specs.lists.Members.{Among}
+use Rattle.ts_core.specs.facts.Facts.{Text, Series, Column, is_of, same_text}
+use Rattle.ts_core.specs.facts.Tags.{value_among, tag_value}
+use Rattle.ts_core.specs.lists.Numbered.{IsAt, numbers_where}
+use Rattle.ts_core.proofs.facts.Ids.{same_text-eq}
+use Rattle.ts_core.proofs.lists.Comparisons.{same_text-from_eq}
+use Rattle.ts_core.proofs.lists.MembersLemmas.{at_map_of}
+use Rattle.ts_core.proofs.lists.NumberedLemmas.{at_among, at_within, same_place}
 use Rattle.ts_raw.specs.FieldKeys.{FieldKey, field_key}
 use Rattle.ts_raw.specs.ColumnTables.{ColumnNumbers}
 use Rattle.ts_raw.specs.Indexed.{no_series}

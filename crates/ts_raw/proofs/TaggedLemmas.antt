@@ -1,11 +1,11 @@
 -- Columns of series that have a tag: a walk over the series.
 use Rattle.std.proofs.Common.{◌≡◌, ℕ, List, [], ◌∷◌, ◌++◌, sym, ◌∙◌, subst, inl, inr, ◌⊎◌, ⊎_elim}
 use Rattle.std.proofs.lemmas.Option.{get_or_from_slice_get}
-use Rattle.ts_core.specs.Members.{Among, AllDistinct}
-use Rattle.ts_core.specs.Facts.{Text, Series}
-use Rattle.ts_core.specs.Numbered.{IsAt}
-use Rattle.ts_core.proofs.MembersLemmas.{Among-append}
-use Rattle.ts_core.proofs.NumberedLemmas.{at_within, same_place}
+use Rattle.ts_core.specs.lists.Members.{Among, AllDistinct}
+use Rattle.ts_core.specs.facts.Facts.{Text, Series}
+use Rattle.ts_core.specs.lists.Numbered.{IsAt}
+use Rattle.ts_core.proofs.lists.MembersLemmas.{Among-append}
+use Rattle.ts_core.proofs.lists.NumberedLemmas.{at_within, same_place}
 use Rattle.ts_raw.specs.Tagged.{IsTaggedAt, AreTaggedAt}
 use Rattle.ts_raw.proofs.TagLemmas.{among_end, among_before}
 

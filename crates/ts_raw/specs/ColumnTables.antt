@@ -1,8 +1,8 @@
 -- Columns by the indices of their series and fields. (Own rule.)
 use Rattle.std.specs.Prelude.{◌≡◌, ℕ, ◌<◌, Bool, ◌==◌, ◌&&◌, List, [], length, Option, slice_index_or}
-use Rattle.ts_core.specs.Members.{AllDistinct}
-use Rattle.ts_core.specs.LastBelow.{last_with}
-use Rattle.ts_core.specs.Numbered.{IsAt, numbers_where}
+use Rattle.ts_core.specs.lists.Members.{AllDistinct}
+use Rattle.ts_core.specs.lists.LastBelow.{last_with}
+use Rattle.ts_core.specs.lists.Numbered.{IsAt, numbers_where}
 
 -- the columns in creation order, each as the indices of its series and its field, and the number of fields that have a
 -- list

@@ -5,9 +5,9 @@ use Rattle.std.specs.Ordering.{int_cmp, int_eq}
 use Rattle.std.specs.FinMap as map
 use Rattle.std.specs.Coded.{Coded, code_by, coded×, coded_ℤ, coded_option}
 use Rattle.std.specs.List.{AllByRecursion}
-use Rattle.ts_core.specs.Facts.{is_within}
-use Rattle.ts_core.specs.Times.{IsTime}
-use Rattle.ts_core.specs.Buckets.{bucket_of}
+use Rattle.ts_core.specs.facts.Facts.{is_within}
+use Rattle.ts_core.specs.facts.Times.{IsTime}
+use Rattle.ts_core.specs.aggregates.Buckets.{bucket_of}
 
 -- a map from times to values
 abbrev pub PointMap : Type 0

@@ -1,7 +1,7 @@
 -- A field of a measurement. (InfluxData 1.8, key concepts: measurement, field key.)
 use Rattle.std.specs.Prelude.{ℕ}
 use Rattle.std.specs.Hash.FoldHasher.{initial, write, finish}
-use Rattle.ts_core.specs.Facts.{Text}
+use Rattle.ts_core.specs.facts.Facts.{Text}
 
 -- identifies all columns of the measurement that have the field
 pub record FieldKey : Type 0 where

@@ -2,7 +2,7 @@
 use Rattle.std.specs.Prelude.{ℕ, List, [], ◌∷◌}
 use Rattle.std.specs.Hash.FoldHasher.{initial, write, finish}
 use Rattle.std.specs.declared.hash.FoldHasher.{FoldHasher}
-use Rattle.ts_core.specs.Facts.{Text, Series}
+use Rattle.ts_core.specs.facts.Facts.{Text, Series}
 
 abbrev pub hash_of_tags : FoldHasher → List (Text × Text) → FoldHasher
 hash_of_tags h [] = h

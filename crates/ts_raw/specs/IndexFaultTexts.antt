@@ -1,8 +1,8 @@
 -- Messages of the errors of an index. (Own rule.)
-use Rattle.ts_core.specs.Facts.{Text}
-use Rattle.ts_core.specs.FaultTexts.{fault_text, memory_text}
-use Rattle.ts_core.specs.declared.fault_code.FaultCode.TheVariants as code
-use Rattle.ts_core.specs.declared.fault_text.FaultDetail.TheVariants.{Alone}
+use Rattle.ts_core.specs.facts.Facts.{Text}
+use Rattle.ts_core.specs.text.FaultTexts.{fault_text, memory_text}
+use Rattle.ts_core.specs.declared.text.fault_code.FaultCode.TheVariants as code
+use Rattle.ts_core.specs.declared.text.fault_text.FaultDetail.TheVariants.{Alone}
 use Rattle.ts_raw.specs.declared.index.fault.IndexFault.{IndexFault}
 use Rattle.ts_raw.specs.declared.index.fault.IndexFault.TheVariants.{TooManySeries, OutOfMemory}
 

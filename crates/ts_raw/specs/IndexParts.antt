@@ -1,8 +1,8 @@
 -- The parts of an index: series, fields of measurements, and columns by the indices of these. (Own rule.)
 use Rattle.std.specs.Prelude.{◌≡◌, ℕ, ◌<◌, ◌≤◌, List, [], length, map, slice_index_or}
-use Rattle.ts_core.specs.Members.{AllDistinct}
-use Rattle.ts_core.specs.Facts.{Series, Column}
-use Rattle.ts_core.specs.Numbered.{IsAt}
+use Rattle.ts_core.specs.lists.Members.{AllDistinct}
+use Rattle.ts_core.specs.facts.Facts.{Series, Column}
+use Rattle.ts_core.specs.lists.Numbered.{IsAt}
 use Rattle.ts_raw.specs.FieldKeys.{FieldKey, field_key}
 use Rattle.ts_raw.specs.ColumnTables.{ColumnNumbers}
 use Rattle.ts_raw.specs.Indexed.{Indexed, no_series}

@@ -1,7 +1,7 @@
 -- The content of an index. (InfluxData 1.8, key concepts: series, field key; own rule: creation order.)
 use Rattle.std.specs.Prelude.{ℕ, List, [], slice_index_or}
-use Rattle.ts_core.specs.Members.{Among, AllDistinct}
-use Rattle.ts_core.specs.Facts.{Text, Series, Column}
+use Rattle.ts_core.specs.lists.Members.{Among, AllDistinct}
+use Rattle.ts_core.specs.facts.Facts.{Text, Series, Column}
 
 -- the registered series and the columns, each in creation order; an id is an index in its list
 pub record Indexed : Type 0 where

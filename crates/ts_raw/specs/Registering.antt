@@ -1,7 +1,7 @@
 -- The effect of a call that returns the index of an item and registers it if needed. (Own rule.)
 use Rattle.std.specs.Prelude.{◌≡◌, ℕ, List, Result, IfOk, OnOk, OnErr, IsOk}
-use Rattle.ts_core.specs.Members.{Among}
-use Rattle.ts_core.specs.Numbered.{IsAt, Gains}
+use Rattle.ts_core.specs.lists.Members.{Among}
+use Rattle.ts_core.specs.lists.Numbered.{IsAt, Gains}
 
 -- x has the returned index: it was there, or it is appended. An item that was there is found in any case, and an error
 -- changes nothing.

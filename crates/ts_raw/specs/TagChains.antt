@@ -3,10 +3,10 @@
 use Rattle.std.specs.Prelude.{◌≡◌, ℕ, zero, suc, ◌<◌, ◌%◌, nat_lt, nat_eq, List, length, Option, Some, None, if◌then◌else◌, slice_index_or, ◌⊎◌}
 use Rattle.std.specs.Map.{lookup}
 use Rattle.std.specs.Hash.FoldHasher.{initial, write, finish}
-use Rattle.ts_core.specs.Members.{Among}
-use Rattle.ts_core.specs.Facts.{Text, Series}
-use Rattle.ts_core.specs.Numbered.{IsAt}
-use Rattle.ts_core.specs.Tables.{IsTable}
+use Rattle.ts_core.specs.lists.Members.{Among}
+use Rattle.ts_core.specs.facts.Facts.{Text, Series}
+use Rattle.ts_core.specs.lists.Numbered.{IsAt}
+use Rattle.ts_core.specs.lists.Tables.{IsTable}
 use Rattle.ts_raw.specs.Hashes.{hash_of_series}
 use Rattle.ts_raw.specs.declared.index.tags.TagLink.{TagLink}
 

@@ -1,9 +1,9 @@
 -- Columns by a tag of their series. (Own rule.)
 use Rattle.std.specs.Prelude.{◌≡◌, ℕ, ◌<◌, Bool, true, ◌&&◌, List, [], ◌∷◌, length, slice_index_or}
-use Rattle.ts_core.specs.Members.{Among}
-use Rattle.ts_core.specs.Facts.{Text, same_text, Series, Column, is_of}
-use Rattle.ts_core.specs.Tags.{tag_value}
-use Rattle.ts_core.specs.Numbered.{IsAt}
+use Rattle.ts_core.specs.lists.Members.{Among}
+use Rattle.ts_core.specs.facts.Facts.{Text, same_text, Series, Column, is_of}
+use Rattle.ts_core.specs.facts.Tags.{tag_value}
+use Rattle.ts_core.specs.lists.Numbered.{IsAt}
 use Rattle.ts_raw.specs.Indexed.{no_series}
 
 -- the series has the value of the tag

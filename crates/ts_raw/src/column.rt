@@ -1,7 +1,7 @@
 //! Interface of a column to the store: its points, and at most one staged point.
 ghost use Rattle.std.specs.Prelude.{◌≡◌, ◌+◌, ◌≤◌, ◌≤ℤ◌, pos, ℤ, Option, IsSome, IfSome, is_ok, if◌then◌else◌};
 ghost use Rattle.std.specs.FinMap as map;
-ghost use Rattle.ts_core.specs.StoreMoves.{points_below};
+ghost use Rattle.ts_core.specs.moves.StoreMoves.{points_below};
 ghost use Rattle.ts_raw.specs.Columns.{PointMap, AreTimed, points_within, points_from, points_in_bucket};
 
 use crate::points::Points;

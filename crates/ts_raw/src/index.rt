@@ -1,12 +1,12 @@
 //! Index of series and columns by their names.
 ghost use Rattle.std.specs.Bool.{OnTrue};
 ghost use Rattle.std.specs.Prelude.{◌≡◌, ◌≤◌, ◌<◌, ◌↔◌, [], length, IfSome, IfNone, IfOk, Err};
-ghost use Rattle.ts_core.specs.Facts.{Column, is_of};
-ghost use Rattle.ts_core.specs.Members.{Among};
+ghost use Rattle.ts_core.specs.facts.Facts.{Column, is_of};
+ghost use Rattle.ts_core.specs.lists.Members.{Among};
 ghost use Rattle.ts_raw.specs.Indexed.{IsSoundIndex, column_in};
 ghost use Rattle.ts_raw.specs.Registering.{IsRegistered};
 ghost use Rattle.ts_raw.specs.Tagged.{is_tagged};
-ghost use Rattle.ts_core.specs.Numbered.{IsAt, numbers_where};
+ghost use Rattle.ts_core.specs.lists.Numbered.{IsAt, numbers_where};
 
 mod column_id;
 mod columns;

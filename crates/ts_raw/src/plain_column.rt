@@ -4,10 +4,10 @@ ghost use Rattle.std.specs.Ordering.{int_cmp, int_eq};
 ghost use Rattle.std.specs.FinMap as map;
 ghost use Rattle.std.specs.FinMap.{put, find};
 ghost use Rattle.std.specs.List.Sorted.{IsSearchInRange};
-ghost use Rattle.ts_core.specs.Buckets.{bucket_of};
-ghost use Rattle.ts_core.specs.Edges.{IsEdgeAt};
-ghost use Rattle.ts_core.specs.Facts.{is_within};
-ghost use Rattle.ts_core.specs.StoreMoves.{points_below};
+ghost use Rattle.ts_core.specs.aggregates.Buckets.{bucket_of};
+ghost use Rattle.ts_core.specs.aggregates.Edges.{IsEdgeAt};
+ghost use Rattle.ts_core.specs.facts.Facts.{is_within};
+ghost use Rattle.ts_core.specs.moves.StoreMoves.{points_below};
 ghost use Rattle.ts_raw.specs.Columns.{AreTimed};
 ghost use Rattle.ts_raw.specs.PlainColumns.{IsRising, IsPlaceOf, IsStartOf};
 

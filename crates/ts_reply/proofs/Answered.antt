@@ -1,17 +1,17 @@
 -- The outcome of a query, by the rows that a plan gives of a store.
 use Rattle.std.proofs.Common.{◌≡◌, List, Result, Ok, Err, Some, refl, sym, ap, ◌∙◌, subst}
-use Rattle.ts_core.specs.Facts.{Text}
-use Rattle.ts_core.specs.Faults.{first_fault}
-use Rattle.ts_core.specs.declared.fill.Fill.{Fill}
-use Rattle.ts_core.specs.Answers.{answer_of}
-use Rattle.ts_core.specs.History.{History, settings_of}
-use Rattle.ts_core.specs.Latest.{latest_of}
-use Rattle.ts_core.specs.Marks.{Marks, marks_of}
-use Rattle.ts_core.specs.Pieces.{Piece, IsValid}
-use Rattle.ts_core.specs.Settings.{Settings}
-use Rattle.ts_core.specs.StoreData.{StoreData, state_of, OfEachHistory, ShowsEach}
-use Rattle.ts_core.specs.StoreStates.{StandsFor}
-use Rattle.ts_core.specs.Views.{seen_of}
+use Rattle.ts_core.specs.facts.Facts.{Text}
+use Rattle.ts_core.specs.plans.Faults.{first_fault}
+use Rattle.ts_core.specs.declared.queries.fill.Fill.{Fill}
+use Rattle.ts_core.specs.queries.Answers.{answer_of}
+use Rattle.ts_core.specs.store.History.{History, settings_of}
+use Rattle.ts_core.specs.facts.Latest.{latest_of}
+use Rattle.ts_core.specs.store.Marks.{Marks, marks_of}
+use Rattle.ts_core.specs.plans.Pieces.{Piece, IsValid}
+use Rattle.ts_core.specs.settings.Settings.{Settings}
+use Rattle.ts_core.specs.store.StoreData.{StoreData, state_of, OfEachHistory, ShowsEach}
+use Rattle.ts_core.specs.store.StoreStates.{StandsFor}
+use Rattle.ts_core.specs.store.Views.{seen_of}
 use Rattle.ts_check.specs.CertificateTexts.{certificate_text, IsFirstBadLine}
 use Rattle.ts_check.specs.CheckTexts.{certificate_fault_text, check_fault_text}
 use Rattle.ts_check.specs.declared.certificate_fault.CertificateFault.{CertificateFault}

@@ -8,8 +8,8 @@ use Rattle.serde_json.proofs.OnLiterals.{serde_json_on_literals}
 use Rattle.serde_json.specs.Data.{Data, array, Items, no_items, item}
 use Rattle.serde_json.specs.View.{items_of}
 use Rattle.serde_json.specs.Written.{comma_if, compact_text, items_text}
-use Rattle.ts_core.specs.Facts.{Text}
-use Rattle.ts_core.specs.Fills.{FilledGroup}
+use Rattle.ts_core.specs.facts.Facts.{Text}
+use Rattle.ts_core.specs.queries.Fills.{FilledGroup}
 use Rattle.ts_ql.specs.Selects.{Select}
 use Rattle.ts_reply.specs.Appending.{AppendsData, AppendsItems, IsArray}
 use Rattle.ts_reply.specs.declared.epoch.Epoch.{Epoch}

@@ -4,7 +4,7 @@ use Rattle.jiff_core.proofs.DateLemmas.{epoch_day_injective}
 use Rattle.jiff_core.proofs.DateTimeLemmas.{civil_nanos_injective, time_nanos_injective}
 use Rattle.jiff_core.specs.declared.civil.datetime.DateTime.{DateTime}
 use Rattle.jiff.specs.Names.{iso_datetime_text}
-use Rattle.ts_core.specs.Facts.{Text}
+use Rattle.ts_core.specs.facts.Facts.{Text}
 use Rattle.ts_reply.specs.TimeTexts.{IsTimeText}
 
 same_clock : (a b : DateTime) → (a.date.year ≡ b.date.year) × (a.date.month ≡ b.date.month) × (a.date.day ≡ b.date.day)

@@ -5,7 +5,7 @@ use Rattle.std.specs.List.{list_all}
 use Rattle.json.specs.Print.{escape, quoted}
 use Rattle.json.specs.Run.{is_plain, is_stop}
 use Rattle.json.proofs.Printed.Strings.{escape_byte_plain}
-use Rattle.ts_core.specs.Facts.{Text}
+use Rattle.ts_core.specs.facts.Facts.{Text}
 
 escape_alone : (s : Text) → list_all is_plain s ≡ true → escape s ≡ s
 escape_alone [] h = refl

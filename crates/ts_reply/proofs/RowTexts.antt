@@ -3,9 +3,9 @@ use Rattle.std.proofs.Common.{◌≡◌, true, List, ◌∷◌, ◌++◌, map, c
 use Rattle.serde_json.specs.Data.{array, item}
 use Rattle.serde_json.specs.View.{items_of}
 use Rattle.serde_json.specs.Written.{compact_text, items_text}
-use Rattle.ts_core.specs.Facts.{Text}
-use Rattle.ts_core.specs.Fills.{FilledRow}
-use Rattle.ts_core.specs.declared.value.Value.{Value}
+use Rattle.ts_core.specs.facts.Facts.{Text}
+use Rattle.ts_core.specs.queries.Fills.{FilledRow}
+use Rattle.ts_core.specs.declared.queries.value.Value.{Value}
 use Rattle.ts_reply.specs.Appending.{AppendsData}
 use Rattle.ts_reply.specs.declared.epoch.Epoch.{Epoch}
 use Rattle.ts_reply.specs.Replies.{value_data, IsTimeData, IsRowData}

@@ -4,8 +4,8 @@ use Rattle.json.specs.Print.{quoted}
 use Rattle.serde_json.proofs.OnLiterals.{serde_json_on_literals}
 use Rattle.serde_json.specs.Data.{Data, array, Items}
 use Rattle.serde_json.specs.Written.{compact_text}
-use Rattle.ts_core.specs.Facts.{Text}
-use Rattle.ts_core.specs.Fills.{FilledGroup}
+use Rattle.ts_core.specs.facts.Facts.{Text}
+use Rattle.ts_core.specs.queries.Fills.{FilledGroup}
 use Rattle.ts_ql.specs.Selects.{Select}
 use Rattle.ts_reply.specs.Appending.{AppendsData, IsArray}
 use Rattle.ts_reply.specs.declared.epoch.Epoch.{Epoch}

@@ -2,7 +2,7 @@
 use Rattle.std.proofs.Common.{◌≡◌, ℤ, Bool, true, false, ◌++◌, subst, sym, refl, true≢false}
 use Rattle.json.specs.Print.{quoted}
 use Rattle.serde_json.specs.Data.{Data, string}
-use Rattle.ts_core.specs.Facts.{Text}
+use Rattle.ts_core.specs.facts.Facts.{Text}
 use Rattle.ts_reply.specs.Appending.{AppendsData}
 use Rattle.ts_reply.specs.Replies.{IsTextOrCount}
 use Rattle.ts_reply.specs.TimeTexts.{IsTimeText}

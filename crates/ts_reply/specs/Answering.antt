@@ -2,16 +2,16 @@
 -- (InfluxData 1.8, API reference: /query, multiple queries. Own rules: an error in the text refuses all of it. A query
 -- without a plan has its error, and the others are answered. A given certificate is for one query.)
 use Rattle.std.specs.Prelude.{◌≡◌, ℤ, Bool, true, false, nat_lt, List, [], ◌∷◌, length, ⊤, Option, Some, None, Ok, Err}
-use Rattle.ts_core.specs.Facts.{Text}
-use Rattle.ts_core.specs.declared.fault_code.FaultCode.TheVariants.{SeveralStatements}
-use Rattle.ts_core.specs.declared.fault_text.FaultDetail.TheVariants.{Alone}
-use Rattle.ts_core.specs.Faults.{first_fault}
-use Rattle.ts_core.specs.FaultTexts.{fault_text}
-use Rattle.ts_core.specs.History.{History, settings_of}
-use Rattle.ts_core.specs.Latest.{latest_of}
-use Rattle.ts_core.specs.Marks.{marks_of}
-use Rattle.ts_core.specs.Pieces.{Piece, IsValid}
-use Rattle.ts_core.specs.Settings.{Settings}
+use Rattle.ts_core.specs.facts.Facts.{Text}
+use Rattle.ts_core.specs.declared.text.fault_code.FaultCode.TheVariants.{SeveralStatements}
+use Rattle.ts_core.specs.declared.text.fault_text.FaultDetail.TheVariants.{Alone}
+use Rattle.ts_core.specs.plans.Faults.{first_fault}
+use Rattle.ts_core.specs.text.FaultTexts.{fault_text}
+use Rattle.ts_core.specs.store.History.{History, settings_of}
+use Rattle.ts_core.specs.facts.Latest.{latest_of}
+use Rattle.ts_core.specs.store.Marks.{marks_of}
+use Rattle.ts_core.specs.plans.Pieces.{Piece, IsValid}
+use Rattle.ts_core.specs.settings.Settings.{Settings}
 use Rattle.ts_check.specs.CertificateTexts.{IsCertificate, IsFirstBadLine}
 use Rattle.ts_check.specs.CheckTexts.{certificate_fault_text, check_fault_text}
 use Rattle.ts_check.specs.declared.certificate_fault.CertificateFault.{CertificateFault}

@@ -2,7 +2,7 @@
 use Rattle.std.specs.Prelude.{◌≡◌, Bool, ◌++◌}
 use Rattle.serde_json.specs.Data.{Data, array, Items}
 use Rattle.serde_json.specs.Written.{compact_text, items_text}
-use Rattle.ts_core.specs.Facts.{Text}
+use Rattle.ts_core.specs.facts.Facts.{Text}
 
 -- appends the text of such data
 pub record AppendsData (Is : Data → Type 0) (old new : Text) : Type 0 where

@@ -2,10 +2,10 @@
 -- (InfluxData 1.8, API reference: /query, the parameter `epoch`: ns, u or µ, ms, s, m, h. Own rules: also `n`, as for a
 -- precision, and `text` for RFC 3339.)
 use Rattle.std.specs.Prelude.{[], ◌∷◌, Option, Some, option_map, bytes_eq, codes, if◌then◌else◌}
-use Rattle.ts_core.specs.Facts.{Text}
-use Rattle.ts_core.specs.TimeUnits.{UnitNames, unit_called}
-use Rattle.ts_core.specs.declared.time_unit.TimeUnit.{TimeUnit}
-use Rattle.ts_core.specs.declared.time_unit.TimeUnit.TheVariants.{Nanoseconds, Microseconds, Milliseconds, Seconds, Minutes, Hours}
+use Rattle.ts_core.specs.facts.Facts.{Text}
+use Rattle.ts_core.specs.facts.TimeUnits.{UnitNames, unit_called}
+use Rattle.ts_core.specs.declared.facts.time_unit.TimeUnit.{TimeUnit}
+use Rattle.ts_core.specs.declared.facts.time_unit.TimeUnit.TheVariants.{Nanoseconds, Microseconds, Milliseconds, Seconds, Minutes, Hours}
 use Rattle.ts_reply.specs.declared.epoch.Epoch.{Epoch}
 use Rattle.ts_reply.specs.declared.epoch.Epoch.TheVariants.{Text as AsText, Units}
 

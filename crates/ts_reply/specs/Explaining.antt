@@ -2,11 +2,11 @@
 -- (Own rules: a plan is returned as the text of its certificate, which can be given with the query. A query without a
 -- plan has its error.)
 use Rattle.std.specs.Prelude.{ℤ, Bool, true, false, List, Ok, Err}
-use Rattle.ts_core.specs.Facts.{Text}
-use Rattle.ts_core.specs.History.{History, settings_of}
-use Rattle.ts_core.specs.Marks.{marks_of}
-use Rattle.ts_core.specs.Pieces.{Piece}
-use Rattle.ts_core.specs.Settings.{Settings}
+use Rattle.ts_core.specs.facts.Facts.{Text}
+use Rattle.ts_core.specs.store.History.{History, settings_of}
+use Rattle.ts_core.specs.store.Marks.{marks_of}
+use Rattle.ts_core.specs.plans.Pieces.{Piece}
+use Rattle.ts_core.specs.settings.Settings.{Settings}
 use Rattle.ts_check.specs.CertificateTexts.{certificate_text}
 use Rattle.ts_plan.specs.Planning.{IsPlanFor}
 use Rattle.ts_plan.specs.PlanTexts.{plan_fault_text}

@@ -1,8 +1,8 @@
 -- Outcomes of statements. (Own rules.)
 use Rattle.std.specs.Prelude.{List}
-use Rattle.ts_core.specs.Facts.{Text, Fact}
-use Rattle.ts_core.specs.Answers.{answer_of}
-use Rattle.ts_core.specs.Fills.{FilledGroup, filled}
+use Rattle.ts_core.specs.facts.Facts.{Text, Fact}
+use Rattle.ts_core.specs.queries.Answers.{answer_of}
+use Rattle.ts_core.specs.queries.Fills.{FilledGroup, filled}
 use Rattle.ts_exec.specs.Fillings.{FilledAnswer, functions_of}
 use Rattle.ts_ql.specs.Selects.{Select}
 

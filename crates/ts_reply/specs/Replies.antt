@@ -8,13 +8,13 @@ use Rattle.serde_json.specs.Data.{Data, null, number, string, array, object, Ite
 use Rattle.serde_json.specs.Find.{of_integer}
 use Rattle.serde_json.specs.View.{items_of}
 use Rattle.serde_json.specs.Written.{compact_text}
-use Rattle.ts_core.specs.Facts.{Text}
-use Rattle.ts_core.specs.Fills.{FilledRow, FilledGroup}
-use Rattle.ts_core.specs.Times.{least_time, greatest_time}
-use Rattle.ts_core.specs.TimeUnits.{nanoseconds_of}
-use Rattle.ts_core.specs.declared.means.Frac.{Frac}
-use Rattle.ts_core.specs.declared.value.Value.{Value}
-use Rattle.ts_core.specs.declared.value.Value.TheVariants.{Null, Number, Fraction}
+use Rattle.ts_core.specs.facts.Facts.{Text}
+use Rattle.ts_core.specs.queries.Fills.{FilledRow, FilledGroup}
+use Rattle.ts_core.specs.facts.Times.{least_time, greatest_time}
+use Rattle.ts_core.specs.facts.TimeUnits.{nanoseconds_of}
+use Rattle.ts_core.specs.declared.aggregates.means.Frac.{Frac}
+use Rattle.ts_core.specs.declared.queries.value.Value.{Value}
+use Rattle.ts_core.specs.declared.queries.value.Value.TheVariants.{Null, Number, Fraction}
 use Rattle.ts_ql.specs.Selects.{Projection, Select}
 use Rattle.ts_reply.specs.declared.epoch.Epoch.{Epoch}
 use Rattle.ts_reply.specs.declared.epoch.Epoch.TheVariants.{Text as AsText, Units}

@@ -3,7 +3,7 @@ use Rattle.std.specs.Prelude.{List, [], ◌∷◌, ◌++◌, codes}
 use Rattle.json.specs.Print.{quoted}
 use Rattle.serde_json.specs.Data.{object, no_members}
 use Rattle.serde_json.specs.Written.{compact_text}
-use Rattle.ts_core.specs.Facts.{Text}
+use Rattle.ts_core.specs.facts.Facts.{Text}
 use Rattle.ts_ql.specs.Selects.{Select}
 use Rattle.ts_reply.specs.Replies.{columns_data, tags_among}
 

@@ -5,7 +5,7 @@ use Rattle.std.specs.Prelude.{◌≡◌, ℤ, ◌++◌, codes}
 use Rattle.jiff.specs.Names.{iso_datetime_text}
 use Rattle.jiff_core.specs.DateTime.{civil_nanos}
 use Rattle.jiff_core.specs.declared.civil.datetime.DateTime.{DateTime}
-use Rattle.ts_core.specs.Facts.{Text}
+use Rattle.ts_core.specs.facts.Facts.{Text}
 
 -- the date and time of day in UTC, followed by Z
 pub record IsTimeText (t : ℤ) (text : Text) : Type 0 where

@@ -1,7 +1,7 @@
 -- Values of outcomes and of given certificates in memory. (Own rules.)
 use Rattle.std.specs.Borrow.{Bor}
 use Rattle.std.specs.Prelude.{Option, option_map, string_bytes}
-use Rattle.ts_core.specs.Facts.{Text}
+use Rattle.ts_core.specs.facts.Facts.{Text}
 use Rattle.ts_reply.specs.declared.reply.Outcome as declared
 use Rattle.ts_reply.specs.declared.reply.Outcome.TheVariants as variants
 use Rattle.ts_reply.specs.Outcomes.{Outcome, Certificate, Fault, rows_outcome}

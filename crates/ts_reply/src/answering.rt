@@ -1,8 +1,8 @@
 //! Answers InfluxQL texts.
 ghost use Rattle.std.specs.Prelude.{◌≡◌, map, IfOk, string_bytes};
-ghost use Rattle.ts_core.specs.Latest.{latest_of};
-ghost use Rattle.ts_core.specs.Pieces.{IsValid};
-ghost use Rattle.ts_core.specs.StoreData.{OfEachHistory, ShowsEach};
+ghost use Rattle.ts_core.specs.facts.Latest.{latest_of};
+ghost use Rattle.ts_core.specs.plans.Pieces.{IsValid};
+ghost use Rattle.ts_core.specs.store.StoreData.{OfEachHistory, ShowsEach};
 ghost use Rattle.ts_reply.specs.Answering.{IsPlannedOutcome, IsChecked, IsCertified, IsOutcome, AreOutcomes, is_of_several, IsReplyTo, IsReply};
 ghost use Rattle.ts_reply.specs.Outcomes.{rows_outcome, rows_over};
 ghost use Rattle.ts_reply.specs.Told.{outcome_view, handed_in};

@@ -1,7 +1,7 @@
 //! Formats times as RFC 3339 in UTC.
 ghost use Rattle.std.specs.Prelude.{◌≡◌, IfOk, string_bytes};
 ghost use Rattle.jiff.specs.Words.{civil_nanos};
-ghost use Rattle.ts_core.specs.Facts.{Text};
+ghost use Rattle.ts_core.specs.facts.Facts.{Text};
 ghost use Rattle.ts_reply.specs.TimeTexts.{IsTimeText};
 
 use jiff::Timestamp;

@@ -1,6 +1,6 @@
 //! Explains InfluxQL texts: returns the plans of their queries.
 ghost use Rattle.std.specs.Prelude.{map, IfOk, string_bytes};
-ghost use Rattle.ts_core.specs.StoreData.{OfEachHistory};
+ghost use Rattle.ts_core.specs.store.StoreData.{OfEachHistory};
 ghost use Rattle.ts_reply.specs.Answering.{AreOutcomes};
 ghost use Rattle.ts_reply.specs.Explaining.{IsExplained, IsExplanation};
 ghost use Rattle.ts_reply.specs.Told.{outcome_view};

@@ -1,8 +1,8 @@
 -- A query that counts in one bucket is matched by the counted facts.
 use Rattle.std.proofs.Common.{◌≡◌, ℤ, ap, List, length, filter, Bool, true, false, ◌&&◌, refl}
-use Rattle.ts_core.specs.Facts.{Text, Fact, is_of, is_within, is_asked}
-use Rattle.ts_core.specs.Queries.{matches}
-use Rattle.ts_core.proofs.AnswersLaws.{filter_same}
+use Rattle.ts_core.specs.facts.Facts.{Text, Fact, is_of, is_within, is_asked}
+use Rattle.ts_core.specs.queries.Queries.{matches}
+use Rattle.ts_core.proofs.queries.AnswersLaws.{filter_same}
 use Rattle.ts_ql.specs.Counting.{count_select}
 
 asked_same : (a w : Bool) → ((a && true) && w) ≡ (a && w)

@@ -1,16 +1,16 @@
 -- The count, and its output.
 use Rattle.std.proofs.Common.{◌≡◌, ◌∙◌, ℕ, ℤ, ◌-ℤ◌, List, length, filter, sym, ap, subst, Result, Ok, Err}
 use Rattle.std.specs.Fmt.{decimal}
-use Rattle.ts_core.specs.Facts.{Text}
-use Rattle.ts_core.specs.History.{History, settings_of}
-use Rattle.ts_core.specs.Latest.{latest_of}
-use Rattle.ts_core.specs.Marks.{Marks, marks_of}
-use Rattle.ts_core.specs.Pieces.{Piece}
-use Rattle.ts_core.specs.Queries.{Query, matches}
-use Rattle.ts_core.specs.Settings.{Settings}
-use Rattle.ts_core.specs.StoreData.{StoreData, state_of, OfEachHistory, ShowsEach}
-use Rattle.ts_core.specs.Views.{seen_of}
-use Rattle.ts_core.specs.FaultTexts.{memory_text}
+use Rattle.ts_core.specs.facts.Facts.{Text}
+use Rattle.ts_core.specs.store.History.{History, settings_of}
+use Rattle.ts_core.specs.facts.Latest.{latest_of}
+use Rattle.ts_core.specs.store.Marks.{Marks, marks_of}
+use Rattle.ts_core.specs.plans.Pieces.{Piece}
+use Rattle.ts_core.specs.queries.Queries.{Query, matches}
+use Rattle.ts_core.specs.settings.Settings.{Settings}
+use Rattle.ts_core.specs.store.StoreData.{StoreData, state_of, OfEachHistory, ShowsEach}
+use Rattle.ts_core.specs.store.Views.{seen_of}
+use Rattle.ts_core.specs.text.FaultTexts.{memory_text}
 use Rattle.ts_check.specs.Checks.{Plan}
 use Rattle.ts_exec.specs.Executions.{IsPointCount}
 use Rattle.ts_plan.specs.Planning.{IsPlanFor}

@@ -2,7 +2,7 @@
 use Rattle.std.proofs.Common.{◌≡◌, ◌≢◌, cond, ℕ, zero, suc, ◌+◌, ◌<◌, ◌≤◌, slice_index, List, [], ◌∷◌, ◌++◌, length, drop, Bool, true, false, Option, Some, None, refl, sym, ap, ◌∙◌, append_assoc, append-nil, arith, IfSome, subst, not}
 use Rattle.std.proofs.lemmas.Bool.Decides.{nat_tests}
 use Rattle.std.specs.Io.KnownBytes.{Consumes, prepend_known, Keeps, IsAtEnd}
-use Rattle.ts_core.specs.Devices.{Input}
+use Rattle.ts_core.specs.io.Devices.{Input}
 use Rattle.ts_script.specs.ScriptLines.{onto_first, lines_of, script_line_limit}
 use Rattle.ts_script.specs.HeldLine.{HeldLine}
 use Rattle.memchr.specs.Find.{Nowhere, Passes, is_byte}

@@ -2,26 +2,26 @@
 use Rattle.std.proofs.Common.{◌≡◌, ◌⊎◌, ⊎_elim, List, ℕ, ℤ, ◌<ℤ◌, ◌≤ℤ◌, ◌≤◌, [], length, codes, sym, ap, ◌∙◌, subst, Bool, true, false, IsTrue, Option, Some, None, Result, Ok, Err, OnOk, OnErr, IsErr, ◌↔◌, IfOk, is_err, zero, suc, ◌∷◌, true≢false, IfSome, IsNone, inl, inr, refl}
 use Rattle.std.specs.Fmt.{decimal}
 use Rattle.std.specs.Str.{IsUtf8}
-use Rattle.ts_core.specs.Facts.{Text}
-use Rattle.ts_core.specs.Settings.{Settings}
-use Rattle.ts_core.specs.SettingsFaults.{settings_fault_text}
-use Rattle.ts_core.specs.SettingsTexts.{settings_read}
-use Rattle.ts_core.specs.declared.settings_fault.SettingsFault.{SettingsFault}
-use Rattle.ts_core.specs.StoreData.{StoreData, OfEachHistory, GoesOn, state_of}
-use Rattle.ts_core.specs.StoreMoves.{run_begun}
-use Rattle.ts_core.specs.Marks.{Marks, marks_of}
-use Rattle.ts_core.specs.StoreStates.{StandsFor}
-use Rattle.ts_core.specs.History.{History, Begin, Step as StepEvent, IsRunOpen}
-use Rattle.ts_store.specs.LineTexts.{State as StoreState, IsIn as IsStoreIn, opened as opened_store, parts_in, WritesFrom}
-use Rattle.ts_store.specs.Inventories.{Inventory, inventory_of, new_inventory, all_waiting, facts_of_text, GrowsAfter, steps_in, StepsTo, LeavesRecent}
-use Rattle.ts_store.specs.PointsRead.{all_raw}
-use Rattle.ts_store.specs.StoreFaultTexts.{run_in_progress_text}
-use Rattle.ts_store.specs.WholeRuns.{steps_taken, whole_run, TakesStep, Retains}
+use Rattle.ts_core.specs.facts.Facts.{Text}
+use Rattle.ts_core.specs.settings.Settings.{Settings}
+use Rattle.ts_core.specs.settings.SettingsFaults.{settings_fault_text}
+use Rattle.ts_core.specs.settings.SettingsTexts.{settings_read}
+use Rattle.ts_core.specs.declared.settings.settings_fault.SettingsFault.{SettingsFault}
+use Rattle.ts_core.specs.store.StoreData.{StoreData, OfEachHistory, GoesOn, state_of}
+use Rattle.ts_core.specs.moves.StoreMoves.{run_begun}
+use Rattle.ts_core.specs.store.Marks.{Marks, marks_of}
+use Rattle.ts_core.specs.store.StoreStates.{StandsFor}
+use Rattle.ts_core.specs.store.History.{History, Begin, Step as StepEvent, IsRunOpen}
+use Rattle.ts_store.specs.write.LineTexts.{State as StoreState, IsIn as IsStoreIn, opened as opened_store, parts_in, WritesFrom}
+use Rattle.ts_store.specs.store.Inventories.{Inventory, inventory_of, new_inventory, all_waiting, facts_of_text, GrowsAfter, steps_in, StepsTo, LeavesRecent}
+use Rattle.ts_store.specs.read.PointsRead.{all_raw}
+use Rattle.ts_store.specs.write.StoreFaultTexts.{run_in_progress_text}
+use Rattle.ts_store.specs.retain.WholeRuns.{steps_taken, whole_run, TakesStep, Retains}
 use Rattle.ts_store.specs.declared.store.retention.StepAnswer.{StepAnswer}
 use Rattle.ts_store.specs.declared.store.retention.StepAnswer.TheVariants.{Moved, Done}
-use Rattle.ts_store.specs.declared.write_text.LineOutcome.{LineOutcome}
-use Rattle.ts_core.specs.declared.time_unit.TimeUnit.{TimeUnit}
-use Rattle.ts_core.specs.FaultTexts.{memory_text}
+use Rattle.ts_store.specs.declared.write.write_text.LineOutcome.{LineOutcome}
+use Rattle.ts_core.specs.declared.facts.time_unit.TimeUnit.{TimeUnit}
+use Rattle.ts_core.specs.text.FaultTexts.{memory_text}
 use Rattle.ts_reply.specs.Answering.{IsReply}
 use Rattle.ts_reply.specs.Explaining.{IsExplanation}
 use Rattle.ts_reply.specs.declared.epoch.Epoch.{Epoch}

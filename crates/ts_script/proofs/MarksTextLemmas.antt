@@ -1,10 +1,10 @@
 -- The text of marks, and how long it is.
 use Rattle.std.proofs.Common.{◌≡◌, ◌∙◌, ◌≤◌, ◌++◌, List, ◌∷◌, ℕ, ℤ, length, append_assoc, Result, Ok, Err, OnOk, arith, ap, sym, subst}
 use Rattle.std.specs.List.{AllByRecursion}
-use Rattle.ts_core.specs.Facts.{Text}
-use Rattle.ts_core.specs.Marks.{Marks}
-use Rattle.ts_core.specs.Settings.{Rule, Settings}
-use Rattle.ts_store.proofs.ShortNames.{HasShortName}
+use Rattle.ts_core.specs.facts.Facts.{Text}
+use Rattle.ts_core.specs.store.Marks.{Marks}
+use Rattle.ts_core.specs.settings.Settings.{Rule, Settings}
+use Rattle.ts_store.proofs.rules.ShortNames.{HasShortName}
 use Rattle.ts_script.specs.MarksTexts.{low_text, lows_text, raw_text, marks_text}
 
 -- a rule's, and then those of the others

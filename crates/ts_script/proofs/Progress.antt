@@ -4,18 +4,18 @@ use Rattle.std.specs.List.{concat}
 use Rattle.std.specs.Io.KnownBytes.{prepend_known}
 use Rattle.std.proofs.KnownBytes.{Appends-nil}
 use Rattle.std.proofs.lemmas.List.Folds.{concat-append}
-use Rattle.ts_core.specs.Facts.{Text}
-use Rattle.ts_core.specs.Devices.{AppendsFront}
-use Rattle.ts_core.specs.OutputBuffering.{AreWrittenBut}
-use Rattle.ts_core.proofs.OutputBufferLemmas.{two_puts, second_refused, all_written}
+use Rattle.ts_core.specs.facts.Facts.{Text}
+use Rattle.ts_core.specs.io.Devices.{AppendsFront}
+use Rattle.ts_core.specs.io.OutputBuffering.{AreWrittenBut}
+use Rattle.ts_core.proofs.io.OutputBufferLemmas.{two_puts, second_refused, all_written}
 use Rattle.ts_script.specs.ScriptLines.{lines_of}
 use Rattle.ts_script.specs.LineReading.{NextOf}
 use Rattle.ts_script.specs.Machine.{State, start, Step, Prints}
 use Rattle.ts_script.specs.Serving.{Serving, IsIn, IsAnswered}
 use Rattle.ts_script.specs.Script.{AnswersAll, AnswersSome}
-use Rattle.ts_core.specs.ReadingAhead.{one_if_device}
-use Rattle.ts_core.specs.declared.read_ahead.ReadFault.{ReadFault}
-use Rattle.ts_core.specs.declared.read_ahead.ReadFault.TheVariants as read
+use Rattle.ts_core.specs.io.ReadingAhead.{one_if_device}
+use Rattle.ts_core.specs.declared.io.read_ahead.ReadFault.{ReadFault}
+use Rattle.ts_core.specs.declared.io.read_ahead.ReadFault.TheVariants as read
 use Rattle.ts_script.specs.RunFaults.{fault_of_read, one_if_reader, one_if_writer}
 use Rattle.ts_script.specs.declared.run_fault.RunFault.{RunFault}
 use Rattle.ts_script.specs.declared.run_fault.RunFault.TheVariants.{OutOfMemory, Writer}

@@ -1,7 +1,7 @@
 -- A store that stands for a history is reloaded, unless out of memory.
 use Rattle.std.proofs.Common.{◌≡◌, List, ℕ, Option, Some, IfSome, refl, sym, subst}
-use Rattle.ts_core.specs.Devices.{Input}
-use Rattle.ts_core.specs.StoreData.{StoreData, OfEachHistory}
+use Rattle.ts_core.specs.io.Devices.{Input}
+use Rattle.ts_core.specs.store.StoreData.{StoreData, OfEachHistory}
 use Rattle.ts_image.specs.declared.load_fault.LoadFault.{LoadFault}
 use Rattle.ts_image.specs.declared.load_fault.LoadFault.TheVariants as loading
 use Rattle.ts_image.specs.declared.save_fault.SaveFault.{SaveFault}

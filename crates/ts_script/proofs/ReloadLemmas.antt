@@ -4,19 +4,19 @@ use Rattle.std.specs.FinMap as finmap
 use Rattle.std.specs.List.{AllByRecursion}
 use Rattle.std.proofs.lemmas.Bool.{and_parts}
 use Rattle.std.proofs.lemmas.Option.{same_Some, get_or_from_slice_get}
-use Rattle.ts_core.specs.Members.{Among, AllDistinct}
-use Rattle.ts_core.specs.Numbered.{IsAt}
-use Rattle.ts_core.specs.Facts.{Series, Column, Fact}
-use Rattle.ts_core.specs.Settings.{Rule, Settings}
-use Rattle.ts_core.specs.History.{History}
-use Rattle.ts_core.specs.Latest.{latest_of}
-use Rattle.ts_core.specs.RawFacts.{is_waiting, kept_from}
-use Rattle.ts_core.specs.Cells.{Cell, is_in_cell, cell_of, is_rolled, same_cell}
-use Rattle.ts_core.specs.ReadingAhead.{bit}
-use Rattle.ts_core.specs.StoreStates.{ColumnPoints, StandsFor, HasCells, column_of}
-use Rattle.ts_core.specs.StoreData.{CellMap, StoreData, rule_cells, rules_of, state_of}
-use Rattle.ts_store.specs.Saving.{SavedColumn, SavedSeries, saved_key, SavesColumns, SavesSeries}
-use Rattle.ts_store.specs.Seats.{no_points}
+use Rattle.ts_core.specs.lists.Members.{Among, AllDistinct}
+use Rattle.ts_core.specs.lists.Numbered.{IsAt}
+use Rattle.ts_core.specs.facts.Facts.{Series, Column, Fact}
+use Rattle.ts_core.specs.settings.Settings.{Rule, Settings}
+use Rattle.ts_core.specs.store.History.{History}
+use Rattle.ts_core.specs.facts.Latest.{latest_of}
+use Rattle.ts_core.specs.store.RawFacts.{is_waiting, kept_from}
+use Rattle.ts_core.specs.store.Cells.{Cell, is_in_cell, cell_of, is_rolled, same_cell}
+use Rattle.ts_core.specs.io.ReadingAhead.{bit}
+use Rattle.ts_core.specs.store.StoreStates.{ColumnPoints, StandsFor, HasCells, column_of}
+use Rattle.ts_core.specs.store.StoreData.{CellMap, StoreData, rule_cells, rules_of, state_of}
+use Rattle.ts_store.specs.image.Saving.{SavedColumn, SavedSeries, saved_key, SavesColumns, SavesSeries}
+use Rattle.ts_store.specs.read.Seats.{no_points}
 use Rattle.ts_image.specs.Images.{ImageColumn, ImageSeries}
 use Rattle.ts_image.specs.Pictures.{points_in, column_in, columns_in, waiting_in}
 use Rattle.ts_image.specs.Saving.{column_at, image_column_of, image_series_of}

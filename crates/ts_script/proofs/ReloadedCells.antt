@@ -6,23 +6,23 @@ use Rattle.std.specs.List.{AllByRecursion}
 use Rattle.std.proofs.lemmas.Bool.{and_parts, and_from}
 use Rattle.std.proofs.lemmas.List.{length-map}
 use Rattle.std.proofs.lemmas.Option.{same_Some, get_or_from_slice_get}
-use Rattle.ts_core.specs.Members.{Among, AllDistinct}
-use Rattle.ts_core.specs.Numbered.{IsAt}
-use Rattle.ts_core.specs.Facts.{Column, Fact}
-use Rattle.ts_core.specs.Settings.{Rule, Settings}
-use Rattle.ts_core.specs.Marks.{Marks}
-use Rattle.ts_core.specs.History.{History}
-use Rattle.ts_core.specs.Latest.{latest_of}
-use Rattle.ts_core.specs.RawFacts.{kept_from, same_column, is_kept}
-use Rattle.ts_core.specs.Cells.{Cell, is_in_cell, cell_of, is_rolled, same_cell}
-use Rattle.ts_core.specs.StoreStates.{ColumnPoints, RuleCells, StandsFor, HasCells, facts_of}
-use Rattle.ts_core.specs.StoreData.{CellMap, StoreData, rule_cells, rules_of, state_of}
-use Rattle.ts_core.proofs.MembersLemmas.{Among-filter_was}
-use Rattle.ts_core.proofs.MovesStand.{key_not}
-use Rattle.ts_core.proofs.PieceCells.{same_cell-eq, same_cell-refl}
-use Rattle.ts_store.specs.LinesPut.{IsOfFacts, PutsCells}
-use Rattle.ts_store.specs.Inventories.{AreFilled, OfRules}
-use Rattle.ts_store.specs.Saving.{SavedSeries}
+use Rattle.ts_core.specs.lists.Members.{Among, AllDistinct}
+use Rattle.ts_core.specs.lists.Numbered.{IsAt}
+use Rattle.ts_core.specs.facts.Facts.{Column, Fact}
+use Rattle.ts_core.specs.settings.Settings.{Rule, Settings}
+use Rattle.ts_core.specs.store.Marks.{Marks}
+use Rattle.ts_core.specs.store.History.{History}
+use Rattle.ts_core.specs.facts.Latest.{latest_of}
+use Rattle.ts_core.specs.store.RawFacts.{kept_from, same_column, is_kept}
+use Rattle.ts_core.specs.store.Cells.{Cell, is_in_cell, cell_of, is_rolled, same_cell}
+use Rattle.ts_core.specs.store.StoreStates.{ColumnPoints, RuleCells, StandsFor, HasCells, facts_of}
+use Rattle.ts_core.specs.store.StoreData.{CellMap, StoreData, rule_cells, rules_of, state_of}
+use Rattle.ts_core.proofs.lists.MembersLemmas.{Among-filter_was}
+use Rattle.ts_core.proofs.moves.MovesStand.{key_not}
+use Rattle.ts_core.proofs.plans.PieceCells.{same_cell-eq, same_cell-refl}
+use Rattle.ts_store.specs.write.LinesPut.{IsOfFacts, PutsCells}
+use Rattle.ts_store.specs.store.Inventories.{AreFilled, OfRules}
+use Rattle.ts_store.specs.image.Saving.{SavedSeries}
 use Rattle.ts_image.specs.Images.{ImageCell}
 use Rattle.ts_image.specs.ImageTests.{settings_in}
 use Rattle.ts_image.specs.Pictures.{columns_in}

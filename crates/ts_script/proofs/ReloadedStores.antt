@@ -1,18 +1,18 @@
 -- A store that is loaded from the image of another stands for its history, and the machine's state is the reloaded one.
 use Rattle.std.proofs.Common.{◌≡◌, List, [], ◌∷◌, ℕ, map, filter, Option, Some, IfSome, refl, sym, ◌∙◌, ap, subst}
-use Rattle.ts_core.specs.Facts.{Text, Series, Column}
-use Rattle.ts_core.specs.Settings.{Settings}
-use Rattle.ts_core.specs.Marks.{Marks}
-use Rattle.ts_core.specs.History.{History}
-use Rattle.ts_core.specs.RawFacts.{is_waiting}
-use Rattle.ts_core.specs.FaultTexts.{memory_text}
-use Rattle.ts_core.specs.StoreStates.{ColumnPoints, StandsFor, column_of}
-use Rattle.ts_core.specs.StoreData.{StoreData, state_of}
-use Rattle.ts_core.specs.Devices.{Input}
-use Rattle.ts_store.specs.LineTexts.{with_series}
-use Rattle.ts_store.specs.SizedStores.{IsSized}
-use Rattle.ts_store.specs.Inventories.{Inventory, inventory_of}
-use Rattle.ts_store.specs.Saving.{SavedSeries, saved_key}
+use Rattle.ts_core.specs.facts.Facts.{Text, Series, Column}
+use Rattle.ts_core.specs.settings.Settings.{Settings}
+use Rattle.ts_core.specs.store.Marks.{Marks}
+use Rattle.ts_core.specs.store.History.{History}
+use Rattle.ts_core.specs.store.RawFacts.{is_waiting}
+use Rattle.ts_core.specs.text.FaultTexts.{memory_text}
+use Rattle.ts_core.specs.store.StoreStates.{ColumnPoints, StandsFor, column_of}
+use Rattle.ts_core.specs.store.StoreData.{StoreData, state_of}
+use Rattle.ts_core.specs.io.Devices.{Input}
+use Rattle.ts_store.specs.write.LineTexts.{with_series}
+use Rattle.ts_store.specs.store.SizedStores.{IsSized}
+use Rattle.ts_store.specs.store.Inventories.{Inventory, inventory_of}
+use Rattle.ts_store.specs.image.Saving.{SavedSeries, saved_key}
 use Rattle.ts_image.specs.declared.version.Version.TheVariants.{V2}
 use Rattle.ts_image.specs.Images.{ImageData, image, image_text}
 use Rattle.ts_image.specs.Saving.{image_of, image_series_of}

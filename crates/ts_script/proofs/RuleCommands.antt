@@ -1,18 +1,18 @@
 -- Commands that add and drop rules, in whatever state the machine is.
 use Rattle.std.proofs.Common.{◌≡◌, ◌⊎◌, ◌↔◌, ℤ, Bool, true, false, true≢false, refl, sym, ◌∙◌, subst, Result, Ok, Err, IsErr, is_err, inl, inr}
-use Rattle.ts_core.specs.Facts.{Text}
-use Rattle.ts_core.specs.FaultTexts.{memory_text}
-use Rattle.ts_core.specs.Settings.{Rule, Settings, is_unnamed}
-use Rattle.ts_core.specs.SettingsFaults.{is_named, settings_fault_text, unknown_rule_text}
-use Rattle.ts_core.specs.declared.settings_fault.SettingsFault.{SettingsFault}
-use Rattle.ts_core.specs.RuleMoves.{kept_beside}
-use Rattle.ts_core.specs.StoreData.{StoreData}
-use Rattle.ts_store.specs.Inventories.{Inventory, inventory_of}
-use Rattle.ts_store.specs.PointsRead.{all_raw}
-use Rattle.ts_store.specs.RulesChanged.{GainsRule, RuleGoes, DropsRule}
-use Rattle.ts_store.specs.RuleTexts.{rule_for, settings_in, low_in, with_rule_added, TextComes}
-use Rattle.ts_store.specs.declared.rule_text.AddedRule.{AddedRule}
-use Rattle.ts_store.proofs.RuleStates.{rule_came, rule_went, rule_gained}
+use Rattle.ts_core.specs.facts.Facts.{Text}
+use Rattle.ts_core.specs.text.FaultTexts.{memory_text}
+use Rattle.ts_core.specs.settings.Settings.{Rule, Settings, is_unnamed}
+use Rattle.ts_core.specs.settings.SettingsFaults.{is_named, settings_fault_text, unknown_rule_text}
+use Rattle.ts_core.specs.declared.settings.settings_fault.SettingsFault.{SettingsFault}
+use Rattle.ts_core.specs.moves.RuleMoves.{kept_beside}
+use Rattle.ts_core.specs.store.StoreData.{StoreData}
+use Rattle.ts_store.specs.store.Inventories.{Inventory, inventory_of}
+use Rattle.ts_store.specs.read.PointsRead.{all_raw}
+use Rattle.ts_store.specs.rules.RulesChanged.{GainsRule, RuleGoes, DropsRule}
+use Rattle.ts_store.specs.rules.RuleTexts.{rule_for, settings_in, low_in, with_rule_added, TextComes}
+use Rattle.ts_store.specs.declared.rules.rule_text.AddedRule.{AddedRule}
+use Rattle.ts_store.proofs.rules.RuleStates.{rule_came, rule_went, rule_gained}
 use Rattle.ts_script.specs.Commands.{AddRule, DropRule}
 use Rattle.ts_script.specs.Machine.{State, with_store, Gains, without_rule, Does, adds, refuses_rule, adds_no_memory, drops, refuses_drop}
 use Rattle.ts_script.specs.MarksTexts.{rule_text}

@@ -1,10 +1,10 @@
 -- The commands of a script, and their lines. (Own rule.)
 use Rattle.std.specs.Prelude.{ℕ, ℤ, pos, length, drop, Bool, not, ◌&&◌, ◌||◌, ◌==◌, nat_eq, if◌then◌else◌, Option, Some, None, codes}
 use Rattle.std.specs.List.{list_all, starts_with, before_first, after_first}
-use Rattle.ts_core.specs.Facts.{Text, same_text}
-use Rattle.ts_core.specs.Numbers.{is_number}
-use Rattle.ts_core.specs.TimeUnits.{precision_of}
-use Rattle.ts_core.specs.declared.time_unit.TimeUnit.{TimeUnit}
+use Rattle.ts_core.specs.facts.Facts.{Text, same_text}
+use Rattle.ts_core.specs.text.Numbers.{is_number}
+use Rattle.ts_core.specs.facts.TimeUnits.{precision_of}
+use Rattle.ts_core.specs.declared.facts.time_unit.TimeUnit.{TimeUnit}
 use Rattle.ts_reply.specs.Epochs.{epoch_of}
 use Rattle.ts_reply.specs.declared.epoch.Epoch.{Epoch}
 use Rattle.ts_script.specs.Moments.{moment_in, moment_of}

@@ -1,11 +1,11 @@
 -- Results of a counting query. (Own rule.)
 use Rattle.std.specs.Prelude.{◌≡◌, ℕ, List, length, filter, Result, Ok, Err, ⊤}
-use Rattle.ts_core.specs.History.{History, settings_of}
-use Rattle.ts_core.specs.Latest.{latest_of}
-use Rattle.ts_core.specs.Marks.{marks_of}
-use Rattle.ts_core.specs.Pieces.{Piece}
-use Rattle.ts_core.specs.Queries.{Query, matches}
-use Rattle.ts_core.specs.Settings.{Settings}
+use Rattle.ts_core.specs.store.History.{History, settings_of}
+use Rattle.ts_core.specs.facts.Latest.{latest_of}
+use Rattle.ts_core.specs.store.Marks.{marks_of}
+use Rattle.ts_core.specs.plans.Pieces.{Piece}
+use Rattle.ts_core.specs.queries.Queries.{Query, matches}
+use Rattle.ts_core.specs.settings.Settings.{Settings}
 use Rattle.ts_plan.specs.Planning.{IsPlanFor}
 use Rattle.ts_plan.specs.declared.fault.PlanError.{PlanError}
 use Rattle.ts_plan.specs.declared.fault.PlanError.TheVariants as errors

@@ -1,6 +1,6 @@
 -- The state of a line reader. (Own rule.)
 use Rattle.std.specs.Prelude.{ℕ, List, Bool, Option, Some, None, slice_range}
-use Rattle.ts_core.specs.ReadingAhead.{Ahead}
+use Rattle.ts_core.specs.io.ReadingAhead.{Ahead}
 
 -- the read buffer, the line so far, and whether it is too long and so skipped
 pub record HeldLine : Type 0 where

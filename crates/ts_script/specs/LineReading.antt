@@ -1,10 +1,10 @@
 -- A line reader, by its read buffer and the line so far. (Own rule.)
 use Rattle.std.specs.Prelude.{◌≡◌, ◌≢◌, ◌↔◌, ℕ, ◌+◌, ◌≤◌, ◌<◌, List, [], ◌∷◌, ◌++◌, length, take, drop, Bool, true, false, not, IsTrue, Option, Some, IfSome, Result, Err, IfOk, OnOk, OnErr, ◌==◌, if◌then◌else◌}
 use Rattle.std.specs.Io.KnownBytes.{Keeps}
-use Rattle.ts_core.specs.Devices.{Input}
-use Rattle.ts_core.specs.ReadingAhead.{Ahead, pending, EndIsEnd, bit, one_if_device, weight}
-use Rattle.ts_core.specs.declared.read_ahead.ReadFault.{ReadFault}
-use Rattle.ts_core.specs.declared.read_ahead.ReadFault.TheVariants.{Turns}
+use Rattle.ts_core.specs.io.Devices.{Input}
+use Rattle.ts_core.specs.io.ReadingAhead.{Ahead, pending, EndIsEnd, bit, one_if_device, weight}
+use Rattle.ts_core.specs.declared.io.read_ahead.ReadFault.{ReadFault}
+use Rattle.ts_core.specs.declared.io.read_ahead.ReadFault.TheVariants.{Turns}
 use Rattle.ts_script.specs.ScriptLines.{lines_of, script_line_limit}
 use Rattle.ts_script.specs.declared.line_reader.Next.{Next}
 use Rattle.ts_script.specs.declared.line_reader.Next.TheVariants.{Line, TooLong, End}

@@ -2,19 +2,19 @@
 use Rattle.std.specs.Prelude.{◌≡◌, ℕ, ℤ, pos, ◌-ℤ◌, ◌≤ℤ◌, ◌<ℤ◌, ◌+◌, ◌<◌, ◌≤◌, Bool, true, false, List, [], ◌∷◌, length, codes, Option, Some, None, Result, Ok, Err}
 use Rattle.std.specs.Fmt.{decimal}
 use Rattle.std.specs.Str.{IsUtf8}
-use Rattle.ts_core.specs.Facts.{Text, Series, Fact}
-use Rattle.ts_core.specs.Settings.{Rule, Settings, open_settings, is_unnamed}
-use Rattle.ts_core.specs.SettingsFaults.{is_named, settings_fault_text, unknown_rule_text}
-use Rattle.ts_core.specs.SettingsTexts.{settings_read}
-use Rattle.ts_core.specs.declared.settings_fault.SettingsFault.{SettingsFault}
-use Rattle.ts_core.specs.History.{History, Begin, Step as StepEvent, settings_of, IsRunOpen}
-use Rattle.ts_core.specs.Latest.{count_of}
-use Rattle.ts_core.specs.Marks.{marks_of}
-use Rattle.ts_core.specs.Pieces.{Piece}
-use Rattle.ts_core.specs.RuleMoves.{kept_beside}
-use Rattle.ts_core.specs.declared.time_unit.TimeUnit.{TimeUnit}
-use Rattle.ts_core.specs.declared.time_unit.TimeUnit.TheVariants.{Nanoseconds}
-use Rattle.ts_core.specs.FaultTexts.{memory_text}
+use Rattle.ts_core.specs.facts.Facts.{Text, Series, Fact}
+use Rattle.ts_core.specs.settings.Settings.{Rule, Settings, open_settings, is_unnamed}
+use Rattle.ts_core.specs.settings.SettingsFaults.{is_named, settings_fault_text, unknown_rule_text}
+use Rattle.ts_core.specs.settings.SettingsTexts.{settings_read}
+use Rattle.ts_core.specs.declared.settings.settings_fault.SettingsFault.{SettingsFault}
+use Rattle.ts_core.specs.store.History.{History, Begin, Step as StepEvent, settings_of, IsRunOpen}
+use Rattle.ts_core.specs.facts.Latest.{count_of}
+use Rattle.ts_core.specs.store.Marks.{marks_of}
+use Rattle.ts_core.specs.plans.Pieces.{Piece}
+use Rattle.ts_core.specs.moves.RuleMoves.{kept_beside}
+use Rattle.ts_core.specs.declared.facts.time_unit.TimeUnit.{TimeUnit}
+use Rattle.ts_core.specs.declared.facts.time_unit.TimeUnit.TheVariants.{Nanoseconds}
+use Rattle.ts_core.specs.text.FaultTexts.{memory_text}
 use Rattle.ts_plan.specs.Planning.{IsPlanFor}
 use Rattle.ts_plan.specs.PlanTexts.{plan_fault_text}
 use Rattle.ts_plan.specs.declared.fault.PlanError.{PlanError}
@@ -25,16 +25,16 @@ use Rattle.ts_reply.specs.Answering.{IsReply}
 use Rattle.ts_reply.specs.Explaining.{IsExplanation}
 use Rattle.ts_reply.specs.declared.epoch.Epoch.{Epoch}
 use Rattle.ts_reply.specs.declared.epoch.Epoch.TheVariants as epochs
-use Rattle.ts_store.specs.LineTexts.{State as StoreState, opened as opened_store, parts_in, with_series, WritesText, RunsOutOfMemory}
-use Rattle.ts_store.specs.Inventories.{Inventory, new_inventory, all_waiting, facts_of_text, GrowsBy, GrowsInPart, steps_in, StepsTo, LeavesRecent}
-use Rattle.ts_store.specs.PointsRead.{all_raw}
-use Rattle.ts_store.specs.RulesChanged.{GainsRule}
-use Rattle.ts_store.specs.RuleTexts.{rule_for, settings_in, low_in, with_rule_added, with_rule_dropped}
-use Rattle.ts_store.specs.StoreFaultTexts.{run_in_progress_text}
-use Rattle.ts_store.specs.WholeRuns.{whole_run}
+use Rattle.ts_store.specs.write.LineTexts.{State as StoreState, opened as opened_store, parts_in, with_series, WritesText, RunsOutOfMemory}
+use Rattle.ts_store.specs.store.Inventories.{Inventory, new_inventory, all_waiting, facts_of_text, GrowsBy, GrowsInPart, steps_in, StepsTo, LeavesRecent}
+use Rattle.ts_store.specs.read.PointsRead.{all_raw}
+use Rattle.ts_store.specs.rules.RulesChanged.{GainsRule}
+use Rattle.ts_store.specs.rules.RuleTexts.{rule_for, settings_in, low_in, with_rule_added, with_rule_dropped}
+use Rattle.ts_store.specs.write.StoreFaultTexts.{run_in_progress_text}
+use Rattle.ts_store.specs.retain.WholeRuns.{whole_run}
 use Rattle.ts_store.specs.declared.store.retention.StepAnswer.{StepAnswer}
 use Rattle.ts_store.specs.declared.store.retention.StepAnswer.TheVariants.{Moved, Done}
-use Rattle.ts_store.specs.declared.write_text.LineOutcome.{LineOutcome}
+use Rattle.ts_store.specs.declared.write.write_text.LineOutcome.{LineOutcome}
 use Rattle.ts_script.specs.Reloads.{Reloaded}
 use Rattle.ts_script.specs.ScriptLines.{script_line_limit}
 use Rattle.ts_script.specs.ScriptCertificates.{with_line_feeds}

@@ -1,9 +1,9 @@
 -- Marks as a script prints them. (Own rule.)
 use Rattle.std.specs.Prelude.{◌≡◌, ◌+◌, ◌≤◌, ℕ, ℤ, List, [], ◌∷◌, ◌++◌, codes, Result, IsOk, OnOk, String, string_bytes, string_len, string_capacity}
 use Rattle.std.specs.Fmt.{signed_decimal}
-use Rattle.ts_core.specs.Facts.{Text}
-use Rattle.ts_core.specs.Marks.{Marks}
-use Rattle.ts_core.specs.Settings.{Rule, Settings}
+use Rattle.ts_core.specs.facts.Facts.{Text}
+use Rattle.ts_core.specs.store.Marks.{Marks}
+use Rattle.ts_core.specs.settings.Settings.{Rule, Settings}
 
 -- a rule's name and its low index
 abbrev pub rule_text : Text → ℤ → Text

@@ -2,9 +2,9 @@
 use Rattle.std.specs.Prelude.{ℕ, ℤ, take, drop, not, ◌||◌, ◌==◌, if◌then◌else◌, Option, None, option_and_then}
 use Rattle.std.specs.Char.{is_ascii_digit}
 use Rattle.std.specs.List.{position_or_len}
-use Rattle.ts_core.specs.Facts.{Text}
-use Rattle.ts_core.specs.TimeUnits.{nanoseconds_of, moment_unit_of}
-use Rattle.ts_core.specs.Numbers.{is_number}
+use Rattle.ts_core.specs.facts.Facts.{Text}
+use Rattle.ts_core.specs.facts.TimeUnits.{nanoseconds_of, moment_unit_of}
+use Rattle.ts_core.specs.text.Numbers.{is_number}
 use Rattle.ts_line.specs.Lines.{time_of}
 
 -- the time of a number of units, if it is valid; the unit is in nanoseconds

@@ -1,8 +1,8 @@
 -- The effect of saving a store and loading it back. (Own rules.)
 use Rattle.std.specs.Prelude.{◌≡◌, ℕ, List}
-use Rattle.ts_core.specs.StoreData.{StoreData}
-use Rattle.ts_store.specs.Saving.{SavedSeries}
-use Rattle.ts_store.specs.SizedStores.{IsSized}
+use Rattle.ts_core.specs.store.StoreData.{StoreData}
+use Rattle.ts_store.specs.image.Saving.{SavedSeries}
+use Rattle.ts_store.specs.store.SizedStores.{IsSized}
 use Rattle.ts_image.specs.declared.load_fault.LoadFault.{LoadFault}
 use Rattle.ts_image.specs.declared.load_fault.LoadFault.TheVariants as loading
 use Rattle.ts_image.specs.declared.save_fault.SaveFault.{SaveFault}

@@ -1,12 +1,12 @@
 -- A store that was saved and loaded back: what its series, columns and cells are then. (Own rules.)
 use Rattle.std.specs.Prelude.{◌≡◌, ℤ, List, [], ◌∷◌, ◌++◌, map, filter}
-use Rattle.ts_core.specs.Facts.{Series, Column}
-use Rattle.ts_core.specs.Settings.{Rule}
-use Rattle.ts_core.specs.History.{History}
-use Rattle.ts_core.specs.Latest.{latest_of}
-use Rattle.ts_core.specs.RawFacts.{is_waiting}
-use Rattle.ts_store.specs.Inventories.{Inventory, AreFilled, OfRules}
-use Rattle.ts_store.specs.Saving.{SavedColumn, SavedSeries, saved_key, SavesSeries}
+use Rattle.ts_core.specs.facts.Facts.{Series, Column}
+use Rattle.ts_core.specs.settings.Settings.{Rule}
+use Rattle.ts_core.specs.store.History.{History}
+use Rattle.ts_core.specs.facts.Latest.{latest_of}
+use Rattle.ts_core.specs.store.RawFacts.{is_waiting}
+use Rattle.ts_store.specs.store.Inventories.{Inventory, AreFilled, OfRules}
+use Rattle.ts_store.specs.image.Saving.{SavedColumn, SavedSeries, saved_key, SavesSeries}
 
 abbrev pub column_named : Series → SavedColumn → Column
 column_named s x = record { series = s; field = x.field }

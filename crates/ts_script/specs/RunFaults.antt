@@ -1,11 +1,11 @@
 -- The errors of a run: their messages, and the device that each belongs to. (Own rule.)
 use Rattle.std.specs.Prelude.{ℕ, Result, Ok, Err}
-use Rattle.ts_core.specs.Facts.{Text}
-use Rattle.ts_core.specs.FaultTexts.{fault_text, memory_text}
-use Rattle.ts_core.specs.declared.fault_code.FaultCode.TheVariants as code
-use Rattle.ts_core.specs.declared.fault_text.FaultDetail.TheVariants.{Alone}
-use Rattle.ts_core.specs.declared.read_ahead.ReadFault.{ReadFault}
-use Rattle.ts_core.specs.declared.read_ahead.ReadFault.TheVariants as read
+use Rattle.ts_core.specs.facts.Facts.{Text}
+use Rattle.ts_core.specs.text.FaultTexts.{fault_text, memory_text}
+use Rattle.ts_core.specs.declared.text.fault_code.FaultCode.TheVariants as code
+use Rattle.ts_core.specs.declared.text.fault_text.FaultDetail.TheVariants.{Alone}
+use Rattle.ts_core.specs.declared.io.read_ahead.ReadFault.{ReadFault}
+use Rattle.ts_core.specs.declared.io.read_ahead.ReadFault.TheVariants as read
 use Rattle.ts_script.specs.declared.run_fault.RunFault.{RunFault}
 use Rattle.ts_script.specs.declared.run_fault.RunFault.TheVariants.{OutOfMemory, Reader, Writer, Turns}
 

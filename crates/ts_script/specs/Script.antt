@@ -2,8 +2,8 @@
 use Rattle.std.specs.Prelude.{◌≡◌, ℕ, ◌+◌, ◌≤◌, List, ◌++◌, Option, IfSome, Result, Err, OnOk, OnErr}
 use Rattle.std.specs.List.{concat}
 use Rattle.std.specs.Io.KnownBytes.{Appends}
-use Rattle.ts_core.specs.Facts.{Text}
-use Rattle.ts_core.specs.Devices.{Input, Output, AppendsFront}
+use Rattle.ts_core.specs.facts.Facts.{Text}
+use Rattle.ts_core.specs.io.Devices.{Input, Output, AppendsFront}
 use Rattle.ts_script.specs.ScriptLines.{lines_of}
 use Rattle.ts_script.specs.Machine.{State, start, Prints}
 use Rattle.ts_script.specs.RunFaults.{one_if_reader, one_if_writer}

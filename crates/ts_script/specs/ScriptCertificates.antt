@@ -1,6 +1,6 @@
 -- Certificates in a script, with `;` instead of LF. (Own rule.)
 use Rattle.std.specs.Prelude.{ℕ, Bool, map, ◌==◌, if◌then◌else◌}
-use Rattle.ts_core.specs.Facts.{Text}
+use Rattle.ts_core.specs.facts.Facts.{Text}
 
 abbrev pub is_semicolon : ℕ → Bool
 is_semicolon b = b == 59

@@ -1,18 +1,18 @@
 -- The replies to commands, by their texts. (Own rule: a fault is reported by its number.)
 use Rattle.std.specs.Prelude.{[], ◌∷◌, ◌++◌, codes, string_bytes, Result, Ok, Err}
 use Rattle.std.specs.Fmt.{decimal}
-use Rattle.ts_core.specs.Facts.{Text}
-use Rattle.ts_core.specs.FaultTexts.{fault_text, memory_text}
-use Rattle.ts_core.specs.SettingsFaults.{unknown_rule_text}
-use Rattle.ts_core.specs.declared.fault_code.FaultCode.TheVariants as code
-use Rattle.ts_core.specs.declared.fault_text.FaultDetail.TheVariants as detail
+use Rattle.ts_core.specs.facts.Facts.{Text}
+use Rattle.ts_core.specs.text.FaultTexts.{fault_text, memory_text}
+use Rattle.ts_core.specs.settings.SettingsFaults.{unknown_rule_text}
+use Rattle.ts_core.specs.declared.text.fault_code.FaultCode.TheVariants as code
+use Rattle.ts_core.specs.declared.text.fault_text.FaultDetail.TheVariants as detail
 use Rattle.ts_plan.specs.PlanTexts.{plan_fault_text}
-use Rattle.ts_store.specs.LineTexts.{line_refusal_text}
-use Rattle.ts_store.specs.StoreFaultTexts.{run_in_progress_text}
+use Rattle.ts_store.specs.write.LineTexts.{line_refusal_text}
+use Rattle.ts_store.specs.write.StoreFaultTexts.{run_in_progress_text}
 use Rattle.ts_store.specs.declared.store.retention.StepAnswer.{StepAnswer}
 use Rattle.ts_store.specs.declared.store.retention.StepAnswer.TheVariants.{Moved, Done}
-use Rattle.ts_store.specs.declared.write_text.LineOutcome.{LineOutcome}
-use Rattle.ts_store.specs.declared.write_text.LineOutcome.TheVariants as outcome
+use Rattle.ts_store.specs.declared.write.write_text.LineOutcome.{LineOutcome}
+use Rattle.ts_store.specs.declared.write.write_text.LineOutcome.TheVariants as outcome
 use Rattle.ts_script.specs.declared.reply.Reply.{Reply}
 use Rattle.ts_script.specs.declared.reply.Reply.TheVariants.{Nothing, Written, Stepped, Reloaded, NotAccepted, Dropped, UnknownRule, Count, Body, NoPlan, Unknown, BadRange, RunInProgress, OutOfMemory}
 

@@ -1,13 +1,13 @@
 -- The machine that serves a script, and the state that it represents. (Own rule.)
 use Rattle.std.specs.Prelude.{◌≡◌, ℕ, zero, suc, ℤ, Bool, ◌∷◌, Option, Some, None, refl}
 use Rattle.std.specs.Coded.{Coded, code_by, coded×, coded_ℕ, coded_ℤ, coded_bool, coded_option}
-use Rattle.ts_core.specs.Facts.{Text}
-use Rattle.ts_core.specs.StoreData.{StoreData}
-use Rattle.ts_core.specs.StoreCodes.{coded_text, coded_store_data}
-use Rattle.ts_core.specs.declared.time_unit.TimeUnit.{TimeUnit}
-use Rattle.ts_core.specs.declared.time_unit.TimeUnit.TheVariants.{Nanoseconds, Microseconds, Milliseconds, Seconds, Minutes, Hours, Days, Weeks}
-use Rattle.ts_store.specs.LineTexts.{IsIn as IsStoreIn}
-use Rattle.ts_store.specs.Inventories.{inventory_of}
+use Rattle.ts_core.specs.facts.Facts.{Text}
+use Rattle.ts_core.specs.store.StoreData.{StoreData}
+use Rattle.ts_core.specs.store.StoreCodes.{coded_text, coded_store_data}
+use Rattle.ts_core.specs.declared.facts.time_unit.TimeUnit.{TimeUnit}
+use Rattle.ts_core.specs.declared.facts.time_unit.TimeUnit.TheVariants.{Nanoseconds, Microseconds, Milliseconds, Seconds, Minutes, Hours, Days, Weeks}
+use Rattle.ts_store.specs.write.LineTexts.{IsIn as IsStoreIn}
+use Rattle.ts_store.specs.store.Inventories.{inventory_of}
 use Rattle.ts_reply.specs.Answering.{IsReply}
 use Rattle.ts_reply.specs.Explaining.{IsExplanation}
 use Rattle.ts_reply.specs.declared.epoch.Epoch.{Epoch}

@@ -1,9 +1,9 @@
 //! The command `count`: plans and checks a counting query, and counts its points.
 ghost use Rattle.std.specs.Prelude.{◌≡◌, ◌<ℤ◌, length, filter, IfOk};
-ghost use Rattle.ts_core.specs.Latest.{latest_of};
-ghost use Rattle.ts_core.specs.Pieces.{IsValid};
-ghost use Rattle.ts_core.specs.Queries.{matches};
-ghost use Rattle.ts_core.specs.StoreData.{OfEachHistory};
+ghost use Rattle.ts_core.specs.facts.Latest.{latest_of};
+ghost use Rattle.ts_core.specs.plans.Pieces.{IsValid};
+ghost use Rattle.ts_core.specs.queries.Queries.{matches};
+ghost use Rattle.ts_core.specs.store.StoreData.{OfEachHistory};
 ghost use Rattle.ts_script.specs.Counted.{IsCounted};
 ghost use Rattle.ts_script.specs.Machine.{Counts};
 ghost use Rattle.ts_script.specs.ScriptReplies.{text_of};

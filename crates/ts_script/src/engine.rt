@@ -1,8 +1,8 @@
 //! The engine of `tsdb replay`: reads a script line by line, and answers each line.
 ghost use Rattle.std.specs.Prelude.{◌≡◌, ◌≢◌, ◌≤◌, [], false, Option, length, string_capacity};
-ghost use Rattle.ts_core.specs.Facts.{Text};
-ghost use Rattle.ts_core.specs.OutputBuffering.{IsBuffered};
-ghost use Rattle.ts_core.specs.ReadingAhead.{nothing_ahead};
+ghost use Rattle.ts_core.specs.facts.Facts.{Text};
+ghost use Rattle.ts_core.specs.io.OutputBuffering.{IsBuffered};
+ghost use Rattle.ts_core.specs.io.ReadingAhead.{nothing_ahead};
 ghost use Rattle.ts_script.specs.ScriptLines.{script_line_limit, turn_limit};
 ghost use Rattle.ts_script.specs.LineReading.{NextOf, has_lf};
 ghost use Rattle.ts_script.specs.ScriptReplies.{text_of};

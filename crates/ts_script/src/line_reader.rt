@@ -1,7 +1,7 @@
 //! Reads a script line by line, up to a limit of the line's length.
 ghost use Rattle.std.specs.Prelude.{◌≡◌, ◌≤◌, [], length, IfOk, true, false};
 ghost use Rattle.std.specs.Bool.{OnFalse, OnTrue};
-ghost use Rattle.ts_core.specs.ReadingAhead.{EndIsEnd, nothing_ahead};
+ghost use Rattle.ts_core.specs.io.ReadingAhead.{EndIsEnd, nothing_ahead};
 ghost use Rattle.ts_script.specs.ScriptLines.{script_line_limit};
 ghost use Rattle.ts_script.specs.LineReading.{LineIs, IsTaken, IsLonger, IsAsked, IsReadOn, IsNext, UsesUp, has_lf, next_of, last_of};
 

@@ -1,7 +1,7 @@
 //! Marks as a script prints them.
 ghost use Rattle.std.specs.Prelude.{◌≡◌, ◌+◌, ◌*◌, ◌≤◌, length, string_bytes, string_len, string_capacity};
 ghost use Rattle.std.specs.List.{AllByRecursion};
-ghost use Rattle.ts_core.specs.Settings.{Rule as RuleValue};
+ghost use Rattle.ts_core.specs.settings.Settings.{Rule as RuleValue};
 ghost use Rattle.ts_script.specs.MarksTexts.{rule_text, low_text, lows_text, raw_text, marks_text, IsAppendedWithin};
 ghost use Rattle.ts_script.specs.ScriptReplies.{line};
 

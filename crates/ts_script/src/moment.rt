@@ -2,7 +2,7 @@
 ghost use Rattle.std.specs.Prelude.{◌≡◌, ◌==◌, ◌||◌};
 ghost use Rattle.std.specs.Char.{is_ascii_digit};
 ghost use Rattle.std.specs.Str.{IsCharBoundary};
-ghost use Rattle.ts_core.specs.TimeUnits.{nanoseconds_of};
+ghost use Rattle.ts_core.specs.facts.TimeUnits.{nanoseconds_of};
 ghost use Rattle.ts_script.specs.Moments.{moment_in, moment_of, number_len};
 
 use ts_core::{Time, TimeUnit, is_number};

@@ -1,6 +1,6 @@
 //! The command `settings`: creates the store of a script.
 ghost use Rattle.std.specs.Prelude.{◌≡◌, ◌⊎◌, IfOk, string_bytes};
-ghost use Rattle.ts_core.specs.SettingsFaults.{settings_fault_text};
+ghost use Rattle.ts_core.specs.settings.SettingsFaults.{settings_fault_text};
 ghost use Rattle.ts_script.specs.Opening.{IsOpening};
 ghost use Rattle.ts_script.specs.ScriptReplies.{line, text_of};
 

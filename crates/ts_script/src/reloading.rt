@@ -1,6 +1,6 @@
 //! A store that is saved to memory and loaded back.
 ghost use Rattle.std.specs.Prelude.{◌≡◌, IfOk, IfErr, Result};
-ghost use Rattle.ts_core.specs.StoreData.{OfEachHistory};
+ghost use Rattle.ts_core.specs.store.StoreData.{OfEachHistory};
 ghost use Rattle.ts_script.specs.Reloading.{IsImageIn, DoesNotFit, IsReloadOf, save_failed, load_failed};
 
 use std::alloc::Global;

@@ -1,7 +1,7 @@
 //! Replies to the lines of a script.
 ghost use Rattle.std.specs.Prelude.{◌≡◌, ◌≤◌, ◌+◌, IsOk, string_bytes, string_len, string_capacity};
 ghost use Rattle.std.specs.Fmt.{decimal};
-ghost use Rattle.ts_core.specs.OutputBuffering.{IsBuffered};
+ghost use Rattle.ts_core.specs.io.OutputBuffering.{IsBuffered};
 ghost use Rattle.ts_plan.specs.PlanTexts.{plan_fault_text};
 ghost use Rattle.ts_script.specs.ScriptReplies.{line, outcome_text, step_text, text_of};
 

@@ -3,22 +3,26 @@
 ghost use Rattle.std.specs.Prelude.{◌≡◌, ◌<◌, length, replicate, map, IsSome, is_some, IfSome, option_map, IfOk, OnOk, OnErr, None, Some};
 ghost use Rattle.std.specs.FinMap as finmap;
 ghost use Rattle.std.specs.List.{AllByRecursion};
-ghost use Rattle.ts_core.specs.Aggregates.{empty_aggregate};
-ghost use Rattle.ts_core.specs.Members.{AllDistinct};
-ghost use Rattle.ts_core.specs.Tags.{tag_values};
+ghost use Rattle.ts_core.specs.aggregates.Aggregates.{empty_aggregate};
+ghost use Rattle.ts_core.specs.lists.Members.{AllDistinct};
+ghost use Rattle.ts_core.specs.facts.Tags.{tag_values};
 ghost use Rattle.ts_cells.specs.Expiry.{LosesBelow};
-ghost use Rattle.ts_core.specs.Numbered.{IsAt};
+ghost use Rattle.ts_core.specs.lists.Numbered.{IsAt};
 ghost use Rattle.ts_cells.specs.Grids.{lane_of, lane_named, lent_texts, cell_at, cell_in};
 ghost use Rattle.ts_cells.specs.Walks.{entry_of, entries_within};
-ghost use Rattle.ts_store.specs.ColumnLists.{HasPlaceAt};
-ghost use Rattle.ts_store.specs.Rollups.{new_rollup, Extends, KeepsLists, KeepsCells, HasNext, with_next, with_frozen, roomed_in, frozen_in, added_in, corrected_in, live_part, lane_at, columns_of_lane};
+ghost use Rattle.ts_store.specs.rollup.ColumnLists.{HasPlaceAt};
+ghost use Rattle.ts_store.specs.rollup.Rollups.{new_rollup, Extends, KeepsLists, KeepsCells, HasNext, with_next, with_frozen, roomed_in, frozen_in, added_in, corrected_in, live_part, lane_at, columns_of_lane};
 
-use crate::lane_columns::LaneColumns;
+use lane_columns::LaneColumns;
 use std::alloc::{AllocError, Allocator};
 use std::marker::Model;
 use ts_cells::{Cells, LaneId, Parts, Walk};
 use ts_core::{Agg, Key, Rule, reserve_eighth};
 use ts_raw::ColumnId;
+
+pub(crate) mod cells_filled;
+mod lane_columns;
+pub(crate) mod live_parts;
 
 /// Cells of a rule, with the lane of each column and the columns of each lane.
 #[derive(Drop)]
@@ -34,8 +38,8 @@ pub(crate) struct Rollup<A: Allocator> {
 
 impl<A: Allocator> Model for Rollup<A> {
     ghost use Rattle.std.specs.Prelude.{map};
-    ghost use Rattle.ts_store.specs.ColumnLists.{lists_in, places_in};
-    ghost use Rattle.ts_store.specs.Rollups.{RollupState, coded_rollup, IsRollup, has_spare};
+    ghost use Rattle.ts_store.specs.rollup.ColumnLists.{lists_in, places_in};
+    ghost use Rattle.ts_store.specs.rollup.Rollups.{RollupState, coded_rollup, IsRollup, has_spare};
 
     ghost Value = { RollupState };
 

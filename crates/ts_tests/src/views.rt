@@ -1,8 +1,8 @@
 //! Plans over a view that isn't a store: it shows a cell of its own beside a store's points, and so need not show a history.
 ghost use Rattle.std.specs.Prelude.{◌≡◌, ◌∷◌, [], map};
-ghost use Rattle.ts_core.specs.Facts.{is_within};
-ghost use Rattle.ts_core.specs.StoreData.{state_of};
-ghost use Rattle.ts_core.specs.Views.{seen_of};
+ghost use Rattle.ts_core.specs.facts.Facts.{is_within};
+ghost use Rattle.ts_core.specs.store.StoreData.{state_of};
+ghost use Rattle.ts_core.specs.store.Views.{seen_of};
 
 use crate::stores::{ONE_RULE, at_second, certified, store_of, write};
 use std::alloc::{Allocator, Global};

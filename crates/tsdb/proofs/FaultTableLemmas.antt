@@ -4,9 +4,9 @@ use Rattle.std.specs.Fmt.{decimal}
 use Rattle.std.specs.List.{concat, range_with_len}
 use Rattle.std.proofs.lemmas.List.Folds.{concat-append}
 use Rattle.std.proofs.lemmas.List.FromFn.{map-range_with_len_more}
-use Rattle.ts_core.specs.Facts.{Text}
-use Rattle.ts_core.specs.FaultCodes.{code_number, code_words, all_codes}
-use Rattle.ts_core.specs.declared.fault_code.FaultCode.{FaultCode}
+use Rattle.ts_core.specs.facts.Facts.{Text}
+use Rattle.ts_core.specs.text.FaultCodes.{code_number, code_words, all_codes}
+use Rattle.ts_core.specs.declared.text.fault_code.FaultCode.{FaultCode}
 use Rattle.tsdb.specs.FaultNumbers.{row_where, asked_row}
 use Rattle.tsdb.specs.FaultTables.{fault_row}
 

@@ -1,9 +1,9 @@
 -- Requests one after another.
 use Rattle.std.proofs.Common.{◌≡◌, ℤ, List, [], ◌∷◌, ◌++◌, refl, sym, subst, Result, Ok, Err}
-use Rattle.ts_core.specs.Facts.{Text}
-use Rattle.ts_core.specs.Devices.{Input, Output}
-use Rattle.ts_core.specs.StoreData.{StoreData}
-use Rattle.ts_store.specs.LineTexts.{State, IsIn}
+use Rattle.ts_core.specs.facts.Facts.{Text}
+use Rattle.ts_core.specs.io.Devices.{Input, Output}
+use Rattle.ts_core.specs.store.StoreData.{StoreData}
+use Rattle.ts_store.specs.write.LineTexts.{State, IsIn}
 use Rattle.ts_http.specs.Maintaining.{left_in}
 use Rattle.ts_http.specs.Reading.{request_of}
 use Rattle.ts_http.specs.Served.{ServedAs, IsServed}

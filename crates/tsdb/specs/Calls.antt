@@ -3,8 +3,8 @@ use Rattle.std.specs.Prelude.{◌≡◌, ◌≢◌, ◌+◌, List, [], ⊤, Resu
 use Rattle.std.specs.Io.KnownBytes.{Appends}
 use Rattle.clap.specs.Words.{kind_of}
 use Rattle.clap.specs.declared.error.Error.{Error}
-use Rattle.ts_core.specs.Facts.{Text}
-use Rattle.ts_core.specs.Devices.{Input, Output, AppendsFront}
+use Rattle.ts_core.specs.facts.Facts.{Text}
+use Rattle.ts_core.specs.io.Devices.{Input, Output, AppendsFront}
 use Rattle.tsdb.specs.CommandLines.{ParsesAs, told_of_kind, IsToldAs}
 use Rattle.tsdb.specs.FaultTables.{fault_table}
 use Rattle.ts_script.specs.Script.{IsReplay}

@@ -1,9 +1,9 @@
 -- The rows of the table of faults, by number. (Own rule.)
 use Rattle.std.specs.Prelude.{ℕ, Bool, [], if◌then◌else◌}
 use Rattle.std.specs.Option.{option_map_or}
-use Rattle.ts_core.specs.Facts.{Text}
-use Rattle.ts_core.specs.FaultCodes.{code_of_number}
-use Rattle.ts_core.specs.declared.fault_code.FaultCode.{FaultCode}
+use Rattle.ts_core.specs.facts.Facts.{Text}
+use Rattle.ts_core.specs.text.FaultCodes.{code_of_number}
+use Rattle.ts_core.specs.declared.text.fault_code.FaultCode.{FaultCode}
 use Rattle.tsdb.specs.FaultTables.{fault_row}
 
 -- the row of a fault, if it is requested

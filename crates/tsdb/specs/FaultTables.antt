@@ -2,9 +2,9 @@
 use Rattle.std.specs.Prelude.{Bool, true, ◌++◌, map, filter, codes, Option, Some, None}
 use Rattle.std.specs.Fmt.{decimal}
 use Rattle.std.specs.List.{concat}
-use Rattle.ts_core.specs.Facts.{Text, same_text}
-use Rattle.ts_core.specs.FaultCodes.{code_number, code_words, all_codes}
-use Rattle.ts_core.specs.declared.fault_code.FaultCode.{FaultCode}
+use Rattle.ts_core.specs.facts.Facts.{Text, same_text}
+use Rattle.ts_core.specs.text.FaultCodes.{code_number, code_words, all_codes}
+use Rattle.ts_core.specs.declared.text.fault_code.FaultCode.{FaultCode}
 use Rattle.ts_script.specs.ScriptReplies.{line}
 
 -- a row is wanted if its digits are these, or if none are given

@@ -1,8 +1,8 @@
 -- What becomes of a store by HTTP requests, one after another. (Own rule.)
 use Rattle.std.specs.Prelude.{◌≡◌, ℕ, ℤ, Bool, true, false, List, [], ◌∷◌}
-use Rattle.ts_core.specs.Facts.{Text}
-use Rattle.ts_core.specs.StoreData.{StoreData}
-use Rattle.ts_store.specs.LineTexts.{State, IsIn}
+use Rattle.ts_core.specs.facts.Facts.{Text}
+use Rattle.ts_core.specs.store.StoreData.{StoreData}
+use Rattle.ts_store.specs.write.LineTexts.{State, IsIn}
 use Rattle.ts_http.specs.Served.{Serves}
 use Rattle.ts_http.specs.declared.route.Route.TheVariants as to
 use Rattle.ts_http.specs.declared.serve.Served.{Served}

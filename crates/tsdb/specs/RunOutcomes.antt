@@ -1,6 +1,6 @@
 -- The exit status of the program, and its line on standard error. (Own rule.)
 use Rattle.std.specs.Prelude.{ℕ, ◌++◌, codes, Option, Some, None}
-use Rattle.ts_core.specs.Facts.{Text}
+use Rattle.ts_core.specs.facts.Facts.{Text}
 use Rattle.ts_script.specs.RunFaults.{run_fault_text}
 use Rattle.tsdb.specs.declared.command_line.Told.TheVariants as told
 use Rattle.ts_script.specs.declared.run_fault.RunFault.{RunFault}

@@ -1,11 +1,11 @@
 -- What a service begins with, and what it reports if it can't begin or isn't saved. (Own rule.)
 use Rattle.std.specs.Prelude.{◌≡◌, ◌^◌, ◌++◌, ℕ, codes, Ok}
-use Rattle.ts_core.specs.Facts.{Text}
-use Rattle.ts_core.specs.Devices.{Input}
-use Rattle.ts_core.specs.Settings.{Settings}
-use Rattle.ts_core.specs.SettingsFaults.{settings_fault_text}
-use Rattle.ts_core.specs.SettingsTexts.{settings_read}
-use Rattle.ts_core.specs.StoreData.{StoreData, new_data}
+use Rattle.ts_core.specs.facts.Facts.{Text}
+use Rattle.ts_core.specs.io.Devices.{Input}
+use Rattle.ts_core.specs.settings.Settings.{Settings}
+use Rattle.ts_core.specs.settings.SettingsFaults.{settings_fault_text}
+use Rattle.ts_core.specs.settings.SettingsTexts.{settings_read}
+use Rattle.ts_core.specs.store.StoreData.{StoreData, new_data}
 use Rattle.ts_image.specs.ImageFaultTexts.{load_fault_text, save_fault_text}
 use Rattle.ts_image.specs.ImageLoading.{LoadsStore}
 use Rattle.tsdb.specs.declared.command_line.Service.{Service}

@@ -1,9 +1,9 @@
 //! `tsdb serve`: a store that is loaded from its image or has the settings of a file, and the requests of a port.
 ghost use Rattle.std.specs.Prelude.{◌≡◌, ◌++◌, ◌⊎◌, IfOk, IfErr, OnOk, Err, string_bytes};
-ghost use Rattle.ts_core.specs.Facts.{Text};
-ghost use Rattle.ts_core.specs.SettingsTexts.{settings_read};
-ghost use Rattle.ts_core.specs.declared.settings_fault.SettingsError.TheVariants as errors;
-ghost use Rattle.ts_core.specs.declared.settings_fault.SettingsFault.{SettingsFault};
+ghost use Rattle.ts_core.specs.facts.Facts.{Text};
+ghost use Rattle.ts_core.specs.settings.SettingsTexts.{settings_read};
+ghost use Rattle.ts_core.specs.declared.settings.settings_fault.SettingsError.TheVariants as errors;
+ghost use Rattle.ts_core.specs.declared.settings.settings_fault.SettingsFault.{SettingsFault};
 ghost use Rattle.tsdb.specs.Services.{IsLoaded, IsNew, service_status, service_line};
 
 use crate::command_line::Service;

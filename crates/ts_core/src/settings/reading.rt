@@ -3,14 +3,13 @@ ghost use Rattle.std.specs.Prelude.{◌≡◌, pos, ◌≤ℤ◌, map, string_by
 ghost use Rattle.serde_json.specs.Find.{get, as_array};
 ghost use Rattle.serde_json.specs.Read.{read};
 ghost use Rattle.serde_json.specs.View.{view, items_view};
-ghost use Rattle.ts_core.specs.Durations.{span_of, offset_of, keeping_of};
-ghost use Rattle.ts_core.specs.SettingsTexts.{has_keys, text_at, if_not_empty, filled_text, each, rule_parsed, rule_read, settings_parsed, settings_read, IsRefusal};
-ghost use Rattle.ts_core.specs.declared.settings_fault.SettingsError.TheVariants as errors;
-ghost use Rattle.ts_core.specs.declared.settings_fault.SettingsFault.{SettingsFault};
+ghost use Rattle.ts_core.specs.facts.Durations.{span_of, offset_of, keeping_of};
+ghost use Rattle.ts_core.specs.settings.SettingsTexts.{has_keys, text_at, if_not_empty, filled_text, each, rule_parsed, rule_read, settings_parsed, settings_read, IsRefusal};
+ghost use Rattle.ts_core.specs.declared.settings.settings_fault.SettingsError.TheVariants as errors;
+ghost use Rattle.ts_core.specs.declared.settings.settings_fault.SettingsFault.{SettingsFault};
 
-use crate::duration::{interval, keeping, offset};
-use crate::settings::{Rule, Settings};
-use crate::settings_fault::{SettingsError, SettingsFault};
+use crate::facts::duration::{interval, keeping, offset};
+use crate::settings::{Rule, Settings, SettingsError, SettingsFault};
 use serde_json::Value;
 use std::alloc::{Allocator, Global};
 

@@ -1,6 +1,6 @@
 //! Creates queries that count in one bucket.
 ghost use Rattle.std.specs.Prelude.{◌≡◌, ◌∷◌, [], ◌<ℤ◌, IfOk};
-ghost use Rattle.ts_core.specs.declared.value.Function.TheVariants as functions;
+ghost use Rattle.ts_core.specs.declared.queries.value.Function.TheVariants as functions;
 ghost use Rattle.ts_ql.specs.Counting.{IsCountQuery};
 ghost use Rattle.ts_ql.specs.Selects.{function_name};
 

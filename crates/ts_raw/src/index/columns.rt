@@ -1,8 +1,8 @@
 //! Columns by the indices of their series and fields.
 ghost use Rattle.std.specs.Prelude.{◌≡◌, ◌+◌, ◌<◌, ◌≤◌, ◌++◌, [], ◌∷◌, length, IfSome, IfNone, IfOk, OnOk, OnErr};
-ghost use Rattle.ts_core.specs.Members.{Among, AllDistinct};
+ghost use Rattle.ts_core.specs.lists.Members.{Among, AllDistinct};
 ghost use Rattle.ts_raw.specs.ColumnTables.{has_field};
-ghost use Rattle.ts_core.specs.Numbered.{IsAt, numbers_where};
+ghost use Rattle.ts_core.specs.lists.Numbered.{IsAt, numbers_where};
 
 use crate::index::column_id::ColumnId;
 use std::alloc::{AllocError, Allocator};

@@ -1,6 +1,6 @@
 //! Errors of the registration of series, with their messages.
 ghost use Rattle.std.specs.Prelude.{◌≡◌};
-ghost use Rattle.ts_core.specs.FaultTexts.{IsAppended};
+ghost use Rattle.ts_core.specs.text.FaultTexts.{IsAppended};
 ghost use Rattle.ts_raw.specs.IndexFaultTexts.{index_fault_text};
 ghost use Rattle.ts_raw.specs.declared.index.fault.IndexFault.TheVariants.{OutOfMemory};
 

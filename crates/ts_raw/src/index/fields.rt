@@ -1,9 +1,9 @@
 //! Hash table of fields, by the name of their measurement and their own.
 ghost use Rattle.std.specs.Prelude.{◌≡◌, ◌<◌, ◌↔◌, [], length, IfSome, IfNone, IfOk, IsTrue};
-ghost use Rattle.ts_core.specs.Members.{Among, AllDistinct};
+ghost use Rattle.ts_core.specs.lists.Members.{Among, AllDistinct};
 ghost use Rattle.ts_raw.specs.FieldKeys.{field_key};
 ghost use Rattle.ts_raw.specs.Registering.{IsRegistered};
-ghost use Rattle.ts_core.specs.Numbered.{IsAt};
+ghost use Rattle.ts_core.specs.lists.Numbered.{IsAt};
 
 use crate::index::hash::hash_field;
 use std::alloc::{AllocError, Allocator};
@@ -60,7 +60,7 @@ pub(crate) struct FieldTable<A: Allocator> {
 impl<A: Allocator> Model for FieldTable<A> {
     ghost use Rattle.std.specs.Prelude.{List};
     ghost use Rattle.ts_raw.specs.FieldKeys.{FieldKey as FieldKeyValue, hash_of_field};
-    ghost use Rattle.ts_core.specs.Tables.{IsTable};
+    ghost use Rattle.ts_core.specs.lists.Tables.{IsTable};
 
     ghost Value = { List FieldKeyValue };
 

@@ -1,12 +1,12 @@
 //! Hash table of series, by their keys.
 ghost use Rattle.std.specs.Prelude.{◌≡◌, ◌≤◌, ◌<◌, ◌↔◌, [], ℕ, length, IfSome, IfNone, IfOk, Err, IsTrue, string_bytes};
 ghost use Rattle.std.specs.Bool.{OnTrue};
-ghost use Rattle.ts_core.specs.Members.{Among, AllDistinct};
-ghost use Rattle.ts_core.specs.Texts.{owned_pairs, lent_pairs};
+ghost use Rattle.ts_core.specs.lists.Members.{Among, AllDistinct};
+ghost use Rattle.ts_core.specs.text.Texts.{owned_pairs, lent_pairs};
 ghost use Rattle.ts_raw.specs.Hashes.{hash_of_series};
 ghost use Rattle.ts_raw.specs.Registering.{IsRegistered};
 ghost use Rattle.ts_raw.specs.TagChains.{AreAmongTagged};
-ghost use Rattle.ts_core.specs.Numbered.{IsAt};
+ghost use Rattle.ts_core.specs.lists.Numbered.{IsAt};
 
 use crate::index::fault::IndexFault;
 use crate::index::hash::{hash_series, hash_tag};
@@ -31,7 +31,7 @@ pub(crate) struct SeriesTable<A: Allocator> {
 
 impl<A: Allocator> Model for SeriesTable<A> {
     ghost use Rattle.std.specs.Prelude.{List};
-    ghost use Rattle.ts_core.specs.Facts.{Series};
+    ghost use Rattle.ts_core.specs.facts.Facts.{Series};
     ghost use Rattle.ts_raw.specs.TagChains.{IsSeriesTable};
 
     ghost Value = { List Series };

@@ -1,7 +1,7 @@
 //! Hash chains of series, by their tags.
 ghost use Rattle.std.specs.Prelude.{◌≡◌, [], ℕ, IfOk, OnOk};
-ghost use Rattle.ts_core.specs.Members.{Among};
-ghost use Rattle.ts_core.specs.Texts.{lent_pairs};
+ghost use Rattle.ts_core.specs.lists.Members.{Among};
+ghost use Rattle.ts_core.specs.text.Texts.{lent_pairs};
 ghost use Rattle.ts_raw.specs.TagChains.{LeadsTo, KeepLeads, AllLead, next_of};
 
 use crate::index::hash::hash_tag;

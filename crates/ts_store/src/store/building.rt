@@ -1,19 +1,19 @@
 //! A store made of parts that were read from elsewhere: series, columns with their points, and frozen parts of cells.
 ghost use Rattle.std.specs.Prelude.{◌≡◌, ◌<◌, [], length, map, None, IfOk, OnOk, OnErr};
 ghost use Rattle.std.specs.FinMap as finmap;
-ghost use Rattle.ts_core.specs.Facts.{Series};
-ghost use Rattle.ts_core.specs.Members.{Among};
-ghost use Rattle.ts_core.specs.Numbered.{IsAt};
-ghost use Rattle.ts_core.specs.StoreStates.{column_of};
+ghost use Rattle.ts_core.specs.facts.Facts.{Series};
+ghost use Rattle.ts_core.specs.lists.Members.{Among};
+ghost use Rattle.ts_core.specs.lists.Numbered.{IsAt};
+ghost use Rattle.ts_core.specs.store.StoreStates.{column_of};
 ghost use Rattle.ts_line.specs.Names.{IsKey, IsNamed};
 ghost use Rattle.ts_cells.specs.Grids.{cell_at, lane_named};
 ghost use Rattle.ts_raw.specs.Columns.{AreTimed};
 ghost use Rattle.ts_raw.specs.PlainColumns.{IsRising};
-ghost use Rattle.ts_store.specs.Building.{new_built, with_series, with_column, with_cell, cells_at, IsBuildable, IsBuiltFrom};
+ghost use Rattle.ts_store.specs.image.Building.{new_built, with_series, with_column, with_cell, cells_at, IsBuildable, IsBuiltFrom};
 
-use crate::column_facts::ColumnFacts;
-use crate::run::Run;
+use crate::retain::run::Run;
 use crate::store::Store;
+use crate::store::column_facts::ColumnFacts;
 use std::alloc::{AllocError, Allocator};
 use std::marker::Model;
 use ts_core::{Agg, KeyRef, Marks, Settings, Time};
@@ -32,8 +32,8 @@ pub struct StoreBuilder<A: Allocator> {
 }
 
 impl<A: Allocator> Model for StoreBuilder<A> {
-    ghost use Rattle.ts_store.specs.Building.{Built, coded_built};
-    ghost use Rattle.ts_store.specs.BuildingParts.{built_of, IsInOrder};
+    ghost use Rattle.ts_store.specs.image.Building.{Built, coded_built};
+    ghost use Rattle.ts_store.specs.image.BuildingParts.{built_of, IsInOrder};
 
     ghost Value = { Built };
 

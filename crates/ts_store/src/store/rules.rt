@@ -1,9 +1,9 @@
 //! Rules that are added and dropped while the store is in use.
 ghost use Rattle.std.specs.Prelude.{◌≡◌, None, OnOk, OnErr};
-ghost use Rattle.ts_core.specs.Marks.{first_from};
-ghost use Rattle.ts_core.specs.SettingsFaults.{added_fault};
-ghost use Rattle.ts_core.specs.Times.{IsTime};
-ghost use Rattle.ts_store.specs.RulesChanged.{AddsRule, RuleComes, DropsRule};
+ghost use Rattle.ts_core.specs.store.Marks.{first_from};
+ghost use Rattle.ts_core.specs.settings.SettingsFaults.{added_fault};
+ghost use Rattle.ts_core.specs.facts.Times.{IsTime};
+ghost use Rattle.ts_store.specs.rules.RulesChanged.{AddsRule, RuleComes, DropsRule};
 
 use crate::store::Store;
 use std::alloc::{AllocError, Allocator};

@@ -1,16 +1,15 @@
 //! What an image takes of a store.
 ghost use Rattle.std.specs.Prelude.{◌≡◌, ◌↔◌, ◌<◌, IfOk, IsTrue, length, map, pos, slice_index_or};
 ghost use Rattle.std.specs.FinMap as finmap;
-ghost use Rattle.ts_core.specs.Members.{Among};
-ghost use Rattle.ts_core.specs.Numbered.{IsAt};
-ghost use Rattle.ts_core.specs.StoreStates.{ColumnPoints, column_of};
+ghost use Rattle.ts_core.specs.lists.Members.{Among};
+ghost use Rattle.ts_core.specs.lists.Numbered.{IsAt};
+ghost use Rattle.ts_core.specs.store.StoreStates.{ColumnPoints, column_of};
 ghost use Rattle.ts_raw.specs.Columns.{AreTimed};
 ghost use Rattle.ts_raw.specs.PlainColumns.{IsRising};
-ghost use Rattle.ts_store.specs.Saving.{SavesSeries, frozen_from};
-ghost use Rattle.ts_store.specs.Seats.{no_points};
+ghost use Rattle.ts_store.specs.image.Saving.{SavesSeries, frozen_from};
+ghost use Rattle.ts_store.specs.read.Seats.{no_points};
 
-use crate::frozen_cells::FrozenCells;
-use crate::saved_series::SavedSeries;
+use crate::image::{FrozenCells, SavedSeries};
 use crate::store::Store;
 use std::alloc::{AllocError, Allocator};
 use ts_raw::{ColumnId, Points};

@@ -1,6 +1,6 @@
 use Rattle.std.proofs.Common.{rules, ◌≡◌, ◌<◌, ◌≤◌, ℕ, List, length, set, sym, ◌∙◌, ap, subst, true, false, int_lt}
 use Rattle.ts_cells.specs.Grids.{RowOf, held, cells_of_bucket, HasLost}
-use Rattle.ts_core.proofs.Comparisons.{lt_from}
+use Rattle.ts_core.proofs.lists.Comparisons.{lt_from}
 use Rattle.ts_cells.specs.Expiry.{HasNoneBelow}
 use Rattle.ts_cells.specs.RowChanges.{IsSweptTo}
 use Rattle.ts_cells.proofs.GridMoves.{RowPut, row_kept}

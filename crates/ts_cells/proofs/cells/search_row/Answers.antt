@@ -2,7 +2,7 @@ use Rattle.std.proofs.Common.{rules}
 use Rattle.std.specs.Ordering.{int_cmp}
 use Rattle.std.specs.Cmp.{int_cmp_total}
 use Rattle.std.proofs.lemmas.Fn.{always_returns_same}
-use Rattle.ts_core.proofs.Places.{rises}
+use Rattle.ts_core.proofs.lists.Places.{rises}
 use Rattle.ts_cells.proofs.Searches.{place_found}
 use Rattle.ts_cells.proofs.cells.search_row.Goals as goal
 

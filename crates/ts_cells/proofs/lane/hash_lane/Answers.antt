@@ -2,7 +2,7 @@ use Rattle.std.proofs.Common.{◌≡◌, ap, sym, ◌∙◌, take, get_or, Bor, 
 use Rattle.std.proofs.lemmas.List.{take_all}
 use Rattle.std.specs.Hash.FoldHasher.{initial, write, finish}
 use Rattle.std.specs.declared.hash.FoldHasher.{FoldHasher}
-use Rattle.ts_core.specs.Facts.{Text}
+use Rattle.ts_core.specs.facts.Facts.{Text}
 use Rattle.ts_cells.specs.Grids.{lent_texts}
 use Rattle.ts_cells.specs.Lanes.{hash_of_texts, hash_of_lane}
 use Rattle.ts_cells.proofs.LaneLemmas.{texts_hashed_more}

@@ -1,7 +1,7 @@
 use Rattle.std.proofs.Common.{rules, int_lt}
 use Rattle.std.proofs.lemmas.List.Sorted.{IsPartitionPoint-from_clause}
 use Rattle.ts_cells.specs.Grids.{RowOf}
-use Rattle.ts_core.proofs.Windows.{rising_first}
+use Rattle.ts_core.proofs.lists.Windows.{rising_first}
 use Rattle.ts_cells.proofs.walk.count_before.Goals as goal
 
 pub returns-clause-start : goal.returns-clause-start

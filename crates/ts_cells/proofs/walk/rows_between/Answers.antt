@@ -1,5 +1,5 @@
 use Rattle.std.proofs.Common.{arith}
-use Rattle.ts_core.proofs.Windows.{filter-within, filter-nothing_within}
+use Rattle.ts_core.proofs.lists.Windows.{filter-within, filter-nothing_within}
 use Rattle.ts_cells.proofs.walk.rows_between.Goals as goal
 
 pub returns-then-start-end : goal.returns-then-start-end

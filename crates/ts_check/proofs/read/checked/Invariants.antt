@@ -1,5 +1,5 @@
 use Rattle.std.proofs.Common.{List, length, IsUtf8}
-use Rattle.ts_core.specs.Pieces.{Piece}
+use Rattle.ts_core.specs.plans.Pieces.{Piece}
 use Rattle.ts_check.proofs.CertificateLaws.{IsBehind}
 use Rattle.ts_check.proofs.read.checked.Given as goal
 

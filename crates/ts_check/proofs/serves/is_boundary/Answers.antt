@@ -1,7 +1,7 @@
 use Rattle.std.proofs.Common.{rules, ◌≡◌, ◌∙◌, ap, ap₂, sym, subst, ◌*ℤ◌, ◌+ℤ◌, SFits, to_z, of_z, to_z-of_z}
 use Rattle.std.specs.Int.{w64, w128}
 use Rattle.std.specs.Ordering.{int_eq}
-use Rattle.ts_core.specs.Marks.{index_of}
+use Rattle.ts_core.specs.store.Marks.{index_of}
 use Rattle.ts_check.proofs.Bits.{same_bits}
 use Rattle.ts_check.proofs.BoundaryNumbers.{product_fits, start_fits}
 use Rattle.ts_check.proofs.serves.is_boundary.Goals as goal

@@ -1,7 +1,7 @@
 use Rattle.std.proofs.Common.{rules, ◌≡◌, ◌∙◌, ap₂, pos, ◌-ℤ◌, SFits}
 use Rattle.std.specs.Int.{w128}
 use Rattle.std.specs.Ordering.{int_eq}
-use Rattle.ts_core.specs.Buckets.{bucket_of}
+use Rattle.ts_core.specs.aggregates.Buckets.{bucket_of}
 use Rattle.ts_check.proofs.Bits.{same_bits}
 use Rattle.ts_check.proofs.serves.is_in_one_bucket.Goals as goal
 

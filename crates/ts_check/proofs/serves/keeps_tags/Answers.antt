@@ -1,8 +1,8 @@
 use Rattle.std.proofs.Common.{◌≡◌, ◌∙◌, sym, ap, map, ◌&&◌}
 use Rattle.std.specs.List.{list_all}
 use Rattle.std.proofs.lemmas.List.Folds.{list_all-append}
-use Rattle.ts_core.specs.Queries.{Condition}
-use Rattle.ts_core.specs.Faults.{keeps}
+use Rattle.ts_core.specs.queries.Queries.{Condition}
+use Rattle.ts_core.specs.plans.Faults.{keeps}
 use Rattle.ts_check.proofs.serves.keeps_tags.Goals as goal
 
 pub returns-then-keeps_each : goal.returns-then-keeps_each

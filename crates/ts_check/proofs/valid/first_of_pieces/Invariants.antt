@@ -1,5 +1,5 @@
 use Rattle.std.proofs.Common.{◌≡◌, drop}
-use Rattle.ts_core.specs.Faults.{pieces_fault}
+use Rattle.ts_core.specs.plans.Faults.{pieces_fault}
 use Rattle.ts_check.proofs.valid.first_of_pieces.Given as goal
 
 abbrev pub invariant-loop-number : goal.invariant-loop-number

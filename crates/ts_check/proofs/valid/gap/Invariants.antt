@@ -1,5 +1,5 @@
 use Rattle.std.proofs.Common.{◌≡◌, drop}
-use Rattle.ts_core.specs.Faults.{gap_at}
+use Rattle.ts_core.specs.plans.Faults.{gap_at}
 use Rattle.ts_check.proofs.valid.gap.Given as goal
 
 abbrev pub invariant-loop-number : goal.invariant-loop-number

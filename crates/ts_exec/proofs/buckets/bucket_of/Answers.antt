@@ -1,5 +1,5 @@
 use Rattle.std.proofs.Common.{rules, ◌≡◌, ℤ, pos, ◌+ℤ◌, sym, subst}
-use Rattle.ts_core.specs.Buckets.{bucket_of, bucket_start}
+use Rattle.ts_core.specs.aggregates.Buckets.{bucket_of, bucket_start}
 use Rattle.ts_exec.specs.RowParts.{IsSpan}
 use Rattle.ts_exec.proofs.Spans.{span-is}
 use Rattle.ts_exec.proofs.buckets.bucket_of.Goals as goal

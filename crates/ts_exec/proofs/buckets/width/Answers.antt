@@ -1,7 +1,7 @@
 use Rattle.std.proofs.Common.{rules, true, int_lt, ◌≡◌, ◌<◌, pos, ◌-ℤ◌, min, SFits, w64}
-use Rattle.ts_core.specs.Queries.{Query}
-use Rattle.ts_core.specs.Answers.{at_least_none, bucket_in}
-use Rattle.ts_core.proofs.Comparisons.{lt_from}
+use Rattle.ts_core.specs.queries.Queries.{Query}
+use Rattle.ts_core.specs.queries.Answers.{at_least_none, bucket_in}
+use Rattle.ts_core.proofs.lists.Comparisons.{lt_from}
 use Rattle.ts_exec.proofs.Spans.{before-fits}
 use Rattle.ts_exec.proofs.Widths.{width-some}
 use Rattle.ts_exec.proofs.buckets.width.Goals as goal

@@ -1,7 +1,7 @@
 use Rattle.std.proofs.Common.{rules, ◌≡◌, ◌∙◌, min, arith}
-use Rattle.ts_core.specs.Queries.{Query, IsQuery}
-use Rattle.ts_core.specs.Pieces.{IsValid}
-use Rattle.ts_core.specs.Views.{Seen}
+use Rattle.ts_core.specs.queries.Queries.{Query, IsQuery}
+use Rattle.ts_core.specs.plans.Pieces.{IsValid}
+use Rattle.ts_core.specs.store.Views.{Seen}
 use Rattle.ts_check.specs.Checks.{Plan}
 use Rattle.ts_exec.specs.Executions.{IsFresh}
 use Rattle.ts_exec.specs.Shares.{points_of_shares, pieces_shares}

@@ -1,11 +1,11 @@
 use Rattle.std.proofs.Common.{rules, ◌≡◌, min, pos, ◌≤ℤ◌, ◌∙◌, ap, sym, map, List, Some, None}
-use Rattle.ts_core.specs.Settings.{Rule}
-use Rattle.ts_core.specs.Marks.{index_of}
-use Rattle.ts_core.specs.Queries.{Query}
-use Rattle.ts_core.specs.Pieces.{Source, Rollup}
-use Rattle.ts_core.specs.Views.{Seen}
-use Rattle.ts_core.specs.StoreStates.{RuleCells, rule_of}
-use Rattle.ts_store.specs.Seats.{cells_at}
+use Rattle.ts_core.specs.settings.Settings.{Rule}
+use Rattle.ts_core.specs.store.Marks.{index_of}
+use Rattle.ts_core.specs.queries.Queries.{Query}
+use Rattle.ts_core.specs.plans.Pieces.{Source, Rollup}
+use Rattle.ts_core.specs.store.Views.{Seen}
+use Rattle.ts_core.specs.store.StoreStates.{RuleCells, rule_of}
+use Rattle.ts_store.specs.read.Seats.{cells_at}
 use Rattle.ts_exec.specs.FirstOf.{rule_from}
 use Rattle.ts_exec.specs.Shares.{Share, points_of_shares, rule_shares, source_shares}
 use Rattle.ts_exec.proofs.NamedRules.{found-shown, none-shown, found-holds}

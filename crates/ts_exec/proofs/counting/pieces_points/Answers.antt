@@ -1,8 +1,8 @@
 use Rattle.std.proofs.Common.{rules, arith, ◌≡◌, ◌+◌, min, List, ◌∙◌, sym, ap}
 use Rattle.std.proofs.lemmas.List.{drop_all}
-use Rattle.ts_core.specs.Pieces.{Piece}
-use Rattle.ts_core.specs.Queries.{Query}
-use Rattle.ts_core.specs.Views.{Seen}
+use Rattle.ts_core.specs.plans.Pieces.{Piece}
+use Rattle.ts_core.specs.queries.Queries.{Query}
+use Rattle.ts_core.specs.store.Views.{Seen}
 use Rattle.ts_exec.specs.Shares.{points_of_shares, source_shares, pieces_shares}
 use Rattle.ts_exec.proofs.CountSteps.{counted, counted-piece, counted-all, counted-none}
 use Rattle.ts_exec.proofs.counting.pieces_points.Goals as goal

@@ -1,10 +1,10 @@
 use Rattle.std.proofs.Common.{rules, arith, ◌≡◌, ◌+◌, ◌<◌, min, true, length, List, [], ◌∷◌, ◌∙◌, sym, ap, subst, SFits, w64, to_z, of_z, to_z-of_z}
 use Rattle.std.specs.List.{list_all, AllByRecursion}
-use Rattle.ts_core.specs.Facts.{is_of}
-use Rattle.ts_core.specs.Queries.{Query, meets}
-use Rattle.ts_core.specs.StoreStates.{ColumnPoints}
-use Rattle.ts_store.specs.Seats.{Seat, seats_where, points_at}
-use Rattle.ts_store.proofs.SeatLemmas.{seats-there}
+use Rattle.ts_core.specs.facts.Facts.{is_of}
+use Rattle.ts_core.specs.queries.Queries.{Query, meets}
+use Rattle.ts_core.specs.store.StoreStates.{ColumnPoints}
+use Rattle.ts_store.specs.read.Seats.{Seat, seats_where, points_at}
+use Rattle.ts_store.proofs.read.SeatLemmas.{seats-there}
 use Rattle.ts_exec.specs.Shares.{seats_shares}
 use Rattle.ts_exec.proofs.CountSteps.{counted, counted-seat, counted-all, counted-none}
 use Rattle.ts_exec.proofs.counting.raw_points.Goals as goal

@@ -1,7 +1,7 @@
 use Rattle.std.proofs.Common.{◌≡◌, ◌<◌, ◌≤◌, length}
 use Rattle.std.specs.List.{AllByRecursion}
-use Rattle.ts_core.specs.Facts.{is_of}
-use Rattle.ts_store.specs.Seats.{Seat, seats_where}
+use Rattle.ts_core.specs.facts.Facts.{is_of}
+use Rattle.ts_store.specs.read.Seats.{Seat, seats_where}
 use Rattle.ts_exec.specs.Shares.{seats_shares}
 use Rattle.ts_exec.proofs.CountSteps.{counted}
 use Rattle.ts_exec.proofs.counting.raw_points.Given as goal

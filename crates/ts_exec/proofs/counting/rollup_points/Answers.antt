@@ -1,11 +1,11 @@
 use Rattle.std.proofs.Common.{rules, arith, ◌≡◌, ◌+◌, min, true, cond, get_or, List, [], ◌∷◌, ◌∙◌, sym, ap, subst, SFits, w64, to_z-of_z}
 use Rattle.std.specs.List.{AllByRecursion}
-use Rattle.ts_core.specs.Facts.{is_within}
-use Rattle.ts_core.specs.Marks.{index_of}
-use Rattle.ts_core.specs.Queries.{Query}
-use Rattle.ts_core.specs.Settings.{Rule}
-use Rattle.ts_core.specs.StoreStates.{RuleCells, total_in}
-use Rattle.ts_store.specs.Seats.{SeenCell, no_rule, cells_at}
+use Rattle.ts_core.specs.facts.Facts.{is_within}
+use Rattle.ts_core.specs.store.Marks.{index_of}
+use Rattle.ts_core.specs.queries.Queries.{Query}
+use Rattle.ts_core.specs.settings.Settings.{Rule}
+use Rattle.ts_core.specs.store.StoreStates.{RuleCells, total_in}
+use Rattle.ts_store.specs.read.Seats.{SeenCell, no_rule, cells_at}
 use Rattle.ts_exec.specs.GroupTables.{is_cell_taken}
 use Rattle.ts_exec.proofs.Walked.{cells-within}
 use Rattle.ts_exec.proofs.CountSteps.{counted, taken_shares, counted-cell, counted-all, counted-none}

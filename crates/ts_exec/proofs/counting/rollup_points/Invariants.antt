@@ -1,8 +1,8 @@
 use Rattle.std.proofs.Common.{◌≡◌, ◌≤◌, true}
 use Rattle.std.specs.List.{AllByRecursion}
-use Rattle.ts_core.specs.Facts.{is_within}
-use Rattle.ts_core.specs.Marks.{index_of}
-use Rattle.ts_store.specs.Seats.{SeenCell, cells_at}
+use Rattle.ts_core.specs.facts.Facts.{is_within}
+use Rattle.ts_core.specs.store.Marks.{index_of}
+use Rattle.ts_store.specs.read.Seats.{SeenCell, cells_at}
 use Rattle.ts_exec.proofs.CountSteps.{counted, taken_shares}
 use Rattle.ts_exec.proofs.counting.rollup_points.Given as goal
 

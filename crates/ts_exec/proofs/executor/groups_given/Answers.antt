@@ -1,8 +1,8 @@
 use Rattle.std.proofs.Common.{rules, ◌≡◌, [], ◌∙◌, subst, sym}
 use Rattle.std.specs.List.{AllByRecursion}
 use Rattle.std.proofs.lemmas.Result.{IfOk-weaker}
-use Rattle.ts_core.specs.Views.{Seen}
-use Rattle.ts_core.specs.Queries.{Query}
+use Rattle.ts_core.specs.store.Views.{Seen}
+use Rattle.ts_core.specs.queries.Queries.{Query}
 use Rattle.ts_exec.specs.Answered.{HasRows}
 use Rattle.ts_exec.specs.GroupTables.{with_pieces, width}
 use Rattle.ts_exec.proofs.Given.{given-rows}

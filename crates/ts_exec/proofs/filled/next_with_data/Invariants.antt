@@ -1,5 +1,5 @@
 use Rattle.std.proofs.Common.{◌≡◌, filter, length}
-use Rattle.ts_core.specs.Fills.{has_data}
+use Rattle.ts_core.specs.queries.Fills.{has_data}
 use Rattle.ts_exec.proofs.filled.next_with_data.Given as goal
 
 abbrev pub invariant-loop-row : goal.invariant-loop-row

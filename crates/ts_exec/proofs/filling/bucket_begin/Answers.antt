@@ -1,6 +1,6 @@
 use Rattle.std.proofs.Common.{rules, ◌≡◌, ℤ, sym, subst, SFits, w64, to_z, of_z}
 use Rattle.std.specs.Int.{w128}
-use Rattle.ts_core.specs.Buckets.{bucket_of, bucket_start}
+use Rattle.ts_core.specs.aggregates.Buckets.{bucket_of, bucket_start}
 use Rattle.ts_exec.specs.Fillings.{AreNear}
 use Rattle.ts_exec.proofs.Spans.{start-near}
 use Rattle.ts_exec.proofs.filling.bucket_begin.Goals as goal

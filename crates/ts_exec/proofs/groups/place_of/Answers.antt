@@ -1,8 +1,8 @@
 use Rattle.std.proofs.Common.{rules, ◌≡◌, ◌<◌, ◌-◌, length, get_or, Less, List, Option}
 use Rattle.std.proofs.lemmas.Fn.{always_returns_same}
-use Rattle.ts_core.specs.Facts.{Text}
-use Rattle.ts_core.specs.Aggregates.{Aggregate}
-use Rattle.ts_core.specs.Answers.{group_cmp}
+use Rattle.ts_core.specs.facts.Facts.{Text}
+use Rattle.ts_core.specs.aggregates.Aggregates.{Aggregate}
+use Rattle.ts_core.specs.queries.Answers.{group_cmp}
 use Rattle.ts_exec.specs.Lent.{lent}
 use Rattle.ts_exec.specs.Slots.{Slots}
 use Rattle.ts_exec.proofs.Slotted.{behind_all, found_place}

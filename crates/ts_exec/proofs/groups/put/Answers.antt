@@ -1,5 +1,5 @@
 use Rattle.std.proofs.Common.{◌∙◌, ap, subst, sym, List, insert}
-use Rattle.ts_core.specs.Facts.{Text}
+use Rattle.ts_core.specs.facts.Facts.{Text}
 use Rattle.ts_exec.specs.Lent.{lent}
 use Rattle.ts_exec.specs.Slots.{Slots, AreSlots, made}
 use Rattle.ts_exec.specs.Searches.{HoldsGroup}

@@ -1,15 +1,15 @@
 use Rattle.std.proofs.Common.{rules, arith, ◌≡◌, ◌≤◌, ℤ, pos, ◌≤ℤ◌, true, false, cond, min, List, ◌∙◌, ap, ap₂, sym, subst, OnOk, SFits, w64, to_z, of_z, to_z-of_z, map, zip, string_bytes}
 use Rattle.std.specs.Int.{w128}
-use Rattle.ts_core.specs.Facts.{Text}
-use Rattle.ts_core.specs.Settings.{Rule}
-use Rattle.ts_core.specs.Queries.{Query, group_of}
-use Rattle.ts_core.specs.Tags.{value_among}
-use Rattle.ts_core.specs.Pieces.{start_of}
-use Rattle.ts_core.specs.Assembly.{stand_in}
-use Rattle.ts_core.specs.StoreStates.{total_in}
-use Rattle.ts_core.proofs.Boundaries.{within_parts}
+use Rattle.ts_core.specs.facts.Facts.{Text}
+use Rattle.ts_core.specs.settings.Settings.{Rule}
+use Rattle.ts_core.specs.queries.Queries.{Query, group_of}
+use Rattle.ts_core.specs.facts.Tags.{value_among}
+use Rattle.ts_core.specs.plans.Pieces.{start_of}
+use Rattle.ts_core.specs.plans.Assembly.{stand_in}
+use Rattle.ts_core.specs.store.StoreStates.{total_in}
+use Rattle.ts_core.proofs.queries.Boundaries.{within_parts}
 use Rattle.ts_ql.specs.Selects.{texts}
-use Rattle.ts_store.specs.Seats.{SeenCell}
+use Rattle.ts_store.specs.read.Seats.{SeenCell}
 use Rattle.ts_exec.specs.Lent.{lent}
 use Rattle.ts_exec.specs.RowParts.{BucketGrid, bucket_grid, place_at}
 use Rattle.ts_exec.specs.GroupTables.{Table, width, is_cell_taken, with_cell_part, with_cell}

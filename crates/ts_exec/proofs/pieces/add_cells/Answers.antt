@@ -1,11 +1,11 @@
 use Rattle.std.proofs.Common.{rules, ◌≡◌, true, get_or, refl, sym, subst, ap, List, SFits, w64, to_z-of_z}
 use Rattle.std.specs.List.{AllByRecursion}
-use Rattle.ts_core.specs.Facts.{is_within}
-use Rattle.ts_core.specs.Marks.{index_of}
-use Rattle.ts_core.specs.Queries.{Query}
-use Rattle.ts_core.specs.Settings.{Rule}
-use Rattle.ts_core.specs.StoreStates.{RuleCells}
-use Rattle.ts_store.specs.Seats.{SeenCell, no_rule, cells_at}
+use Rattle.ts_core.specs.facts.Facts.{is_within}
+use Rattle.ts_core.specs.store.Marks.{index_of}
+use Rattle.ts_core.specs.queries.Queries.{Query}
+use Rattle.ts_core.specs.settings.Settings.{Rule}
+use Rattle.ts_core.specs.store.StoreStates.{RuleCells}
+use Rattle.ts_store.specs.read.Seats.{SeenCell, no_rule, cells_at}
 use Rattle.ts_exec.specs.GroupTables.{with_cell_parts}
 use Rattle.ts_exec.proofs.Walked.{cells-within}
 use Rattle.ts_exec.proofs.pieces.add_cells.Goals as goal

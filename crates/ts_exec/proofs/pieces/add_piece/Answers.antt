@@ -1,9 +1,9 @@
 use Rattle.std.proofs.Common.{rules, ◌≡◌, pos, ◌≤ℤ◌, ◌∙◌, ap, subst, sym, map, Some, None, List, OnOk}
-use Rattle.ts_core.specs.Settings.{Rule}
-use Rattle.ts_core.specs.Queries.{Query}
-use Rattle.ts_core.specs.Views.{Seen}
-use Rattle.ts_core.specs.Pieces.{Source, Rollup}
-use Rattle.ts_core.specs.StoreStates.{RuleCells, rule_of}
+use Rattle.ts_core.specs.settings.Settings.{Rule}
+use Rattle.ts_core.specs.queries.Queries.{Query}
+use Rattle.ts_core.specs.store.Views.{Seen}
+use Rattle.ts_core.specs.plans.Pieces.{Source, Rollup}
+use Rattle.ts_core.specs.store.StoreStates.{RuleCells, rule_of}
 use Rattle.ts_exec.specs.FirstOf.{rule_from}
 use Rattle.ts_exec.specs.GroupTables.{Table, with_rule, with_source}
 use Rattle.ts_exec.proofs.NamedRules.{found-shown, none-shown, found-holds, found-put}

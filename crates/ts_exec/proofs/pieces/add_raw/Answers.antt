@@ -1,12 +1,12 @@
 use Rattle.std.proofs.Common.{rules, ◌≡◌, ◌+◌, ℕ, ℤ, Bool, true, cond, to_z, of_z, w64, ap, ap₂, ◌∙◌, subst, sym, List, ◌∷◌, length, drop}
 use Rattle.std.specs.List.{list_all, AllByRecursion}
 use Rattle.std.proofs.lemmas.List.{drop_more}
-use Rattle.ts_core.specs.Facts.{is_of}
-use Rattle.ts_core.specs.Queries.{Query, meets}
-use Rattle.ts_core.specs.StoreStates.{ColumnPoints}
-use Rattle.ts_core.specs.Tags.{tag_values}
-use Rattle.ts_store.specs.Seats.{Seat, seats_where, points_at}
-use Rattle.ts_store.proofs.SeatLemmas.{seats-there}
+use Rattle.ts_core.specs.facts.Facts.{is_of}
+use Rattle.ts_core.specs.queries.Queries.{Query, meets}
+use Rattle.ts_core.specs.store.StoreStates.{ColumnPoints}
+use Rattle.ts_core.specs.facts.Tags.{tag_values}
+use Rattle.ts_store.specs.read.Seats.{Seat, seats_where, points_at}
+use Rattle.ts_store.proofs.read.SeatLemmas.{seats-there}
 use Rattle.ts_exec.specs.RowParts.{bucket_grid}
 use Rattle.ts_exec.specs.GroupTables.{Table, AreBucketsOf, width, with_column_parts, with_seats, selected_seats}
 use Rattle.ts_exec.proofs.Selected.{IsSelected, all_selected, selected_give}

@@ -1,7 +1,7 @@
 use Rattle.std.proofs.Common.{◌≡◌, drop, length}
 use Rattle.std.specs.List.{AllByRecursion}
-use Rattle.ts_core.specs.Facts.{is_of}
-use Rattle.ts_store.specs.Seats.{seats_where}
+use Rattle.ts_core.specs.facts.Facts.{is_of}
+use Rattle.ts_store.specs.read.Seats.{seats_where}
 use Rattle.ts_exec.specs.GroupTables.{AreBucketsOf, with_seats}
 use Rattle.ts_exec.proofs.Selected.{IsSelected}
 use Rattle.ts_exec.proofs.pieces.add_raw.Given as goal

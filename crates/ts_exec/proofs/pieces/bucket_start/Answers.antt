@@ -1,5 +1,5 @@
 use Rattle.std.proofs.Common.{rules, SFits, w64}
-use Rattle.ts_core.specs.Settings.{Rule}
+use Rattle.ts_core.specs.settings.Settings.{Rule}
 use Rattle.ts_exec.proofs.Walked.{start_near}
 use Rattle.ts_exec.proofs.pieces.bucket_start.Goals as goal
 

@@ -1,6 +1,6 @@
 use Rattle.std.proofs.Common.{◌≡◌, take, map, zip, string_bytes}
 use Rattle.ts_exec.specs.Lent.{lent}
-use Rattle.ts_core.specs.Tags.{value_among}
+use Rattle.ts_core.specs.facts.Tags.{value_among}
 use Rattle.ts_ql.specs.Selects.{texts}
 use Rattle.ts_exec.proofs.pieces.read_kept_values.Given as goal
 

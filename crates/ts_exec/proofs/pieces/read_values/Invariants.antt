@@ -1,6 +1,6 @@
 use Rattle.std.proofs.Common.{◌≡◌, take}
 use Rattle.ts_exec.specs.Lent.{lent}
-use Rattle.ts_core.specs.Tags.{tag_values}
+use Rattle.ts_core.specs.facts.Tags.{tag_values}
 use Rattle.ts_ql.specs.Selects.{texts}
 use Rattle.ts_exec.proofs.pieces.read_values.Given as goal
 

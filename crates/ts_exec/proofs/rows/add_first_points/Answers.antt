@@ -1,5 +1,5 @@
 use Rattle.std.proofs.Common.{rules, ◌≡◌, ◌≤◌, ℤ, List, length, min, ◌∙◌, ap₂}
-use Rattle.ts_core.specs.Aggregates.{Aggregate, aggregate_of_one}
+use Rattle.ts_core.specs.aggregates.Aggregates.{Aggregate, aggregate_of_one}
 use Rattle.ts_exec.specs.RowParts.{BucketGrid, place_at, with_part, with_point_parts}
 use Rattle.ts_exec.proofs.Shares.{part-saturated}
 use Rattle.ts_exec.proofs.rows.add_first_points.Goals as goal

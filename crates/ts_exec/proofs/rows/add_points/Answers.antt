@@ -1,6 +1,6 @@
 use Rattle.std.proofs.Common.{rules, ◌≡◌, ◌≤◌, ℤ, ◌∷◌, List, length, min, set, ◌∙◌, ap, ap₂, sym, subst}
 use Rattle.std.proofs.lemmas.List.{length-set}
-use Rattle.ts_core.specs.Aggregates.{Aggregate, aggregate_of_one}
+use Rattle.ts_core.specs.aggregates.Aggregates.{Aggregate, aggregate_of_one}
 use Rattle.ts_exec.specs.RowParts.{BucketGrid, added, place_at, with_part, with_point_parts}
 use Rattle.ts_exec.proofs.Shares.{part-saturated, held-part}
 use Rattle.ts_exec.proofs.rows.add_points.Goals as goal

@@ -1,9 +1,9 @@
 use Rattle.std.proofs.Common.{◌≡◌, List, filter, ◌∙◌, ap, subst}
-use Rattle.ts_core.specs.Facts.{Text, is_of}
-use Rattle.ts_core.specs.Queries.{Query, Condition}
-use Rattle.ts_core.specs.StoreStates.{ColumnPoints}
+use Rattle.ts_core.specs.facts.Facts.{Text, is_of}
+use Rattle.ts_core.specs.queries.Queries.{Query, Condition}
+use Rattle.ts_core.specs.store.StoreStates.{ColumnPoints}
 use Rattle.ts_raw.proofs.TagLemmas.{if_ok}
-use Rattle.ts_store.specs.Seats.{Seat, seats_where, seat_has}
+use Rattle.ts_store.specs.read.Seats.{Seat, seats_where, seat_has}
 use Rattle.ts_exec.specs.GroupTables.{selected_seats, IsNarrowing}
 use Rattle.ts_exec.proofs.Selected.{selected_narrowed}
 use Rattle.ts_exec.proofs.selection.candidates.Goals as goal

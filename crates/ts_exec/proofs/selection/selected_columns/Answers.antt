@@ -1,8 +1,8 @@
 use Rattle.std.proofs.Common.{◌∙◌, rules}
 use Rattle.std.specs.List.{list_all}
 use Rattle.std.proofs.lemmas.Fn.{filter_same}
-use Rattle.ts_core.specs.Queries.{Query, meets}
-use Rattle.ts_store.specs.Seats.{Seat}
+use Rattle.ts_core.specs.queries.Queries.{Query, meets}
+use Rattle.ts_store.specs.read.Seats.{Seat}
 use Rattle.ts_exec.proofs.selection.selected_columns.Goals as goal
 
 pub returns : goal.returns

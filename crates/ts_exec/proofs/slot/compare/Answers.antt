@@ -1,5 +1,5 @@
 use Rattle.std.proofs.Common.{◌∙◌}
-use Rattle.ts_core.specs.Facts.{text_cmp}
+use Rattle.ts_core.specs.facts.Facts.{text_cmp}
 use Rattle.ts_exec.proofs.LentLemmas.{lent-cmp}
 use Rattle.ts_exec.proofs.slot.compare.Goals as goal
 

@@ -1,7 +1,7 @@
 use Rattle.std.proofs.Common.{◌+◌, ◌≤◌, length}
 use denote.Text.{Utf8}
 use denote.Shadow.{shadow}
-use Rattle.ts_store.specs.LineTexts.{State, IsIn}
+use Rattle.ts_store.specs.write.LineTexts.{State, IsIn}
 use Rattle.ts_http.specs.Batches.{body_lines}
 use Rattle.ts_http.proofs.BatchLemmas.{SoFar}
 use Rattle.ts_http.proofs.batch.write_lines.Given as goal

@@ -1,5 +1,5 @@
 use Rattle.std.proofs.Common.{rules, ◌≡◌, ◌∙◌, ◌++◌, ap, arith, length, take, unwrap_or, []}
-use Rattle.ts_core.specs.Facts.{Text}
+use Rattle.ts_core.specs.facts.Facts.{Text}
 use Rattle.ts_http.proofs.BodyLemmas.{taken_whole, written_back}
 use Rattle.ts_http.proofs.body.take_body.Goals as goal
 

@@ -1,8 +1,8 @@
 use Rattle.std.proofs.Common.{rules, arith, ◌≡◌, ◌+◌, ◌∙◌, refl, subst, suc, ◌∷◌}
-use Rattle.ts_core.specs.History.{Step}
-use Rattle.ts_core.specs.StoreStates.{StandsFor}
-use Rattle.ts_core.specs.StoreData.{state_of, OfEachHistory}
-use Rattle.ts_store.specs.WholeRuns.{steps_taken}
+use Rattle.ts_core.specs.store.History.{Step}
+use Rattle.ts_core.specs.store.StoreStates.{StandsFor}
+use Rattle.ts_core.specs.store.StoreData.{state_of, OfEachHistory}
+use Rattle.ts_store.specs.retain.WholeRuns.{steps_taken}
 use Rattle.ts_store.specs.declared.store.retention.StepAnswer.TheVariants.{Moved, Done}
 use Rattle.ts_http.proofs.MaintainLemmas.{goes_on, ends}
 use Rattle.ts_http.proofs.maintaining.take_steps.Goals as goal

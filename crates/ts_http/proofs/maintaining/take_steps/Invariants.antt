@@ -1,8 +1,8 @@
 use Rattle.std.proofs.Common.{◌≡◌, ◌≤◌, ◌+◌, true}
-use Rattle.ts_core.specs.Runs.{steps_left}
-use Rattle.ts_core.specs.StoreStates.{StandsFor}
-use Rattle.ts_core.specs.StoreData.{state_of, OfEachHistory}
-use Rattle.ts_store.specs.WholeRuns.{steps_taken}
+use Rattle.ts_core.specs.moves.Runs.{steps_left}
+use Rattle.ts_core.specs.store.StoreStates.{StandsFor}
+use Rattle.ts_core.specs.store.StoreData.{state_of, OfEachHistory}
+use Rattle.ts_store.specs.retain.WholeRuns.{steps_taken}
 use Rattle.ts_http.proofs.maintaining.take_steps.Given as goal
 
 abbrev pub invariant-loop-taken : goal.invariant-loop-taken

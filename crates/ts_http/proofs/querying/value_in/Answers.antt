@@ -1,6 +1,6 @@
 use Rattle.std.proofs.Common.{◌≡◌, ◌∙◌, ap, sym, subst, IfOk, Option}
 use Rattle.std.specs.Cow.{cow_str_bytes}
-use Rattle.ts_core.specs.Facts.{Text}
+use Rattle.ts_core.specs.facts.Facts.{Text}
 use Rattle.ts_http.specs.Parameters.{parameters, value_text}
 use Rattle.ts_http.proofs.ActLemmas.{named_in_front, named_behind}
 use Rattle.ts_http.proofs.querying.value_in.Goals as goal

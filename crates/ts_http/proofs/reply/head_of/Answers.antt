@@ -1,5 +1,5 @@
 use Rattle.std.proofs.Common.{◌++◌, ◌∙◌, ap}
-use Rattle.ts_core.specs.Facts.{Text}
+use Rattle.ts_core.specs.facts.Facts.{Text}
 use Rattle.ts_http.specs.HttpReplies.{status_text, allow_text, length_text}
 use Rattle.ts_http.proofs.ReplyLemmas.{six_put}
 use Rattle.ts_http.proofs.reply.head_of.Goals as goal

@@ -1,5 +1,5 @@
 use Rattle.std.proofs.Common.{◌++◌, ◌∙◌, ap, decimal}
-use Rattle.ts_core.specs.Facts.{Text}
+use Rattle.ts_core.specs.facts.Facts.{Text}
 use Rattle.ts_http.proofs.ReplyLemmas.{three_put}
 use Rattle.ts_http.proofs.reply.push_length.Goals as goal
 

@@ -1,5 +1,5 @@
 use Rattle.std.proofs.Common.{true, ap, subst, sym}
-use Rattle.ts_core.specs.Facts.{Text}
+use Rattle.ts_core.specs.facts.Facts.{Text}
 use Rattle.ts_http.specs.Acts.{answer_reply}
 use Rattle.ts_http.specs.Outcomes.{AddsAs}
 use Rattle.ts_http.specs.declared.outcome.Outcome.TheVariants.{Brief, Refused}

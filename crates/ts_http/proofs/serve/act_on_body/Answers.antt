@@ -1,5 +1,5 @@
 use Rattle.std.proofs.Common.{◌++◌, subst, inl, unwrap_or, []}
-use Rattle.ts_core.specs.Facts.{Text}
+use Rattle.ts_core.specs.facts.Facts.{Text}
 use Rattle.ts_http.specs.BodiesTaken.{TellsBody}
 use Rattle.ts_http.specs.Outcomes.{ActsAs}
 use Rattle.ts_http.proofs.serve.act_on_body.Goals as goal

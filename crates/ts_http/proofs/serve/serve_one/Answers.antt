@@ -1,7 +1,7 @@
 use Rattle.std.proofs.Common.{◌∙◌, ◌++◌, ap, sym, subst, arith, refl, Err, take, drop, unwrap_or, [], append_assoc}
 use Rattle.std.proofs.KnownBytes.{Consumes-trans}
 use Rattle.std.proofs.lemmas.Result.{err_from_is_err_and}
-use Rattle.ts_core.specs.Facts.{Text}
+use Rattle.ts_core.specs.facts.Facts.{Text}
 use Rattle.ts_http.specs.Heads.{IsWhole}
 use Rattle.ts_http.specs.Reading.{request_of, TellsHead}
 use Rattle.ts_http.specs.Requested.{Refuses, Asks}

@@ -1,6 +1,6 @@
 use Rattle.std.proofs.Common.{rules, ◌≡◌, ℤ, SFits, to_z, of_z, to_z-of_z, refl, w64}
 use Rattle.std.specs.Prelude.{string_bytes}
-use Rattle.ts_core.specs.Facts.{Text}
+use Rattle.ts_core.specs.facts.Facts.{Text}
 use Rattle.ts_image.specs.Formats.{signed, text, also, along}
 use Rattle.ts_image.specs.RuleParts.{texts_of}
 use Rattle.ts_image.specs.CellParts.{cell_key_of}

@@ -1,7 +1,7 @@
 use Rattle.std.proofs.Common.{◌≡◌, ◌+◌, suc, List, ◌∷◌, length, map, ap, subst, arith}
 use Rattle.std.specs.Int.{w64}
 use Rattle.std.proofs.lemmas.Result.{err_from_is_err_and}
-use Rattle.ts_core.specs.StoreData.{StoreData}
+use Rattle.ts_core.specs.store.StoreData.{StoreData}
 use Rattle.ts_image.specs.Formats.{Format, list_of}
 use Rattle.ts_image.specs.Images.{ImageRule, ImageCell, image_cell}
 use Rattle.ts_image.specs.SavedParts.{image_rule_of}

@@ -5,10 +5,10 @@ use Rattle.std.specs.FinMap as finmap
 use Rattle.std.specs.List.{AllByRecursion}
 use Rattle.std.proofs.lemmas.List.{length-map}
 use Rattle.std.proofs.lemmas.Result.{err_from_is_err_and}
-use Rattle.ts_core.specs.StoreData.{StoreData}
+use Rattle.ts_core.specs.store.StoreData.{StoreData}
 use Rattle.ts_image.specs.Images.{image_cell}
 use Rattle.ts_image.specs.FieldWriting.{PutsAll}
-use Rattle.ts_store.specs.Saving.{FrozenCell}
+use Rattle.ts_store.specs.image.Saving.{FrozenCell}
 use Rattle.ts_image.specs.SavedParts.{image_rule_of}
 use Rattle.ts_image.specs.Saving.{FitsCell, cells_at, image_cell_of}
 use Rattle.ts_image.proofs.Putting.{puts_at, list_puts, list_stops}

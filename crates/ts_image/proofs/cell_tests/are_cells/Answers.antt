@@ -1,5 +1,5 @@
 use Rattle.std.proofs.Common.{refl, sym, subst}
-use Rattle.ts_core.specs.Cells.{cell_cmp}
+use Rattle.ts_core.specs.store.Cells.{cell_cmp}
 use Rattle.ts_image.specs.Images.{ImageCell}
 use Rattle.ts_image.specs.ImageTests.{AreRising}
 use Rattle.ts_image.specs.CellParts.{cell_of_parts}

@@ -1,6 +1,6 @@
 use Rattle.std.proofs.Common.{◌<◌, arith, refl}
 use Rattle.ts_image.specs.TestParts.{key_of_cell}
-use Rattle.ts_core.specs.Cells.{cell_cmp}
+use Rattle.ts_core.specs.store.Cells.{cell_cmp}
 use Rattle.ts_image.proofs.Testing.{rising_one, rising_next, never_rising, rising_done}
 use Rattle.ts_image.proofs.cell_tests.are_cells_rising.Goals as goal
 

@@ -4,7 +4,7 @@ use Rattle.std.specs.declared.cmp.Ordering.{Ordering}
 use Rattle.std.specs.Ordering.{ordering_then}
 use Rattle.std.specs.Cmp.Lexicographic.{slice_cmp}
 use Rattle.std.specs.Cmp.Derive.Mapped.{lex_map}
-use Rattle.ts_core.specs.Facts.{text_cmp}
+use Rattle.ts_core.specs.facts.Facts.{text_cmp}
 use Rattle.ts_image.specs.RuleParts.{texts_of}
 use Rattle.ts_image.proofs.cell_tests.compare_cells.Goals as goal
 

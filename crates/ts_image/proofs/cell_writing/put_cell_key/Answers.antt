@@ -2,8 +2,8 @@ use Rattle.std.proofs.Common.{map, ◌∙◌}
 use Rattle.std.specs.Prelude.{string_bytes}
 use Rattle.std.proofs.lemmas.List.{length-map}
 use Rattle.std.proofs.lemmas.Result.{err_from_is_err_and}
-use Rattle.ts_core.specs.Facts.{Text}
-use Rattle.ts_core.specs.Cells.{Cell}
+use Rattle.ts_core.specs.facts.Facts.{Text}
+use Rattle.ts_core.specs.store.Cells.{Cell}
 use Rattle.ts_image.specs.Formats.{text, also, along}
 use Rattle.ts_image.proofs.Putting.{also_puts, also_stops, iso_puts, along_puts}
 use Rattle.ts_image.proofs.cell_writing.put_cell_key.Goals as goal

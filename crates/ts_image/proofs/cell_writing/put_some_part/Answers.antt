@@ -1,5 +1,5 @@
 use Rattle.std.proofs.Common.{ap, Option}
-use Rattle.ts_core.specs.declared.aggregate.Extremes.{Extremes}
+use Rattle.ts_core.specs.declared.aggregates.aggregate.Extremes.{Extremes}
 use Rattle.ts_image.specs.SavedParts.{extremes_in}
 use Rattle.ts_image.proofs.Putting.{puts_at}
 use Rattle.ts_image.proofs.cell_writing.put_some_part.Goals as goal

@@ -1,7 +1,7 @@
 use Rattle.std.proofs.Common.{◌∙◌}
 use Rattle.ts_image.proofs.Saved.{byte_is}
 use Rattle.std.specs.Int.{w8, w64}
-use Rattle.ts_core.specs.ReadingAhead.{bit}
+use Rattle.ts_core.specs.io.ReadingAhead.{bit}
 use Rattle.ts_image.specs.Images.{ImageColumn, image_point}
 use Rattle.std.proofs.lemmas.Result.{err_from_is_err_and}
 use Rattle.ts_image.specs.Formats.{number, also, list_of}

@@ -1,6 +1,6 @@
 use Rattle.std.proofs.Common.{rules, ◌≡◌, ℤ, ◌∷◌, subst, SFits, w64, to_z, of_z, to_z-of_z, ap}
 use Rattle.std.proofs.lemmas.Result.{err_from_is_err_and}
-use Rattle.ts_core.proofs.OutputBufferLemmas.{done, refused}
+use Rattle.ts_core.proofs.io.OutputBufferLemmas.{done, refused}
 use Rattle.ts_image.specs.Images.{image_point}
 use Rattle.ts_image.specs.FieldWriting.{PutsAll}
 use Rattle.ts_image.proofs.Putting.{puts_at, going_starts, going_on, going_stops, going_ends}

@@ -1,6 +1,6 @@
 use Rattle.std.proofs.Common.{map, take}
 use Rattle.std.specs.Prelude.{string_bytes}
-use Rattle.ts_core.proofs.OutputBufferLemmas.{done}
+use Rattle.ts_core.proofs.io.OutputBufferLemmas.{done}
 use Rattle.ts_image.specs.Formats.{text}
 use Rattle.ts_image.specs.FieldWriting.{PutsAll}
 use Rattle.ts_image.proofs.field_writing.put_texts.Given as goal

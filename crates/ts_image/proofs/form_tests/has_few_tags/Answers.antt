@@ -1,5 +1,5 @@
 use Rattle.std.proofs.Common.{rules, ◌≡◌, length, ap, ◌∙◌}
-use Rattle.ts_core.specs.Facts.{Series}
+use Rattle.ts_core.specs.facts.Facts.{Series}
 use Rattle.ts_image.proofs.Saved.{length-owned, below_256}
 use Rattle.ts_image.proofs.form_tests.has_few_tags.Goals as goal
 

@@ -1,6 +1,6 @@
 use Rattle.std.proofs.Common.{Option, refl, subst}
 use Rattle.std.proofs.lemmas.Result.{err_from_is_err_and}
-use Rattle.ts_core.specs.Settings.{Settings}
+use Rattle.ts_core.specs.settings.Settings.{Settings}
 use Rattle.ts_image.specs.ImageTests.{IsPossible, settings_in}
 use Rattle.ts_image.specs.RuleParts.{settings_of_parts}
 use Rattle.ts_image.specs.ImageReading.{image_of}

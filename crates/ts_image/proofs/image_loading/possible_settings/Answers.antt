@@ -1,6 +1,6 @@
 use Rattle.std.proofs.Common.{Option, refl, subst}
-use Rattle.ts_core.specs.Settings.{Settings}
-use Rattle.ts_core.proofs.SettingsLaws.{settings_wide}
+use Rattle.ts_core.specs.settings.Settings.{Settings}
+use Rattle.ts_core.proofs.settings.SettingsLaws.{settings_wide}
 use Rattle.ts_image.specs.ImageTests.{AreImageSettings, settings_in}
 use Rattle.ts_image.specs.RuleParts.{settings_of_parts}
 use Rattle.ts_image.specs.SettingsMade.{IsMadeIf}

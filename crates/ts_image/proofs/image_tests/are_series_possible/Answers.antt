@@ -1,6 +1,6 @@
 use Rattle.std.proofs.Common.{arith, List, map, refl, sym, ap, subst, ◌∙◌}
 use Rattle.std.specs.List.{AllByRecursion}
-use Rattle.ts_core.specs.Facts.{series_cmp}
+use Rattle.ts_core.specs.facts.Facts.{series_cmp}
 use Rattle.ts_image.specs.declared.series_reading.SeriesParts.{SeriesParts}
 use Rattle.ts_image.specs.Images.{ImageSeries}
 use Rattle.ts_image.specs.ImageTests.{AreRising, IsImageSeries, points_in_all}

@@ -1,6 +1,6 @@
 use Rattle.std.proofs.Common.{◌≡◌, ◌<◌, ◌∷◌, ◌++◌, [], List, length, string_bytes, sym, ap, ap₂, ◌∙◌, arith}
-use Rattle.ts_core.specs.Facts.{Text}
-use Rattle.ts_core.specs.Texts.{lent_pairs}
+use Rattle.ts_core.specs.facts.Facts.{Text}
+use Rattle.ts_core.specs.text.Texts.{lent_pairs}
 use Rattle.ts_image.specs.SeriesParts.{tag_of}
 use Rattle.ts_image.proofs.Lending.{lent_length, lent_more, map_step, map_length}
 use Rattle.ts_image.proofs.part_making.lend_tags.Goals as goal

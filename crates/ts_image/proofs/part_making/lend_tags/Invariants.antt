@@ -1,5 +1,5 @@
 use Rattle.std.proofs.Common.{◌≡◌, map, take}
-use Rattle.ts_core.specs.Texts.{lent_pairs}
+use Rattle.ts_core.specs.text.Texts.{lent_pairs}
 use Rattle.ts_image.specs.SeriesParts.{tag_of}
 use Rattle.ts_image.proofs.part_making.lend_tags.Given as goal
 

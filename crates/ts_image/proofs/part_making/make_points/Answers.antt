@@ -1,5 +1,5 @@
 use Rattle.std.proofs.Common.{ℤ, pos, get_or}
-use Rattle.ts_core.specs.Times.{IsTime}
+use Rattle.ts_core.specs.facts.Times.{IsTime}
 use Rattle.ts_image.specs.PointParts.{point_of}
 use Rattle.ts_image.proofs.Testing.{there, all_at}
 use Rattle.ts_image.proofs.part_making.make_points.Goals as goal

@@ -1,7 +1,7 @@
 use Rattle.std.proofs.Common.{arith, List, map, sym, ap, ◌∙◌}
 use Rattle.std.specs.Prelude.{string_bytes}
 use Rattle.std.specs.List.{sum_by}
-use Rattle.ts_core.specs.Facts.{Text}
+use Rattle.ts_core.specs.facts.Facts.{Text}
 use Rattle.ts_image.specs.declared.cell_reading.CellParts.{CellParts}
 use Rattle.ts_image.specs.ImageTests.{frozen_in}
 use Rattle.ts_image.specs.SeriesParts.{series_of_parts}

@@ -2,10 +2,10 @@ use Rattle.std.proofs.Common.{◌≡◌, ◌≤◌, arith, List, map, length, ap
 use Rattle.std.specs.Int.{w8, w32, w64}
 use Rattle.std.proofs.lemmas.List.{length-map}
 use Rattle.std.proofs.lemmas.Result.{err_from_is_err_and}
-use Rattle.ts_core.specs.Marks.{Marks}
-use Rattle.ts_core.specs.Settings.{Rule, Settings}
-use Rattle.ts_core.specs.ReadingAhead.{bit}
-use Rattle.ts_core.specs.StoreData.{StoreData}
+use Rattle.ts_core.specs.store.Marks.{Marks}
+use Rattle.ts_core.specs.settings.Settings.{Rule, Settings}
+use Rattle.ts_core.specs.io.ReadingAhead.{bit}
+use Rattle.ts_core.specs.store.StoreData.{StoreData}
 use Rattle.ts_image.specs.declared.version.Version.TheVariants.{V2}
 use Rattle.ts_image.specs.Formats.{number, also, along, list_of}
 use Rattle.ts_image.specs.Images.{ImageRule, image_series, image_cell}

@@ -1,11 +1,11 @@
 use Rattle.std.proofs.Common.{List, ap, subst, ◌∙◌, Err}
 use Rattle.std.proofs.lemmas.Result.{err_from_is_err_and}
-use Rattle.ts_core.specs.Devices.{IsPut}
-use Rattle.ts_core.proofs.OutputBufferLemmas.{done, refused}
-use Rattle.ts_core.specs.StoreData.{StoreData}
+use Rattle.ts_core.specs.io.Devices.{IsPut}
+use Rattle.ts_core.proofs.io.OutputBufferLemmas.{done, refused}
+use Rattle.ts_core.specs.store.StoreData.{StoreData}
 use Rattle.ts_image.specs.declared.version.Version.TheVariants.{V2}
 use Rattle.ts_image.specs.Images.{image, image_text}
-use Rattle.ts_store.specs.Saving.{SavedSeries}
+use Rattle.ts_store.specs.image.Saving.{SavedSeries}
 use Rattle.ts_image.specs.Saving.{image_of}
 use Rattle.ts_image.proofs.SavedWholes.{is_cut, is_saved, columns_there}
 use Rattle.ts_image.proofs.saving.save.Goals as goal

@@ -2,7 +2,7 @@ use Rattle.std.proofs.Common.{map, take}
 use Rattle.ts_image.specs.Saving.{image_column_of}
 use Rattle.ts_image.specs.declared.version.Version.TheVariants.{V2}
 use Rattle.ts_image.specs.Images.{image_column}
-use Rattle.ts_core.proofs.OutputBufferLemmas.{done}
+use Rattle.ts_core.proofs.io.OutputBufferLemmas.{done}
 use Rattle.ts_image.specs.FieldWriting.{PutsAll}
 use Rattle.ts_image.proofs.series_saving.put_columns.Given as goal
 

@@ -1,11 +1,11 @@
 use Rattle.std.proofs.Common.{rules, ◌≡◌, ◌<◌, length, ap, ◌∙◌}
 use Rattle.std.specs.Prelude.{slice_index_or}
-use Rattle.ts_core.specs.RawFacts.{is_waiting}
-use Rattle.ts_core.specs.ReadingAhead.{bit}
-use Rattle.ts_core.specs.StoreStates.{ColumnPoints}
-use Rattle.ts_core.specs.StoreData.{StoreData}
-use Rattle.ts_store.specs.Saving.{SavedColumn}
-use Rattle.ts_store.specs.Seats.{no_points}
+use Rattle.ts_core.specs.store.RawFacts.{is_waiting}
+use Rattle.ts_core.specs.io.ReadingAhead.{bit}
+use Rattle.ts_core.specs.store.StoreStates.{ColumnPoints}
+use Rattle.ts_core.specs.store.StoreData.{StoreData}
+use Rattle.ts_store.specs.image.Saving.{SavedColumn}
+use Rattle.ts_store.specs.read.Seats.{no_points}
 use Rattle.ts_image.specs.Saving.{image_column_of}
 use Rattle.ts_image.proofs.Putting.{puts_at}
 use Rattle.ts_image.proofs.SavedOf.{at_number, waits_is, column_same}

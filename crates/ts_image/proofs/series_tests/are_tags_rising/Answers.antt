@@ -1,6 +1,6 @@
 use Rattle.std.proofs.Common.{◌<◌, arith, refl}
 use Rattle.ts_image.specs.TestParts.{key_of_tag}
-use Rattle.ts_core.specs.Facts.{text_cmp}
+use Rattle.ts_core.specs.facts.Facts.{text_cmp}
 use Rattle.ts_image.proofs.Testing.{rising_one, rising_next, never_rising, rising_done}
 use Rattle.ts_image.proofs.series_tests.are_tags_rising.Goals as goal
 

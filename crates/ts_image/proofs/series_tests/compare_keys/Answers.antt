@@ -3,7 +3,7 @@ use Rattle.std.specs.declared.cmp.Ordering.{Ordering}
 use Rattle.std.specs.Ordering.{ordering_then}
 use Rattle.std.specs.Cmp.Lexicographic.{slice_cmp}
 use Rattle.std.specs.Cmp.Derive.Mapped.{lex_map}
-use Rattle.ts_core.specs.Facts.{tag_cmp}
+use Rattle.ts_core.specs.facts.Facts.{tag_cmp}
 use Rattle.ts_image.specs.SeriesParts.{tag_of, tags_of}
 use Rattle.ts_image.proofs.series_tests.compare_keys.Goals as goal
 

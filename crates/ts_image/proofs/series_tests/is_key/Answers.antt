@@ -4,7 +4,7 @@ use Rattle.std.proofs.lemmas.List.{length-map}
 use Rattle.std.specs.List.{AllByRecursion}
 use Rattle.ts_image.specs.ImageTests.{AreRising}
 use Rattle.ts_image.proofs.Testing.{mapped}
-use Rattle.ts_core.specs.Facts.{Text, text_cmp}
+use Rattle.ts_core.specs.facts.Facts.{Text, text_cmp}
 use Rattle.ts_image.specs.SeriesParts.{tag_of}
 use Rattle.ts_image.specs.TestParts.{IsTag, key_of_tag}
 use Rattle.ts_image.proofs.series_tests.is_key.Goals as goal

@@ -2,7 +2,7 @@ use Rattle.std.proofs.Common.{rules, List, map, refl, sym, ap, subst, ◌∙◌}
 use Rattle.std.specs.List.{AllByRecursion}
 use Rattle.ts_image.specs.ImageTests.{AreRising}
 use Rattle.ts_image.proofs.Testing.{mapped}
-use Rattle.ts_core.specs.Facts.{text_cmp}
+use Rattle.ts_core.specs.facts.Facts.{text_cmp}
 use Rattle.ts_image.specs.Images.{ImageColumn}
 use Rattle.ts_image.specs.declared.series_reading.ColumnParts.{ColumnParts}
 use Rattle.ts_image.specs.ImageTests.{IsImageColumn}

@@ -1,7 +1,7 @@
 use Rattle.std.proofs.Common.{map, take}
 use Rattle.ts_image.specs.SeriesParts.{tag_of}
 use Rattle.ts_image.specs.Formats.{text, also}
-use Rattle.ts_core.proofs.OutputBufferLemmas.{done}
+use Rattle.ts_core.proofs.io.OutputBufferLemmas.{done}
 use Rattle.ts_image.specs.FieldWriting.{PutsAll}
 use Rattle.ts_image.proofs.series_writing.put_tags.Given as goal
 

@@ -1,5 +1,5 @@
 use Rattle.std.proofs.Common.{◌++◌, ◌∷◌, [], List, Option, map, take, refl, sym, ap, subst, ◌∙◌}
-use Rattle.ts_core.specs.Settings.{Rule}
+use Rattle.ts_core.specs.settings.Settings.{Rule}
 use Rattle.ts_image.specs.ImageTests.{IsImageRule, rule_in}
 use Rattle.ts_image.specs.RuleParts.{rule_of}
 use Rattle.ts_image.specs.SettingsMade.{IsMadeIf}

@@ -1,7 +1,7 @@
 use Rattle.std.proofs.Common.{rules, ◌≡◌, ◌≤ℤ◌, pos, ℤ, SFits, to_z-of_z, w64, List, Option, Some, Vec, map, refl, sym, ap, subst, ◌∙◌}
 use Rattle.std.specs.List.{AllByRecursion}
-use Rattle.ts_core.specs.Settings.{Rule}
-use Rattle.ts_core.specs.SettingsFaults.{settings_fault}
+use Rattle.ts_core.specs.settings.Settings.{Rule}
+use Rattle.ts_core.specs.settings.SettingsFaults.{settings_fault}
 use Rattle.ts_image.specs.declared.rule_reading.RuleParts.{RuleParts}
 use Rattle.ts_image.specs.ImageTests.{IsImageRule, rule_in}
 use Rattle.ts_image.specs.RuleParts.{rule_of}

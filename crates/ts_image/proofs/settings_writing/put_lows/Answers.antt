@@ -5,7 +5,7 @@ use Rattle.std.proofs.lemmas.Result.{err_from_is_err_and}
 use Rattle.ts_image.specs.Formats.{signed}
 use Rattle.ts_image.specs.FieldWriting.{PutsAll}
 use Rattle.ts_image.proofs.Putting.{loop_more, loop_stops, loop_ends}
-use Rattle.ts_core.proofs.OutputBufferLemmas.{done, refused}
+use Rattle.ts_core.proofs.io.OutputBufferLemmas.{done, refused}
 use Rattle.ts_image.proofs.Saved.{all_at, as_it_is, mapped}
 use Rattle.ts_image.proofs.Testing.{there}
 use Rattle.ts_image.proofs.settings_writing.put_lows.Goals as goal

@@ -1,6 +1,6 @@
 use Rattle.std.proofs.Common.{map, take}
 use Rattle.std.specs.Int.{w64}
-use Rattle.ts_core.proofs.OutputBufferLemmas.{done}
+use Rattle.ts_core.proofs.io.OutputBufferLemmas.{done}
 use Rattle.ts_image.specs.Formats.{signed}
 use Rattle.ts_image.specs.FieldWriting.{PutsAll}
 use Rattle.ts_image.proofs.Saved.{as_it_is}

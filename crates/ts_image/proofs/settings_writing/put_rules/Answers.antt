@@ -1,4 +1,4 @@
-use Rattle.ts_core.specs.Settings.{AreKeptTags}
+use Rattle.ts_core.specs.settings.Settings.{AreKeptTags}
 use Rattle.ts_image.proofs.Saved.{all_at}
 use Rattle.ts_image.specs.SavedParts.{image_rule_of}
 use Rattle.ts_image.specs.Images.{image_rule}

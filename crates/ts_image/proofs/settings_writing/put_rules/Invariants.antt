@@ -1,7 +1,7 @@
 use Rattle.std.proofs.Common.{map, take}
 use Rattle.ts_image.specs.SavedParts.{image_rule_of}
 use Rattle.ts_image.specs.Images.{image_rule}
-use Rattle.ts_core.proofs.OutputBufferLemmas.{done}
+use Rattle.ts_core.proofs.io.OutputBufferLemmas.{done}
 use Rattle.ts_image.specs.FieldWriting.{PutsAll}
 use Rattle.ts_image.proofs.settings_writing.put_rules.Given as goal
 

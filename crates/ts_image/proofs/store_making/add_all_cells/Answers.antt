@@ -1,9 +1,9 @@
 use Rattle.std.proofs.Common.{◌<◌, ◌≤◌, List, length, map, take, sym, ap, subst, ◌∙◌, arith}
 use Rattle.std.proofs.lemmas.List.{length-map}
 use Rattle.std.specs.FinMap as finmap
-use Rattle.ts_core.specs.Settings.{Rule}
-use Rattle.ts_core.specs.StoreData.{CellMap}
-use Rattle.ts_store.specs.Building.{Built}
+use Rattle.ts_core.specs.settings.Settings.{Rule}
+use Rattle.ts_core.specs.store.StoreData.{CellMap}
+use Rattle.ts_store.specs.image.Building.{Built}
 use Rattle.ts_image.specs.declared.cell_reading.CellParts.{CellParts}
 use Rattle.ts_image.specs.CellParts.{cell_of_parts, cells_of}
 use Rattle.ts_image.specs.StoresMade.{AreAddedCells, with_cells_at}

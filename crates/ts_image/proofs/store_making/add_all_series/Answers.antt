@@ -2,8 +2,8 @@ use Rattle.std.proofs.Common.{rules, ◌≡◌, ◌≤◌, ◌∷◌, [], List, 
 use Rattle.std.proofs.lemmas.List.{map-append}
 use Rattle.std.specs.List.{AllByRecursion}
 use Rattle.std.specs.Vec.Iter.{into_iter_items}
-use Rattle.ts_core.specs.Facts.{series_cmp}
-use Rattle.ts_store.specs.Building.{Built}
+use Rattle.ts_core.specs.facts.Facts.{series_cmp}
+use Rattle.ts_store.specs.image.Building.{Built}
 use Rattle.ts_image.specs.declared.series_reading.SeriesParts.{SeriesParts}
 use Rattle.ts_image.specs.Images.{ImageSeries}
 use Rattle.ts_image.specs.ImageTests.{AreRising}

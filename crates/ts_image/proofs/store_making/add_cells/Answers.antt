@@ -1,6 +1,6 @@
 use Rattle.std.proofs.Common.{List, length, map, take, sym, ap, ◌∙◌, arith}
 use Rattle.std.proofs.lemmas.List.{take_all}
-use Rattle.ts_store.specs.Building.{Built, with_cell}
+use Rattle.ts_store.specs.image.Building.{Built, with_cell}
 use Rattle.ts_image.specs.declared.cell_reading.CellParts.{CellParts}
 use Rattle.ts_image.specs.CellParts.{cell_of_parts}
 use Rattle.ts_image.specs.Images.{ImageCell}

@@ -1,9 +1,9 @@
 use Rattle.std.proofs.Common.{rules, ◌≡◌, ◌∷◌, [], List, length, map, refl, sym, ap, subst, ◌∙◌, arith}
 use Rattle.std.proofs.lemmas.List.{map-append}
 use Rattle.std.specs.Vec.Iter.{into_iter_items}
-use Rattle.ts_core.specs.Facts.{Series, text_cmp}
-use Rattle.ts_core.specs.Numbered.{IsAt}
-use Rattle.ts_store.specs.Building.{Built, with_column}
+use Rattle.ts_core.specs.facts.Facts.{Series, text_cmp}
+use Rattle.ts_core.specs.lists.Numbered.{IsAt}
+use Rattle.ts_store.specs.image.Building.{Built, with_column}
 use Rattle.ts_image.specs.declared.series_reading.ColumnParts.{ColumnParts}
 use Rattle.ts_image.specs.Images.{ImageColumn}
 use Rattle.ts_image.specs.ImageTests.{AreRising}

@@ -1,7 +1,7 @@
 use Rattle.std.proofs.Common.{◌≡◌, ◌++◌, length, map}
 use Rattle.std.specs.Vec.Iter.{into_iter_items, into_iter_len}
-use Rattle.ts_core.specs.Facts.{Series}
-use Rattle.ts_core.specs.Numbered.{IsAt}
+use Rattle.ts_core.specs.facts.Facts.{Series}
+use Rattle.ts_core.specs.lists.Numbered.{IsAt}
 use Rattle.ts_image.specs.SeriesParts.{column_of_parts}
 use Rattle.ts_image.specs.StoresMade.{with_columns}
 use Rattle.ts_image.proofs.store_making.add_columns.Given as goal

@@ -1,12 +1,12 @@
 use Rattle.std.proofs.Common.{◌≡◌, ℕ, ◌≤◌, List, length, map, string_bytes, sym, ap, subst, ◌∙◌, arith, Bor}
 use Rattle.std.proofs.lemmas.List.{length-map}
 use Rattle.std.specs.Prelude.{String, IfOk, OnOk}
-use Rattle.ts_core.specs.Facts.{Text, Series}
-use Rattle.ts_core.specs.Members.{Among}
-use Rattle.ts_core.specs.Numbered.{IsAt}
-use Rattle.ts_core.specs.Texts.{lent_pairs, lent_series}
+use Rattle.ts_core.specs.facts.Facts.{Text, Series}
+use Rattle.ts_core.specs.lists.Members.{Among}
+use Rattle.ts_core.specs.lists.Numbered.{IsAt}
+use Rattle.ts_core.specs.text.Texts.{lent_pairs, lent_series}
 use Rattle.ts_line.specs.Names.{IsNamed}
-use Rattle.ts_store.specs.Building.{with_series}
+use Rattle.ts_store.specs.image.Building.{with_series}
 use Rattle.ts_image.specs.declared.series_reading.KeyParts.{KeyParts}
 use Rattle.ts_image.specs.SeriesParts.{tag_of, key_of}
 use Rattle.ts_image.proofs.NamedKeys.{series_named}

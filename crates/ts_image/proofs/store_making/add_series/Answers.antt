@@ -1,10 +1,10 @@
 use Rattle.std.proofs.Common.{◌≡◌, List, map, ap, subst, ◌∙◌}
 use Rattle.std.specs.Prelude.{OnOk}
-use Rattle.ts_core.specs.Facts.{Series}
-use Rattle.ts_core.specs.Members.{Among}
-use Rattle.ts_core.specs.StoreStates.{ColumnPoints, column_of}
-use Rattle.ts_core.proofs.NumberedLemmas.{same_at}
-use Rattle.ts_store.specs.Building.{Built}
+use Rattle.ts_core.specs.facts.Facts.{Series}
+use Rattle.ts_core.specs.lists.Members.{Among}
+use Rattle.ts_core.specs.store.StoreStates.{ColumnPoints, column_of}
+use Rattle.ts_core.proofs.lists.NumberedLemmas.{same_at}
+use Rattle.ts_store.specs.image.Building.{Built}
 use Rattle.ts_image.specs.SeriesParts.{columns_of, key_of, series_of_parts}
 use Rattle.ts_image.specs.StoresMade.{with_columns}
 use Rattle.ts_image.proofs.SeriesMaking.{series_added}

@@ -2,9 +2,9 @@ use Rattle.std.proofs.Common.{◌≡◌, List, length, map, refl, sym, ap, subst
 use Rattle.std.proofs.lemmas.List.{length-map}
 use Rattle.std.specs.FinMap as finmap
 use Rattle.std.specs.List.{AllByRecursion}
-use Rattle.ts_core.specs.Settings.{Rule}
-use Rattle.ts_core.specs.StoreData.{StoreData}
-use Rattle.ts_store.specs.Building.{Built, IsBuildable, IsBuiltFrom}
+use Rattle.ts_core.specs.settings.Settings.{Rule}
+use Rattle.ts_core.specs.store.StoreData.{StoreData}
+use Rattle.ts_store.specs.image.Building.{Built, IsBuildable, IsBuiltFrom}
 use Rattle.ts_image.specs.declared.cell_reading.CellParts.{CellParts}
 use Rattle.ts_image.specs.CellParts.{cells_of}
 use Rattle.ts_image.specs.ImageReading.{image_of}

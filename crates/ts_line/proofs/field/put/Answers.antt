@@ -1,5 +1,5 @@
 use Rattle.std.proofs.Common.{◌≡◌, ℤ, List, Some, None, get_or, set, ap, ◌∙◌}
-use Rattle.ts_core.specs.Facts.{Text}
+use Rattle.ts_core.specs.facts.Facts.{Text}
 use Rattle.ts_line.specs.Parts.{LinePart}
 use Rattle.ts_line.specs.Fields.{place_from}
 use Rattle.ts_line.proofs.FieldLemmas.{field_set, field_pushed}

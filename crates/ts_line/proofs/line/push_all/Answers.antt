@@ -1,5 +1,5 @@
 use Rattle.std.proofs.Common.{◌≡◌, sym, ap, ◌∙◌, get_or, subst, arith}
-use Rattle.ts_core.specs.Texts.{lent_pairs}
+use Rattle.ts_core.specs.text.Texts.{lent_pairs}
 use Rattle.ts_line.specs.Parts.{LinePart}
 use Rattle.ts_line.proofs.SortingLemmas.{pushed_pairs}
 use Rattle.ts_line.proofs.line.push_all.Goals as goal

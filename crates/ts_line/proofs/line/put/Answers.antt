@@ -1,7 +1,7 @@
 use Rattle.std.proofs.Common.{◌≡◌, ◌∙◌, set, slice_set, ap, rules, Ok, Err}
 use Rattle.std.proofs.lemmas.List.{length-set}
 use Rattle.arrayvec.proofs.ArrayVecLemmas.{items-with_items}
-use Rattle.ts_core.specs.Texts.{lent_pairs}
+use Rattle.ts_core.specs.text.Texts.{lent_pairs}
 use Rattle.ts_line.specs.Sorting.{key_place_from}
 use Rattle.ts_line.proofs.SortingLemmas.{Lent, put_found, put_new}
 use Rattle.ts_line.proofs.line.put.Goals as goal

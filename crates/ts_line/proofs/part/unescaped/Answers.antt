@@ -1,6 +1,6 @@
 use Rattle.std.proofs.Common.{◌≡◌, ◌++◌, ◌+◌, ◌<◌, length, true, false, slice_range, string_bytes, refl, sym, ap, ◌∙◌, arith}
 use Rattle.std.proofs.lemmas.Str.{IsCharBoundary-start}
-use Rattle.ts_core.specs.Facts.{Text}
+use Rattle.ts_core.specs.facts.Facts.{Text}
 use Rattle.ts_line.specs.PartTexts.{unescaped}
 use Rattle.ts_line.proofs.PieceLemmas.{is_escape_at, text_kept, text_cut}
 use Rattle.ts_line.proofs.part.unescaped.Goals as goal

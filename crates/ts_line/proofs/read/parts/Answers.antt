@@ -1,7 +1,7 @@
 use Rattle.std.proofs.Common.{◌≡◌, false, eqb, length, [], Ok, sym, ap, ◌∙◌}
 use Rattle.std.proofs.lemmas.Bool.{ne_eqb}
 use Rattle.std.proofs.lemmas.Result.{err_from_is_err_and}
-use Rattle.ts_core.specs.TimeUnits.{nanoseconds_of}
+use Rattle.ts_core.specs.facts.TimeUnits.{nanoseconds_of}
 use Rattle.ts_line.specs.Scan.{spaces_end}
 use Rattle.ts_line.specs.Fields.{fields_at}
 use Rattle.ts_line.proofs.FieldLemmas.{read_fields}

@@ -1,5 +1,5 @@
 use Rattle.ts_line.specs.EscapeLaws.{reads_pairs}
-use Rattle.ts_core.specs.TimeUnits.{nanoseconds_of}
+use Rattle.ts_core.specs.facts.TimeUnits.{nanoseconds_of}
 use Rattle.ts_line.proofs.Laws.{told_of, read_of}
 use Rattle.ts_line.proofs.SpansLemmas.{placed_by}
 use Rattle.ts_line.proofs.read.read_line.Goals as goal

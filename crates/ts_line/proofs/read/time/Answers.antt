@@ -1,10 +1,10 @@
 use Rattle.std.proofs.Common.{◌≡◌, slice_range, length, Some, sym, ap, ◌∙◌, ℤ, w64, to_z, of_z}
 use Rattle.std.proofs.lemmas.Int.{to_z-of_z}
 use Rattle.std.specs.Option.{ok_or}
-use Rattle.ts_core.specs.Numbers.{whole_of}
+use Rattle.ts_core.specs.text.Numbers.{whole_of}
 use Rattle.ts_line.specs.Lines.{time_of, time_by}
-use Rattle.ts_core.specs.TimeUnits.{nanoseconds_of}
-use Rattle.ts_core.proofs.NumberLemmas.{whole_fits}
+use Rattle.ts_core.specs.facts.TimeUnits.{nanoseconds_of}
+use Rattle.ts_core.proofs.text.NumberLemmas.{whole_fits}
 use Rattle.ts_line.proofs.LineLemmas.{unit_fits, timed, to_end, or_fault}
 use Rattle.ts_line.proofs.read.time.Goals as goal
 

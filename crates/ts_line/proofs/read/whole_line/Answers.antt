@@ -1,8 +1,8 @@
 use Rattle.std.proofs.Common.{◌≡◌, false, eqb, ltb, length, slice_index, ◌∙◌}
 use Rattle.std.proofs.lemmas.Bool.{ne_eqb, le-ltb}
 use Rattle.std.proofs.lemmas.Str.{IsCharBoundary-start}
-use Rattle.ts_core.specs.Facts.{Text}
-use Rattle.ts_core.specs.TimeUnits.{nanoseconds_of}
+use Rattle.ts_core.specs.facts.Facts.{Text}
+use Rattle.ts_core.specs.facts.TimeUnits.{nanoseconds_of}
 use Rattle.ts_line.specs.Scan.{spaces_end}
 use Rattle.ts_line.specs.Lines.{content}
 use Rattle.ts_line.proofs.LineLemmas.{line_read, needs_memory, memory_by}

@@ -1,6 +1,6 @@
 use Rattle.std.proofs.Common.{◌≡◌, ◌+◌, ◌-◌, ◌<◌, false, [], length, drop, get_or, sym, ap, ◌∙◌, arith, slice_range, refl}
 use Rattle.std.proofs.lemmas.Bool.{or_parts}
-use Rattle.ts_core.specs.Facts.{Text}
+use Rattle.ts_core.specs.facts.Facts.{Text}
 use Rattle.ts_line.specs.Scan.{is_stop, is_backslash, part_len, end_of}
 use Rattle.ts_line.proofs.ScanLemmas.{bare_step, any_step}
 use Rattle.ts_line.proofs.scan.end_at.Goals as goal

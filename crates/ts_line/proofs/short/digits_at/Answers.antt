@@ -1,8 +1,8 @@
 use Rattle.std.proofs.Common.{◌≡◌, ◌<◌, ◌+◌, ◌*◌, true, length, slice_range, get_or, ap, sym, ◌∙◌, arith}
 use Rattle.std.specs.Char.{is_ascii_digit, digit_value}
 use Rattle.std.specs.Str.Parse.{digits_value}
-use Rattle.ts_core.specs.Facts.{Text}
-use Rattle.ts_core.proofs.DurationLaws.{digit_is}
+use Rattle.ts_core.specs.facts.Facts.{Text}
+use Rattle.ts_core.proofs.facts.DurationLaws.{digit_is}
 use Rattle.ts_line.proofs.ShortLemmas.{digits_step, value_step, short_number, shorter_number}
 use Rattle.ts_line.proofs.short.digits_at.Goals as goal
 

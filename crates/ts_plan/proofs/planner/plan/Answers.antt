@@ -1,5 +1,5 @@
 use Rattle.std.proofs.Common.{sym, subst, FitsSigned, w64, rules}
-use Rattle.ts_core.specs.Plans.{IsPlanOf}
+use Rattle.ts_core.specs.plans.Plans.{IsPlanOf}
 use Rattle.ts_plan.specs.Planning.{IsPlanned}
 use Rattle.ts_plan.proofs.Planned.{untrue, planned_of}
 use Rattle.ts_plan.proofs.Spellings.{plan_spelled}

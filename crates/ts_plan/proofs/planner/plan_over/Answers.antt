@@ -1,6 +1,6 @@
 use Rattle.std.proofs.Common.{rules, ◌≡◌, ◌∙◌, sym, subst, ap, List, true, false}
 use Rattle.std.specs.List.{AllByRecursion}
-use Rattle.ts_core.specs.Plans.{IsPlanOf, joined}
+use Rattle.ts_core.specs.plans.Plans.{IsPlanOf, joined}
 use Rattle.ts_plan.specs.declared.steps.Step.{Step}
 use Rattle.ts_plan.specs.Steps.{IsStep, Ascends, kept_steps, leads_on, walked}
 use Rattle.ts_plan.proofs.Sweeps.{kept_good, steps_of_good}

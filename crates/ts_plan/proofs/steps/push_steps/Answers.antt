@@ -1,7 +1,7 @@
 use Rattle.std.proofs.Common.{rules, ◌≡◌, ◌<◌, pos, ◌≤ℤ◌, ◌<ℤ◌, Some, true, false, subst, sym, ap}
-use Rattle.ts_core.specs.Settings.{Rule}
-use Rattle.ts_core.specs.Pieces.{MarkedRule}
-use Rattle.ts_core.proofs.GoodPlaces.{rule_wide}
+use Rattle.ts_core.specs.settings.Settings.{Rule}
+use Rattle.ts_core.specs.plans.Pieces.{MarkedRule}
+use Rattle.ts_core.proofs.plans.GoodPlaces.{rule_wide}
 use Rattle.ts_plan.specs.Steps.{has_columns}
 use Rattle.ts_plan.proofs.Scans.{Scanned, left_to, scan_begin, scan_more, scan_smaller, scan_stop, adds_none}
 use Rattle.ts_plan.proofs.steps.push_steps.Goals as goal

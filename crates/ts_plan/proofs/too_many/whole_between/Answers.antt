@@ -1,8 +1,8 @@
 use Rattle.std.proofs.Common.{rules, ◌≡◌, ◌∙◌, ℤ, pos, ◌-ℤ◌, ◌^◌, ◌≤◌, unsigned_abs, ap, ap₂, sym, subst, arith, SFits, to_z, of_z, to_z-of_z}
 use Rattle.std.specs.Int.{w128}
 use Rattle.std.proofs.lemmas.Int.{ints}
-use Rattle.ts_core.specs.Answers.{at_least_none}
-use Rattle.ts_core.specs.Marks.{index_of}
+use Rattle.ts_core.specs.queries.Answers.{at_least_none}
+use Rattle.ts_core.specs.store.Marks.{index_of}
 use Rattle.ts_plan.proofs.TooMany.{near_at, near_before, gap_fits, less_fits}
 use Rattle.ts_plan.proofs.too_many.whole_between.Goals as goal
 

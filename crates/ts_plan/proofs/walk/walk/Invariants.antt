@@ -1,6 +1,6 @@
 use Rattle.std.proofs.Common.{◌≡◌, ◌++◌, drop}
 use Rattle.std.specs.List.{AllByRecursion}
-use Rattle.ts_core.specs.Plans.{joined}
+use Rattle.ts_core.specs.plans.Plans.{joined}
 use Rattle.ts_plan.specs.Steps.{IsStep, walked}
 use Rattle.ts_plan.specs.Joins.{AreHeld, joined_after}
 use Rattle.ts_plan.proofs.walk.walk.Given as goal

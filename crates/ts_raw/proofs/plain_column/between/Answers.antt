@@ -1,5 +1,5 @@
 use Rattle.std.proofs.Common.{rules, arith, SFits, w64, to_z-of_z}
-use Rattle.ts_core.proofs.Windows.{filter-within, filter-nothing_within}
+use Rattle.ts_core.proofs.lists.Windows.{filter-within, filter-nothing_within}
 use Rattle.ts_raw.proofs.plain_column.between.Goals as goal
 
 pub returns-then-start-end : goal.returns-then-start-end

@@ -1,6 +1,6 @@
 use Rattle.std.proofs.Common.{rules, ℤ, int_lt}
 use Rattle.std.proofs.lemmas.List.Sorted.{IsPartitionPoint-from_clause}
-use Rattle.ts_core.proofs.Windows.{rising_first}
+use Rattle.ts_core.proofs.lists.Windows.{rising_first}
 use Rattle.ts_raw.proofs.plain_column.count_before_edge.Goals as goal
 
 pub returns-clause-start : goal.returns-clause-start

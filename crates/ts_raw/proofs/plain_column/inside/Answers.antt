@@ -1,9 +1,9 @@
 use Rattle.std.proofs.Common.{rules, arith, ℤ, pos, ◌+ℤ◌, SFits, w64, to_z-of_z, ◌∙◌, subst, sym}
 use Rattle.std.specs.Int.{w128}
-use Rattle.ts_core.specs.Buckets.{bucket_start}
-use Rattle.ts_core.specs.Edges.{IsEdgeAt}
+use Rattle.ts_core.specs.aggregates.Buckets.{bucket_start}
+use Rattle.ts_core.specs.aggregates.Edges.{IsEdgeAt}
 use Rattle.ts_raw.specs.PlainColumns.{IsStartOf}
-use Rattle.ts_core.proofs.Windows.{filter-within, filter-nothing_within}
+use Rattle.ts_core.proofs.lists.Windows.{filter-within, filter-nothing_within}
 use Rattle.ts_raw.proofs.EdgesLemmas.{filter-inside}
 use Rattle.ts_raw.proofs.plain_column.inside.Goals.{After-count_before_edge-end}
 use Rattle.ts_raw.proofs.plain_column.inside.Goals as goal

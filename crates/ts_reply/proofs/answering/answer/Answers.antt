@@ -1,6 +1,6 @@
 use Rattle.std.proofs.Common.{List, subst, sym, ap, ◌∙◌, false, string_bytes}
 use Rattle.std.proofs.lemmas.Result.{IfOk-weaker}
-use Rattle.ts_core.specs.Facts.{Text}
+use Rattle.ts_core.specs.facts.Facts.{Text}
 use Rattle.ts_ql.specs.Laws.{Explained}
 use Rattle.ts_ql.specs.QueryFaults.{as_fault}
 use Rattle.ts_ql.specs.QueryFaultText.{query_fault_text}

@@ -1,5 +1,5 @@
 use Rattle.std.proofs.Common.{map, take}
-use Rattle.ts_core.specs.StoreData.{OfEachHistory}
+use Rattle.ts_core.specs.store.StoreData.{OfEachHistory}
 use Rattle.ts_reply.specs.Answering.{IsOutcome, AreOutcomes}
 use Rattle.ts_reply.specs.Told.{outcome_view, handed_in}
 use Rattle.ts_reply.proofs.answering.outcomes_of.Given as goal

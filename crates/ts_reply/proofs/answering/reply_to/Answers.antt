@@ -1,5 +1,5 @@
 use Rattle.std.proofs.Common.{map, subst, sym, ◌∙◌, string_bytes, false}
-use Rattle.ts_core.specs.Facts.{Text}
+use Rattle.ts_core.specs.facts.Facts.{Text}
 use Rattle.ts_reply.specs.Answering.{IsReplyTo, good, several}
 use Rattle.ts_reply.specs.Replies.{TellsOutcomes}
 use Rattle.ts_reply.specs.Told.{outcome_view, handed_in}

@@ -1,6 +1,6 @@
 use Rattle.std.proofs.Common.{ap, ◌∙◌}
 use Rattle.std.proofs.lemmas.Result.{IfOk-weaker}
-use Rattle.ts_core.specs.Latest.{latest_of}
+use Rattle.ts_core.specs.facts.Latest.{latest_of}
 use Rattle.ts_check.specs.Checks.{Plan}
 use Rattle.ts_reply.specs.Outcomes.{rows_over}
 use Rattle.ts_reply.proofs.Answered.{plan_faultless}

@@ -1,6 +1,6 @@
 use Rattle.std.proofs.Common.{rules, ◌≡◌, refl, ap, ◌∙◌}
-use Rattle.ts_core.specs.StoreData.{state_of}
-use Rattle.ts_core.specs.Views.{seen_of}
+use Rattle.ts_core.specs.store.StoreData.{state_of}
+use Rattle.ts_core.specs.store.Views.{seen_of}
 use Rattle.ts_check.specs.Checks.{Plan}
 use Rattle.ts_exec.specs.Executions.{IsAnswer}
 use Rattle.ts_exec.specs.Fillings.{filled_answer}

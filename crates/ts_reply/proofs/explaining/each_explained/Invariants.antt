@@ -1,5 +1,5 @@
 use Rattle.std.proofs.Common.{map, take}
-use Rattle.ts_core.specs.StoreData.{OfEachHistory}
+use Rattle.ts_core.specs.store.StoreData.{OfEachHistory}
 use Rattle.ts_reply.specs.Answering.{AreOutcomes}
 use Rattle.ts_reply.specs.Explaining.{IsExplained}
 use Rattle.ts_reply.specs.Told.{outcome_view}

@@ -1,5 +1,5 @@
 use Rattle.std.proofs.Common.{List, map, subst, sym, ap, ◌∙◌, string_bytes, false}
-use Rattle.ts_core.specs.Facts.{Text}
+use Rattle.ts_core.specs.facts.Facts.{Text}
 use Rattle.ts_ql.specs.Laws.{Explained}
 use Rattle.ts_ql.specs.QueryFaults.{as_fault}
 use Rattle.ts_ql.specs.QueryFaultText.{query_fault_text}

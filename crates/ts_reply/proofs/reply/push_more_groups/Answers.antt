@@ -1,6 +1,6 @@
 use Rattle.std.proofs.Common.{rules, ◌≡◌, List, [], ◌∷◌, ◌++◌, codes, refl, subst, ◌∙◌, string_bytes}
 use Rattle.std.proofs.lemmas.Result.{on_ok_weaker}
-use Rattle.ts_core.specs.Fills.{FilledGroup}
+use Rattle.ts_core.specs.queries.Fills.{FilledGroup}
 use Rattle.ts_reply.specs.Appending.{AppendsData}
 use Rattle.ts_reply.specs.declared.epoch.Epoch.{Epoch}
 use Rattle.ts_reply.specs.Replies.{IsSeriesData}

@@ -1,7 +1,7 @@
 use Rattle.std.proofs.Common.{rules, ◌≡◌, List, ◌∷◌, ◌++◌, codes, sym, subst, string_bytes}
 use Rattle.std.proofs.lemmas.Result.{on_ok_weaker}
 use Rattle.std.specs.Fmt.{decimal}
-use Rattle.ts_core.specs.Fills.{FilledGroup}
+use Rattle.ts_core.specs.queries.Fills.{FilledGroup}
 use Rattle.ts_ql.specs.Selects.{Select}
 use Rattle.ts_reply.specs.Appending.{AppendsData, IsArray}
 use Rattle.ts_reply.specs.Outcomes.{Rows}

@@ -2,7 +2,7 @@ use Rattle.std.proofs.Common.{rules, ◌≡◌, true, List, [], ◌∷◌, ◌++
 use Rattle.std.proofs.lemmas.Result.{on_ok_weaker}
 use Rattle.serde_json.specs.View.{items_of}
 use Rattle.serde_json.specs.Written.{compact_text, items_text}
-use Rattle.ts_core.specs.declared.value.Value.{Value}
+use Rattle.ts_core.specs.declared.queries.value.Value.{Value}
 use Rattle.ts_reply.specs.Replies.{value_data}
 use Rattle.ts_reply.proofs.Appended.{if_pushed}
 use Rattle.ts_reply.proofs.RowTexts.{one_value}

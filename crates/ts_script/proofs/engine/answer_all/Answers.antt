@@ -1,7 +1,7 @@
 use Rattle.std.proofs.Common.{◌≡◌, false, refl, ap, ◌∙◌, Err, arith}
 use Rattle.std.proofs.lemmas.Result.{err_from_is_err_and}
-use Rattle.ts_core.specs.ReadingAhead.{Ahead, bit}
-use Rattle.ts_core.proofs.Results.{on_any_err}
+use Rattle.ts_core.specs.io.ReadingAhead.{Ahead, bit}
+use Rattle.ts_core.proofs.lists.Results.{on_any_err}
 use Rattle.ts_script.specs.LineReading.{to_come}
 use Rattle.ts_script.specs.ScriptReplies.{text_of}
 use Rattle.ts_script.specs.RunFaults.{fault_of_read}

@@ -1,6 +1,6 @@
 use Rattle.std.proofs.Common.{◌≡◌, ◌+◌, ◌≤◌, string_capacity}
 use Rattle.ts_script.specs.declared.reply.TheConstants.{TEXT_ROOM}
-use Rattle.ts_core.specs.ReadingAhead.{EndIsEnd, bit, weight}
+use Rattle.ts_core.specs.io.ReadingAhead.{EndIsEnd, bit, weight}
 use Rattle.ts_script.specs.LineReading.{to_come}
 use Rattle.ts_script.proofs.Progress.{Progress}
 use Rattle.ts_script.proofs.engine.answer_all.Given as goal

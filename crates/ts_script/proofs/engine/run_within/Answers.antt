@@ -1,6 +1,6 @@
 use Rattle.std.proofs.Common.{◌≡◌, ℕ, refl, ap, ◌∙◌, Result, Err, arith}
 use Rattle.std.proofs.lemmas.Result.{err_from_is_err_and}
-use Rattle.ts_core.specs.Devices.{Input, Output}
+use Rattle.ts_core.specs.io.Devices.{Input, Output}
 use Rattle.ts_script.specs.Script.{IsReplay}
 use Rattle.ts_script.specs.declared.run_fault.RunFault.{RunFault}
 use Rattle.ts_script.specs.declared.run_fault.RunFault.TheVariants.{OutOfMemory}

@@ -1,6 +1,6 @@
 use Rattle.std.proofs.Common.{rules, ◌≡◌, ◌+◌, ◌*◌, ◌∙◌, length, string_bytes, string_len, w64, SFits, to_z, of_z, to_z-of_z, arith, ap, ap₂}
 use Rattle.ts_script.specs.MarksTexts.{lows_text}
-use Rattle.ts_store.proofs.ShortNames.{names_short}
+use Rattle.ts_store.proofs.rules.ShortNames.{names_short}
 use Rattle.ts_script.proofs.MarksTextLemmas.{marks_put, no_longer}
 use Rattle.ts_script.proofs.marks_text.marks_to.Goals as goal
 

@@ -1,5 +1,5 @@
 use Rattle.std.proofs.Common.{ap}
-use Rattle.ts_core.specs.StoreData.{StoreData}
+use Rattle.ts_core.specs.store.StoreData.{StoreData}
 use Rattle.ts_script.proofs.opening.store_with.Goals as goal
 
 pub returns-in-Ok : goal.returns-in-Ok

@@ -1,5 +1,5 @@
 use Rattle.std.proofs.Common.{List, ℕ, Some, Err, ap, ◌∙◌}
-use Rattle.ts_core.specs.Devices.{Input}
+use Rattle.ts_core.specs.io.Devices.{Input}
 use Rattle.ts_image.specs.SavedImages.{IsWellFormed}
 use Rattle.ts_script.proofs.ReloadedStores.{loaded_back}
 use Rattle.ts_script.proofs.ReloadFaults.{saves_but_for_memory, loads_but_for_memory}

@@ -1,7 +1,7 @@
 use Rattle.std.proofs.Common.{◌≡◌, ℕ, ◌-◌, List, length, take, drop, subst, arith, ap, sym, ◌∙◌}
 use Rattle.std.proofs.lemmas.List.{take_rest}
 use Rattle.std.proofs.lemmas.Fmt.{length-decimal-le}
-use Rattle.ts_core.specs.OutputBuffering.{IsBuffered}
+use Rattle.ts_core.specs.io.OutputBuffering.{IsBuffered}
 use Rattle.ts_script.proofs.reply.send_count.Goals as goal
 
 pub write_digits-start-requires : goal.write_digits-start-requires

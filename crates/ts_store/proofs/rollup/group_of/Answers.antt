@@ -1,7 +1,7 @@
 use Rattle.std.proofs.Common.{◌∙◌, ◌≤◌, map, string_bytes, length, ap, arith}
 use Rattle.std.proofs.lemmas.List.{take_all}
-use Rattle.ts_core.specs.Tags.{tag_value}
-use Rattle.ts_store.proofs.RollupLemmas.{map_map}
+use Rattle.ts_core.specs.facts.Tags.{tag_value}
+use Rattle.ts_store.proofs.rollup.RollupLemmas.{map_map}
 use Rattle.ts_store.proofs.rollup.group_of.Goals as goal
 
 pub returns : goal.returns

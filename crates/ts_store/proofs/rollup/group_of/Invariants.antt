@@ -1,5 +1,5 @@
 use Rattle.std.proofs.Common.{◌≡◌, map, take, string_bytes}
-use Rattle.ts_core.specs.Tags.{tag_value}
+use Rattle.ts_core.specs.facts.Tags.{tag_value}
 use Rattle.ts_cells.specs.Grids.{lent_texts}
 use Rattle.ts_store.proofs.rollup.group_of.Given as goal
 

@@ -1,7 +1,7 @@
 use Rattle.std.proofs.Common.{◌<◌, set, subst, length, arith}
 use Rattle.std.proofs.lemmas.Option.{slice_get_within}
-use Rattle.ts_store.specs.ColumnLists.{HasPlaceAt}
-use Rattle.ts_store.proofs.RollupLemmas.{list_roomed, place_taken}
+use Rattle.ts_store.specs.rollup.ColumnLists.{HasPlaceAt}
+use Rattle.ts_store.proofs.rollup.RollupLemmas.{list_roomed, place_taken}
 use Rattle.ts_store.proofs.rollup.lane_for.Goals as goal
 
 pub returns-in_err-reserve-clause-kept : goal.returns-in_err-reserve-clause-kept

@@ -1,7 +1,7 @@
 use Rattle.std.proofs.Common.{rules, ◌≡◌, ◌∙◌, ◌+◌, [], ◌∷◌, ◌++◌, get_or, cond, is_ok, ap, arith, length}
 use Rattle.std.proofs.lemmas.List.{length_push}
-use Rattle.ts_store.specs.ColumnLists.{lists_in}
-use Rattle.ts_store.proofs.RollupLemmas.{lane_made, gains-length, gains-least, gains-extends, gains-distinct}
+use Rattle.ts_store.specs.rollup.ColumnLists.{lists_in}
+use Rattle.ts_store.proofs.rollup.RollupLemmas.{lane_made, gains-length, gains-least, gains-extends, gains-distinct}
 use Rattle.ts_store.proofs.rollup.listed_lane.Goals as goal
 use Rattle.ts_store.proofs.rollup.listed_lane.Goals.{then-len-lanes, else-len-lanes}
 

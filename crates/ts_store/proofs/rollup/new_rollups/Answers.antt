@@ -1,6 +1,6 @@
 use Rattle.std.proofs.Common.{◌≡◌, ◌∙◌, ◌++◌, ◌∷◌, [], ap, replicate, List, ℕ, arith}
-use Rattle.ts_store.specs.Rollups.{RollupState, new_rollup}
-use Rattle.ts_store.proofs.RollupLemmas.{replicate_push}
+use Rattle.ts_store.specs.rollup.Rollups.{RollupState, new_rollup}
+use Rattle.ts_store.proofs.rollup.RollupLemmas.{replicate_push}
 use Rattle.ts_store.proofs.rollup.new_rollups.Goals as goal
 
 pub loop-preserved : goal.loop-preserved

@@ -1,5 +1,5 @@
 use Rattle.std.proofs.Common.{◌≡◌, replicate}
-use Rattle.ts_store.specs.Rollups.{new_rollup}
+use Rattle.ts_store.specs.rollup.Rollups.{new_rollup}
 use Rattle.ts_store.proofs.rollup.new_rollups.Given as goal
 
 abbrev pub invariant-loop : goal.invariant-loop

@@ -1,8 +1,8 @@
 use Rattle.std.proofs.Common.{◌≡◌, ◌++◌, ◌∷◌, [], ◌∙◌, ℤ, List, ap, ap₂, sym, map, take, rules}
 use Rattle.std.proofs.lemmas.List.{take_more, map-append}
-use Rattle.ts_core.specs.Marks.{index_of}
-use Rattle.ts_core.specs.Settings.{Rule}
-use Rattle.ts_core.specs.Times.{least_time}
+use Rattle.ts_core.specs.store.Marks.{index_of}
+use Rattle.ts_core.specs.settings.Settings.{Rule}
+use Rattle.ts_core.specs.facts.Times.{least_time}
 use Rattle.ts_store.proofs.store.first_lows.Goals as goal
 
 pub loop-rule-preserved : goal.loop-rule-preserved

@@ -1,6 +1,6 @@
 use Rattle.std.proofs.Common.{◌≡◌, map, take}
-use Rattle.ts_core.specs.Marks.{index_of}
-use Rattle.ts_core.specs.Times.{least_time}
+use Rattle.ts_core.specs.store.Marks.{index_of}
+use Rattle.ts_core.specs.facts.Times.{least_time}
 use Rattle.ts_store.proofs.store.first_lows.Given as goal
 
 abbrev pub invariant-loop-rule : goal.invariant-loop-rule

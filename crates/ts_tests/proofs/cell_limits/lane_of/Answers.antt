@@ -1,6 +1,6 @@
 use Rattle.std.proofs.Common.{◌<◌, ℕ, List, length, Result, Ok, Err, IfOk}
 use Rattle.std.proofs.lemmas.Option.{slice_get_within}
-use Rattle.ts_core.specs.Numbered.{IsAt}
+use Rattle.ts_core.specs.lists.Numbered.{IsAt}
 use Rattle.ts_tests.proofs.cell_limits.lane_of.Goals as goal
 
 -- what is at an index of a list lies within it

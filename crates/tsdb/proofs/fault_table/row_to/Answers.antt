@@ -1,6 +1,6 @@
 use Rattle.std.proofs.Common.{◌≡◌, ◌∙◌, ap, sym, string_bytes}
 use Rattle.std.specs.Fmt.{decimal}
-use Rattle.ts_core.specs.FaultCodes.{code_number}
+use Rattle.ts_core.specs.text.FaultCodes.{code_number}
 use Rattle.ts_reply.specs.Told.{handed_in}
 use Rattle.tsdb.specs.FaultTables.{is_wanted, is_listed}
 use Rattle.tsdb.proofs.FaultTableLemmas.{row_put, row_left}

@@ -1,10 +1,10 @@
 use Rattle.std.proofs.Common.{◌≡◌, ℕ, ◌+◌, ◌<◌, List, length, subst, sym, ◌∙◌, rules, Option, None, get_or, true≢false}
-use Rattle.ts_core.specs.Members.{Among}
+use Rattle.ts_core.specs.lists.Members.{Among}
 use Rattle.ts_cells.specs.Grids.{Lane, lane_named}
 use Rattle.ts_cells.specs.Lanes.{hash_of_lane}
-use Rattle.ts_core.specs.Numbered.{IsAt}
-use Rattle.ts_core.proofs.ChainSearches.{IsSearched, search_within, places_left, places_fall}
-use Rattle.ts_core.proofs.TableLemmas.{sought_within, sought_on, sought_in_vain, found_at}
+use Rattle.ts_core.specs.lists.Numbered.{IsAt}
+use Rattle.ts_core.proofs.lists.ChainSearches.{IsSearched, search_within, places_left, places_fall}
+use Rattle.ts_core.proofs.lists.TableLemmas.{sought_within, sought_on, sought_in_vain, found_at}
 use Rattle.ts_cells.proofs.lanes.Lanes.lookup.Goals as goal
 
 abbrev Sought : List Lane → List ℕ → Lane → Option ℕ → Type 0

@@ -1,8 +1,8 @@
 use Rattle.std.proofs.Common.{ℕ}
 use Rattle.ts_cells.specs.Grids.{lane_named}
 use Rattle.ts_cells.specs.Lanes.{hash_of_lane}
-use Rattle.ts_core.specs.Numbered.{IsAt}
-use Rattle.ts_core.proofs.ChainSearches.{IsSearched, places_left}
+use Rattle.ts_core.specs.lists.Numbered.{IsAt}
+use Rattle.ts_core.proofs.lists.ChainSearches.{IsSearched, places_left}
 use Rattle.ts_cells.proofs.lanes.Lanes.lookup.Given as goal
 
 abbrev pub invariant-loop-next : goal.invariant-loop-next

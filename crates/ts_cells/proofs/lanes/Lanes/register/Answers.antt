@@ -1,10 +1,10 @@
 use Rattle.std.proofs.Common.{rules, ◌≡◌, ◌≤◌, ℕ, List, [], ◌∷◌, ◌++◌, length, insert, is_ok, if◌then◌else◌, refl, sym, ◌∙◌, ap, subst, inl, Less, Greater}
 use Rattle.std.specs.List.{slice_get}
 use Rattle.std.specs.List.Sorted.{IsPartitionPoint}
-use Rattle.ts_core.specs.Members.{Among}
-use Rattle.ts_core.specs.Numbered.{IsAt}
-use Rattle.ts_core.proofs.NumberedLemmas.{at_among, at_end}
-use Rattle.ts_core.proofs.TableLemmas.{table_more}
+use Rattle.ts_core.specs.lists.Members.{Among}
+use Rattle.ts_core.specs.lists.Numbered.{IsAt}
+use Rattle.ts_core.proofs.lists.NumberedLemmas.{at_among, at_end}
+use Rattle.ts_core.proofs.lists.TableLemmas.{table_more}
 use Rattle.ts_cells.specs.Grids.{Lane, lane_named}
 use Rattle.ts_cells.specs.Lanes.{found_cmp, hash_of_lane, AreFound}
 use Rattle.ts_cells.proofs.LaneOrder.{order_more}

@@ -1,7 +1,7 @@
 use Rattle.std.proofs.Common.{rules, arith, ◌≡◌, ◌<◌, ◌≤◌, ◌==◌, ℕ, List, Some, length, get_or, set, option_map, cond, sym, ◌∙◌, ap, subst}
 use Rattle.std.specs.List.{slice_get}
 use Rattle.std.proofs.lemmas.Option.{slice_get-get_or}
-use Rattle.ts_core.specs.TwoParts.{PartsOf}
+use Rattle.ts_core.specs.store.TwoParts.{PartsOf}
 use Rattle.ts_cells.specs.CellChanges.{parts_after}
 use Rattle.ts_cells.specs.Grids.{RowOf, held}
 use Rattle.ts_cells.specs.Rows.{place_of, by_lane}

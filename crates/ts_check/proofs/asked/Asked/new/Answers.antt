@@ -1,4 +1,4 @@
-use Rattle.ts_core.proofs.Intervals.{wide_of}
+use Rattle.ts_core.proofs.settings.Intervals.{wide_of}
 use Rattle.ts_check.proofs.asked.Asked.new.Goals as goal
 
 pub returns-clause-intervals : goal.returns-clause-intervals

@@ -1,5 +1,5 @@
 use Rattle.std.proofs.Common.{◌≤◌, length, ap, subst}
-use Rattle.ts_core.specs.Pieces.{Asked}
+use Rattle.ts_core.specs.plans.Pieces.{Asked}
 use Rattle.ts_check.proofs.NamedRules.{marked_rules-short}
 use Rattle.ts_check.proofs.asked.Asked.rule_count.Goals as goal
 

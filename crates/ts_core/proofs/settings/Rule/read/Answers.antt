@@ -1,9 +1,9 @@
 use Rattle.std.proofs.Common.{rules, ◌≡◌, Option, Some, IfOk, IfErr, subst}
 use Rattle.serde_json.specs.Read.{read}
 use Rattle.serde_json.specs.View.{view}
-use Rattle.ts_core.specs.Settings.{Rule}
-use Rattle.ts_core.specs.SettingsTexts.{rule_read, IsRefusal}
-use Rattle.ts_core.proofs.SettingsForms.{no_rule_data, rule_data, refused_by}
+use Rattle.ts_core.specs.settings.Settings.{Rule}
+use Rattle.ts_core.specs.settings.SettingsTexts.{rule_read, IsRefusal}
+use Rattle.ts_core.proofs.settings.SettingsForms.{no_rule_data, rule_data, refused_by}
 use Rattle.ts_core.proofs.settings.Rule.read.Goals as goal
 
 pub returns-in_err-value-clause-err : goal.returns-in_err-value-clause-err

@@ -1,9 +1,9 @@
 use Rattle.std.proofs.Common.{rules, ◌≡◌, ◌∙◌, ℤ, sym, ap, Some, unsigned_abs, SFits, to_z, of_z, to_z-of_z}
 use Rattle.std.specs.Int.{w64}
 use Rattle.serde_json.specs.View.{view}
-use Rattle.ts_core.specs.SettingsFaults.{settings_fault}
-use Rattle.ts_core.specs.SettingsTexts.{settings_read}
-use Rattle.ts_core.proofs.SettingsForms.{no_data, no_settings, at_fault, faultless, handed_on, error_handed_on, settings_of_parts}
+use Rattle.ts_core.specs.settings.SettingsFaults.{settings_fault}
+use Rattle.ts_core.specs.settings.SettingsTexts.{settings_read}
+use Rattle.ts_core.proofs.settings.SettingsForms.{no_data, no_settings, at_fault, faultless, handed_on, error_handed_on, settings_of_parts}
 use Rattle.ts_core.proofs.settings.Settings.read.Goals as goal
 
 pub returns-in_err-value-clause-fault : goal.returns-in_err-value-clause-fault

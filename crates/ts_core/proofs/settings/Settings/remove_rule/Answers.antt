@@ -1,8 +1,8 @@
 use Rattle.std.proofs.Common.{◌≡◌, None, List, sym, subst, ◌<◌, length}
 use Rattle.std.specs.List.{AllByRecursion}
-use Rattle.ts_core.specs.Settings.{Rule, IsPossibleRule, Settings}
-use Rattle.ts_core.specs.SettingsFaults.{settings_fault}
-use Rattle.ts_core.proofs.RuleIndices.{all_remove, removed-faultless}
+use Rattle.ts_core.specs.settings.Settings.{Rule, IsPossibleRule, Settings}
+use Rattle.ts_core.specs.settings.SettingsFaults.{settings_fault}
+use Rattle.ts_core.proofs.settings.RuleIndices.{all_remove, removed-faultless}
 use Rattle.ts_core.proofs.settings.Settings.remove_rule.Goals as goal
 
 pub invariant_of-self : goal.invariant_of-self

@@ -2,11 +2,11 @@ use Rattle.std.proofs.Common.{rules, tests, ◌≡◌, None, ◌∙◌, subst}
 use Rattle.std.proofs.lemmas.Iterator.{YieldsList-from_slice}
 use Rattle.std.proofs.lemmas.Iterator.Search.{position_from_yields_List}
 use Rattle.std.proofs.lemmas.Iterator.Adapters.{position_from-zero}
-use Rattle.ts_core.specs.Facts.{same_text}
-use Rattle.ts_core.specs.Settings.{Rule, Settings}
-use Rattle.ts_core.specs.SettingsFaults.{settings_fault}
-use Rattle.ts_core.proofs.SettingsLaws.{settings_are}
-use Rattle.ts_core.proofs.RuleIndices.{if_found, if_missing}
+use Rattle.ts_core.specs.facts.Facts.{same_text}
+use Rattle.ts_core.specs.settings.Settings.{Rule, Settings}
+use Rattle.ts_core.specs.settings.SettingsFaults.{settings_fault}
+use Rattle.ts_core.proofs.settings.SettingsLaws.{settings_are}
+use Rattle.ts_core.proofs.settings.RuleIndices.{if_found, if_missing}
 use Rattle.ts_core.proofs.settings.Settings.rule_named.Goals as goal
 
 pub returns-clause-some : goal.returns-clause-some

@@ -1,7 +1,7 @@
 use Rattle.std.proofs.Common.{◌≡◌, None, subst}
-use Rattle.ts_core.specs.Settings.{Settings}
-use Rattle.ts_core.specs.SettingsFaults.{settings_fault}
-use Rattle.ts_core.proofs.SettingsLaws.{settings_are}
+use Rattle.ts_core.specs.settings.Settings.{Settings}
+use Rattle.ts_core.specs.settings.SettingsFaults.{settings_fault}
+use Rattle.ts_core.proofs.settings.SettingsLaws.{settings_are}
 use Rattle.ts_core.proofs.settings.Settings.rules.Goals as goal
 
 pub returns-clause-valid : goal.returns-clause-valid

@@ -1,7 +1,7 @@
 use Rattle.std.proofs.Common.{◌≡◌, map, string_bytes, drop}
 use Rattle.serde_json.specs.View.{items_view}
-use Rattle.ts_core.specs.SettingsTexts.{each, filled_text}
-use Rattle.ts_core.proofs.EachItem.{behind}
+use Rattle.ts_core.specs.settings.SettingsTexts.{each, filled_text}
+use Rattle.ts_core.proofs.settings.EachItem.{behind}
 use Rattle.ts_core.proofs.settings.reading.filled_texts.Given as goal
 
 abbrev pub invariant-loop-value : goal.invariant-loop-value

@@ -1,8 +1,8 @@
 use Rattle.std.proofs.Common.{◌==◌, ◌∙◌, ℕ, ap, false, option_map}
 use Rattle.std.specs.Prelude.{unwrap_or}
 use Rattle.serde_json.specs.Data.{Members}
-use Rattle.ts_core.proofs.EachItem.{counts_members}
-use Rattle.ts_core.specs.SettingsTexts.{members_count}
+use Rattle.ts_core.proofs.settings.EachItem.{counts_members}
+use Rattle.ts_core.specs.settings.SettingsTexts.{members_count}
 use Rattle.ts_core.proofs.settings.reading.has_keys.Goals as goal
 
 pub returns-in-Some : goal.returns-in-Some

@@ -1,8 +1,8 @@
 use Rattle.std.proofs.Common.{rules, ◌≡◌, ◌∙◌, ℤ, true, false, Some, None, codes, refl, sym, ap, option_and_then, unsigned_abs, SFits, to_z, of_z, to_z-of_z}
 use Rattle.std.specs.Int.{w64}
 use Rattle.serde_json.specs.View.{view, items_view}
-use Rattle.ts_core.specs.SettingsTexts.{has_keys, each, rule_parsed, settings_parsed, IsRefusal}
-use Rattle.ts_core.proofs.SettingsForms.{values_in, raw_in, other_settings_keys, no_raw, no_rules, no_rule_values, parts_read, settings_of_parts, refused_by}
+use Rattle.ts_core.specs.settings.SettingsTexts.{has_keys, each, rule_parsed, settings_parsed, IsRefusal}
+use Rattle.ts_core.proofs.settings.SettingsForms.{values_in, raw_in, other_settings_keys, no_raw, no_rules, no_rule_values, parts_read, settings_of_parts, refused_by}
 use Rattle.ts_core.proofs.settings.reading.parts.Goals as goal
 
 pub returns-then-not-has_keys-clause-err : goal.returns-then-not-has_keys-clause-err

@@ -1,11 +1,11 @@
 use Rattle.std.proofs.Common.{rules, arith, subst, ◌≢◌, ◌≤ℤ◌, pos, [], ◌≡◌, ◌∙◌, option_and_then, SFits, to_z, of_z, to_z-of_z, true, false, Some, None, codes, refl, sym, ap, string_bytes, map, unsigned_abs}
 use Rattle.std.specs.Int.{w64}
 use Rattle.std.proofs.lemmas.Int.{ints}
-use Rattle.ts_core.specs.Facts.{Text}
+use Rattle.ts_core.specs.facts.Facts.{Text}
 use Rattle.serde_json.specs.View.{view, items_view}
-use Rattle.ts_core.specs.SettingsTexts.{has_keys, text_at, each, filled_text, rule_parsed, IsRefusal}
-use Rattle.ts_core.proofs.FilledTexts.{filled, all_filled}
-use Rattle.ts_core.proofs.SettingsForms.{name_in, measurement_in, interval_in, offset_in, values_in, duration_in, other_keys, no_name, no_measurement, no_interval, no_offset, no_tags, no_tag_values, no_duration, rule_parts_read, same_rule, refused_by}
+use Rattle.ts_core.specs.settings.SettingsTexts.{has_keys, text_at, each, filled_text, rule_parsed, IsRefusal}
+use Rattle.ts_core.proofs.settings.FilledTexts.{filled, all_filled}
+use Rattle.ts_core.proofs.settings.SettingsForms.{name_in, measurement_in, interval_in, offset_in, values_in, duration_in, other_keys, no_name, no_measurement, no_interval, no_offset, no_tags, no_tag_values, no_duration, rule_parts_read, same_rule, refused_by}
 use Rattle.ts_core.proofs.settings.reading.rule.Goals as goal
 
 pub returns-then-not-has_keys-clause-err : goal.returns-then-not-has_keys-clause-err

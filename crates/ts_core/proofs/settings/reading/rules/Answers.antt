@@ -1,7 +1,7 @@
 use Rattle.std.proofs.Common.{◌∙◌, ◌+◌, ap, sym, drop}
 use Rattle.serde_json.specs.View.{items_view}
-use Rattle.ts_core.specs.SettingsTexts.{each, rule_parsed}
-use Rattle.ts_core.proofs.EachItem.{behind, read_more}
+use Rattle.ts_core.specs.settings.SettingsTexts.{each, rule_parsed}
+use Rattle.ts_core.proofs.settings.EachItem.{behind, read_more}
 use Rattle.ts_core.proofs.settings.reading.rules.Goals as goal
 
 pub loop-value-preserved : goal.loop-value-preserved

@@ -1,7 +1,7 @@
 use Rattle.std.proofs.Common.{◌≡◌, drop}
 use Rattle.serde_json.specs.View.{items_view}
-use Rattle.ts_core.specs.SettingsTexts.{each, rule_parsed}
-use Rattle.ts_core.proofs.EachItem.{behind}
+use Rattle.ts_core.specs.settings.SettingsTexts.{each, rule_parsed}
+use Rattle.ts_core.proofs.settings.EachItem.{behind}
 use Rattle.ts_core.proofs.settings.reading.rules.Given as goal
 
 abbrev pub invariant-loop-value : goal.invariant-loop-value

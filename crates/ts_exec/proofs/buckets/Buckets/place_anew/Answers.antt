@@ -1,7 +1,7 @@
 use Rattle.std.proofs.Common.{rules, arith, ◌≡◌, ℤ, ◌-ℤ◌, ◌≤ℤ◌, ◌<ℤ◌, min, SFits, w64, to_z-of_z, ◌∙◌, ap, sym, subst}
 use Rattle.std.proofs.lemmas.Int.{ints}
-use Rattle.ts_core.specs.Buckets.{bucket_of}
-use Rattle.ts_core.specs.Answers.{at_least_none}
+use Rattle.ts_core.specs.aggregates.Buckets.{bucket_of}
+use Rattle.ts_core.specs.queries.Answers.{at_least_none}
 use Rattle.ts_exec.specs.RowParts.{BucketGrid, IsEnd}
 use Rattle.ts_exec.proofs.NextBuckets.{span-end}
 use Rattle.ts_exec.proofs.buckets.Buckets.place_anew.Goals as goal

@@ -1,9 +1,9 @@
 use Rattle.std.proofs.Common.{rules, ◌≡◌, ◌+◌, ◌<◌, ◌≤◌, ◌∷◌, ◌∙◌, List, length, map, drop, ap, sym, arith, SFits, w64, to_z-of_z}
 use Rattle.std.specs.Int.{w128}
-use Rattle.ts_core.specs.declared.value.Function.{Function}
-use Rattle.ts_core.specs.Facts.{Text}
-use Rattle.ts_core.specs.Aggregates.{Aggregate}
-use Rattle.ts_core.specs.Fills.{FilledGroup, filled_rows}
+use Rattle.ts_core.specs.declared.queries.value.Function.{Function}
+use Rattle.ts_core.specs.facts.Facts.{Text}
+use Rattle.ts_core.specs.aggregates.Aggregates.{Aggregate}
+use Rattle.ts_core.specs.queries.Fills.{FilledGroup, filled_rows}
 use Rattle.ts_exec.specs.Lent.{lent}
 use Rattle.ts_exec.specs.Fillings.{functions_of, rows_at, group_at}
 use Rattle.ts_exec.proofs.FillSteps.{group_left, ends-fit}

@@ -1,8 +1,8 @@
 use Rattle.std.proofs.Common.{rules, ◌≡◌, ◌∙◌, ap, SFits, w64, to_z, of_z, to_z-of_z}
 use Rattle.std.specs.Int.{w128}
-use Rattle.ts_core.specs.Buckets.{bucket_of, bucket_start}
-use Rattle.ts_core.specs.Queries.{Query}
-use Rattle.ts_core.specs.Answers.{bucket_in}
+use Rattle.ts_core.specs.aggregates.Buckets.{bucket_of, bucket_start}
+use Rattle.ts_core.specs.queries.Queries.{Query}
+use Rattle.ts_core.specs.queries.Answers.{bucket_in}
 use Rattle.ts_ql.specs.Selects.{Select}
 use Rattle.ts_exec.specs.Fillings.{FilledAnswer}
 use Rattle.ts_exec.proofs.FillSteps.{groups-filled}

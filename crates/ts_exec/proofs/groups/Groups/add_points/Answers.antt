@@ -1,6 +1,6 @@
 use Rattle.std.proofs.Common.{rules, ◌≡◌, ◌∷◌, ◌∙◌, ap, sym, List, ℤ}
 use Rattle.std.proofs.lemmas.Result.{on_ok_weaker}
-use Rattle.ts_core.specs.Facts.{Text}
+use Rattle.ts_core.specs.facts.Facts.{Text}
 use Rattle.ts_exec.specs.Lent.{lent}
 use Rattle.ts_exec.specs.RowParts.{with_point_parts}
 use Rattle.ts_exec.specs.Slots.{Slots}

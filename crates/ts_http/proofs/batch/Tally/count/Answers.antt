@@ -1,6 +1,6 @@
 use Rattle.std.proofs.Common.{◌≡◌, rules, None, arith}
 use Rattle.std.proofs.lemmas.Grind.{common_steps}
-use Rattle.ts_store.specs.LineTexts.{line_refusal_text}
+use Rattle.ts_store.specs.write.LineTexts.{line_refusal_text}
 use Rattle.ts_http.proofs.BatchLemmas.{counted_none, counted_some_first, counted_some_more}
 use Rattle.ts_http.proofs.batch.Tally.count.Goals as goal
 

@@ -1,6 +1,6 @@
 use Rattle.std.proofs.Common.{◌≡◌, ◌≤◌, ◌-◌, map, take, length, get_or, [], sym, subst, ◌∙◌, arith}
 use Rattle.std.proofs.lemmas.List.{nil_from_length, length-take-le}
-use Rattle.ts_core.specs.Texts.{lent_pairs}
+use Rattle.ts_core.specs.text.Texts.{lent_pairs}
 use Rattle.ts_line.specs.Parts.{LinePart, tag_texts}
 use Rattle.ts_line.proofs.SortingLemmas.{put_all, put_last, entries_put_all, put_all_set}
 use Rattle.ts_line.proofs.line.Line.put_all.Goals as goal

@@ -1,5 +1,5 @@
 use Rattle.std.proofs.Common.{◌≡◌, ◌≤◌, ◌+◌, map, length, []}
-use Rattle.ts_core.specs.Texts.{lent_pairs}
+use Rattle.ts_core.specs.text.Texts.{lent_pairs}
 use Rattle.ts_line.specs.Parts.{tag_texts}
 use Rattle.ts_line.proofs.SortingLemmas.{put_all}
 use Rattle.ts_line.proofs.line.Line.put_all.Given as goal

@@ -1,9 +1,9 @@
 use Rattle.std.proofs.Common.{rules, ◌≡◌, ◌∙◌, ap, ap₂, pos, ◌-ℤ◌, SFits}
 use Rattle.std.specs.Int.{w128}
 use Rattle.std.specs.Ordering.{int_eq}
-use Rattle.ts_core.specs.Buckets.{bucket_of}
-use Rattle.ts_core.specs.Faults.{is_in_one_bucket}
-use Rattle.ts_core.specs.Pieces.{Asked}
+use Rattle.ts_core.specs.aggregates.Buckets.{bucket_of}
+use Rattle.ts_core.specs.plans.Faults.{is_in_one_bucket}
+use Rattle.ts_core.specs.plans.Pieces.{Asked}
 use Rattle.ts_check.proofs.Bits.{same_bits}
 use Rattle.ts_plan.proofs.task.Task.is_in_one_bucket.Goals as goal
 

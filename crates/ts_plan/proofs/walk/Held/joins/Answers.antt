@@ -1,5 +1,5 @@
 use Rattle.std.proofs.Common.{◌∙◌, sym, ap, ap₂, ◌&&◌, ◌||◌}
-use Rattle.ts_core.specs.Faults.{is_in_one_bucket}
+use Rattle.ts_core.specs.plans.Faults.{is_in_one_bucket}
 use Rattle.ts_plan.proofs.BucketsAsked.{nat_eq_true, nat_eq_false, join_is}
 use Rattle.ts_plan.proofs.walk.Held.joins.Goals as goal
 

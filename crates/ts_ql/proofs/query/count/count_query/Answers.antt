@@ -1,6 +1,6 @@
 use Rattle.std.proofs.Common.{◌≡◌, ◌∙◌, ap, sym, ℤ, pos, ◌-ℤ◌, ◌≤ℤ◌, [], to_z, of_z, w64, FitsSigned, arith, rules, subst}
 use Rattle.std.proofs.lemmas.Int.{ints}
-use Rattle.ts_core.specs.declared.fill.Fill.TheVariants as fills
+use Rattle.ts_core.specs.declared.queries.fill.Fill.TheVariants as fills
 use Rattle.ts_ql.specs.Selects.{texts}
 use Rattle.ts_ql.proofs.CountingLemmas.{one_limited}
 use Rattle.ts_ql.proofs.QueryLemmas.{same, read, none_sorted, one_count}

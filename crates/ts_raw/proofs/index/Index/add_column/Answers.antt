@@ -1,6 +1,6 @@
 use Rattle.std.proofs.Common.{◌≡◌, ap, inl, rules}
-use Rattle.ts_core.specs.Facts.{Column}
-use Rattle.ts_core.proofs.NumberedLemmas.{at_among}
+use Rattle.ts_core.specs.facts.Facts.{Column}
+use Rattle.ts_core.proofs.lists.NumberedLemmas.{at_among}
 use Rattle.ts_raw.specs.Indexed.{Indexed, column_in}
 use Rattle.ts_raw.proofs.index.Index.add_column.Goals as goal
 

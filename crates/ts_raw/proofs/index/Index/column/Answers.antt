@@ -1,15 +1,15 @@
 use Rattle.std.proofs.Common.{◌≡◌, ℕ, ◌<◌, List, length, Option, IfNone, map, get_or, sym, subst}
 use Rattle.std.proofs.lemmas.Option.{IfSome_then}
-use Rattle.ts_core.specs.Facts.{Text, Series, Column}
-use Rattle.ts_core.specs.Members.{Among}
+use Rattle.ts_core.specs.facts.Facts.{Text, Series, Column}
+use Rattle.ts_core.specs.lists.Members.{Among}
 use Rattle.ts_raw.specs.FieldKeys.{FieldKey}
 use Rattle.ts_raw.specs.ColumnTables.{ColumnNumbers}
 use Rattle.ts_raw.specs.IndexParts.{column_named, index_by_numbers}
 use Rattle.ts_raw.specs.Indexed.{Indexed, IsSoundIndex, no_series, column_in}
-use Rattle.ts_core.specs.Numbered.{IsAt}
+use Rattle.ts_core.specs.lists.Numbered.{IsAt}
 use Rattle.ts_raw.proofs.IndexLemmas.{measurement_of, index_sound, name_is, no_column_of, no_column_at}
-use Rattle.ts_core.proofs.MembersLemmas.{at_map_of}
-use Rattle.ts_core.proofs.NumberedLemmas.{at_within, none_so}
+use Rattle.ts_core.proofs.lists.MembersLemmas.{at_map_of}
+use Rattle.ts_core.proofs.lists.NumberedLemmas.{at_within, none_so}
 use Rattle.ts_raw.proofs.index.Index.column.Goals as goal
 
 pub returns-in_err-field-clause-absent : goal.returns-in_err-field-clause-absent

@@ -1,8 +1,8 @@
 use Rattle.std.proofs.Common.{sym, ◌∙◌, ap, arith}
-use Rattle.ts_core.specs.Facts.{is_of}
+use Rattle.ts_core.specs.facts.Facts.{is_of}
 use Rattle.ts_raw.specs.Indexed.{Indexed}
-use Rattle.ts_core.specs.Numbered.{numbers_where}
-use Rattle.ts_core.proofs.NumberedLemmas.{at_within}
+use Rattle.ts_core.specs.lists.Numbered.{numbers_where}
+use Rattle.ts_core.proofs.lists.NumberedLemmas.{at_within}
 use Rattle.ts_raw.proofs.IndexLemmas.{numbers_of_field, numbers_of_none}
 use Rattle.ts_raw.proofs.index.Index.columns_of.Goals as goal
 

@@ -1,5 +1,5 @@
 use Rattle.std.proofs.Common.{ℕ, List, ◌∙◌, ap, subst}
-use Rattle.ts_core.specs.Numbered.{numbers_where}
+use Rattle.ts_core.specs.lists.Numbered.{numbers_where}
 use Rattle.ts_raw.specs.Indexed.{Indexed}
 use Rattle.ts_raw.specs.Tagged.{is_tagged, AreTaggedAt}
 use Rattle.ts_raw.proofs.TaggedIndex.{tagged_of_none, tagged_of_field}

@@ -1,13 +1,13 @@
 use Rattle.std.proofs.Common.{◌≡◌, ℕ, List, map, get_or, sym, ◌∙◌, ap, subst}
 use Rattle.std.proofs.lemmas.Option.{get_or_from_slice_get}
-use Rattle.ts_core.specs.Facts.{Series, Column}
+use Rattle.ts_core.specs.facts.Facts.{Series, Column}
 use Rattle.ts_raw.specs.FieldKeys.{FieldKey}
 use Rattle.ts_raw.specs.ColumnTables.{ColumnNumbers}
 use Rattle.ts_raw.specs.IndexParts.{no_field, column_named}
 use Rattle.ts_raw.specs.Indexed.{Indexed}
-use Rattle.ts_core.specs.Numbered.{IsAt}
-use Rattle.ts_core.proofs.MembersLemmas.{at_map_of}
-use Rattle.ts_core.proofs.NumberedLemmas.{same_at}
+use Rattle.ts_core.specs.lists.Numbered.{IsAt}
+use Rattle.ts_core.proofs.lists.MembersLemmas.{at_map_of}
+use Rattle.ts_core.proofs.lists.NumberedLemmas.{same_at}
 use Rattle.ts_raw.proofs.index.Index.field_of.Goals as goal
 
 pub key-requires : goal.key-requires

@@ -1,14 +1,14 @@
 use Rattle.std.proofs.Common.{◌≡◌, ◌<◌, List, [], ◌∷◌, ◌++◌, length, map, OnOk, inr, sym, ◌∙◌, ap, subst}
 use Rattle.std.proofs.lemmas.Result.{on_err_weaker, on_ok_weaker}
-use Rattle.ts_core.specs.Facts.{Series}
-use Rattle.ts_core.specs.Members.{Among}
+use Rattle.ts_core.specs.facts.Facts.{Series}
+use Rattle.ts_core.specs.lists.Members.{Among}
 use Rattle.ts_raw.specs.FieldKeys.{FieldKey}
 use Rattle.ts_raw.specs.IndexParts.{column_named, IsIndex}
 use Rattle.ts_raw.specs.Indexed.{Indexed, column_in}
-use Rattle.ts_core.specs.Numbered.{IsAt}
+use Rattle.ts_core.specs.lists.Numbered.{IsAt}
 use Rattle.ts_raw.proofs.IndexLemmas.{measurement_of, index_sound}
 use Rattle.ts_raw.proofs.IndexSteps.{IsMaking, index_roomy, made_room, made_absent, made_more, made_same, made_at, made_pushes}
-use Rattle.ts_core.proofs.NumberedLemmas.{outcome, ok_with}
+use Rattle.ts_core.proofs.lists.NumberedLemmas.{outcome, ok_with}
 use Rattle.ts_raw.proofs.index.Index.make_column.Given.{Over}
 use Rattle.ts_raw.proofs.index.Index.make_column.Goals.{After-series}
 use Rattle.ts_raw.proofs.index.Index.make_column.Goals as goal

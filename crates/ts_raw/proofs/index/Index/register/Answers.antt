@@ -1,5 +1,5 @@
 use Rattle.std.proofs.Common.{List, sym, ◌∙◌, ap, subst}
-use Rattle.ts_core.specs.Facts.{Series}
+use Rattle.ts_core.specs.facts.Facts.{Series}
 use Rattle.ts_raw.specs.IndexParts.{IsIndex}
 use Rattle.ts_raw.specs.Indexed.{Indexed}
 use Rattle.ts_raw.proofs.IndexLemmas.{index_sound}

@@ -1,9 +1,9 @@
 use Rattle.std.proofs.Common.{◌≡◌, ap, sym, ◌∙◌, take, get_or, List, Bor, []}
-use Rattle.ts_core.specs.Facts.{Text}
+use Rattle.ts_core.specs.facts.Facts.{Text}
 use Rattle.std.proofs.lemmas.List.{take_all}
 use Rattle.std.specs.Hash.FoldHasher.{initial, write, finish}
 use Rattle.std.specs.declared.hash.FoldHasher.{FoldHasher}
-use Rattle.ts_core.specs.Texts.{lent_pairs}
+use Rattle.ts_core.specs.text.Texts.{lent_pairs}
 use Rattle.ts_raw.specs.Hashes.{hash_of_tags, hash_of_series}
 use Rattle.ts_raw.proofs.Hashing.{tags_hashed_more}
 use Rattle.ts_raw.proofs.index.hash.hash_series.Goals as goal

@@ -1,6 +1,6 @@
 use Rattle.std.proofs.Common.{◌≡◌, take}
 use Rattle.std.specs.Hash.FoldHasher.{initial, write}
-use Rattle.ts_core.specs.Texts.{lent_pairs}
+use Rattle.ts_core.specs.text.Texts.{lent_pairs}
 use Rattle.ts_raw.specs.Hashes.{hash_of_tags}
 use Rattle.ts_raw.proofs.index.hash.hash_series.Given as goal
 

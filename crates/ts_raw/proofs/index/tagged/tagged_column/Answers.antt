@@ -1,9 +1,9 @@
 use Rattle.std.proofs.Common.{◌≡◌, ℕ, List, get_or, sym, ◌∙◌, ap, rules}
 use Rattle.std.proofs.lemmas.Option.{get_or_from_slice_get, IfSome_then}
-use Rattle.ts_core.specs.Facts.{Series}
-use Rattle.ts_core.specs.Tags.{tag_value}
-use Rattle.ts_core.proofs.Comparisons.{same_text-from_eq}
-use Rattle.ts_core.proofs.NumberedLemmas.{at_among, at_within, none_so}
+use Rattle.ts_core.specs.facts.Facts.{Series}
+use Rattle.ts_core.specs.facts.Tags.{tag_value}
+use Rattle.ts_core.proofs.lists.Comparisons.{same_text-from_eq}
+use Rattle.ts_core.proofs.lists.NumberedLemmas.{at_among, at_within, none_so}
 use Rattle.ts_raw.specs.Indexed.{no_series}
 use Rattle.ts_raw.specs.Tagged.{has_tag}
 use Rattle.ts_raw.proofs.index.tagged.tagged_column.Goals as goal

@@ -1,8 +1,8 @@
 use Rattle.std.proofs.Common.{◌≡◌, ℕ, ◌+◌, List, [], ◌∷◌, ◌++◌, drop, get_or, sym, subst, rules}
 use Rattle.std.proofs.lemmas.List.{drop_more}
 use Rattle.std.proofs.lemmas.Option.{slice_get-get_or}
-use Rattle.ts_core.specs.Facts.{Series, Text}
-use Rattle.ts_core.proofs.NumberedLemmas.{at_among}
+use Rattle.ts_core.specs.facts.Facts.{Series, Text}
+use Rattle.ts_core.proofs.lists.NumberedLemmas.{at_among}
 use Rattle.ts_raw.specs.Tagged.{IsTaggedAt}
 use Rattle.ts_raw.proofs.TaggedLemmas.{IsTaggedSoFar, tagged_none, tagged_some}
 use Rattle.ts_raw.proofs.index.tagged.tagged_columns.Goals as goal

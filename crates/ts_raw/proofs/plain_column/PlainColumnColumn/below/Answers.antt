@@ -2,7 +2,7 @@ use Rattle.std.proofs.Common.{rules, SFits, ◌∙◌, ap, sym, w64, to_z-of_z}
 use Rattle.std.specs.Ordering.{int_cmp}
 use Rattle.std.specs.FinMap as map
 use Rattle.std.specs.FinMap.{entries-from_sorted}
-use Rattle.ts_core.specs.StoreMoves.{points_below}
+use Rattle.ts_core.specs.moves.StoreMoves.{points_below}
 use Rattle.ts_raw.specs.Columns.{ColumnState}
 use Rattle.ts_raw.proofs.PointMaps.{timed-where}
 use Rattle.ts_raw.proofs.plain_column.PlainColumnColumn.below.Goals as goal

@@ -1,7 +1,7 @@
 use Rattle.std.proofs.Common.{rules, SFits, ◌∙◌, ap, sym, filter, to_z, of_z, w64, to_z-of_z, ℤ, List}
 use Rattle.std.specs.Ordering.{int_cmp}
 use Rattle.std.specs.FinMap.{entries-from_sorted}
-use Rattle.ts_core.specs.Facts.{is_within}
+use Rattle.ts_core.specs.facts.Facts.{is_within}
 use Rattle.ts_raw.specs.Columns.{ColumnState, points_within}
 use Rattle.ts_raw.proofs.PointMaps.{timed-where}
 use Rattle.ts_raw.proofs.plain_column.PlainColumnColumn.range.Goals as goal

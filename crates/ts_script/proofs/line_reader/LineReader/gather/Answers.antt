@@ -1,6 +1,6 @@
 use Rattle.std.proofs.Common.{◌≡◌, false, refl, sym, ap, ◌∙◌, arith}
 use Rattle.std.proofs.lemmas.Result.{err_from_is_err_and}
-use Rattle.ts_core.specs.ReadingAhead.{bit}
+use Rattle.ts_core.specs.io.ReadingAhead.{bit}
 use Rattle.ts_script.specs.LineReading.{to_come}
 use Rattle.ts_script.proofs.LineScan.{next_is_some, found_told, last_told, more_told, after-whole, flipped, flipped_back}
 use Rattle.ts_script.proofs.line_reader.LineReader.gather.Goals as goal

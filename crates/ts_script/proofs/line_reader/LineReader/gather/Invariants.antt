@@ -1,5 +1,5 @@
 use Rattle.std.proofs.Common.{◌≡◌, ℕ, ◌+◌, ◌-◌, ◌≤◌, List, false}
-use Rattle.ts_core.specs.ReadingAhead.{weight}
+use Rattle.ts_core.specs.io.ReadingAhead.{weight}
 use Rattle.ts_script.specs.LineReading.{to_come}
 use Rattle.ts_script.proofs.LineScan.{SoFar}
 use Rattle.ts_script.proofs.line_reader.LineReader.gather.Given as goal

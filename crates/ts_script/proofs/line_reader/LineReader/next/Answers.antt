@@ -1,5 +1,5 @@
 use Rattle.std.proofs.Common.{[], true, sym, ap}
-use Rattle.ts_core.specs.ReadingAhead.{Ahead}
+use Rattle.ts_core.specs.io.ReadingAhead.{Ahead}
 use Rattle.ts_script.specs.LineReading.{to_come, IsTaken, IsLonger}
 use Rattle.ts_script.proofs.LineScan.{found_told, nothing_yet}
 use Rattle.ts_script.proofs.line_reader.LineReader.next.Goals as goal

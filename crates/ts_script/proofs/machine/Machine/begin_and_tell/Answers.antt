@@ -1,7 +1,7 @@
 use Rattle.std.proofs.Common.{◌≡◌, ◌∙◌, true, false, sym, subst, is_err, option_map, string_bytes}
-use Rattle.ts_core.specs.History.{Begin}
-use Rattle.ts_core.specs.StoreData.{GoesOn}
-use Rattle.ts_core.specs.StoreMoves.{run_begun}
+use Rattle.ts_core.specs.store.History.{Begin}
+use Rattle.ts_core.specs.store.StoreData.{GoesOn}
+use Rattle.ts_core.specs.moves.StoreMoves.{run_begun}
 use Rattle.ts_script.specs.ScriptReplies.{text_of}
 use Rattle.ts_script.specs.Serving.{Serving, IsIn}
 use Rattle.ts_script.proofs.MachineLemmas.{serving, when_ok, was_closed, begun, begin_refused}

@@ -1,5 +1,5 @@
 use Rattle.std.proofs.Common.{sym, subst, option_map, string_bytes}
-use Rattle.ts_core.specs.FaultTexts.{memory_text}
+use Rattle.ts_core.specs.text.FaultTexts.{memory_text}
 use Rattle.ts_script.specs.Commands.{OpenWith}
 use Rattle.ts_script.specs.ScriptReplies.{line, text_of, unknown_text}
 use Rattle.ts_script.specs.Serving.{Serving, IsIn, Did}

@@ -1,5 +1,5 @@
 use Rattle.std.proofs.Common.{◌≡◌, ◌∙◌, true, false, sym, subst, is_err, option_map, string_bytes}
-use Rattle.ts_store.specs.WholeRuns.{Retains}
+use Rattle.ts_store.specs.retain.WholeRuns.{Retains}
 use Rattle.ts_script.specs.ScriptReplies.{text_of}
 use Rattle.ts_script.specs.Serving.{Serving, IsIn}
 use Rattle.ts_script.proofs.MachineLemmas.{serving, when_ok, was_closed, retained, retain_refused}

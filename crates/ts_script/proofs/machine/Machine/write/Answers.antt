@@ -1,5 +1,5 @@
 use Rattle.std.proofs.Common.{sym, subst, option_map, string_bytes}
-use Rattle.ts_core.specs.Facts.{Text}
+use Rattle.ts_core.specs.facts.Facts.{Text}
 use Rattle.ts_script.specs.Commands.{Write}
 use Rattle.ts_script.specs.Serving.{Serving, keeping, IsIn, Did}
 use Rattle.ts_script.proofs.MachineLemmas.{serving, wrote}

@@ -1,15 +1,15 @@
 use Rattle.std.proofs.Common.{◌≡◌, ◌∙◌, List, ap}
 use Rattle.std.proofs.lemmas.Option.{get_or_from_slice_get}
-use Rattle.ts_core.specs.Aggregates.{Aggregate}
-use Rattle.ts_core.specs.Cells.{Cell}
-use Rattle.ts_core.specs.Changes.{changed}
-use Rattle.ts_core.specs.StoreData.{CellMap, no_parts}
-use Rattle.ts_core.specs.StoreMoves.{frozen_with}
-use Rattle.ts_core.specs.TwoParts.{in_frozen}
+use Rattle.ts_core.specs.aggregates.Aggregates.{Aggregate}
+use Rattle.ts_core.specs.store.Cells.{Cell}
+use Rattle.ts_core.specs.lists.Changes.{changed}
+use Rattle.ts_core.specs.store.StoreData.{CellMap, no_parts}
+use Rattle.ts_core.specs.moves.StoreMoves.{frozen_with}
+use Rattle.ts_core.specs.store.TwoParts.{in_frozen}
 use Rattle.ts_cells.specs.CellChanges.{roomy}
 use Rattle.ts_cells.specs.Grids.{Lane, no_lane, cell_at, cell_in, lane_named}
-use Rattle.ts_store.specs.Rollups.{RollupState}
-use Rattle.ts_store.proofs.PartsBuilt.{cell_made}
+use Rattle.ts_store.specs.rollup.Rollups.{RollupState}
+use Rattle.ts_store.proofs.image.PartsBuilt.{cell_made}
 use Rattle.ts_store.proofs.rollup.Rollup.add_cell.Goals as goal
 
 pub returns-clause-ok : goal.returns-clause-ok

@@ -1,7 +1,7 @@
 use Rattle.std.proofs.Common.{◌∙◌, ◌<◌, [], ap, sym, arith, length, get_or}
 use Rattle.std.proofs.lemmas.List.{length-map, get_or-map}
-use Rattle.ts_store.specs.ColumnLists.{lists_in}
-use Rattle.ts_store.specs.Rollups.{RollupState, columns_of_lane}
+use Rattle.ts_store.specs.rollup.ColumnLists.{lists_in}
+use Rattle.ts_store.specs.rollup.Rollups.{RollupState, columns_of_lane}
 use Rattle.ts_store.proofs.rollup.Rollup.columns_of.Goals as goal
 
 pub returns-clause-columns : goal.returns-clause-columns

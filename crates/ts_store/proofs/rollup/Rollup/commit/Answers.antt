@@ -1,8 +1,8 @@
 use Rattle.std.proofs.Common.{◌≡◌, ◌∙◌, ◌<◌, ◌++◌, ◌∷◌, [], List, ℕ, ap, sym, Some, None, Option, length, cond, is_ok, get_or, set, arith}
 use Rattle.std.proofs.lemmas.List.{length-map}
-use Rattle.ts_store.specs.ColumnLists.{lists_in}
-use Rattle.ts_store.specs.Rollups.{RollupState}
-use Rattle.ts_store.proofs.RollupLemmas.{place_within, place_at, room_in, lists_more, made_apart, made_in}
+use Rattle.ts_store.specs.rollup.ColumnLists.{lists_in}
+use Rattle.ts_store.specs.rollup.Rollups.{RollupState}
+use Rattle.ts_store.proofs.rollup.RollupLemmas.{place_within, place_at, room_in, lists_more, made_apart, made_in}
 use Rattle.ts_store.proofs.rollup.Rollup.commit.Goals as goal
 
 pub push-requires-in-Some : goal.push-requires-in-Some

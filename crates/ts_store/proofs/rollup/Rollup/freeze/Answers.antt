@@ -1,7 +1,7 @@
 use Rattle.std.proofs.Common.{◌∙◌, ◌<◌, List, Option, Some, ℕ, ap, sym, arith, length}
 use Rattle.std.proofs.lemmas.Option.{slice_get-get_or}
-use Rattle.ts_store.specs.Rollups.{RollupState}
-use Rattle.ts_store.proofs.RollupLemmas.{lane_inside}
+use Rattle.ts_store.specs.rollup.Rollups.{RollupState}
+use Rattle.ts_store.proofs.rollup.RollupLemmas.{lane_inside}
 use Rattle.ts_store.proofs.rollup.Rollup.freeze.Goals as goal
 
 pub freeze-requires : goal.freeze-requires

@@ -1,6 +1,6 @@
 use Rattle.std.proofs.Common.{◌∙◌, ◌++◌, [], ap, sym}
 use Rattle.std.proofs.lemmas.List.{append-nil}
-use Rattle.ts_store.specs.Rollups.{RollupState}
+use Rattle.ts_store.specs.rollup.Rollups.{RollupState}
 use Rattle.ts_store.proofs.rollup.Rollup.prepare.Goals as goal
 use Rattle.ts_store.proofs.rollup.Rollup.prepare.Goals.{then-eq+in_ok-group+in_ok-lane_for, else-eq}
 

@@ -1,8 +1,8 @@
 use Rattle.std.proofs.Common.{subst}
-use Rattle.ts_core.specs.StoreData.{StoreData, AreLive}
-use Rattle.ts_store.specs.CellCounts.{HoldFew}
-use Rattle.ts_store.specs.CellIndices.{HaveIndices}
-use Rattle.ts_store.specs.SizedStores.{IsSized}
+use Rattle.ts_core.specs.store.StoreData.{StoreData, AreLive}
+use Rattle.ts_store.specs.store.CellCounts.{HoldFew}
+use Rattle.ts_store.specs.store.CellIndices.{HaveIndices}
+use Rattle.ts_store.specs.store.SizedStores.{IsSized}
 use Rattle.ts_store.proofs.store.Store.accepted.Goals as goal
 
 pub returns-clause-sized : goal.returns-clause-sized

@@ -1,9 +1,9 @@
 use Rattle.std.proofs.Common.{rules, ◌≡◌, ◌∙◌, None, to_z, of_z, ap, sym, subst}
 use Rattle.std.specs.Int.{w64, w128}
-use Rattle.ts_core.specs.SettingsFaults.{added_fault}
-use Rattle.ts_core.specs.StoreData.{StoreData}
-use Rattle.ts_store.specs.RulesChanged.{RuleComes}
-use Rattle.ts_store.proofs.RulesAdded.{rule_came}
+use Rattle.ts_core.specs.settings.SettingsFaults.{added_fault}
+use Rattle.ts_core.specs.store.StoreData.{StoreData}
+use Rattle.ts_store.specs.rules.RulesChanged.{RuleComes}
+use Rattle.ts_store.proofs.rules.RulesAdded.{rule_came}
 use Rattle.ts_store.proofs.store.Store.add_rule.Goals as goal
 
 pub returns : goal.returns

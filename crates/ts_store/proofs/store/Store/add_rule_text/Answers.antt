@@ -2,9 +2,9 @@ use Rattle.std.proofs.Common.{rules, ℤ, to_z, of_z, w64, ◌≡◌, ◌≤◌,
 use Rattle.std.specs.Option.{IsSome}
 use Rattle.std.specs.Result.{IsOk, result_ok}
 use Rattle.std.proofs.lemmas.Option.{none-some}
-use Rattle.ts_core.specs.Facts.{Text}
-use Rattle.ts_store.specs.RuleTexts.{TextComes}
-use Rattle.ts_store.proofs.RuleTextLemmas.{read_refused, text_came, text_refused, name_fits}
+use Rattle.ts_core.specs.facts.Facts.{Text}
+use Rattle.ts_store.specs.rules.RuleTexts.{TextComes}
+use Rattle.ts_store.proofs.rules.RuleTextLemmas.{read_refused, text_came, text_refused, name_fits}
 use Rattle.ts_store.proofs.store.Store.add_rule_text.Goals as goal
 
 pub returns-in-Err : goal.returns-in-Err

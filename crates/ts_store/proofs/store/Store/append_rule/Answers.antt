@@ -1,16 +1,16 @@
 use Rattle.std.proofs.Common.{rules, ◌≡◌, ◌∙◌, ℤ, None, [], ◌∷◌, ◌++◌, to_z, of_z, ap, sym, subst}
 use Rattle.std.specs.Int.{w128}
-use Rattle.ts_core.specs.Marks.{Marks, first_from}
-use Rattle.ts_core.specs.Settings.{Rule, with_rule}
-use Rattle.ts_core.specs.SettingsFaults.{added_fault}
-use Rattle.ts_core.specs.StoreData.{StoreData}
-use Rattle.ts_core.specs.Times.{IsTime}
-use Rattle.ts_core.proofs.Results.{on_any_err}
-use Rattle.ts_store.specs.ColumnsKept.{Held}
-use Rattle.ts_store.specs.OpenRuns.{kept_data}
-use Rattle.ts_store.specs.RuleRollups.{IsRollupOf}
-use Rattle.ts_store.specs.RulesChanged.{RuleComes}
-use Rattle.ts_store.proofs.RulesAdded.{added_wide, rule_is_added}
+use Rattle.ts_core.specs.store.Marks.{Marks, first_from}
+use Rattle.ts_core.specs.settings.Settings.{Rule, with_rule}
+use Rattle.ts_core.specs.settings.SettingsFaults.{added_fault}
+use Rattle.ts_core.specs.store.StoreData.{StoreData}
+use Rattle.ts_core.specs.facts.Times.{IsTime}
+use Rattle.ts_core.proofs.lists.Results.{on_any_err}
+use Rattle.ts_store.specs.store.ColumnsKept.{Held}
+use Rattle.ts_store.specs.retain.OpenRuns.{kept_data}
+use Rattle.ts_store.specs.rules.RuleRollups.{IsRollupOf}
+use Rattle.ts_store.specs.rules.RulesChanged.{RuleComes}
+use Rattle.ts_store.proofs.rules.RulesAdded.{added_wide, rule_is_added}
 use Rattle.ts_store.proofs.store.Store.append_rule.Goals as goal
 
 pub rollup_of-requires-clause-interval : goal.rollup_of-requires-clause-interval

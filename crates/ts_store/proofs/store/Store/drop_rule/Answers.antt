@@ -1,4 +1,4 @@
-use Rattle.ts_store.proofs.RulesDropped.{kept_later, rule_went}
+use Rattle.ts_store.proofs.rules.RulesDropped.{kept_later, rule_went}
 use Rattle.ts_store.proofs.store.Store.drop_rule.Goals as goal
 
 pub invariant_of-self : goal.invariant_of-self

@@ -1,10 +1,10 @@
 use Rattle.std.proofs.Common.{◌<◌, ◌∙◌, pos, List, ap, sym, subst, map, length, get_or}
-use Rattle.ts_core.specs.Settings.{Rule}
-use Rattle.ts_core.specs.StoreStates.{column_of}
-use Rattle.ts_core.specs.StoreData.{StoreData}
+use Rattle.ts_core.specs.settings.Settings.{Rule}
+use Rattle.ts_core.specs.store.StoreStates.{column_of}
+use Rattle.ts_core.specs.store.StoreData.{StoreData}
 use Rattle.std.specs.FinMap as finmap
-use Rattle.ts_store.specs.Saving.{frozen_from}
-use Rattle.ts_store.proofs.FrozenShown.{store_near, cells_at_rule}
+use Rattle.ts_store.specs.image.Saving.{frozen_from}
+use Rattle.ts_store.proofs.image.FrozenShown.{store_near, cells_at_rule}
 use Rattle.ts_store.proofs.store.Store.frozen_cells.Goals as goal
 
 pub frozen_cells-requires : goal.frozen_cells-requires

@@ -1,15 +1,15 @@
 use Rattle.std.proofs.Common.{Option, ◌≡◌, ◌∙◌, [], map, length, replicate, ap, subst, sym}
-use Rattle.ts_core.specs.Settings.{Rule}
-use Rattle.ts_core.specs.Marks.{index_of, marks_of}
-use Rattle.ts_core.specs.Times.{least_time}
-use Rattle.ts_core.specs.StoreStates.{StandsFor}
-use Rattle.ts_core.specs.StoreData.{StoreData, state_of}
-use Rattle.ts_core.proofs.StoreNew.{new_stands_for}
-use Rattle.ts_store.specs.Inventories.{inventory_of}
-use Rattle.ts_store.specs.OpenRuns.{Run, IsKept, kept_data}
-use Rattle.ts_store.specs.Rollups.{new_rollup}
-use Rattle.ts_store.proofs.InventoriesKept.{inventory_new}
-use Rattle.ts_store.proofs.Stands.{held_new, data_new, kept_new}
+use Rattle.ts_core.specs.settings.Settings.{Rule}
+use Rattle.ts_core.specs.store.Marks.{index_of, marks_of}
+use Rattle.ts_core.specs.facts.Times.{least_time}
+use Rattle.ts_core.specs.store.StoreStates.{StandsFor}
+use Rattle.ts_core.specs.store.StoreData.{StoreData, state_of}
+use Rattle.ts_core.proofs.moves.StoreNew.{new_stands_for}
+use Rattle.ts_store.specs.store.Inventories.{inventory_of}
+use Rattle.ts_store.specs.retain.OpenRuns.{Run, IsKept, kept_data}
+use Rattle.ts_store.specs.rollup.Rollups.{new_rollup}
+use Rattle.ts_store.proofs.store.InventoriesKept.{inventory_new}
+use Rattle.ts_store.proofs.store.Stands.{held_new, data_new, kept_new}
 use Rattle.ts_store.proofs.store.Store.new.Goals as goal
 
 pub invariant_of-result : goal.invariant_of-result

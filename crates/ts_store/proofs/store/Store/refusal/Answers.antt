@@ -1,9 +1,9 @@
 use Rattle.std.proofs.Common.{◌≡◌, ◌<◌, ◌≤◌, ◌+◌, ◌^◌, ◌≤ℤ◌, ◌∙◌, ap, sym, length, arith, false}
 use Rattle.std.proofs.lemmas.List.{length-map}
-use Rattle.ts_core.specs.StoreData.{StoreData}
+use Rattle.ts_core.specs.store.StoreData.{StoreData}
 use Rattle.ts_line.specs.Parts.{series_of, fact_of, line_facts}
-use Rattle.ts_store.specs.Refusals.{write_fault, is_too_many}
-use Rattle.ts_store.proofs.Stands.{not_before, facts_refused, welcome}
+use Rattle.ts_store.specs.write.Refusals.{write_fault, is_too_many}
+use Rattle.ts_store.proofs.store.Stands.{not_before, facts_refused, welcome}
 use Rattle.ts_store.proofs.store.Store.refusal.Goals as goal
 
 pub overflow_sub-self-inside : goal.overflow_sub-self-inside

@@ -1,11 +1,11 @@
 use Rattle.std.proofs.Common.{rules, ◌≡◌, ◌∙◌, ℤ, None, FitsSigned, SFits, to_z, of_z, to_z-of_z, ap, sym, subst}
 use Rattle.std.specs.Int.{w64, w128}
-use Rattle.ts_core.specs.Marks.{first_from}
-use Rattle.ts_core.specs.Settings.{Rule, Settings}
-use Rattle.ts_core.specs.SettingsFaults.{added_fault}
-use Rattle.ts_core.specs.StoreData.{StoreData}
-use Rattle.ts_core.specs.Times.{IsTime}
-use Rattle.ts_store.proofs.RulesAdded.{low_fits}
+use Rattle.ts_core.specs.store.Marks.{first_from}
+use Rattle.ts_core.specs.settings.Settings.{Rule, Settings}
+use Rattle.ts_core.specs.settings.SettingsFaults.{added_fault}
+use Rattle.ts_core.specs.store.StoreData.{StoreData}
+use Rattle.ts_core.specs.facts.Times.{IsTime}
+use Rattle.ts_store.proofs.rules.RulesAdded.{low_fits}
 use Rattle.ts_store.proofs.store.Store.start_of.Goals as goal
 
 pub overflow_cast-result : goal.overflow_cast-result

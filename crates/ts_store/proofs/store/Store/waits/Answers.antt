@@ -1,9 +1,9 @@
 use Rattle.std.proofs.Common.{◌↔◌, ℕ, IsTrue, subst}
-use Rattle.ts_core.specs.Members.{Among}
-use Rattle.ts_core.specs.Numbered.{IsAt}
-use Rattle.ts_core.specs.StoreData.{StoreData}
-use Rattle.ts_store.specs.OpenRuns.{IsToMove}
-use Rattle.ts_store.proofs.WaitingAt.{waits_at}
+use Rattle.ts_core.specs.lists.Members.{Among}
+use Rattle.ts_core.specs.lists.Numbered.{IsAt}
+use Rattle.ts_core.specs.store.StoreData.{StoreData}
+use Rattle.ts_store.specs.retain.OpenRuns.{IsToMove}
+use Rattle.ts_store.proofs.image.WaitingAt.{waits_at}
 use Rattle.ts_store.proofs.store.Store.waits.Goals as goal
 
 pub returns : goal.returns

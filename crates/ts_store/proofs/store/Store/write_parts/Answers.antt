@@ -1,5 +1,5 @@
-use Rattle.ts_store.proofs.InventoriesGrown.{grown, grown_in_part}
-use Rattle.ts_store.proofs.LineTextLemmas.{refused_same, wrote_refused, left_without_memory, wrote_without_memory}
+use Rattle.ts_store.proofs.write.InventoriesGrown.{grown, grown_in_part}
+use Rattle.ts_store.proofs.write.LineTextLemmas.{refused_same, wrote_refused, left_without_memory, wrote_without_memory}
 use Rattle.ts_store.proofs.store.Store.write_parts.Goals as goal
 
 pub returns-in_default-clause-written : goal.returns-in_default-clause-written

@@ -1,19 +1,19 @@
 use Rattle.std.proofs.Common.{◌≡◌, ◌+◌, ◌≤◌, sym, ◌∙◌, ap, subst, List, length, ℕ, ℤ, inr, None, Err, map, rules, arith}
 use Rattle.std.proofs.lemmas.List.{length-map}
 use Rattle.std.proofs.lemmas.Result.{err_from_is_err_and}
-use Rattle.ts_core.specs.Settings.{Rule}
-use Rattle.ts_core.specs.Texts.{lent_pairs}
-use Rattle.ts_core.specs.StoreStates.{column_of}
-use Rattle.ts_core.specs.StoreData.{StoreData}
+use Rattle.ts_core.specs.settings.Settings.{Rule}
+use Rattle.ts_core.specs.text.Texts.{lent_pairs}
+use Rattle.ts_core.specs.store.StoreStates.{column_of}
+use Rattle.ts_core.specs.store.StoreData.{StoreData}
 use Rattle.ts_line.specs.Names.{AreKeys}
 use Rattle.ts_line.specs.Parts.{LinePart, Parts, fact_of, field_text, line_facts}
-use Rattle.ts_store.specs.LinesInColumns.{PutsLine, GrowsForLine}
-use Rattle.ts_store.specs.LinesPut.{Accepts, Leaves}
-use Rattle.ts_store.specs.OpenRuns.{IsKept, kept_data}
-use Rattle.ts_store.specs.Refusals.{write_fault}
-use Rattle.ts_store.specs.LivePuts.{StayLive}
-use Rattle.ts_store.specs.Rollups.{AreRollups, cells_of}
-use Rattle.ts_store.proofs.Stands.{series_from, accepted_by, left_by, kept_left, kept_accepted, not_refused, taken_from, stay_live}
+use Rattle.ts_store.specs.write.LinesInColumns.{PutsLine, GrowsForLine}
+use Rattle.ts_store.specs.write.LinesPut.{Accepts, Leaves}
+use Rattle.ts_store.specs.retain.OpenRuns.{IsKept, kept_data}
+use Rattle.ts_store.specs.write.Refusals.{write_fault}
+use Rattle.ts_store.specs.write.LivePuts.{StayLive}
+use Rattle.ts_store.specs.rollup.Rollups.{AreRollups, cells_of}
+use Rattle.ts_store.proofs.store.Stands.{series_from, accepted_by, left_by, kept_left, kept_accepted, not_refused, taken_from, stay_live}
 use Rattle.ts_store.proofs.store.Store.write_tagged.Goals as goal
 
 pub refusal-requires : goal.refusal-requires

@@ -1,9 +1,9 @@
 use Rattle.std.proofs.Common.{◌∙◌, ap, sym, subst, List, Ok}
-use Rattle.ts_core.specs.Facts.{Fact}
-use Rattle.ts_store.specs.Inventories.{inventory_of, facts_of_text, GrowsAfter}
-use Rattle.ts_store.specs.LineTexts.{parts_in, WritesText, RunsOutOfMemory}
-use Rattle.ts_store.proofs.LineTextLemmas.{wrote_parts}
-use Rattle.ts_store.proofs.InventoriesGrown.{not_grown}
+use Rattle.ts_core.specs.facts.Facts.{Fact}
+use Rattle.ts_store.specs.store.Inventories.{inventory_of, facts_of_text, GrowsAfter}
+use Rattle.ts_store.specs.write.LineTexts.{parts_in, WritesText, RunsOutOfMemory}
+use Rattle.ts_store.proofs.write.LineTextLemmas.{wrote_parts}
+use Rattle.ts_store.proofs.write.InventoriesGrown.{not_grown}
 use Rattle.ts_store.proofs.store.Store.write_text.Goals as goal
 
 pub returns-in-Ok-None-clause-written : goal.returns-in-Ok-None-clause-written

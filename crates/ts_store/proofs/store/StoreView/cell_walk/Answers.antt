@@ -1,11 +1,11 @@
 use Rattle.std.proofs.Common.{◌≡◌, ◌<◌, ◌∙◌, ℕ, List, ap, subst, length, get_or, refl, arith}
-use Rattle.ts_core.specs.Settings.{Rule}
-use Rattle.ts_core.specs.StoreData.{StoreData, rules_of, state_of}
-use Rattle.ts_core.specs.Views.{seen_of}
-use Rattle.ts_store.specs.OpenRuns.{kept_data}
-use Rattle.ts_store.specs.SizedStores.{IsSized}
-use Rattle.ts_store.specs.Seats.{cells_at}
-use Rattle.ts_store.proofs.ShownCells.{rules-length, store_ruled, store_shows}
+use Rattle.ts_core.specs.settings.Settings.{Rule}
+use Rattle.ts_core.specs.store.StoreData.{StoreData, rules_of, state_of}
+use Rattle.ts_core.specs.store.Views.{seen_of}
+use Rattle.ts_store.specs.retain.OpenRuns.{kept_data}
+use Rattle.ts_store.specs.store.SizedStores.{IsSized}
+use Rattle.ts_store.specs.read.Seats.{cells_at}
+use Rattle.ts_store.proofs.read.ShownCells.{rules-length, store_ruled, store_shows}
 use Rattle.ts_store.proofs.store.StoreView.cell_walk.Goals as goal
 
 -- the rule is one of the settings

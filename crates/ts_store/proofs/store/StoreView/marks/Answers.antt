@@ -1,5 +1,5 @@
 use Rattle.std.proofs.Common.{subst}
-use Rattle.ts_store.specs.SizedStores.{IsSized}
+use Rattle.ts_store.specs.store.SizedStores.{IsSized}
 use Rattle.ts_store.proofs.store.StoreView.marks.Goals as goal
 
 pub returns-clause-lows : goal.returns-clause-lows

@@ -1,11 +1,11 @@
 use Rattle.std.proofs.Common.{◌<◌, ◌∙◌, ap, sym, subst, rules, List, ℤ, length, SFits, w64, to_z-of_z}
 use Rattle.std.proofs.lemmas.Option.{get_or_from_slice_get}
-use Rattle.ts_core.specs.StoreStates.{ColumnPoints}
-use Rattle.ts_core.specs.StoreData.{StoreData}
-use Rattle.ts_store.specs.PointsRead.{points_between, AreLatestOf, AreRawOf}
-use Rattle.ts_store.specs.Seats.{no_points, points_at}
-use Rattle.ts_store.proofs.RawReads.{raw_between}
-use Rattle.ts_store.proofs.Stands.{range_stands}
+use Rattle.ts_core.specs.store.StoreStates.{ColumnPoints}
+use Rattle.ts_core.specs.store.StoreData.{StoreData}
+use Rattle.ts_store.specs.read.PointsRead.{points_between, AreLatestOf, AreRawOf}
+use Rattle.ts_store.specs.read.Seats.{no_points, points_at}
+use Rattle.ts_store.proofs.read.RawReads.{raw_between}
+use Rattle.ts_store.proofs.store.Stands.{range_stands}
 use Rattle.ts_store.proofs.store.StoreView.raw_range.Goals as goal
 
 pub raw_range-requires : goal.raw_range-requires

@@ -1,8 +1,8 @@
 use Rattle.std.proofs.Common.{subst}
-use Rattle.ts_core.specs.StoreData.{state_of}
-use Rattle.ts_core.proofs.Shown.{stands_shows}
-use Rattle.ts_store.specs.SizedStores.{IsSized}
-use Rattle.ts_store.proofs.ShownCells.{rules-shown}
+use Rattle.ts_core.specs.store.StoreData.{state_of}
+use Rattle.ts_core.proofs.store.Shown.{stands_shows}
+use Rattle.ts_store.specs.store.SizedStores.{IsSized}
+use Rattle.ts_store.proofs.read.ShownCells.{rules-shown}
 use Rattle.ts_store.proofs.store.StoreView.settings.Goals as goal
 
 pub returns-clause-rules : goal.returns-clause-rules

@@ -1,8 +1,8 @@
 use Rattle.std.proofs.Common.{rules, ◌≡◌, ◌<◌, ◌∙◌, ℕ, ℤ, List, [], ◌∷◌, true, false, ap, sym, subst, length, get_or, map, if◌then◌else◌}
 use Rattle.std.proofs.lemmas.List.{get_or-map, length-map}
-use Rattle.ts_core.specs.Facts.{is_within}
-use Rattle.ts_core.specs.StoreStates.{RuleCells}
-use Rattle.ts_store.specs.Seats.{SeenCell, with_parts, no_rule, cells_within, cells_at}
+use Rattle.ts_core.specs.facts.Facts.{is_within}
+use Rattle.ts_core.specs.store.StoreStates.{RuleCells}
+use Rattle.ts_store.specs.read.Seats.{SeenCell, with_parts, no_rule, cells_within, cells_at}
 use Rattle.ts_tests.proofs.views.OneCellView.cell_walk.Goals as goal
 
 -- a rule with this cell alone

@@ -1,8 +1,8 @@
 use Rattle.std.proofs.Common.{ℕ, List, Option, IfNone, sym, subst}
 use Rattle.std.specs.HashMap.{get}
-use Rattle.ts_core.specs.Members.{Among}
+use Rattle.ts_core.specs.lists.Members.{Among}
 use Rattle.ts_raw.specs.ColumnTables.{ColumnNumbers, same_numbers}
-use Rattle.ts_core.specs.Numbered.{IsAt}
+use Rattle.ts_core.specs.lists.Numbered.{IsAt}
 use Rattle.ts_raw.specs.Lists.{lists_of}
 use Rattle.ts_raw.proofs.ColumnLemmas.{column_found, column_absent}
 use Rattle.ts_raw.proofs.index.columns.ColumnTable.lookup.Goals as goal

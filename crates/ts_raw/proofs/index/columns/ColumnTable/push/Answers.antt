@@ -1,7 +1,7 @@
 use Rattle.std.proofs.Common.{◌≡◌, ℕ, ◌<◌, List, [], ◌∷◌, ◌++◌, length, get_or, set, Option, Some, OnOk, cond, is_ok, sym, ◌∙◌, ap, subst, rules}
 use Rattle.std.proofs.lemmas.List.{length-map}
 use Rattle.std.specs.HashMap.{get, Updates}
-use Rattle.ts_core.specs.Members.{Among}
+use Rattle.ts_core.specs.lists.Members.{Among}
 use Rattle.ts_raw.specs.ColumnTables.{ColumnNumbers, IsColumnTable, same_numbers}
 use Rattle.ts_raw.specs.Lists.{lists_of}
 use Rattle.ts_raw.proofs.ColumnLemmas.{columns_same, columns_push}

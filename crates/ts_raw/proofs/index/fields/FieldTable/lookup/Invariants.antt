@@ -1,7 +1,7 @@
 use Rattle.std.proofs.Common.{ℕ}
 use Rattle.ts_raw.specs.FieldKeys.{field_key, hash_of_field}
-use Rattle.ts_core.specs.Numbered.{IsAt}
-use Rattle.ts_core.proofs.ChainSearches.{IsSearched, places_left}
+use Rattle.ts_core.specs.lists.Numbered.{IsAt}
+use Rattle.ts_core.proofs.lists.ChainSearches.{IsSearched, places_left}
 use Rattle.ts_raw.proofs.index.fields.FieldTable.lookup.Given as goal
 
 abbrev pub invariant-loop-next : goal.invariant-loop-next

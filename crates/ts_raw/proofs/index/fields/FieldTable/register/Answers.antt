@@ -1,10 +1,10 @@
 use Rattle.std.proofs.Common.{◌≡◌, ℕ, List, [], ◌∷◌, ◌++◌, length, cond, is_ok, inl, inr, refl, sym, ◌∙◌, ap, subst, rules}
-use Rattle.ts_core.specs.Members.{Among}
+use Rattle.ts_core.specs.lists.Members.{Among}
 use Rattle.ts_raw.specs.FieldKeys.{FieldKey, field_key, hash_of_field}
-use Rattle.ts_core.specs.Numbered.{IsAt}
-use Rattle.ts_core.specs.Tables.{IsTable}
-use Rattle.ts_core.proofs.NumberedLemmas.{at_among, at_end}
-use Rattle.ts_core.proofs.TableLemmas.{table_more}
+use Rattle.ts_core.specs.lists.Numbered.{IsAt}
+use Rattle.ts_core.specs.lists.Tables.{IsTable}
+use Rattle.ts_core.proofs.lists.NumberedLemmas.{at_among, at_end}
+use Rattle.ts_core.proofs.lists.TableLemmas.{table_more}
 use Rattle.ts_raw.proofs.index.fields.FieldTable.register.Given.{Over}
 use Rattle.ts_raw.proofs.index.fields.FieldTable.register.Goals as goal
 

@@ -1,11 +1,11 @@
 use Rattle.std.proofs.Common.{◌≡◌, ℕ, ◌+◌, ◌<◌, List, length, subst, sym, ◌∙◌, rules, Option, None, get_or}
-use Rattle.ts_core.specs.Members.{Among}
-use Rattle.ts_core.specs.Facts.{Series}
+use Rattle.ts_core.specs.lists.Members.{Among}
+use Rattle.ts_core.specs.facts.Facts.{Series}
 use Rattle.ts_raw.specs.Hashes.{hash_of_series}
-use Rattle.ts_core.specs.Numbered.{IsAt}
-use Rattle.ts_core.proofs.ChainSearches.{IsSearched, search_within, places_left, places_fall}
+use Rattle.ts_core.specs.lists.Numbered.{IsAt}
+use Rattle.ts_core.proofs.lists.ChainSearches.{IsSearched, search_within, places_left, places_fall}
 use Rattle.ts_raw.proofs.SeriesLemmas.{same_series, other_series}
-use Rattle.ts_core.proofs.TableLemmas.{sought_within, sought_on, sought_in_vain, found_at}
+use Rattle.ts_core.proofs.lists.TableLemmas.{sought_within, sought_on, sought_in_vain, found_at}
 use Rattle.ts_raw.proofs.index.series.SeriesTable.lookup_by_hash.Goals as goal
 
 abbrev Sought : List Series → List ℕ → Series → Option ℕ → Type 0

@@ -1,8 +1,8 @@
 use Rattle.std.proofs.Common.{◌≡◌, ◌<◌, List, length, get_or, subst, rules}
 use Rattle.std.proofs.lemmas.Bool.{OnTrue_at}
-use Rattle.ts_core.specs.Facts.{Series}
-use Rattle.ts_core.specs.Numbered.{IsAt}
-use Rattle.ts_core.proofs.TableLemmas.{found_at}
+use Rattle.ts_core.specs.facts.Facts.{Series}
+use Rattle.ts_core.specs.lists.Numbered.{IsAt}
+use Rattle.ts_core.proofs.lists.TableLemmas.{found_at}
 use Rattle.ts_raw.proofs.index.series.SeriesTable.lookup_follower.Goals as goal
 
 pub returns-then-is_same : goal.returns-then-is_same

@@ -1,6 +1,6 @@
 use Rattle.std.proofs.Common.{inl, rules}
-use Rattle.ts_core.specs.Facts.{Series}
-use Rattle.ts_core.proofs.NumberedLemmas.{at_among}
+use Rattle.ts_core.specs.facts.Facts.{Series}
+use Rattle.ts_core.proofs.lists.NumberedLemmas.{at_among}
 use Rattle.ts_raw.proofs.index.series.SeriesTable.register.Goals as goal
 
 pub returns-in-Some-clause-registered : goal.returns-in-Some-clause-registered

@@ -1,17 +1,17 @@
 use Rattle.std.proofs.Common.{◌≡◌, ℕ, List, [], ◌∷◌, ◌++◌, length, cond, is_ok, Result, inl, inr, refl, sym, ◌∙◌, ap, subst, rules}
 use Rattle.std.proofs.lemmas.Result.{err_from_is_err_and}
-use Rattle.ts_core.specs.Members.{Among}
-use Rattle.ts_core.specs.Facts.{Text, Series}
-use Rattle.ts_core.specs.Texts.{lent_pairs}
+use Rattle.ts_core.specs.lists.Members.{Among}
+use Rattle.ts_core.specs.facts.Facts.{Text, Series}
+use Rattle.ts_core.specs.text.Texts.{lent_pairs}
 use Rattle.ts_raw.specs.Hashes.{hash_of_series}
 use Rattle.ts_raw.specs.Registering.{IsRegistered}
 use Rattle.ts_raw.specs.TagChains.{IsSeriesTable, AllLead}
 use Rattle.ts_raw.proofs.TagLemmas.{tagged_still, tagged_more}
 use Rattle.ts_raw.specs.declared.index.fault.IndexFault.{IndexFault}
-use Rattle.ts_core.specs.Numbered.{IsAt}
-use Rattle.ts_core.specs.Tables.{IsTable}
-use Rattle.ts_core.proofs.NumberedLemmas.{at_among, at_end}
-use Rattle.ts_core.proofs.TableLemmas.{table_more}
+use Rattle.ts_core.specs.lists.Numbered.{IsAt}
+use Rattle.ts_core.specs.lists.Tables.{IsTable}
+use Rattle.ts_core.proofs.lists.NumberedLemmas.{at_among, at_end}
+use Rattle.ts_core.proofs.lists.TableLemmas.{table_more}
 use Rattle.ts_raw.proofs.index.series.SeriesTable.register_by_hash.Given.{Over}
 use Rattle.ts_raw.proofs.index.series.SeriesTable.register_by_hash.Goals as goal
 

@@ -1,5 +1,5 @@
 use Rattle.std.proofs.Common.{List, subst}
-use Rattle.ts_core.specs.Facts.{Text, Series}
+use Rattle.ts_core.specs.facts.Facts.{Text, Series}
 use Rattle.ts_raw.specs.TagChains.{AreAmongTagged}
 use Rattle.ts_raw.proofs.TagLemmas.{if_ok, among_led}
 use Rattle.ts_raw.proofs.index.series.SeriesTable.with_tag.Goals as goal

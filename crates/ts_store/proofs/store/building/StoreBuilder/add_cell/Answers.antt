@@ -1,13 +1,13 @@
 use Rattle.std.proofs.Common.{◌≡◌, ◌<◌, ◌∙◌, length, map, None, ap, sym, subst, arith}
 use Rattle.std.specs.FinMap as finmap
-use Rattle.ts_core.specs.Cells.{Cell}
-use Rattle.ts_core.specs.StoreStates.{column_of}
+use Rattle.ts_core.specs.store.Cells.{Cell}
+use Rattle.ts_core.specs.store.StoreStates.{column_of}
 use Rattle.ts_cells.specs.Grids.{cell_at, lane_named}
-use Rattle.ts_store.specs.Building.{Built, cells_at, with_cell}
-use Rattle.ts_store.specs.Rollups.{cells_of}
-use Rattle.ts_store.proofs.BuildersKept.{order_cell-either, built_cell, built_same, with_one}
-use Rattle.ts_store.proofs.PartsBuilt.{ok_then, err_then}
-use Rattle.ts_store.proofs.RollupsGrow.{rollups-length}
+use Rattle.ts_store.specs.image.Building.{Built, cells_at, with_cell}
+use Rattle.ts_store.specs.rollup.Rollups.{cells_of}
+use Rattle.ts_store.proofs.image.BuildersKept.{order_cell-either, built_cell, built_same, with_one}
+use Rattle.ts_store.proofs.image.PartsBuilt.{ok_then, err_then}
+use Rattle.ts_store.proofs.rollup.RollupsGrow.{rollups-length}
 use Rattle.ts_store.proofs.store.building.StoreBuilder.add_cell.Goals as goal
 
 pub add_cell-requires-clause-rule : goal.add_cell-requires-clause-rule

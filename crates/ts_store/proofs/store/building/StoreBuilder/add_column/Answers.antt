@@ -1,14 +1,14 @@
 use Rattle.std.proofs.Common.{◌≡◌, ◌<◌, ◌∙◌, ◌++◌, [], ◌∷◌, Bool, not, List, length, map, get_or, cond, is_ok, ap, sym, subst}
 use Rattle.std.proofs.lemmas.Option.{slice_get-get_or}
-use Rattle.ts_core.specs.Facts.{Series}
-use Rattle.ts_core.specs.Numbered.{IsAt}
-use Rattle.ts_core.specs.Settings.{Rule}
-use Rattle.ts_core.specs.StoreStates.{ColumnPoints, column_of}
+use Rattle.ts_core.specs.facts.Facts.{Series}
+use Rattle.ts_core.specs.lists.Numbered.{IsAt}
+use Rattle.ts_core.specs.settings.Settings.{Rule}
+use Rattle.ts_core.specs.store.StoreStates.{ColumnPoints, column_of}
 use Rattle.ts_raw.specs.Indexed.{no_series}
-use Rattle.ts_store.specs.Building.{Built, with_column}
-use Rattle.ts_store.specs.BuildingParts.{IsInOrder}
-use Rattle.ts_store.specs.Rollups.{AreRollups}
-use Rattle.ts_store.proofs.BuildersKept.{order_column, order_same, built_column}
+use Rattle.ts_store.specs.image.Building.{Built, with_column}
+use Rattle.ts_store.specs.image.BuildingParts.{IsInOrder}
+use Rattle.ts_store.specs.rollup.Rollups.{AreRollups}
+use Rattle.ts_store.proofs.image.BuildersKept.{order_column, order_same, built_column}
 use Rattle.ts_store.proofs.store.building.StoreBuilder.add_column.Goals as goal
 
 pub invariant_of-self-2 : goal.invariant_of-self-2

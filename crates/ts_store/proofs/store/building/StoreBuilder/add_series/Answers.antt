@@ -1,10 +1,10 @@
 use Rattle.std.proofs.Common.{◌≡◌, ◌<◌, ◌∙◌, ◌++◌, [], ◌∷◌, length, ap, sym, subst}
-use Rattle.ts_core.specs.Members.{Among}
-use Rattle.ts_store.specs.Building.{Built, with_series}
-use Rattle.ts_store.specs.BuildingParts.{built_of}
-use Rattle.ts_store.specs.ColumnsKept.{Held}
-use Rattle.ts_store.proofs.BuildersKept.{order_series-either, built_series}
-use Rattle.ts_store.proofs.PartsBuilt.{ok_then, err_then}
+use Rattle.ts_core.specs.lists.Members.{Among}
+use Rattle.ts_store.specs.image.Building.{Built, with_series}
+use Rattle.ts_store.specs.image.BuildingParts.{built_of}
+use Rattle.ts_store.specs.store.ColumnsKept.{Held}
+use Rattle.ts_store.proofs.image.BuildersKept.{order_series-either, built_series}
+use Rattle.ts_store.proofs.image.PartsBuilt.{ok_then, err_then}
 use Rattle.ts_store.proofs.store.building.StoreBuilder.add_series.Goals as goal
 
 pub add_series-requires-clause-absent : goal.add_series-requires-clause-absent

@@ -1,9 +1,9 @@
 use Rattle.std.proofs.Common.{◌≡◌, ◌∙◌, ℤ, List, length, Option, ap, sym, subst}
-use Rattle.ts_core.specs.Settings.{Rule}
-use Rattle.ts_store.specs.Building.{Built, IsBuildable, IsBuiltFrom}
-use Rattle.ts_store.specs.BuildingParts.{built_of, FillsCells}
-use Rattle.ts_store.specs.OpenRuns.{Run, opened, kept_data, IsKept}
-use Rattle.ts_store.proofs.StoresBuilt.{lows-length, kept_built, built_from}
+use Rattle.ts_core.specs.settings.Settings.{Rule}
+use Rattle.ts_store.specs.image.Building.{Built, IsBuildable, IsBuiltFrom}
+use Rattle.ts_store.specs.image.BuildingParts.{built_of, FillsCells}
+use Rattle.ts_store.specs.retain.OpenRuns.{Run, opened, kept_data, IsKept}
+use Rattle.ts_store.proofs.image.StoresBuilt.{lows-length, kept_built, built_from}
 use Rattle.ts_store.proofs.store.building.StoreBuilder.finish.Goals as goal
 
 pub fill_cells-requires-clause-lows : goal.fill_cells-requires-clause-lows

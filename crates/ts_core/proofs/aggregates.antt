@@ -1,0 +1,16 @@
+-- Buckets
+pub mod BucketsOrder
+pub mod BucketsLemmas
+pub mod BucketsNear
+pub mod IndicesFit
+pub mod EdgesLemmas
+-- Aggregates, Partials: what points fold to
+pub mod AggregatesLemmas
+pub mod EqualLemmas
+pub mod Folds
+pub mod Groups
+-- Remainders
+pub mod RemaindersLemmas
+-- Means, Ratios
+pub mod RatiosLemmas
+pub mod MeansLemmas

@@ -1,0 +1,48 @@
+-- A fold by groups: the groups' folds together are the fold of all.
+use Rattle.std.proofs.Common.{◌≡◌, ℕ, ℤ, suc, Bool, true, false, not, List, [], ◌∷◌, length, filter, refl, sym, ◌∙◌, ap, ap₂, subst, inl, inr, ⊎_elim, true≢false, arith}
+use Rattle.ts_core.specs.lists.Members.{Among, AllDistinct}
+use Rattle.ts_core.specs.aggregates.Partials.{PartialLaws, fold_by}
+use Rattle.ts_core.proofs.aggregates.Folds.{fold-split, fold-count}
+use Rattle.ts_core.proofs.lists.MembersLemmas.{Among-filter_passes, Among-filter_was, filter-filter, no_members}
+
+module _ {M : Type 0} {empty : M} {single : ℤ → ℤ → M} {merge : M → M → M} {count : M → ℕ} (laws : PartialLaws empty single merge count) {X K : Type 0} (one : X → M)
+    (key : X → K) (same : K → K → Bool) (exact : (j k : K) → same j k ≡ true → j ≡ k) (itself : (k : K) → same k k ≡ true) where
+  abbrev total : List X → M
+  total xs = fold_by empty merge one xs
+
+  -- the members of a group
+  abbrev pub of_group : List X → K → List X
+  of_group xs k = filter (λ x. same (key x) k) xs
+
+  abbrev pub by_groups : List X → List K → M
+  by_groups xs ks = fold_by empty merge (λ k. total (of_group xs k)) ks
+
+  groups_same : (xs ys : List X) (ks : List K) → ((k : K) → Among k ks → of_group xs k ≡ of_group ys k) → by_groups xs ks ≡ by_groups ys ks
+  groups_same xs ys [] h = refl
+  groups_same xs ys (k ∷ ks) h = ap₂ merge (ap total (h k (inl refl))) (groups_same xs ys ks (λ j a. h j (inr a)))
+
+  not_true : (b : Bool) → not b ≡ true → b ≡ true → ⊥
+  not_true true h e = true≢false (sym h)
+  not_true false h e = true≢false (sym e)
+
+  -- of distinct keys, among which each member's key is
+  pub fold-groups : (ks : List K) → AllDistinct ks → (xs : List X) → ((x : X) → Among x xs → Among (key x) ks) → total xs ≡ by_groups xs ks
+  fold-groups [] d xs h = ap total (no_members xs h)
+  fold-groups (k ∷ ks) d xs h =
+      let rest : List X = filter (λ x. not (same (key x) k)) xs in
+      let inside : (x : X) → Among x rest → Among (key x) ks = λ x a.
+      ⊎_elim {C = Among (key x) ks}
+      (λ e. absurd (not_true (same (key x) k) (Among-filter_passes (λ y. not (same (key y) k)) x xs a) (subst (λ j. same j k ≡ true) (sym e) (itself k))))
+      (λ b. b) (h x (Among-filter_was (λ y. not (same (key y) k)) x xs a)) in
+      let alike : (j : K) → Among j ks → of_group rest j ≡ of_group xs j = λ j a.
+      filter-filter (λ x. same (key x) j) (λ x. not (same (key x) k)) (λ x e.
+      elim (same (key x) k) as (λ b. same (key x) k ≡ b → not b ≡ true) [
+        | true ↦ λ t. absurd (d.0 (subst (λ z. Among z ks) (sym (exact (key x) j e) ∙ exact (key x) k t) a))
+        | false ↦ λ t. refl
+      ] refl) xs in
+      fold-split laws one (λ x. same (key x) k) xs ∙ ap (merge (total (of_group xs k))) (fold-groups ks d.1 rest inside ∙ groups_same rest xs ks alike)
+
+  -- a group whose fold is empty has no members
+  pub empty-no_members : ((x : X) → count (one x) ≡ 1) → (xs : List X) → total xs ≡ empty → xs ≡ []
+  empty-no_members c [] e = refl
+  empty-no_members c (x ∷ xs) e = absurd (let n : suc (length xs) ≡ 0 = sym (fold-count laws one c (x ∷ xs)) ∙ ap count e ∙ laws.count_empty in omega arith)

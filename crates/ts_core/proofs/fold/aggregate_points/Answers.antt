@@ -1,7 +1,0 @@
-use Rattle.std.proofs.Common.{subst, sym}
-use Rattle.ts_core.specs.Aggregates.{IsAggregateOfPoints}
-use Rattle.ts_core.proofs.AggregatesLemmas.{aggregate_of_points-is}
-use Rattle.ts_core.proofs.fold.aggregate_points.Goals as goal
-
-pub returns-clause-words : goal.returns-clause-words
-returns-clause-words c = subst (IsAggregateOfPoints c.args.points.now) (sym c.fold_points.ensures) (aggregate_of_points-is c.args.points.now)

@@ -1,0 +1,2 @@
+-- OutputBuffering: puts one after another
+pub mod OutputBufferLemmas

@@ -1,6 +1,0 @@
-use Rattle.std.proofs.Common.{◌≡◌, take}
-use Rattle.ts_core.specs.Texts.{owned_pairs, lent_pairs}
-use Rattle.ts_core.proofs.key.owned.Given as goal
-
-abbrev pub invariant-loop-key : goal.invariant-loop-key
-invariant-loop-key g l = owned_pairs l.all.items ≡ lent_pairs (take l.key-index l.pairs)

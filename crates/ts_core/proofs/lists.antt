@@ -1,0 +1,15 @@
+-- Tables, Links, LastBelow, Numbered: names under small numbers, searched by hash
+pub mod TableLemmas
+pub mod ChainSearches
+pub mod Chained
+pub mod LastBelows
+pub mod NumberedLemmas
+-- lists and comparisons, for all others
+pub mod MembersLemmas
+pub mod ListSteps
+pub mod Takes
+pub mod Places
+pub mod Sorted
+pub mod Windows
+pub mod Comparisons
+pub mod Results

@@ -1,0 +1,109 @@
+-- What is left of a run, on what a store keeps: a step lowers it by one, and writes leave it.
+use Rattle.std.proofs.Common.{◌≡◌, ℕ, ℤ, ◌+◌, ◌≤◌, ◌<ℤ◌, Bool, true, false, cond, List, [], ◌∷◌, length, filter, map, refl, sym, ◌∙◌, ap, ap₂, arith, int_lt}
+use Rattle.std.proofs.lemmas.List.{length-map, nil_from_length}
+use Rattle.std.specs.FinMap as finmap
+use Rattle.ts_core.specs.lists.Members.{Among}
+use Rattle.ts_core.specs.facts.Facts.{Column, Fact, Series}
+use Rattle.ts_core.specs.settings.Settings.{Rule}
+use Rattle.ts_core.specs.store.Cells.{Cell}
+use Rattle.ts_core.specs.moves.Runs.{turns_of, turns_left, steps_left, Falls, steps_in, last_left}
+use Rattle.ts_core.specs.store.StoreStates.{ColumnPoints, column_of, facts_of}
+use Rattle.ts_core.specs.store.StoreData.{CellMap, StoreData, rules_of, state_of}
+use Rattle.ts_core.specs.moves.StoreMoves.{kept_points, points_below, all_moved, column_moved, raised, run_begun, run_ended, HasRoom, HaveRoom, grown, put_cells, PutsFacts, put_facts}
+use Rattle.ts_core.proofs.lists.MembersLemmas.{AllDistinct-filter, Among-filter_was, Among-filter_passes, Among-filter_stays}
+use Rattle.ts_core.proofs.aggregates.Folds.{length-same}
+use Rattle.ts_core.proofs.lists.Comparisons.{lt_from}
+use Rattle.ts_core.proofs.moves.StepStands.{keys_column}
+use Rattle.ts_core.proofs.moves.MovesStand.{keys_once, key_there, key_not, put_cell-keys}
+
+-- ---- cells with the same keys
+
+-- a rule has as many cells below its low index
+abbrev pub BelowSame : ℤ → CellMap → CellMap → Type 0
+BelowSame low m n = length (filter (λ (k : Cell). int_lt k.index low) (finmap.keys n)) ≡ length (filter (λ (k : Cell). int_lt k.index low) (finmap.keys m))
+
+below_by_keys : (low : ℤ) (m n : CellMap) → finmap.keys n ≡ finmap.keys m → BelowSame low m n
+below_by_keys low m n e = ap (λ ks. length (filter (λ (k : Cell). int_lt k.index low) ks)) e
+
+turns_moved : (rs : List Rule) (lows : List ℤ) (c : Column) (ps : List (ℤ × ℤ)) (left : List Fact) (ms : List CellMap) → turns_left (rules_of rs lows (all_moved rs c ps left ms)) ≡ turns_left (rules_of rs lows ms)
+turns_moved [] lows c ps left ms = refl
+turns_moved (r ∷ rs) [] c ps left ms = refl
+turns_moved (r ∷ rs) (low ∷ lows) c ps left [] = refl
+turns_moved (r ∷ rs) (low ∷ lows) c ps left (m ∷ ms) = ap₂ (λ a b. turns_of a + b) (below_by_keys low m _ (keys_column r c ps left m)) (turns_moved rs lows c ps left ms)
+
+turns_put : (rs : List Rule) (lows : List ℤ) (f : Fact) (facts : List Fact) (ms : List CellMap) → turns_left (rules_of rs lows (put_cells rs f facts ms)) ≡ turns_left (rules_of rs lows ms)
+turns_put [] lows f facts ms = refl
+turns_put (r ∷ rs) [] f facts ms = refl
+turns_put (r ∷ rs) (low ∷ lows) f facts [] = refl
+turns_put (r ∷ rs) (low ∷ lows) f facts (m ∷ ms) = ap₂ (λ a b. turns_of a + b) (below_by_keys low m _ (put_cell-keys r f facts m)) (turns_put rs lows f facts ms)
+
+turns_line : (rs : List Rule) (lows : List ℤ) (fs : List Fact) (before after : List ColumnPoints) (ms ns : List CellMap) → PutsFacts rs before ms after ns fs → turns_left (rules_of rs lows ns) ≡ turns_left (rules_of rs lows ms)
+turns_line rs lows [] before after ms ns p = ap (λ xs. turns_left (rules_of rs lows xs)) p.1
+turns_line rs lows (f ∷ fs) before after ms ns p = turns_line rs lows fs p.0 after (put_cells rs f (facts_of p.0) ms) ns p.2 ∙ turns_put rs lows f (facts_of p.0) ms
+
+-- ---- room
+
+module _ (r : Rule) (low : ℤ) (facts : List Fact) (m n : CellMap) (room : HasRoom r low facts m n) where
+  abbrev is_below : Cell → Bool
+  is_below k = int_lt k.index low
+
+  below_of : (x y : CellMap) → ((k : Cell) → k.index <ℤ low → finmap.get y k ≡ finmap.get x k) → (k : Cell) → Among k (filter is_below (finmap.keys x)) → Among k (filter is_below (finmap.keys y))
+  below_of x y same k a =
+      let p = Among-filter_passes is_below k (finmap.keys x) a in
+      Among-filter_stays is_below k (finmap.keys y) (key_there y k (λ z. key_not x k (Among-filter_was is_below k (finmap.keys x) a) (sym (same k (lt_from k.index low p)) ∙ z))) p
+
+  below_roomed : BelowSame low m n
+  below_roomed =
+      length-same (filter is_below (finmap.keys n)) (filter is_below (finmap.keys m)) (AllDistinct-filter is_below (finmap.keys n) (keys_once n)) (AllDistinct-filter is_below (finmap.keys m) (keys_once m))
+      (below_of n m (λ k l. sym (room.above k l))) (below_of m n room.above)
+
+turns_roomed : (rs : List Rule) (lows : List ℤ) (facts : List Fact) (ms ns : List CellMap) → HaveRoom rs lows facts ms ns → turns_left (rules_of rs lows ns) ≡ turns_left (rules_of rs lows ms)
+turns_roomed [] lows facts ms ns e = refl
+turns_roomed (r ∷ rs) [] facts ms ns e = refl
+turns_roomed (r ∷ rs) (low ∷ lows) facts [] [] e = refl
+turns_roomed (r ∷ rs) (low ∷ lows) facts [] (n ∷ ns) e = absurd e
+turns_roomed (r ∷ rs) (low ∷ lows) facts (m ∷ ms) [] e = absurd e
+turns_roomed (r ∷ rs) (low ∷ lows) facts (m ∷ ms) (n ∷ ns) e = ap₂ (λ a b. turns_of a + b) (below_roomed r low facts m n e.0) (turns_roomed rs lows facts ms ns e.1)
+
+-- ---- the moves
+
+-- what is left in an open run
+left_open : (k : StoreData) → k.running ≡ true → steps_left (state_of k) ≡ length k.waiting + turns_left (rules_of k.settings.rules k.marks.lows k.cells) + 1
+left_open k e = ap (λ b. cond b (length k.waiting + turns_left (rules_of k.settings.rules k.marks.lows k.cells) + 1) 0) e
+
+pub left-begins : (k : StoreData) (now : ℤ) → steps_left (state_of (run_begun now k)) ≡ length k.columns + turns_left (rules_of k.settings.rules (raised now k.settings.rules k.marks.lows) k.cells) + 1
+left-begins k now = ap (λ n. n + turns_left (rules_of k.settings.rules (raised now k.settings.rules k.marks.lows) k.cells) + 1) (length-map k.columns column_of)
+
+pub left-moves : (k : StoreData) (c : Column) (ps : List (ℤ × ℤ)) (rest : List Column) → k.running ≡ true → k.waiting ≡ c ∷ rest → steps_left (state_of k) ≡ steps_left (state_of (column_moved c ps rest k)) + 1
+left-moves k c ps rest e w =
+    let a = left_open k e in
+    let b = left_open (column_moved c ps rest k) e in
+    let n : length k.waiting ≡ length rest + 1 = ap (λ (ws : List Column). length ws) w ∙ (let m : length (c ∷ rest) ≡ length rest + 1 = omega arith in m) in
+    let t = turns_moved k.settings.rules k.marks.lows c (points_below k.marks.raw ps) (facts_of (map (kept_points c k.marks.raw) k.columns)) k.cells in
+    omega arith
+
+pub left-ends : (k : StoreData) → k.running ≡ true → k.waiting ≡ [] → turns_left (rules_of k.settings.rules k.marks.lows k.cells) ≡ 0 → (steps_left (state_of k) ≡ 1) × (steps_left (state_of (run_ended k)) ≡ 0)
+left-ends k e w t =
+    let a = left_open k e in
+    let n : length k.waiting ≡ 0 = ap (λ (ws : List Column). length ws) w in
+    (omega arith, refl)
+
+pub left-last : (k : StoreData) → k.running ≡ true → steps_left (state_of k) ≡ 1 → (k.waiting ≡ []) × (turns_left (rules_of k.settings.rules k.marks.lows k.cells) ≡ 0)
+left-last k e l =
+    let a = left_open k e in
+    (nil_from_length k.waiting (omega arith), omega arith)
+
+pub left-grows : (k : StoreData) (series : List Series) (columns : List ColumnPoints) (ms : List CellMap) (facts : List Fact) → HaveRoom k.settings.rules k.marks.lows facts k.cells ms
+    → steps_left (state_of (grown series columns ms k)) ≡ steps_left (state_of k)
+left-grows k series columns ms facts room = ap (λ t. cond k.running (length k.waiting + t + 1) 0) (turns_roomed k.settings.rules k.marks.lows facts k.cells ms room)
+
+pub left-puts : (k : StoreData) (columns : List ColumnPoints) (facts : List Fact) (ns : List CellMap) (n : ℕ) → PutsFacts k.settings.rules k.columns k.cells columns ns facts
+    → steps_left (state_of (put_facts columns ns n k)) ≡ steps_left (state_of k)
+left-puts k columns facts ns n p = ap (λ t. cond k.running (length k.waiting + t + 1) 0) (turns_line k.settings.rules k.marks.lows facts k.columns columns k.cells ns p)
+
+-- ---- the bound
+
+pub falls-bound : (left : ℕ) (calls : List (Bool × ℕ)) → Falls left calls → steps_in calls + last_left left calls ≤ left
+falls-bound left [] f = omega arith
+falls-bound left ((true, l) ∷ calls) f = let h = falls-bound l calls f.1 in let e = f.0 in omega arith
+falls-bound left ((false, l) ∷ calls) f = let h = falls-bound l calls f.1 in let e = f.0 in omega arith

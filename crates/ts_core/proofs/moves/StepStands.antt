@@ -1,0 +1,254 @@
+-- A step that moves a column, on what the store keeps.
+use Rattle.std.proofs.Common.{◌≡◌, ℤ, ◌+◌, ◌≤◌, ◌^◌, Bool, true, false, cond, not, ◌&&◌, ◌||◌, List, [], ◌∷◌, length, filter, map, refl, sym, ◌∙◌, ap, subst, inl, inr, ⊎_elim, true≢false, int_lt, arith, Option, Some, None, ◌≤ℤ◌, is_some}
+use Rattle.std.specs.List.{AllByRecursion}
+use Rattle.std.specs.FinMap as finmap
+use Rattle.std.specs.FinMap.{find, get-entries}
+use Rattle.std.proofs.lemmas.Option.{none-some}
+use Rattle.ts_core.specs.lists.Members.{Among, AllDistinct}
+use Rattle.ts_core.specs.facts.Facts.{Column, Fact, same_text}
+use Rattle.ts_core.specs.settings.Settings.{Rule, Settings}
+use Rattle.ts_core.specs.store.History.{History, Line, Begin, Step, AddRule, DropRule, accepted, IsLawful}
+use Rattle.ts_core.specs.facts.Latest.{latest, latest_of, others}
+use Rattle.ts_core.specs.aggregates.Aggregates.{Aggregate, empty_aggregate, merged, aggregate_of_one, aggregate_of, aggregate_of_points}
+use Rattle.ts_core.specs.aggregates.MergeLaws.{aggregate_laws}
+use Rattle.ts_core.specs.store.RawFacts.{kept_from}
+use Rattle.ts_core.specs.store.Cells.{Cell, cell_cmp, same_cell, cell_of, is_in_cell, total_of, frozen_of, live_of}
+use Rattle.ts_core.specs.store.StoreStates.{ColumnPoints, CellParts, fact_at, StoreState, StandsFor, HasCells, column_of, facts_at, facts_of}
+use Rattle.ts_core.proofs.aggregates.Folds.{fold-count}
+use Rattle.ts_core.proofs.lists.MembersLemmas.{no_members, Among-filter_was, Among-filter_passes}
+use Rattle.ts_core.proofs.plans.PieceCells.{same_cell-eq, same_cell-refl}
+use Rattle.ts_core.proofs.lists.Comparisons.{same_bool}
+use Rattle.ts_core.proofs.facts.Latests.{latest-distinct}
+use Rattle.ts_core.proofs.store.Cuts.{aggregate_where, one_fact, Holds, total_of-parts, live_of-held}
+use Rattle.ts_core.proofs.store.Moves.{AllTwo, IsMoved, is_left, left_points, columns_left}
+use Rattle.ts_core.proofs.store.ColumnFacts.{facts_of-there}
+use Rattle.ts_core.proofs.lists.ListSteps.{length-filter}
+use Rattle.ts_core.proofs.store.StateLemmas.{cons_not, StandsFor-Holds}
+use Rattle.ts_core.proofs.store.RunSteps.{facts_of-left, move_stands}
+use Rattle.ts_core.specs.store.StoreData.{CellMap, StoreData, rule_cells, rules_of, state_of}
+use Rattle.ts_core.specs.moves.StoreMoves.{frozen_points, refolded_points, moved_cells, all_moved, points_below, column_moved}
+use Rattle.ts_core.proofs.moves.Freezing.{in_points, frozen_in, live_in, any_in, frozen_gives, frozen_none, frozen_live, keys_frozen, refolded_frozen, refolded_live, keys_refolded, frozen_some, gone_held, and_false}
+
+-- ---- counts
+
+length_latest : (fs : List Fact) → length (latest fs) ≤ length fs
+length_latest [] = omega arith
+length_latest (f ∷ fs) = let h = length_latest fs in let k : length (others f (latest fs)) ≤ length (latest fs) = length-filter _ (latest fs) in omega arith
+
+pub few_accepted : (opening : Settings) (h : History) → IsLawful opening h → length (accepted h) ≤ 2 ^ 62
+few_accepted opening [] l = omega arith
+few_accepted opening (Line facts ∷ h) l = l.2
+few_accepted opening (Begin now ∷ h) l = few_accepted opening h l.0
+few_accepted opening (Step ended ∷ h) l = few_accepted opening h l
+few_accepted opening (AddRule rule ∷ h) l = few_accepted opening h l.0
+few_accepted opening (DropRule name ∷ h) l = few_accepted opening h l.0
+
+count_where : (p : Fact → Bool) (fs : List Fact) → (aggregate_where p fs).count ≡ length (filter p fs)
+count_where p fs = fold-count aggregate_laws one_fact (λ f. refl) (filter p fs)
+
+pub count_few : (opening : Settings) (h : History) → IsLawful opening h → (p : Fact → Bool) → (aggregate_where p (latest_of h)).count ≤ 2 ^ 62
+count_few opening h l p =
+    let a = count_where p (latest_of h) in
+    let b = length-filter p (latest_of h) in
+    let c = length_latest (accepted h) in
+    let d = few_accepted opening h l in
+    omega arith
+
+fewer_both : (p q : Fact → Bool) (fs : List Fact) → length (filter (λ (f : Fact). p f && q f) fs) ≤ length (filter p fs)
+fewer_both p q [] = omega arith
+fewer_both p q (f ∷ fs) =
+    let h = fewer_both p q fs in
+    elim (p f) as (λ a. length (cond (a && q f) (f ∷ filter (λ (g : Fact). p g && q g) fs) (filter (λ (g : Fact). p g && q g) fs)) ≤ length (cond a (f ∷ filter p fs) (filter p fs))) [
+      | true ↦ elim (q f) as (λ b. length (cond b (f ∷ filter (λ (g : Fact). p g && q g) fs) (filter (λ (g : Fact). p g && q g) fs)) ≤ length (f ∷ filter p fs)) [ true ↦ omega arith | false ↦ omega arith ]
+      | false ↦ h
+    ]
+
+-- ---- a rule's cells, as a column is moved
+
+pub same_flip : (a b : Cell) → same_cell a b ≡ same_cell b a
+same_flip a b =
+    same_bool (same_cell a b) (same_cell b a) (λ e. ap (λ z. same_cell b z) (same_cell-eq a b e) ∙ same_cell-refl b) (λ e. ap (λ z. same_cell a z) (same_cell-eq b a e) ∙ same_cell-refl a)
+
+points_in : (r : Rule) (k : Cell) (c : Column) (ps : List (ℤ × ℤ)) → same_text c.series.measurement r.measurement ≡ true
+    → aggregate_of (filter (is_in_cell r k) (facts_at c ps)) ≡ aggregate_of_points (filter (in_points r c k) ps)
+points_in r k c [] m = refl
+points_in r k c (p ∷ ps) m =
+    let rest : List Fact = filter (is_in_cell r k) (facts_at c ps) in
+    ap (λ b. aggregate_of (cond b (fact_at c p ∷ rest) rest)) (ap (λ b. b && same_cell (cell_of r (fact_at c p)) k) m ∙ same_flip (cell_of r (fact_at c p)) k)
+    ∙ elim (in_points r c k p) as (λ b. aggregate_of (cond b (fact_at c p ∷ rest) rest) ≡ aggregate_of_points (cond b (p ∷ filter (in_points r c k) ps) (filter (in_points r c k) ps))) [
+      | true ↦ ap (merged (aggregate_of_one p.0 p.1)) (points_in r k c ps m)
+      | false ↦ points_in r k c ps m
+    ]
+
+pub points_out : (r : Rule) (k : Cell) (c : Column) (ps : List (ℤ × ℤ)) → same_text c.series.measurement r.measurement ≡ false → filter (is_in_cell r k) (facts_at c ps) ≡ []
+points_out r k c [] m = refl
+points_out r k c (p ∷ ps) m =
+    let rest : List Fact = filter (is_in_cell r k) (facts_at c ps) in
+    ap (λ b. cond b (fact_at c p ∷ rest) rest) (ap (λ b. b && same_cell (cell_of r (fact_at c p)) k) m) ∙ points_out r k c ps m
+
+empty_right : (a : Aggregate) → merged a empty_aggregate ≡ a
+empty_right a = aggregate_laws.comm a empty_aggregate ∙ aggregate_laws.unit a
+
+-- each cell gains what goes
+column_frozen : (r : Rule) (k : Cell) (c : Column) (ps : List (ℤ × ℤ)) (left : List Fact) (m : CellMap)
+    → (merged (frozen_in (finmap.get m k)) (aggregate_of (filter (is_in_cell r k) (facts_at c ps)))).count ≤ 2 ^ 62
+    → ((p : ℤ × ℤ) → Among p ps → same_text c.series.measurement r.measurement ≡ true → in_points r c k p ≡ true → finmap.get m k ≡ None → ⊥)
+    → frozen_in (finmap.get (moved_cells r c ps left m) k) ≡ merged (frozen_in (finmap.get m k)) (aggregate_of (filter (is_in_cell r k) (facts_at c ps)))
+column_frozen r k c ps left m few room =
+    let ins : List (ℤ × ℤ) = filter (in_points r c k) ps in
+    let gone : Aggregate = aggregate_of (filter (is_in_cell r k) (facts_at c ps)) in
+    elim (same_text c.series.measurement r.measurement) as (λ b. same_text c.series.measurement r.measurement ≡ b → frozen_in (finmap.get (cond b (refolded_points r c ps left (frozen_points r c ps m)) m) k) ≡ merged (frozen_in (finmap.get m k)) gone) [
+      | true ↦ λ t.
+          let same : gone ≡ aggregate_of_points ins = points_in r k c ps t in
+          refolded_frozen r c k left ps (frozen_points r c ps m)
+          ∙ elim (finmap.get m k) as (λ o. finmap.get m k ≡ o → (merged (frozen_in o) gone).count ≤ 2 ^ 62 → frozen_in (finmap.get (frozen_points r c ps m) k) ≡ merged (frozen_in o) gone) [
+            | None ↦ λ g few'.
+                let empty : ins ≡ [] = no_members ins (λ p a. room p (Among-filter_was (in_points r c k) p ps a) t (Among-filter_passes (in_points r c k) p ps a) g) in
+                ap frozen_in (frozen_none r c k ps m g) ∙ sym (ap (merged empty_aggregate) (same ∙ ap aggregate_of_points empty) ∙ empty_right empty_aggregate)
+            | Some a ↦ λ g few'.
+                let counted : gone.count ≡ length ins = ap (λ (x : Aggregate). x.count) same ∙ fold-count aggregate_laws (λ (p : ℤ × ℤ). aggregate_of_one p.0 p.1) (λ p. refl) ins in
+                let fits : a.frozen.count + length ins ≤ 2 ^ 62 = subst (λ n. a.frozen.count + n ≤ 2 ^ 62) counted few' in
+                ap frozen_in (frozen_gives r c k ps m a g fits) ∙ ap (merged a.frozen) (sym same)
+          ] refl few
+      | false ↦ λ t. sym (ap (λ fs. merged (frozen_in (finmap.get m k)) (aggregate_of fs)) (points_out r k c ps t) ∙ empty_right _)
+    ] refl
+
+-- ---- live parts
+
+pub or_parts : (a b : Bool) → a || b ≡ false → (a ≡ false) × (b ≡ false)
+or_parts true b h = absurd (true≢false h)
+or_parts false b h = (refl, h)
+
+any_found : (r : Rule) (c : Column) (k : Cell) (ps : List (ℤ × ℤ)) → any_in r c k ps ≡ true → (p : ℤ × ℤ) × Among p ps × (in_points r c k p ≡ true)
+any_found r c k [] h = absurd (true≢false (sym h))
+any_found r c k (p ∷ ps) h =
+    elim (in_points r c k p) as (λ b. in_points r c k p ≡ b → b || any_in r c k ps ≡ true → (q : ℤ × ℤ) × Among q (p ∷ ps) × (in_points r c k q ≡ true)) [
+      | true ↦ λ e y. (p, inl refl, e)
+      | false ↦ λ e y. let f = any_found r c k ps y in (f.0, inr f.1, f.2)
+    ] refl h
+
+none_in : (r : Rule) (k : Cell) (c : Column) (ps : List (ℤ × ℤ)) → any_in r c k ps ≡ false → filter (is_in_cell r k) (facts_at c ps) ≡ []
+none_in r k c [] h = refl
+none_in r k c (p ∷ ps) h =
+    let f : Fact = fact_at c p in
+    let rest : List Fact = filter (is_in_cell r k) (facts_at c ps) in
+    let q = or_parts (in_points r c k p) (any_in r c k ps) h in
+    ap (λ b. cond (same_text c.series.measurement r.measurement && b) (f ∷ rest) rest) (same_flip (cell_of r f) k ∙ q.0)
+    ∙ ap (λ b. cond b (f ∷ rest) rest) (and_false (same_text c.series.measurement r.measurement)) ∙ none_in r k c ps q.1
+
+-- where nothing that passes goes, what passes is what is left of it
+filter-left : (p q : Fact → Bool) (fs : List Fact) → filter (λ (f : Fact). p f && not (q f)) fs ≡ [] → filter p (filter q fs) ≡ filter p fs
+filter-left p q [] h = refl
+filter-left p q (f ∷ fs) h =
+    let gone : List Fact = filter (λ (g : Fact). p g && not (q g)) fs in
+    elim (q f) as (λ b. cond (p f && not b) (f ∷ gone) gone ≡ [] → filter p (cond b (f ∷ filter q fs) (filter q fs)) ≡ cond (p f) (f ∷ filter p fs) (filter p fs)) [
+      | true ↦ λ e. ap (λ zs. cond (p f) (f ∷ zs) zs) (filter-left p q fs (sym (ap (λ b. cond b (f ∷ gone) gone) (and_false (p f))) ∙ e))
+      | false ↦ λ e. elim (p f) as (λ b. cond (b && true) (f ∷ gone) gone ≡ [] → filter p (filter q fs) ≡ cond b (f ∷ filter p fs) (filter p fs)) [
+        | true ↦ λ n. absurd (cons_not n)
+        | false ↦ λ n. filter-left p q fs n
+      ] e
+    ] h
+
+none_by_some : (o : Option CellParts) → is_some o ≡ false → o ≡ None
+none_by_some None e = refl
+none_by_some (Some a) e = absurd (true≢false e)
+
+-- a cell is there after a freezing where it was
+frozen_there : (r : Rule) (c : Column) (k : Cell) (ps : List (ℤ × ℤ)) (m : CellMap) → (finmap.get m k ≡ None → ⊥) → finmap.get (frozen_points r c ps m) k ≡ None → ⊥
+frozen_there r c k ps m h e = h (none_by_some (finmap.get m k) (sym (frozen_some r c k ps m) ∙ ap is_some e))
+
+module _ (c : Column) (mark : ℤ) (before : List ColumnPoints) (ps : List (ℤ × ℤ)) (once : AllDistinct (map column_of before)) (there : Among (record { column = c; points = ps }) before) where
+  abbrev left : List Fact
+  left = facts_of (map (left_points c mark) before)
+
+  abbrev below : List (ℤ × ℤ)
+  below = points_below mark ps
+
+  -- a cell that no point leaves
+  still : (r : Rule) (k : Cell) → filter (is_in_cell r k) (facts_at c below) ≡ [] → total_of r k left ≡ total_of r k (facts_of before)
+  still r k e =
+      ap (λ fs. aggregate_of (filter (is_in_cell r k) fs)) (facts_of-left c mark before)
+      ∙ ap aggregate_of (filter-left (is_in_cell r k) (is_left c mark) (facts_of before) (gone_held c mark (is_in_cell r k) before ps once there ∙ e))
+
+  -- what was live is what is left of it
+  pub live_moved : (r : Rule) (k : Cell) (m : CellMap) → live_in (finmap.get m k) ≡ total_of r k (facts_of before)
+      → ((p : ℤ × ℤ) → Among p below → same_text c.series.measurement r.measurement ≡ true → in_points r c k p ≡ true → finmap.get m k ≡ None → ⊥)
+      → live_in (finmap.get (moved_cells r c below left m) k) ≡ total_of r k left
+  live_moved r k m was room =
+      elim (same_text c.series.measurement r.measurement) as (λ b. same_text c.series.measurement r.measurement ≡ b → live_in (finmap.get (cond b (refolded_points r c below left (frozen_points r c below m)) m) k) ≡ total_of r k left) [
+        | true ↦ λ t. refolded_live r c k left below (frozen_points r c below m)
+            (λ y. let f = any_found r c k below y in frozen_there r c k below m (room f.0 f.1 t f.2))
+            (λ n. frozen_live r c k below m ∙ was ∙ sym (still r k (none_in r k c below n)))
+        | false ↦ λ t. was ∙ sym (still r k (points_out r k c below t))
+      ] refl
+
+among_at : (c : Column) (p : ℤ × ℤ) (ps : List (ℤ × ℤ)) → Among p ps → Among (fact_at c p) (facts_at c ps)
+among_at c p [] a = absurd a
+among_at c p (q ∷ ps) a = ⊎_elim {C = Among (fact_at c p) (facts_at c (q ∷ ps))} (λ e. inl (ap (fact_at c) e)) (λ b. inr (among_at c p ps b)) a
+
+pub find_among : (k : Cell) (es : List (Cell × CellParts)) → Among k (map (λ (e : Cell × CellParts). e.0) es) → find cell_cmp k es ≡ None → ⊥
+find_among k [] a h = a
+find_among k (e ∷ es) a h =
+    elim (same_cell k e.0) as (λ b. same_cell k e.0 ≡ b → cond b (Some e.1) (find cell_cmp k es) ≡ None → ⊥) [
+      | true ↦ λ q n. none-some e.1 (sym n)
+      | false ↦ λ q n. ⊎_elim {C = ⊥} (λ s. true≢false (sym (ap (same_cell k) (sym s) ∙ same_cell-refl k) ∙ q)) (λ b. find_among k es b n) a
+    ] refl h
+
+pub keys_column : (r : Rule) (c : Column) (ps : List (ℤ × ℤ)) (left : List Fact) (m : CellMap) → finmap.keys (moved_cells r c ps left m) ≡ finmap.keys m
+keys_column r c ps left m =
+    elim (same_text c.series.measurement r.measurement) as (λ b. finmap.keys (cond b (refolded_points r c ps left (frozen_points r c ps m)) m) ≡ finmap.keys m) [
+      | true ↦ keys_refolded r c left ps (frozen_points r c ps m) ∙ keys_frozen r c ps m
+      | false ↦ refl
+    ]
+
+rule_moved : (opening : Settings) (h : History) → IsLawful opening h → (cut : Column → ℤ) (c : Column) (mark : ℤ) (before : List ColumnPoints) (ps : List (ℤ × ℤ)) → AllDistinct (map column_of before) → Among (record { column = c; points = ps }) before
+    → Holds cut (latest_of h) (facts_of before) → (r : Rule) (low : ℤ) (m : CellMap) → HasCells cut (latest_of h) (rule_cells r low m)
+    → IsMoved c mark before (map (left_points c mark) before) (rule_cells r low m) (rule_cells r low (moved_cells r c (points_below mark ps) (facts_of (map (left_points c mark) before)) m))
+rule_moved opening h lawful cut c mark before ps once there held r low m has =
+    let fs : List Fact = latest_of h in
+    let below : List (ℤ × ℤ) = points_below mark ps in
+    let left : List Fact = facts_of (map (left_points c mark) before) in
+    -- the cell of a point that goes is there
+    let room : (k : Cell) → low ≤ℤ k.index → (p : ℤ × ℤ) → Among p below → same_text c.series.measurement r.measurement ≡ true → in_points r c k p ≡ true → finmap.get m k ≡ None → ⊥ = λ k l p q t i n.
+    let f : Fact = fact_at c p in
+    let key : k ≡ cell_of r f = same_cell-eq k (cell_of r f) i in
+    let shown : Among f (facts_of before) = facts_of-there before (record { column = c; points = ps }) f there (among_at c p ps (Among-filter_was (λ (x : ℤ × ℤ). int_lt x.0 mark) p ps q)) in
+    let cell : Among (cell_of r f) (finmap.keys m) = has.there f (held.only f shown).0 t (subst (λ (x : Cell). low ≤ℤ x.index) key l) in
+    find_among (cell_of r f) (finmap.entries m) cell (sym (get-entries m (cell_of r f)) ∙ ap (finmap.get m) (sym key) ∙ n) in
+    record {
+      rule = refl;
+      low = refl;
+      cells = sym (keys_column r c below left m);
+      frozen = λ k l.
+          let a : Aggregate = frozen_in (finmap.get m k) in
+          let goes : Fact → Bool = λ f. is_in_cell r k f && not (is_left c mark f) in
+          let gone : aggregate_where goes (facts_of before) ≡ aggregate_of (filter (is_in_cell r k) (facts_at c below)) = ap aggregate_of (gone_held c mark (is_in_cell r k) before ps once there) in
+          let total : (total_of r k fs).count ≡ (frozen_of cut r k fs).count + (live_of cut r k fs).count = ap (λ (x : Aggregate). x.count) (total_of-parts cut r k fs) in
+          let whole : (total_of r k fs).count ≤ 2 ^ 62 = count_few opening h lawful (is_in_cell r k) in
+          let frozen : a.count ≡ (frozen_of cut r k fs).count = ap (λ (x : Aggregate). x.count) (has.frozen k l) in
+          let live : (live_of cut r k fs).count ≡ length (filter (is_in_cell r k) (facts_of before)) =
+          ap (λ (x : Aggregate). x.count) (live_of-held cut fs (facts_of before) held (latest-distinct (accepted h)) r k) ∙ count_where (is_in_cell r k) (facts_of before) in
+          let less : length (filter goes (facts_of before)) ≤ length (filter (is_in_cell r k) (facts_of before)) = fewer_both (is_in_cell r k) (λ (f : Fact). not (is_left c mark f)) (facts_of before) in
+          let counted : (aggregate_where goes (facts_of before)).count ≡ length (filter goes (facts_of before)) = count_where goes (facts_of before) in
+          let few : a.count + (aggregate_where goes (facts_of before)).count ≤ 2 ^ 62 = omega (arith, total, whole, frozen, live, less, counted) in
+          column_frozen r k c below left m (subst (λ (x : Aggregate). a.count + x.count ≤ 2 ^ 62) gone few) (room k l) ∙ ap (merged a) (sym gone);
+      live = λ k l. live_moved c mark before ps once there r k m (has.live k l ∙ live_of-held cut fs (facts_of before) held (latest-distinct (accepted h)) r k) (room k l);
+    }
+
+rules_moved : (opening : Settings) (h : History) → IsLawful opening h → (cut : Column → ℤ) (c : Column) (mark : ℤ) (before : List ColumnPoints) (ps : List (ℤ × ℤ)) → AllDistinct (map column_of before) → Among (record { column = c; points = ps }) before
+    → Holds cut (latest_of h) (facts_of before) → (rs : List Rule) (lows : List ℤ) (ms : List CellMap) → AllByRecursion (HasCells cut (latest_of h)) (rules_of rs lows ms)
+    → AllTwo (IsMoved c mark before (map (left_points c mark) before)) (rules_of rs lows ms) (rules_of rs lows (all_moved rs c (points_below mark ps) (facts_of (map (left_points c mark) before)) ms))
+rules_moved opening h lawful cut c mark before ps once there held [] lows ms a = tt
+rules_moved opening h lawful cut c mark before ps once there held (r ∷ rs) [] [] a = tt
+rules_moved opening h lawful cut c mark before ps once there held (r ∷ rs) [] (m ∷ ms) a = tt
+rules_moved opening h lawful cut c mark before ps once there held (r ∷ rs) (low ∷ lows) [] a = tt
+rules_moved opening h lawful cut c mark before ps once there held (r ∷ rs) (low ∷ lows) (m ∷ ms) a =
+    (rule_moved opening h lawful cut c mark before ps once there held r low m a.0, rules_moved opening h lawful cut c mark before ps once there held rs lows ms a.1)
+
+-- a step that moves the first of the waiting columns, on what the store keeps
+pub step_stands : (opening : Settings) (h : History) (k : StoreData) (c : Column) (ps : List (ℤ × ℤ)) (rest : List Column) → StandsFor opening h (state_of k) → k.waiting ≡ c ∷ rest → Among (record { column = c; points = ps }) k.columns
+    → StandsFor opening (Step false ∷ h) (state_of (column_moved c ps rest k))
+step_stands opening h k c ps rest st w there =
+    let s : StoreState = state_of k in
+    move_stands opening h s c rest (rules_of k.settings.rules k.marks.lows (all_moved k.settings.rules c (points_below k.marks.raw ps) (facts_of (columns_left c s)) k.cells)) st w
+    (rules_moved opening h st.lawful (kept_from opening h k.waiting) c k.marks.raw k.columns ps st.columns_once there (StandsFor-Holds opening h s st) k.settings.rules k.marks.lows k.cells st.rolled)

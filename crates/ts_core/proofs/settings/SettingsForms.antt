@@ -1,0 +1,225 @@
+-- What a text of settings says, part by part: a part that isn't there is a fault of the form.
+use Rattle.std.proofs.Common.{◌≡◌, ℤ, ℕ, Bool, true, false, List, Option, Some, None, Result, Ok, Err, option_and_then, unsigned_abs, codes, refl, sym, ap, ◌∙◌, IfErr}
+use Rattle.std.specs.Result.{IsErrAnd}
+use Rattle.serde_json.specs.Data.{Data, Items}
+use Rattle.serde_json.specs.Find.{get, as_array}
+use Rattle.serde_json.specs.Read.{read}
+use Rattle.ts_core.specs.facts.Facts.{Text}
+use Rattle.ts_core.specs.settings.Settings.{Rule, Settings}
+use Rattle.ts_core.specs.settings.SettingsFaults.{settings_fault}
+use Rattle.ts_core.specs.facts.Durations.{span_of, offset_of, keeping_of}
+use Rattle.ts_core.specs.settings.SettingsTexts.{has_keys, text_at, if_not_empty, filled_text, each, rule_with, rule_parsed, settings_with, settings_parsed, rule_read, settings_or_fault, unless_fault, settings_read, IsRefusal}
+use Rattle.ts_core.specs.declared.settings.settings_fault.SettingsError.{SettingsError}
+use Rattle.ts_core.specs.declared.settings.settings_fault.SettingsError.TheVariants.{Fault, OutOfMemory}
+use Rattle.ts_core.specs.declared.settings.settings_fault.SettingsFault.{SettingsFault}
+use Rattle.ts_core.specs.declared.settings.settings_fault.SettingsFault.TheVariants.{Form}
+
+-- ---- a rule
+
+abbrev pub rule_of_parts : Text → Text → ℤ → ℤ → List Text → ℕ → Rule
+rule_of_parts n m i o tags l = record { name = n; measurement = m; interval = i; offset = o; kept_tags = tags; duration = l }
+
+abbrev pub name_in : Data → Option Text
+name_in d = text_at (codes "name") d
+
+abbrev pub measurement_in : Data → Option Text
+measurement_in d = option_and_then if_not_empty (text_at (codes "measurement") d)
+
+abbrev pub interval_in : Data → Option ℤ
+interval_in d = option_and_then span_of (text_at (codes "interval") d)
+
+abbrev pub offset_in : Data → Option ℤ
+offset_in d = option_and_then offset_of (text_at (codes "offset") d)
+
+abbrev pub values_in : Text → Data → Option Items
+values_in key d = option_and_then as_array (get key d)
+
+abbrev pub tags_in : Data → Option (List Text)
+tags_in d = option_and_then (each filled_text) (values_in (codes "keep") d)
+
+abbrev pub duration_in : Data → Option ℤ
+duration_in d = option_and_then keeping_of (text_at (codes "duration") d)
+
+without_name : (b : Bool) (m : Option Text) (i o : Option ℤ) (t : Option (List Text)) (l : Option ℤ) → rule_with b None m i o t l ≡ None
+without_name true m i o t l = refl
+without_name false m i o t l = refl
+
+without_measurement : (b : Bool) (n : Option Text) (i o : Option ℤ) (t : Option (List Text)) (l : Option ℤ) → rule_with b n None i o t l ≡ None
+without_measurement true (Some n) i o t l = refl
+without_measurement true None i o t l = refl
+without_measurement false n i o t l = refl
+
+without_interval : (b : Bool) (n m : Option Text) (o : Option ℤ) (t : Option (List Text)) (l : Option ℤ) → rule_with b n m None o t l ≡ None
+without_interval true (Some n) (Some m) o t l = refl
+without_interval true (Some n) None o t l = refl
+without_interval true None m o t l = refl
+without_interval false n m o t l = refl
+
+without_offset : (b : Bool) (n m : Option Text) (i : Option ℤ) (t : Option (List Text)) (l : Option ℤ) → rule_with b n m i None t l ≡ None
+without_offset true (Some n) (Some m) (Some i) t l = refl
+without_offset true (Some n) (Some m) None t l = refl
+without_offset true (Some n) None i t l = refl
+without_offset true None m i t l = refl
+without_offset false n m i t l = refl
+
+without_tags : (b : Bool) (n m : Option Text) (i o l : Option ℤ) → rule_with b n m i o None l ≡ None
+without_tags true (Some n) (Some m) (Some i) (Some o) l = refl
+without_tags true (Some n) (Some m) (Some i) None l = refl
+without_tags true (Some n) (Some m) None o l = refl
+without_tags true (Some n) None i o l = refl
+without_tags true None m i o l = refl
+without_tags false n m i o l = refl
+
+without_duration : (b : Bool) (n m : Option Text) (i o : Option ℤ) (t : Option (List Text)) → rule_with b n m i o t None ≡ None
+without_duration true (Some n) (Some m) (Some i) (Some o) (Some t) = refl
+without_duration true (Some n) (Some m) (Some i) (Some o) None = refl
+without_duration true (Some n) (Some m) (Some i) None t = refl
+without_duration true (Some n) (Some m) None o t = refl
+without_duration true (Some n) None i o t = refl
+without_duration true None m i o t = refl
+without_duration false n m i o t = refl
+
+pub other_keys : (d : Data) → has_keys 6 d ≡ false → rule_parsed d ≡ None
+unfolding rule_parsed
+other_keys d e = ap (λ b. rule_with b (name_in d) (measurement_in d) (interval_in d) (offset_in d) (tags_in d) (duration_in d)) e
+
+pub no_name : (d : Data) → name_in d ≡ None → rule_parsed d ≡ None
+unfolding rule_parsed
+no_name d e = ap (λ n. rule_with (has_keys 6 d) n (measurement_in d) (interval_in d) (offset_in d) (tags_in d) (duration_in d)) e
+    ∙ without_name (has_keys 6 d) (measurement_in d) (interval_in d) (offset_in d) (tags_in d) (duration_in d)
+
+pub no_measurement : (d : Data) → measurement_in d ≡ None → rule_parsed d ≡ None
+unfolding rule_parsed
+no_measurement d e = ap (λ m. rule_with (has_keys 6 d) (name_in d) m (interval_in d) (offset_in d) (tags_in d) (duration_in d)) e
+    ∙ without_measurement (has_keys 6 d) (name_in d) (interval_in d) (offset_in d) (tags_in d) (duration_in d)
+
+pub no_interval : (d : Data) → interval_in d ≡ None → rule_parsed d ≡ None
+unfolding rule_parsed
+no_interval d e = ap (λ i. rule_with (has_keys 6 d) (name_in d) (measurement_in d) i (offset_in d) (tags_in d) (duration_in d)) e
+    ∙ without_interval (has_keys 6 d) (name_in d) (measurement_in d) (offset_in d) (tags_in d) (duration_in d)
+
+pub no_offset : (d : Data) → offset_in d ≡ None → rule_parsed d ≡ None
+unfolding rule_parsed
+no_offset d e = ap (λ o. rule_with (has_keys 6 d) (name_in d) (measurement_in d) (interval_in d) o (tags_in d) (duration_in d)) e
+    ∙ without_offset (has_keys 6 d) (name_in d) (measurement_in d) (interval_in d) (tags_in d) (duration_in d)
+
+pub no_tags : (d : Data) → tags_in d ≡ None → rule_parsed d ≡ None
+unfolding rule_parsed
+no_tags d e = ap (λ t. rule_with (has_keys 6 d) (name_in d) (measurement_in d) (interval_in d) (offset_in d) t (duration_in d)) e
+    ∙ without_tags (has_keys 6 d) (name_in d) (measurement_in d) (interval_in d) (offset_in d) (duration_in d)
+
+pub no_tag_values : (d : Data) → values_in (codes "keep") d ≡ None → rule_parsed d ≡ None
+no_tag_values d e = no_tags d (ap (option_and_then (each filled_text)) e)
+
+pub no_duration : (d : Data) → duration_in d ≡ None → rule_parsed d ≡ None
+unfolding rule_parsed
+no_duration d e = ap (λ l. rule_with (has_keys 6 d) (name_in d) (measurement_in d) (interval_in d) (offset_in d) (tags_in d) l) e
+    ∙ without_duration (has_keys 6 d) (name_in d) (measurement_in d) (interval_in d) (offset_in d) (tags_in d)
+
+all_there : {b : Bool} {n m : Option Text} {i o : Option ℤ} {t : Option (List Text)} {l : Option ℤ} (name measurement : Text) (interval offset : ℤ) (tags : List Text) (duration : ℤ)
+    → b ≡ true → n ≡ Some name → m ≡ Some measurement → i ≡ Some interval → o ≡ Some offset → t ≡ Some tags → l ≡ Some duration
+    → rule_with b n m i o t l ≡ Some (record { name = name; measurement = measurement; interval = interval; offset = offset; kept_tags = tags; duration = unsigned_abs duration })
+all_there name measurement interval offset tags duration eb en em ei eo et el = rw (eb, en, em, ei, eo, et, el) refl
+
+pub rule_parts_read : (d : Data) (values : Items) (name measurement : Text) (interval offset : ℤ) (tags : List Text) (duration : ℤ)
+    → has_keys 6 d ≡ true → name_in d ≡ Some name → measurement_in d ≡ Some measurement → interval_in d ≡ Some interval → offset_in d ≡ Some offset
+    → values_in (codes "keep") d ≡ Some values → each filled_text values ≡ Some tags → duration_in d ≡ Some duration
+    → rule_parsed d ≡ Some (record { name = name; measurement = measurement; interval = interval; offset = offset; kept_tags = tags; duration = unsigned_abs duration })
+unfolding rule_parsed
+rule_parts_read d values name measurement interval offset tags duration keys en em ei eo ev et el =
+    all_there name measurement interval offset tags duration keys en em ei eo (ap (option_and_then (each filled_text)) ev ∙ et) el
+
+pub same_rule : {n n' m m' : Text} {i i' o o' : ℤ} {l l' : ℕ} (tags : List Text) → n ≡ n' → m ≡ m' → i ≡ i' → o ≡ o' → l ≡ l' → rule_of_parts n m i o tags l ≡ rule_of_parts n' m' i' o' tags l'
+same_rule tags en em ei eo el = rw (en, em, ei, eo, el) refl
+
+-- ---- settings
+
+abbrev pub settings_of_parts : ℕ → List Rule → Settings
+settings_of_parts raw rules = record { raw_duration = raw; rules = rules }
+
+abbrev pub raw_in : Data → Option ℤ
+raw_in d = option_and_then keeping_of (text_at (codes "raw") d)
+
+abbrev pub rules_in : Data → Option (List Rule)
+rules_in d = option_and_then (each rule_parsed) (values_in (codes "rules") d)
+
+without_raw : (b : Bool) (rs : Option (List Rule)) → settings_with b None rs ≡ None
+without_raw true rs = refl
+without_raw false rs = refl
+
+without_rules : (b : Bool) (raw : Option ℤ) → settings_with b raw None ≡ None
+without_rules true (Some raw) = refl
+without_rules true None = refl
+without_rules false raw = refl
+
+pub other_settings_keys : (d : Data) → has_keys 2 d ≡ false → settings_parsed d ≡ None
+unfolding settings_parsed
+other_settings_keys d e = ap (λ b. settings_with b (raw_in d) (rules_in d)) e
+
+pub no_raw : (d : Data) → raw_in d ≡ None → settings_parsed d ≡ None
+unfolding settings_parsed
+no_raw d e = ap (λ raw. settings_with (has_keys 2 d) raw (rules_in d)) e ∙ without_raw (has_keys 2 d) (rules_in d)
+
+pub no_rules : (d : Data) → rules_in d ≡ None → settings_parsed d ≡ None
+unfolding settings_parsed
+no_rules d e = ap (settings_with (has_keys 2 d) (raw_in d)) e ∙ without_rules (has_keys 2 d) (raw_in d)
+
+pub no_rule_values : (d : Data) → values_in (codes "rules") d ≡ None → settings_parsed d ≡ None
+no_rule_values d e = no_rules d (ap (option_and_then (each rule_parsed)) e)
+
+both_there : {b : Bool} {r : Option ℤ} {rs : Option (List Rule)} (raw : ℤ) (rules : List Rule) → b ≡ true → r ≡ Some raw → rs ≡ Some rules
+    → settings_with b r rs ≡ Some (record { raw_duration = unsigned_abs raw; rules = rules })
+both_there raw rules eb er es = rw (eb, er, es) refl
+
+pub parts_read : (d : Data) (values : Items) (raw : ℤ) (rules : List Rule) → has_keys 2 d ≡ true → raw_in d ≡ Some raw
+    → values_in (codes "rules") d ≡ Some values → each rule_parsed values ≡ Some rules
+    → settings_parsed d ≡ Some (record { raw_duration = unsigned_abs raw; rules = rules })
+unfolding settings_parsed
+parts_read d values raw rules keys er ev es = both_there raw rules keys er (ap (option_and_then (each rule_parsed)) ev ∙ es)
+
+-- ---- the text
+
+-- what is refused by a part is refused by the whole
+pub refused_by : {X Y : Type 0} (e : SettingsError) (part : Option X) (whole : Option Y) → (part ≡ None → whole ≡ None) → IsRefusal e part → IsRefusal e whole
+refused_by OutOfMemory part whole lacks r = tt
+refused_by (Fault fault) part whole lacks r = (r.0, lacks r.1)
+
+-- a rule by itself is that of the text's value
+pub no_rule_data : (text : Text) → read text ≡ None → rule_read text ≡ None
+unfolding rule_read
+no_rule_data text none = ap (option_and_then rule_parsed) none
+
+pub rule_data : (text : Text) (d : Data) → read text ≡ Some d → rule_parsed d ≡ rule_read text
+unfolding rule_read
+rule_data text d is = ap (option_and_then rule_parsed) (sym is)
+
+form_told : (o : Option Settings) (e : SettingsError) (f : SettingsFault) → IsRefusal e o → e ≡ Fault f → settings_or_fault o ≡ Err f
+form_told o OutOfMemory f r is = absurd (cc)
+form_told o (Fault g) f r is = let same : f ≡ Form = cc in rw (r.1, same) refl
+
+pub no_data : (text : Text) (e : SettingsError) (f : SettingsFault) → IsRefusal e (read text) → e ≡ Fault f → settings_read text ≡ Err f
+unfolding settings_read
+no_data text e f r is = form_told (option_and_then settings_parsed (read text)) e f (refused_by e (read text) (option_and_then settings_parsed (read text)) (λ none. ap (option_and_then settings_parsed) none) r) is
+
+pub no_settings : (text : Text) (d : Data) (e : SettingsError) (f : SettingsFault) → read text ≡ Some d → IsRefusal e (settings_parsed d) → e ≡ Fault f → settings_read text ≡ Err f
+unfolding settings_read
+no_settings text d e f is r err = ap (λ o. settings_or_fault (option_and_then settings_parsed o)) is ∙ form_told (settings_parsed d) e f r err
+
+pub at_fault : (text : Text) (d : Data) (s : Settings) (f : SettingsFault) → read text ≡ Some d → settings_parsed d ≡ Some s → settings_fault s ≡ Some f → settings_read text ≡ Err f
+unfolding settings_read
+at_fault text d s f is so fault = ap (λ o. settings_or_fault (option_and_then settings_parsed o)) is ∙ ap settings_or_fault so ∙ ap (unless_fault s) fault
+
+pub faultless : (text : Text) (d : Data) (s : Settings) → read text ≡ Some d → settings_parsed d ≡ Some s → settings_fault s ≡ None → settings_read text ≡ Ok s
+unfolding settings_read
+faultless text d s is so none = ap (λ o. settings_or_fault (option_and_then settings_parsed o)) is ∙ ap settings_or_fault so ∙ ap (unless_fault s) none
+
+-- a fault that `?` hands on is the fault
+pub handed_on : {X : Type 0} (r : Result X SettingsError) (fault : SettingsFault) (out : Result Settings SettingsFault) → IsErrAnd r (λ e. e ≡ Fault fault) → out ≡ Err fault
+    → IfErr r (λ e. (f : SettingsFault) → e ≡ Fault f → out ≡ Err f)
+handed_on (Ok x) fault out h is = tt
+handed_on (Err e) fault out h is = λ f same. let one : fault ≡ f = cc in is ∙ ap Err one
+
+pub error_handed_on : {X : Type 0} (r : Result X SettingsError) (error : SettingsError) (out : Result Settings SettingsFault) → IsErrAnd r (λ e. e ≡ error)
+    → ((f : SettingsFault) → error ≡ Fault f → out ≡ Err f) → IfErr r (λ e. (f : SettingsFault) → e ≡ Fault f → out ≡ Err f)
+error_handed_on (Ok x) error out h settings_or_fault = tt
+error_handed_on (Err e) error out h settings_or_fault = λ f same. settings_or_fault f (sym h ∙ same)

@@ -1,8 +1,0 @@
-use Rattle.std.proofs.Common.{◌≡◌, [], take, drop}
-use Rattle.std.specs.List.{AllByRecursion}
-use Rattle.ts_core.specs.Settings.{IsPossibleRule}
-use Rattle.ts_core.specs.SettingsFaults.{rules_fault}
-use Rattle.ts_core.proofs.settings_fault.rules_fault.Given as goal
-
-abbrev pub invariant-loop-number : goal.invariant-loop-number
-invariant-loop-number g l = (rules_fault l.raw (take l.number l.rules) (drop l.number l.rules) ≡ rules_fault l.raw [] l.rules) × AllByRecursion IsPossibleRule (take l.number l.rules)

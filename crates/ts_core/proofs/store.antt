@@ -1,0 +1,17 @@
+-- Small histories, computed
+pub mod RetentionRows
+-- StoreStates: the same for what stands, one thing after another
+pub mod Moves
+pub mod Begins
+pub mod RulesCome
+pub mod RunSteps
+pub mod Writes
+pub mod Lines
+pub mod NewStates
+pub mod StateLemmas
+pub mod ColumnFacts
+pub mod Cuts
+-- Marks
+pub mod LowIndices
+-- Views
+pub mod Shown

@@ -1,0 +1,144 @@
+-- What standing for a history says in the words that moves need, and lists taken member by member.
+use Rattle.std.proofs.Common.{◌≡◌, ℤ, Bool, true, false, cond, ◌&&◌, ◌||◌, List, [], ◌∷◌, map, refl, sym, ◌∙◌, ap, ap₂, subst, inl, inr, ⊎_elim, int_le, ◌≤ℤ◌, arith, is_eq}
+use Rattle.std.proofs.lemmas.Int.{ints, clamps}
+use Rattle.std.proofs.lemmas.Cmp.{tied_itself}
+use Rattle.std.specs.List.{AllByRecursion}
+use Rattle.std.specs.Int.{int_max}
+use Rattle.std.proofs.lemmas.Bool.{and_parts, or_right}
+use Rattle.ts_core.specs.lists.Members.{Among, AllDistinct}
+use Rattle.ts_core.specs.facts.Times.{least_time}
+use Rattle.ts_core.specs.facts.Facts.{Column, Fact, column_cmp}
+use Rattle.ts_core.specs.settings.Settings.{Settings}
+use Rattle.ts_core.specs.store.History.{History, Line, Begin, Step, AddRule, DropRule, settings_of, kept_since, raw_mark}
+use Rattle.ts_core.specs.facts.Latest.{latest_of}
+use Rattle.ts_core.specs.store.RawFacts.{same_column, is_waiting, earlier_mark, kept_from, is_kept, raw_of}
+use Rattle.ts_core.specs.store.StoreStates.{RuleCells, StoreState, StandsFor, HasCells, facts_of}
+use Rattle.ts_core.proofs.facts.Ids.{columns_total, exact_columns, equal_of}
+use Rattle.ts_core.proofs.lists.MembersLemmas.{Among-filter_passes, Among-filter_was, Among-filter_stays}
+use Rattle.ts_core.proofs.lists.Comparisons.{le_true}
+use Rattle.ts_core.proofs.store.Cuts.{Holds}
+use Rattle.ts_core.proofs.store.Moves.{AllTwo}
+
+-- ---- lists
+
+pub AllTwo-all : {X Y : Type 0} (R : X → Y → Type 0) (P : X → Type 0) (Q : Y → Type 0) → ((x : X) (y : Y) → R x y → P x → Q y) → (xs : List X) (ys : List Y) → AllTwo R xs ys → AllByRecursion P xs → AllByRecursion Q ys
+AllTwo-all R P Q h [] [] t a = tt
+AllTwo-all R P Q h [] (y ∷ ys) t a = absurd t
+AllTwo-all R P Q h (x ∷ xs) [] t a = absurd t
+AllTwo-all R P Q h (x ∷ xs) (y ∷ ys) t a = (h x y t.0 a.0, AllTwo-all R P Q h xs ys t.1 a.1)
+
+pub AllTwo-map : {X Y Z : Type 0} (R : X → Y → Type 0) (f : X → Z) (g : Y → Z) → ((x : X) (y : Y) → R x y → f x ≡ g y) → (xs : List X) (ys : List Y) → AllTwo R xs ys → map f xs ≡ map g ys
+AllTwo-map R f g h [] [] t = refl
+AllTwo-map R f g h [] (y ∷ ys) t = absurd t
+AllTwo-map R f g h (x ∷ xs) [] t = absurd t
+AllTwo-map R f g h (x ∷ xs) (y ∷ ys) t = ap₂ (λ a bs. a ∷ bs) (h x y t.0) (AllTwo-map R f g h xs ys t.1)
+
+abbrev head_or : {X : Type 0} → X → List X → X
+head_or d [] = d
+head_or d (x ∷ xs) = x
+
+abbrev rest_of : {X : Type 0} → List X → List X
+rest_of [] = []
+rest_of (x ∷ xs) = xs
+
+pub same_head : {X : Type 0} (x y : X) (xs ys : List X) → x ∷ xs ≡ y ∷ ys → x ≡ y
+same_head x y xs ys e = ap (head_or x) e
+
+pub same_rest : {X : Type 0} (x y : X) (xs ys : List X) → x ∷ xs ≡ y ∷ ys → xs ≡ ys
+same_rest x y xs ys e = ap rest_of e
+
+abbrev is_list_with : {X : Type 0} → List X → Type 0
+is_list_with [] = ⊥
+is_list_with (x ∷ xs) = Unit {0}
+
+pub cons_not : {X : Type 0} {x : X} {xs : List X} → x ∷ xs ≡ [] → ⊥
+cons_not e = subst is_list_with e tt
+
+-- ---- columns
+
+pub same_column-refl : (c : Column) → same_column c c ≡ true
+same_column-refl c = ap is_eq (tied_itself columns_total c)
+
+pub same_column-eq : (c d : Column) → same_column c d ≡ true → c ≡ d
+same_column-eq c d h = exact_columns c d (equal_of (column_cmp c d) h)
+
+pub is_waiting-there : (c : Column) (ds : List Column) → Among c ds → is_waiting ds c ≡ true
+is_waiting-there c [] h = absurd h
+is_waiting-there c (d ∷ ds) h =
+    ⊎_elim {C = same_column c d || is_waiting ds c ≡ true}
+    (λ e. ap (λ b. b || is_waiting ds c) (ap (same_column c) (sym e) ∙ same_column-refl c))
+    (λ k. ap (λ b. same_column c d || b) (is_waiting-there c ds k) ∙ or_right (same_column c d) true refl) h
+
+pub is_waiting-not : (c : Column) (ds : List Column) → (Among c ds → ⊥) → is_waiting ds c ≡ false
+is_waiting-not c [] h = refl
+is_waiting-not c (d ∷ ds) h =
+    elim (same_column c d) as (λ b. same_column c d ≡ b → b || is_waiting ds c ≡ false) [
+      | true ↦ λ e. absurd (h (inl (same_column-eq c d e)))
+      | false ↦ λ e. is_waiting-not c ds (λ a. h (inr a))
+    ] refl
+
+-- ---- marks
+
+pub le_trans : (a b c : ℤ) → a ≤ℤ b → b ≤ℤ c → a ≤ℤ c
+le_trans a b c h k = omega (arith, ints)
+
+pub int_max-left : (a b : ℤ) → a ≤ℤ int_max a b
+int_max-left a b = omega (arith, ints, clamps)
+
+pub int_max-right : (a b : ℤ) → b ≤ℤ int_max a b
+int_max-right a b = omega (arith, ints, clamps)
+
+-- the raw duration is never changed
+pub raw_duration_of : (opening : Settings) (h : History) → (settings_of opening h).raw_duration ≡ opening.raw_duration
+raw_duration_of opening [] = refl
+raw_duration_of opening (Line facts ∷ h) = raw_duration_of opening h
+raw_duration_of opening (Begin now ∷ h) = raw_duration_of opening h
+raw_duration_of opening (Step ended ∷ h) = raw_duration_of opening h
+raw_duration_of opening (AddRule rule ∷ h) = raw_duration_of opening h
+raw_duration_of opening (DropRule name ∷ h) = raw_duration_of opening h
+
+pub earlier_mark-le : (opening : Settings) (h : History) → earlier_mark opening h ≤ℤ raw_mark opening h
+earlier_mark-le opening [] = let e : least_time ≤ℤ least_time = omega (arith, ints) in e
+earlier_mark-le opening (Line facts ∷ h) = earlier_mark-le opening h
+earlier_mark-le opening (Begin now ∷ h) = int_max-left (raw_mark opening h) (kept_since opening.raw_duration now)
+earlier_mark-le opening (Step ended ∷ h) = earlier_mark-le opening h
+earlier_mark-le opening (AddRule rule ∷ h) = earlier_mark-le opening h
+earlier_mark-le opening (DropRule name ∷ h) = earlier_mark-le opening h
+
+-- a fact from the raw mark on is raw in every column
+pub is_kept-above : (opening : Settings) (h : History) (waiting : List Column) (f : Fact) → raw_mark opening h ≤ℤ f.time → is_kept (kept_from opening h waiting) f ≡ true
+is_kept-above opening h waiting f m =
+    elim (is_waiting waiting f.column) as (λ b. int_le (cond b (earlier_mark opening h) (raw_mark opening h)) f.time ≡ true) [
+      | true ↦ le_true (earlier_mark opening h) f.time (le_trans (earlier_mark opening h) (raw_mark opening h) f.time (earlier_mark-le opening h) m)
+      | false ↦ le_true (raw_mark opening h) f.time m
+    ]
+
+-- ---- the raw facts, as one list
+
+abbrev pub is_raw_of : Settings → History → List Column → Column → Fact → Bool
+is_raw_of opening h waiting c f = same_column f.column c && is_kept (kept_from opening h waiting) f
+
+pub raw_of-Holds : (opening : Settings) (h : History) (waiting : List Column) (held : List Fact) → AllDistinct held
+    → ((f : Fact) → (Among f held → Among f (raw_of opening h waiting f.column)) × (Among f (raw_of opening h waiting f.column) → Among f held)) → Holds (kept_from opening h waiting) (latest_of h) held
+raw_of-Holds opening h waiting held d r = record {
+  once = d;
+  all = λ f a k. (r f).1 (Among-filter_stays (is_raw_of opening h waiting f.column) f (latest_of h) a (ap₂ (λ x y. x && y) (same_column-refl f.column) k));
+  only = λ f a. let m = (r f).0 a in (Among-filter_was (is_raw_of opening h waiting f.column) f (latest_of h) m, (and_parts _ _ (Among-filter_passes (is_raw_of opening h waiting f.column) f (latest_of h) m)).1);
+}
+
+pub Holds-raw_of : (opening : Settings) (h : History) (waiting : List Column) (held : List Fact) → Holds (kept_from opening h waiting) (latest_of h) held → (f : Fact)
+    → (Among f held → Among f (raw_of opening h waiting f.column)) × (Among f (raw_of opening h waiting f.column) → Among f held)
+Holds-raw_of opening h waiting held s f = (
+  λ a. let n = s.only f a in Among-filter_stays (is_raw_of opening h waiting f.column) f (latest_of h) n.0 (ap₂ (λ x y. x && y) (same_column-refl f.column) n.1),
+  λ m. s.all f (Among-filter_was (is_raw_of opening h waiting f.column) f (latest_of h) m) (and_parts _ _ (Among-filter_passes (is_raw_of opening h waiting f.column) f (latest_of h) m)).1,
+)
+
+pub StandsFor-Holds : (opening : Settings) (h : History) (s : StoreState) → StandsFor opening h s → Holds (kept_from opening h s.waiting) (latest_of h) (facts_of s.columns)
+StandsFor-Holds opening h s st = raw_of-Holds opening h s.waiting (facts_of s.columns) st.once (λ f. st.raw f)
+
+-- ---- the rules
+
+-- what is said of the old rule and low index is said of the new ones
+pub HasCells-as : (cut : Column → ℤ) (fs : List Fact) (r after : RuleCells) → r.rule ≡ after.rule → r.low ≡ after.low
+    → HasCells cut fs (record { rule = r.rule; low = r.low; cells = after.cells; parts = after.parts }) → HasCells cut fs after
+HasCells-as cut fs r after e l h = subst (HasCells cut fs) (λ i. record { rule = e i; low = l i; cells = after.cells; parts = after.parts }) h

@@ -1,0 +1,199 @@
+-- The transitions of a store's content. A run begins, moves a column, removes cells and ends; the series, columns and
+-- cells of a line are created, and its facts are inserted. (Own rules.)
+use Rattle.std.specs.Prelude.{◌≡◌, ◌⊎◌, ◌+◌, ℕ, ℤ, ◌≤ℤ◌, ◌<ℤ◌, true, false, Some, None, int_lt, int_le, List, [], ◌∷◌, filter, map, if◌then◌else◌}
+use Rattle.std.specs.Int.{int_max}
+use Rattle.std.specs.FinMap as finmap
+use Rattle.ts_core.specs.lists.Members.{Among, AllDistinct}
+use Rattle.ts_core.specs.store.History.{kept_since}
+use Rattle.ts_core.specs.store.Marks.{index_of}
+use Rattle.ts_core.specs.facts.Facts.{Series, Column, Fact, same_text, id_of, same_id}
+use Rattle.ts_core.specs.settings.Settings.{Rule}
+use Rattle.ts_core.specs.aggregates.Aggregates.{Aggregate, aggregate_of_one, merged}
+use Rattle.ts_core.specs.store.Cells.{Cell, cell_of, is_rolled, total_of}
+use Rattle.ts_core.specs.store.StoreStates.{ColumnPoints, CellParts, column_of, fact_at, facts_of}
+use Rattle.ts_core.specs.store.RawFacts.{same_column}
+use Rattle.ts_core.specs.store.TwoParts.{in_frozen, with_live}
+use Rattle.ts_core.specs.lists.Changes.{changed, joined_within, or_else}
+use Rattle.ts_core.specs.store.StoreData.{CellMap, no_parts, StoreData}
+
+-- ---- a step moves a column: points below the raw mark are frozen, and the live parts of their cells are folded anew
+
+abbrev pub count_in : Aggregate → ℕ
+count_in a = a.count
+
+-- merges a part, if the counts add up to at most 2^62
+abbrev pub frozen_with : Aggregate → Aggregate → Aggregate
+frozen_with = joined_within count_in merged
+
+-- merges each point into its cell, if that exists
+abbrev pub frozen_points : Rule → Column → List (ℤ × ℤ) → CellMap → CellMap
+frozen_points r c [] m = m
+frozen_points r c (p ∷ ps) m = frozen_points r c ps (changed m (cell_of r (fact_at c p)) (in_frozen (frozen_with (aggregate_of_one p.0 p.1))))
+
+-- folds the live part of a cell anew from the raw facts, if the cell exists
+abbrev pub refolded : Rule → Cell → List Fact → CellMap → CellMap
+refolded r k facts m = changed m k (with_live (total_of r k facts))
+
+-- the same for the cell of each point
+abbrev pub refolded_points : Rule → Column → List (ℤ × ℤ) → List Fact → CellMap → CellMap
+refolded_points r c [] facts m = m
+refolded_points r c (p ∷ ps) facts m = refolded_points r c ps facts (refolded r (cell_of r (fact_at c p)) facts m)
+
+-- freezes the points of a column, and folds the live parts of their cells anew from the remaining raw facts, if the
+-- column is of the rule's measurement
+abbrev pub moved_cells : Rule → Column → List (ℤ × ℤ) → List Fact → CellMap → CellMap
+moved_cells r c ps facts m = if same_text c.series.measurement r.measurement then refolded_points r c ps facts (frozen_points r c ps m) else m
+
+-- the same for each rule
+abbrev pub all_moved : List Rule → Column → List (ℤ × ℤ) → List Fact → List CellMap → List CellMap
+all_moved [] c ps facts ms = ms
+all_moved (r ∷ rs) c ps facts [] = []
+all_moved (r ∷ rs) c ps facts (m ∷ ms) = moved_cells r c ps facts m ∷ all_moved rs c ps facts ms
+
+-- the points below a mark; `kept_points` leaves the others in the column
+abbrev pub points_below : ℤ → List (ℤ × ℤ) → List (ℤ × ℤ)
+points_below mark ps = filter (λ (p : ℤ × ℤ). int_lt p.0 mark) ps
+
+abbrev pub kept_points : Column → ℤ → ColumnPoints → ColumnPoints
+kept_points c mark s = if same_column s.column c then record { column = s.column; points = filter (λ (p : ℤ × ℤ). int_le mark p.0) s.points } else s
+
+-- moves the first waiting column
+abbrev pub column_moved : Column → List (ℤ × ℤ) → List Column → StoreData → StoreData
+column_moved c ps rest k = record {
+  settings = k.settings;
+  marks = k.marks;
+  running = k.running;
+  waiting = rest;
+  series = k.series;
+  columns = map (kept_points c k.marks.raw) k.columns;
+  accepted = k.accepted;
+  cells = all_moved k.settings.rules c (points_below k.marks.raw ps) (facts_of (map (kept_points c k.marks.raw) k.columns)) k.cells;
+}
+
+-- ---- a run begins
+
+abbrev pub raised : ℤ → List Rule → List ℤ → List ℤ
+raised now [] lows = lows
+raised now (r ∷ rs) [] = []
+raised now (r ∷ rs) (low ∷ lows) = int_max low (index_of r (kept_since r.duration now)) ∷ raised now rs lows
+
+abbrev pub run_begun : ℤ → StoreData → StoreData
+run_begun now k = record {
+  settings = k.settings;
+  marks = record { raw = int_max k.marks.raw (kept_since k.settings.raw_duration now); lows = raised now k.settings.rules k.marks.lows };
+  running = true;
+  waiting = map column_of k.columns;
+  series = k.series;
+  columns = k.columns;
+  accepted = k.accepted;
+  cells = k.cells;
+}
+
+-- ---- cells below the low indices are removed
+
+abbrev pub Expired : List ℤ → List CellMap → List CellMap → Type 0
+Expired lows [] [] = Unit {0}
+Expired lows [] (m ∷ ms) = ⊥
+Expired lows (m ∷ ms) [] = ⊥
+Expired [] (m ∷ ms) (n ∷ ns) = Unit {0}
+Expired (low ∷ lows) (m ∷ ms) (n ∷ ns) = ((k : Cell) → low ≤ℤ k.index → finmap.get n k ≡ finmap.get m k) × Expired lows ms ns
+
+-- each cell of the second maps is in the first, with the same parts
+abbrev pub AreOf : List CellMap → List CellMap → Type 0
+AreOf [] [] = Unit {0}
+AreOf [] (n ∷ ns) = ⊥
+AreOf (m ∷ ms) [] = ⊥
+AreOf (m ∷ ms) (n ∷ ns) = ((k : Cell) (p : CellParts) → finmap.get n k ≡ Some p → finmap.get m k ≡ Some p) × AreOf ms ns
+
+abbrev pub with_cells : List CellMap → StoreData → StoreData
+with_cells ms k = record {
+  settings = k.settings;
+  marks = k.marks;
+  running = k.running;
+  waiting = k.waiting;
+  series = k.series;
+  columns = k.columns;
+  accepted = k.accepted;
+  cells = ms;
+}
+
+abbrev pub run_ended : StoreData → StoreData
+run_ended k = record {
+  settings = k.settings;
+  marks = k.marks;
+  running = false;
+  waiting = k.waiting;
+  series = k.series;
+  columns = k.columns;
+  accepted = k.accepted;
+  cells = k.cells;
+}
+
+-- ---- series, columns and cells are created, and facts are inserted
+
+-- n has a cell for each fact of the rule's measurement from the low index on. Compared with m, no cell is lost, no part
+-- changes, and no cell is created below the low index.
+pub record HasRoom (r : Rule) (low : ℤ) (facts : List Fact) (m n : CellMap) : Type 0 where
+  pub there : (f : Fact) → Among f facts → is_rolled r f ≡ true → low ≤ℤ (cell_of r f).index → finmap.get n (cell_of r f) ≡ None → ⊥
+  pub stays : (k : Cell) → finmap.get n k ≡ None → finmap.get m k ≡ None
+  pub parts : (k : Cell) → or_else no_parts (finmap.get n k) ≡ or_else no_parts (finmap.get m k)
+  pub above : (k : Cell) → k.index <ℤ low → finmap.get n k ≡ finmap.get m k
+
+abbrev pub HaveRoom : List Rule → List ℤ → List Fact → List CellMap → List CellMap → Type 0
+HaveRoom rs lows facts [] [] = Unit {0}
+HaveRoom rs lows facts [] (n ∷ ns) = ⊥
+HaveRoom rs lows facts (m ∷ ms) [] = ⊥
+HaveRoom [] lows facts (m ∷ ms) (n ∷ ns) = Unit {0}
+HaveRoom (r ∷ rs) [] facts (m ∷ ms) (n ∷ ns) = Unit {0}
+HaveRoom (r ∷ rs) (low ∷ lows) facts (m ∷ ms) (n ∷ ns) = HasRoom r low facts m n × HaveRoom rs lows facts ms ns
+
+-- more series, columns and cells, but no more facts
+abbrev pub grown : List Series → List ColumnPoints → List CellMap → StoreData → StoreData
+grown series columns ms k = record {
+  settings = k.settings;
+  marks = k.marks;
+  running = k.running;
+  waiting = k.waiting;
+  series = series;
+  columns = columns;
+  accepted = k.accepted;
+  cells = ms;
+}
+
+-- inserts a fact, replacing the one with its id; nothing else changes
+pub record Puts (before after : List Fact) (f : Fact) : Type 0 where
+  pub once : AllDistinct after
+  pub new : Among f after
+  pub kept : (g : Fact) → Among g before → same_id (id_of g) (id_of f) ≡ false → Among g after
+  pub only : (g : Fact) → Among g after → (g ≡ f) ⊎ (Among g before × (same_id (id_of g) (id_of f) ≡ false))
+
+-- inserts the fact into its column
+abbrev pub PutsFact : List ColumnPoints → List ColumnPoints → Fact → Type 0
+PutsFact before after f = (map column_of after ≡ map column_of before) × Puts (facts_of before) (facts_of after) f
+
+-- folds the live part of the fact's cell anew, if the fact is of the rule's measurement
+abbrev pub put_cell : Rule → Fact → List Fact → CellMap → CellMap
+put_cell r f facts m = if is_rolled r f then refolded r (cell_of r f) facts m else m
+
+-- the same for each rule
+abbrev pub put_cells : List Rule → Fact → List Fact → List CellMap → List CellMap
+put_cells [] f facts ms = ms
+put_cells (r ∷ rs) f facts [] = []
+put_cells (r ∷ rs) f facts (m ∷ ms) = put_cell r f facts m ∷ put_cells rs f facts ms
+
+-- inserts facts one after another, each into its column, and then into its cells
+abbrev pub PutsFacts : List Rule → List ColumnPoints → List CellMap → List ColumnPoints → List CellMap → List Fact → Type 0
+PutsFacts rs before ms after ns [] = (after ≡ before) × (ns ≡ ms)
+PutsFacts rs before ms after ns (f ∷ fs) = (between : List ColumnPoints) × PutsFact before between f × PutsFacts rs between (put_cells rs f (facts_of between) ms) after ns fs
+
+abbrev pub put_facts : List ColumnPoints → List CellMap → ℕ → StoreData → StoreData
+put_facts columns ms n k = record {
+  settings = k.settings;
+  marks = k.marks;
+  running = k.running;
+  waiting = k.waiting;
+  series = k.series;
+  columns = columns;
+  accepted = k.accepted + n;
+  cells = ms;
+}

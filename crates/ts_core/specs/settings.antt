@@ -1,0 +1,5 @@
+-- Settings, their faults, and their text.
+pub mod Settings
+pub mod SettingsFaults
+pub mod SettingsTexts
+pub mod SettingsWritten

@@ -1,0 +1,105 @@
+-- A store's content as data, and the state that it represents. (Own rules.)
+use Rattle.std.specs.Prelude.{◌≡◌, ℕ, ℤ, Bool, false, List, [], ◌∷◌, map, Some}
+use Rattle.std.specs.FinMap as finmap
+use Rattle.std.specs.FinMap.{FinMap}
+use Rattle.ts_core.specs.facts.Facts.{Series, Column}
+use Rattle.ts_core.specs.settings.Settings.{Rule, Settings}
+use Rattle.ts_core.specs.store.History.{Event, History}
+use Rattle.ts_core.specs.store.Marks.{Marks, marks_of}
+use Rattle.ts_core.specs.aggregates.Aggregates.{empty_aggregate}
+use Rattle.ts_core.specs.store.Cells.{Cell, cell_cmp, total_of}
+use Rattle.ts_core.specs.store.StoreStates.{ColumnPoints, CellParts, RuleCells, StoreState, StandsFor, facts_of}
+use Rattle.ts_core.specs.store.Views.{Shows, seen_of}
+use Rattle.ts_core.specs.lists.Changes.{or_else}
+use Rattle.ts_core.specs.store.TwoParts.{both_parts}
+
+-- the parts of each existing cell
+abbrev pub CellMap : Type 0
+CellMap = FinMap cell_cmp CellParts
+
+-- the parts of a missing cell
+abbrev pub no_parts : CellParts
+no_parts = both_parts empty_aggregate
+
+-- the content of a store
+pub record StoreData : Type 0 where
+  pub settings : Settings
+  pub marks : Marks
+  -- whether a run is in progress, and the columns that it hasn't moved yet
+  pub running : Bool
+  pub waiting : List Column
+  -- the registered series, and the columns with their raw points, each in creation order
+  pub series : List Series
+  pub columns : List ColumnPoints
+  -- the number of accepted facts, including repeats
+  pub accepted : ℕ
+  -- the cells of each rule of the settings
+  pub cells : List CellMap
+
+-- ---- the state that the data represents
+
+abbrev pub rule_cells : Rule → ℤ → CellMap → RuleCells
+rule_cells r low m = record { rule = r; low = low; cells = finmap.keys m; parts = λ k. or_else no_parts (finmap.get m k) }
+
+-- each rule with its low index and its cells
+abbrev pub rules_of : List Rule → List ℤ → List CellMap → List RuleCells
+rules_of [] lows ms = []
+rules_of (r ∷ rs) [] ms = []
+rules_of (r ∷ rs) (low ∷ lows) [] = []
+rules_of (r ∷ rs) (low ∷ lows) (m ∷ ms) = rule_cells r low m ∷ rules_of rs lows ms
+
+abbrev pub state_of : StoreData → StoreState
+state_of k = record {
+  settings = k.settings;
+  marks = k.marks;
+  running = k.running;
+  waiting = k.waiting;
+  series = k.series;
+  columns = k.columns;
+  accepted = k.accepted;
+  rules = rules_of k.settings.rules k.marks.lows k.cells;
+}
+
+-- before any write
+abbrev pub new_data : Settings → StoreData
+new_data opening = record {
+  settings = opening;
+  marks = marks_of opening [];
+  running = false;
+  waiting = [];
+  series = [];
+  columns = [];
+  accepted = 0;
+  cells = map (λ (r : Rule). finmap.empty) opening.rules;
+}
+
+-- ---- properties of the histories that it represents
+
+-- P holds of every history that the store represents
+abbrev pub OfEachHistory : StoreData → (Settings → History → Type 0) → Type 0
+OfEachHistory k P = (opening : Settings) (h : History) → StandsFor opening h (state_of k) → P opening h
+
+-- an event happens: a store that represented a history represents it with this event
+abbrev pub GoesOn : StoreData → Event → StoreData → Type 0
+GoesOn old event new = OfEachHistory old (λ opening h. StandsFor opening (event ∷ h) (state_of new))
+
+-- no event happens: the store still represents every history that it did
+abbrev pub StaysFor : StoreData → StoreData → Type 0
+StaysFor old new = OfEachHistory old (λ opening h. StandsFor opening h (state_of new))
+
+-- the view of the store shows every history that the store represents
+abbrev pub ShowsEach : StoreData → Type 0
+ShowsEach k = OfEachHistory k (λ opening h. Shows opening h (seen_of (state_of k)))
+
+-- ---- live parts of all cells
+
+-- The live part of each existing cell is the aggregate of the raw facts in it, also below the low index. `StandsFor`
+-- says so from the low index on; a cell below it exists until a step removes it.
+abbrev pub IsLive : List ColumnPoints → Rule → CellMap → Type 0
+IsLive columns r m = (k : Cell) (p : CellParts) → finmap.get m k ≡ Some p → p.live ≡ total_of r k (facts_of columns)
+
+-- the same for each rule
+abbrev pub AreLive : List ColumnPoints → List Rule → List CellMap → Type 0
+AreLive columns [] ms = Unit {0}
+AreLive columns (r ∷ rs) [] = Unit {0}
+AreLive columns (r ∷ rs) (m ∷ ms) = IsLive columns r m × AreLive columns rs ms

@@ -1,0 +1,15 @@
+//! Aggregates of points, how they are merged and taken apart, means, and buckets of time.
+
+mod aggregate;
+mod bucket;
+mod fold;
+mod means;
+mod partial;
+mod remainder;
+
+pub use aggregate::{Agg, Extremes, MAX_COUNT};
+pub use bucket::{Bucket, Buckets, first_index, index_of};
+pub use fold::{aggregate_points, fold_points};
+pub use means::{Frac, mean};
+pub use partial::Partial;
+pub use remainder::Remainder;

@@ -1,0 +1,5 @@
+//! Errors of a plan's pieces.
+
+mod fault;
+
+pub use fault::Fault;

@@ -1,0 +1,13 @@
+//! Texts: offsets, comparisons, and the faults of all layers with their messages.
+
+mod cursor;
+mod decimal;
+mod fault_code;
+mod fault_text;
+pub(crate) mod texts;
+
+pub use cursor::{after, byte_at};
+pub use decimal::{after_minus, are_digits, is_number, whole};
+pub use fault_code::FaultCode;
+pub use fault_text::{FaultDetail, append_words};
+pub use texts::is_among;

@@ -1,0 +1,10 @@
+-- Saving
+pub mod SavedOrders
+pub mod ListedColumns
+pub mod FrozenShown
+pub mod WaitingAt
+-- Building: a store that is made of parts
+pub mod ColumnsInTurn
+pub mod PartsBuilt
+pub mod BuildersKept
+pub mod StoresBuilt

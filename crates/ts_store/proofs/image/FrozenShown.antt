@@ -1,0 +1,114 @@
+-- The cells of a walk that have frozen facts are those of the map, from the low index on.
+use Rattle.std.proofs.Common.{◌≡◌, ℕ, zero, suc, length, get_or, Some, ◌&&◌, ◌<◌, ◌≤◌, ◌^◌, ℤ, pos, negsuc, ◌≤ℤ◌, ◌<ℤ◌, int_le, nat_lt, Bool, true, false, cond, List, [], ◌∷◌, map, filter, unsigned_abs, FitsSigned, w64, refl, sym, ◌∙◌, ap, subst, inl, inr, arith}
+use Rattle.std.proofs.lemmas.Int.{ints}
+use Rattle.std.specs.FinMap as finmap
+use Rattle.std.specs.List.{AllByRecursion}
+use Rattle.std.proofs.lemmas.List.{get_or_default}
+use Rattle.std.proofs.lemmas.Option.{none-some, same_Some, slice_get-get_or}
+use Rattle.ts_core.specs.lists.Numbered.{IsAt}
+use Rattle.ts_core.specs.lists.Members.{Among}
+use Rattle.ts_core.specs.facts.Times.{IsTime}
+use Rattle.ts_core.specs.facts.Facts.{Column, is_within}
+use Rattle.ts_core.specs.settings.Settings.{Rule, IsPossibleRule}
+use Rattle.ts_core.specs.store.Marks.{index_of}
+use Rattle.ts_core.specs.store.Cells.{Cell}
+use Rattle.ts_core.specs.store.StoreStates.{CellParts}
+use Rattle.ts_core.specs.store.StoreData.{CellMap}
+use Rattle.ts_core.proofs.lists.Comparisons.{lt_true}
+use Rattle.ts_core.proofs.aggregates.IndicesFit.{indices_fit}
+use Rattle.ts_core.proofs.lists.MembersLemmas.{Among-map}
+use Rattle.ts_cells.specs.Walks.{KeptCell, entry_of, entries_within}
+use Rattle.ts_store.specs.store.CellIndices.{IsIndex, HasIndices, HaveIndices}
+use Rattle.ts_store.specs.store.ColumnsKept.{Held}
+use Rattle.ts_store.specs.read.LiveCells.{rollup_at}
+use Rattle.ts_store.specs.rollup.Rollups.{RollupState, new_rollup, AreRollups, cells_of}
+use Rattle.ts_store.proofs.rollup.RollupsGrow.{rollups-length}
+use Rattle.ts_store.specs.image.FrozenLeft.{has_frozen, frozen_cell, frozen_left, HasNearCells}
+use Rattle.ts_store.specs.image.Saving.{FrozenCell, frozen_from}
+
+-- ---- indices
+
+near_time : (t : ℤ) → IsTime t → unsigned_abs t ≤ 2 ^ 65
+near_time (pos n) is = let h = is.not_after in omega (arith, ints)
+near_time (negsuc n) is = let h = is.not_before in omega (arith, ints)
+
+below_end : (z : ℤ) → FitsSigned w64 z → z <ℤ pos (2 ^ 64)
+below_end z fits = omega (arith, ints)
+
+pub index_near : (r : Rule) (i : ℤ) → pos 1000000000 ≤ℤ r.interval → FitsSigned w64 r.offset → IsIndex r i → i <ℤ pos (2 ^ 64)
+index_near r i long offset is = subst (λ z. z <ℤ pos (2 ^ 64)) is.2 (below_end (index_of r is.0) (indices_fit.bucket r is.0 long offset (near_time is.0 is.1)))
+
+-- ---- cells
+
+abbrev is_frozen : Cell × CellParts → Bool
+is_frozen e = nat_lt 0 e.1.frozen.count
+
+abbrev frozen_entry : Cell × CellParts → FrozenCell
+frozen_entry e = record { cell = e.0; frozen = e.1.frozen }
+
+left_frozen : (ks : List (KeptCell CellParts)) → frozen_left ks ≡ map frozen_entry (filter is_frozen (map entry_of ks))
+left_frozen [] = refl
+left_frozen (k ∷ ks) =
+    elim (has_frozen k) as (λ b. map frozen_cell (cond b (k ∷ filter has_frozen ks) (filter has_frozen ks)) ≡ map frozen_entry (cond b (entry_of k ∷ filter is_frozen (map entry_of ks)) (filter is_frozen (map entry_of ks)))) [
+      | true ↦ ap (λ (xs : List FrozenCell). frozen_cell k ∷ xs) (left_frozen ks)
+      | false ↦ left_frozen ks
+    ]
+
+from_low : (low to : ℤ) (es : List (Cell × CellParts)) → ((e : Cell × CellParts) → Among e es → e.0.index <ℤ to)
+    → filter is_frozen (filter (λ (e : Cell × CellParts). is_within low to e.0.index) es) ≡ filter (λ (e : Cell × CellParts). int_le low e.0.index && is_frozen e) es
+from_low low to [] near = refl
+from_low low to (e ∷ es) near =
+    let rest = from_low low to es (λ x a. near x (inr a)) in
+    let inside : List (Cell × CellParts) = filter (λ (x : Cell × CellParts). is_within low to x.0.index) es in
+    let those : List (Cell × CellParts) = filter (λ (x : Cell × CellParts). int_le low x.0.index && is_frozen x) es in
+    ap (λ b. filter is_frozen (cond (int_le low e.0.index && b) (e ∷ inside) inside)) (lt_true e.0.index to (near e (inl refl)))
+    ∙ elim (int_le low e.0.index) as (λ b. filter is_frozen (cond (b && true) (e ∷ inside) inside) ≡ cond (b && is_frozen e) (e ∷ those) those) [
+      | true ↦ elim (is_frozen e) as (λ b. cond b (e ∷ filter is_frozen inside) (filter is_frozen inside) ≡ cond b (e ∷ those) those) [ true ↦ ap (λ (xs : List (Cell × CellParts)). e ∷ xs) rest | false ↦ rest ]
+      | false ↦ rest
+    ]
+
+pub walk_frozen : (m : CellMap) (low to : ℤ) (ks : List (KeptCell CellParts)) → ((k : Cell) → Among k (finmap.keys m) → k.index <ℤ to) → map entry_of ks ≡ entries_within low to m → frozen_left ks ≡ frozen_from low m
+walk_frozen m low to ks near e =
+    left_frozen ks
+    ∙ ap (λ (es : List (Cell × CellParts)). map frozen_entry (filter is_frozen es)) e
+    ∙ ap (map frozen_entry) (from_low low to (finmap.entries m) (λ x a. near x.0 (Among-map (λ (y : Cell × CellParts). y.0) x (finmap.entries m) a)))
+
+-- of the rule of a number
+pub facts_frozen : (held : Held) (r : Rule) (n : ℕ) (s : RollupState) (low to : ℤ) (ks : List (KeptCell CellParts)) → HasNearCells held r n → pos (2 ^ 64) ≤ℤ to → s ≡ get_or held.rollups n s → map entry_of ks ≡ entries_within low to s.grid.cells
+    → frozen_left ks ≡ frozen_from low (rollup_at held.rollups n).grid.cells
+facts_frozen held r n s low to ks near wide read entries =
+    let is : s ≡ rollup_at held.rollups n = read ∙ get_or_default held.rollups n s new_rollup near.there in
+    walk_frozen (rollup_at held.rollups n).grid.cells low to ks
+    (λ k a. let below = index_near r k.index near.second near.offset (near.indices k a) in omega (arith, ints, below, wide))
+    (entries ∙ ap (λ (t : RollupState). entries_within low to t.grid.cells) is)
+
+-- ---- of a store
+
+at_all : {X : Type 0} (P : X → Type 0) (xs : List X) (n : ℕ) (x : X) → IsAt xs n x → AllByRecursion P xs → P x
+at_all P [] n x at h = absurd (none-some x at)
+at_all P (y ∷ xs) zero x at h = subst P (same_Some y x at) h.0
+at_all P (y ∷ xs) (suc n) x at h = at_all P xs n x at h.1
+
+indices_at : (rs : List Rule) (ss : List RollupState) (n : ℕ) (r : Rule) (s : RollupState) → HaveIndices rs (cells_of ss) → IsAt rs n r → IsAt ss n s → HasIndices r s.grid.cells
+indices_at [] ss n r s all at here = absurd (none-some r at)
+indices_at (x ∷ rs) [] n r s all at here = absurd (none-some s here)
+indices_at (x ∷ rs) (y ∷ ss) zero r s all at here = subst (λ q. HasIndices q s.grid.cells) (same_Some x r at) (subst (λ (t : RollupState). HasIndices x t.grid.cells) (same_Some y s here) all.0)
+indices_at (x ∷ rs) (y ∷ ss) (suc n) r s all at here = indices_at rs ss n r s all.1 at here
+
+pub store_near : (rs : List Rule) (names : List Column) (held : Held) (n : ℕ) (r : Rule) → AreRollups rs names held.rollups → HaveIndices rs (cells_of held.rollups) → AllByRecursion (λ (q : Rule). pos 1000000000 ≤ℤ q.interval) rs → AllByRecursion IsPossibleRule rs
+    → n < length rs → r ≡ get_or rs n r → HasNearCells held r n
+store_near rs names held n r rollups indices seconds possible there read =
+    let below : n < length held.rollups = let l = rollups-length rs names held.rollups rollups in omega (arith, l, there) in
+    let at : IsAt rs n r = slice_get-get_or rs n r there ∙ ap Some (sym read) in
+    let here : IsAt held.rollups n (rollup_at held.rollups n) = slice_get-get_or held.rollups n new_rollup below in
+    record {
+      there = below;
+      second = at_all (λ (q : Rule). pos 1000000000 ≤ℤ q.interval) rs n r at seconds;
+      offset = (at_all IsPossibleRule rs n r at possible).offset;
+      indices = indices_at rs held.rollups n r (rollup_at held.rollups n) indices at here;
+    }
+
+pub cells_at_rule : (ss : List RollupState) (n : ℕ) → (rollup_at ss n).grid.cells ≡ get_or (cells_of ss) n finmap.empty
+cells_at_rule [] n = refl
+cells_at_rule (s ∷ ss) zero = refl
+cells_at_rule (s ∷ ss) (suc n) = cells_at_rule ss n

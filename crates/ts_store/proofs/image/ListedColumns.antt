@@ -1,0 +1,191 @@
+-- A column is appended to the list of its series, and each list is sorted in its turn.
+use Rattle.std.proofs.Common.{◌≡◌, ◌≢◌, ◌⊎◌, ⊎_elim, ℕ, zero, suc, ◌+◌, ◌<◌, ◌≤◌, List, [], ◌∷◌, ◌++◌, length, map, take, drop, get_or, set, refl, sym, ◌∙◌, ap, subst, inl, inr, arith, IsPermutation}
+use Rattle.std.specs.List.{AllByRecursion}
+use Rattle.std.specs.List.Sorted.{IsSortedByKey}
+use Rattle.std.proofs.lemmas.Option.{slice_get-get_or, same_Some, none-some}
+use Rattle.std.proofs.lemmas.List.{map-append}
+use Rattle.std.proofs.lemmas.List.Sorted.{IsPermutation-sym, IsPermutation-map}
+use Rattle.std.proofs.lemmas.Cmp.{nat_list_cmp_total}
+use Rattle.std.proofs.lemmas.Map.Lookups.{exact_bytes}
+use Rattle.ts_core.specs.lists.Members.{Among, AllDistinct}
+use Rattle.ts_core.specs.lists.Numbered.{IsAt}
+use Rattle.ts_core.specs.facts.Facts.{Series, Column, text_cmp, series_cmp}
+use Rattle.ts_core.proofs.lists.MembersLemmas.{Among-left, Among-right, Among-append, map_back}
+use Rattle.ts_core.proofs.facts.Ids.{series_total, exact_series}
+use Rattle.ts_core.proofs.lists.NumberedLemmas.{at_within, at_among, same_at, once_more, same_place}
+use Rattle.ts_raw.specs.Indexed.{Indexed}
+use Rattle.ts_store.specs.image.Saving.{SavedColumn, SavedSeries, saved_field, saved_key, SavesColumns, SavesSeries}
+use Rattle.ts_store.specs.image.ColumnsListed.{without_columns, with_column, ListsFirst, ListsColumns}
+use Rattle.ts_store.proofs.image.SavedOrders.{moved_all, moved_among, rising_sorted}
+
+-- ---- lists without columns
+
+pub keys_bare : (ss : List Series) → map saved_key (map without_columns ss) ≡ ss
+keys_bare [] = refl
+keys_bare (s ∷ ss) = ap (λ (xs : List Series). s ∷ xs) (keys_bare ss)
+
+pub lists_bare : (columns : List Column) (ss : List Series) → AllByRecursion (ListsFirst columns 0) (map without_columns ss)
+lists_bare columns [] = tt
+lists_bare columns (s ∷ ss) = (record { once = tt; each = λ x. (λ a. absurd a, λ h. absurd (let l : x.number < 0 = h.0 in omega arith)) }, lists_bare columns ss)
+
+below_or : (k n : ℕ) → k < n + 1 → (k < n) ⊎ (k ≡ n)
+below_or k n l = grind arith
+
+-- ---- one more column
+
+-- an item of distinct ones has one index
+pub one_index : {X : Type 0} (xs : List X) (i j : ℕ) (x : X) → AllDistinct xs → IsAt xs i x → IsAt xs j x → i ≡ j
+one_index xs i j x once a b =
+    let l = at_within xs i x a in
+    let k = at_within xs j x b in
+    same_place xs x i j once l k (same_Some _ x (sym (slice_get-get_or xs i x l) ∙ a) ∙ sym (same_Some _ x (sym (slice_get-get_or xs j x k) ∙ b)))
+
+module _ (columns : List Column) (once : AllDistinct columns) (n : ℕ) (c : Column) (at : IsAt columns n c) where
+  abbrev here : SavedColumn
+  here = record { field = c.field; number = n }
+
+  -- in its own series
+  own_more : (s : SavedSeries) → s.series ≡ c.series → ListsFirst columns n s → ListsFirst columns (n + 1) (with_column s here)
+  own_more s e h = record {
+    once =
+        subst AllDistinct (sym (map-append saved_field s.columns (here ∷ [])))
+        (once_more (map saved_field s.columns) c.field h.once
+        (λ a.
+        let x = map_back saved_field s.columns c.field a in
+        let is = (h.each x.0).0 x.1 in
+        let same : record { series = s.series; field = x.0.field } ≡ c = λ i. record { series = e i; field = x.2 i } in
+        let place : x.0.number ≡ n = one_index columns x.0.number n c once (subst (IsAt columns x.0.number) same is.1) at in
+        let low = is.0 in
+        absurd (omega (arith, place, low))));
+    each = λ x. (
+      λ a. ⊎_elim {C = (x.number < n + 1) × IsAt columns x.number (record { series = s.series; field = x.field })}
+          (λ k. let is = (h.each x).0 k in let low = is.0 in (omega (arith, low), is.1))
+          (λ k. ⊎_elim {C = (x.number < n + 1) × IsAt columns x.number (record { series = s.series; field = x.field })}
+          (λ q.
+          let low : x.number < n + 1 = subst (λ (y : SavedColumn). y.number < n + 1) (sym q) (omega arith) in
+          let there : IsAt columns n (record { series = s.series; field = c.field }) = subst (IsAt columns n) (λ i. record { series = sym e i; field = c.field }) at in
+          (low, subst (λ (y : SavedColumn). IsAt columns y.number (record { series = s.series; field = y.field })) (sym q) there))
+          (λ z. absurd z) k)
+          (Among-append x s.columns (here ∷ []) a),
+      λ k. ⊎_elim {C = Among x (s.columns ++ here ∷ [])}
+          (λ l. Among-left x s.columns (here ∷ []) ((h.each x).1 (l, k.1)))
+          (λ l.
+          let there : IsAt columns n (record { series = s.series; field = x.field }) = subst (λ m. IsAt columns m (record { series = s.series; field = x.field })) l k.1 in
+          let same : c ≡ record { series = s.series; field = x.field } = same_at columns n c (record { series = s.series; field = x.field }) at there in
+          let is : x ≡ here = λ i. record { field = sym (ap (λ (d : Column). d.field) same) i; number = l i } in
+          Among-right x s.columns (here ∷ []) (inl is))
+          (below_or x.number n k.0),
+    );
+  }
+
+  -- in another
+  other_more : (s : SavedSeries) → s.series ≢ c.series → ListsFirst columns n s → ListsFirst columns (n + 1) s
+  other_more s apart h = record {
+    once = h.once;
+    each = λ x. (
+      λ a. let is = (h.each x).0 a in let low = is.0 in (omega (arith, low), is.1),
+      λ k. ⊎_elim {C = Among x s.columns}
+          (λ l. (h.each x).1 (l, k.1))
+          (λ l.
+          let there : IsAt columns n (record { series = s.series; field = x.field }) = subst (λ m. IsAt columns m (record { series = s.series; field = x.field })) l k.1 in
+          absurd (apart (sym (ap (λ (d : Column). d.series) (same_at columns n c (record { series = s.series; field = x.field }) at there)))))
+          (below_or x.number n k.0),
+    );
+  }
+
+  others_more : (all : List SavedSeries) → (Among c.series (map saved_key all) → ⊥) → AllByRecursion (ListsFirst columns n) all → AllByRecursion (ListsFirst columns (n + 1)) all
+  others_more [] apart h = tt
+  others_more (s ∷ all) apart h = (other_more s (λ e. apart (inl (sym e))) h.0, others_more all (λ a. apart (inr a)) h.1)
+
+  pub lists_more : (all : List SavedSeries) (i : ℕ) (s : SavedSeries) → AllDistinct (map saved_key all) → IsAt (map saved_key all) i c.series → s ≡ get_or all i s → AllByRecursion (ListsFirst columns n) all
+      → AllByRecursion (ListsFirst columns (n + 1)) (set all i (with_column s here))
+  lists_more [] i s d is e h = absurd (none-some c.series is)
+  lists_more (x ∷ all) zero s d is e h =
+      let key : x.series ≡ c.series = same_Some x.series c.series is in
+      (subst (λ y. ListsFirst columns (n + 1) (with_column y here)) (sym e) (own_more x key h.0), others_more all (subst (λ k. Among k (map saved_key all) → ⊥) key d.0) h.1)
+  lists_more (x ∷ all) (suc i) s d is e h = (
+    other_more x (λ q. d.0 (subst (λ k. Among k (map saved_key all)) (sym q) (at_among (map saved_key all) i c.series is))) h.0,
+    lists_more all i s d.1 is e h.1,
+  )
+
+-- the keys stay
+pub keys_set : (all : List SavedSeries) (i : ℕ) (s t : SavedSeries) → s ≡ get_or all i s → t.series ≡ s.series → map saved_key (set all i t) ≡ map saved_key all
+keys_set [] i s t e k = refl
+keys_set (x ∷ all) zero s t e k = ap (λ (y : Series). y ∷ map saved_key all) (k ∙ ap saved_key e)
+keys_set (x ∷ all) (suc i) s t e k = ap (λ (ys : List Series). x.series ∷ ys) (keys_set all i s t e k)
+
+-- the next column of an index
+pub list_step : (index : Indexed) (n : ℕ) (all : List SavedSeries) (i id m : ℕ) (s t : SavedSeries) (x : SavedColumn) → AllDistinct index.series → AllDistinct index.columns → n < length index.columns → id ≡ n
+    → ((c : Column) → IsAt index.columns id c → IsAt index.series i c.series) → ((c : Column) → IsAt index.columns id c → x.field ≡ c.field) → x.number ≡ id → m ≡ i → s ≡ get_or all m s → t ≡ with_column s x
+    → ListsColumns index n all → ListsColumns index (n + 1) (set all m t)
+list_step index n all i id m s t x series_once once low e names field number place read made h =
+    let none : Column = record { series = record { measurement = []; tags = [] }; field = [] } in
+    let c : Column = get_or index.columns n none in
+    let at : IsAt index.columns n c = slice_get-get_or index.columns n none low in
+    let at' : IsAt index.columns id c = subst (λ k. IsAt index.columns k c) (sym e) at in
+    let same : x ≡ record { field = c.field; number = n } = λ j. record { field = field c at' j; number = (number ∙ e) j } in
+    let made' : t ≡ with_column s (record { field = c.field; number = n }) = made ∙ ap (with_column s) same in
+    let there : IsAt (map saved_key all) m c.series = subst (λ ks. IsAt ks m c.series) (sym h.keys) (subst (λ k. IsAt index.series k c.series) (sym place) (names c at')) in
+    record {
+      keys = keys_set all m s t read (ap saved_key made') ∙ h.keys;
+      lists =
+          subst (λ (u : SavedSeries). AllByRecursion (ListsFirst index.columns (n + 1)) (set all m u)) (sym made')
+          (lists_more index.columns once n c at all m s (subst AllDistinct (sym h.keys) series_once) there read h.lists);
+    }
+
+-- ---- each list is sorted
+
+-- the list of one series
+pub series_sorted : (columns : List Column) (n : ℕ) (s t : SavedSeries) → length columns ≡ n → ListsFirst columns n s → t.series ≡ s.series → IsPermutation s.columns t.columns → IsSortedByKey saved_field text_cmp t.columns → SavesColumns columns t
+series_sorted columns n s t len h key p sorted = record {
+  rising = rising_sorted nat_list_cmp_total exact_bytes saved_field s.columns t.columns h.once p sorted;
+  each = λ x. (
+    λ a. subst (λ k. IsAt columns x.number (record { series = k; field = x.field })) (sym key) ((h.each x).0 (moved_among t.columns s.columns x (IsPermutation-sym s.columns t.columns p) a)).1,
+    λ k.
+        let there : IsAt columns x.number (record { series = s.series; field = x.field }) = subst (λ y. IsAt columns x.number (record { series = y; field = x.field })) key k in
+        let low = at_within columns x.number (record { series = s.series; field = x.field }) there in
+        moved_among s.columns t.columns x p ((h.each x).1 (omega (arith, low, len), there)),
+  );
+}
+
+-- the first ones are done, and one more
+sorted_next : {X : Type 0} (P : X → Type 0) (xs : List X) (i : ℕ) (x : X) → i < length xs → AllByRecursion P (take i xs) → P x → AllByRecursion P (take (suc i) (set xs i x))
+sorted_next P [] i x l h p = absurd (omega (arith, l))
+sorted_next P (y ∷ xs) zero x l h p = (p, tt)
+sorted_next P (y ∷ xs) (suc i) x l h p = (h.0, sorted_next P xs i x (omega (arith, l)) h.1 p)
+
+pub sorted_more : {X : Type 0} (P : X → Type 0) (xs : List X) (i : ℕ) (x : X) → i < length xs → AllByRecursion P (take i xs) → P x → AllByRecursion P (take (i + 1) (set xs i x))
+sorted_more P xs i x l h p = let e : suc i ≡ i + 1 = omega arith in subst (λ n. AllByRecursion P (take n (set xs i x))) e (sorted_next P xs i x l h p)
+
+left_after : {X : Type 0} (P : X → Type 0) (xs : List X) (i : ℕ) (x : X) → AllByRecursion P (drop i xs) → AllByRecursion P (drop (suc i) (set xs i x))
+left_after P [] i x h = tt
+left_after P (y ∷ xs) zero x h = h.1
+left_after P (y ∷ xs) (suc i) x h = left_after P xs i x h
+
+pub left_more : {X : Type 0} (P : X → Type 0) (xs : List X) (i : ℕ) (x : X) → AllByRecursion P (drop i xs) → AllByRecursion P (drop (i + 1) (set xs i x))
+left_more P xs i x h = let e : suc i ≡ i + 1 = omega arith in subst (λ n. AllByRecursion P (drop n (set xs i x))) e (left_after P xs i x h)
+
+-- the next one that is left
+pub left_next : {X : Type 0} (P : X → Type 0) (xs : List X) (i : ℕ) (x : X) → i < length xs → x ≡ get_or xs i x → AllByRecursion P (drop i xs) → P x
+left_next P [] i x l e h = absurd (omega (arith, l))
+left_next P (y ∷ xs) zero x l e h = subst P (sym e) h.0
+left_next P (y ∷ xs) (suc i) x l e h = left_next P xs i x (omega (arith, l)) e h
+
+pub all_taken : {X : Type 0} (P : X → Type 0) (xs : List X) (n : ℕ) → length xs ≤ n → AllByRecursion P (take n xs) → AllByRecursion P xs
+all_taken P [] n l h = tt
+all_taken P (x ∷ xs) zero l h = absurd (omega (arith, l))
+all_taken P (x ∷ xs) (suc n) l h = (h.0, all_taken P xs n (omega (arith, l)) h.1)
+
+-- ---- the whole is sorted
+
+pub series_saved : (series : List Series) (columns : List Column) (xs ys : List SavedSeries) → AllDistinct series → map saved_key xs ≡ series → AllByRecursion (SavesColumns columns) xs → IsPermutation xs ys → IsSortedByKey saved_key series_cmp ys → SavesSeries series columns ys
+series_saved series columns xs ys once keys each p sorted =
+    let moved : IsPermutation (map saved_key xs) (map saved_key ys) = IsPermutation-map saved_key xs ys p in
+    record {
+      rising = rising_sorted series_total exact_series saved_key xs ys (subst AllDistinct (sym keys) once) p sorted;
+      each = λ s. (
+        λ a. subst (λ (ss : List Series). Among s ss) keys (moved_among (map saved_key ys) (map saved_key xs) s (IsPermutation-sym (map saved_key xs) (map saved_key ys) moved) a),
+        λ a. moved_among (map saved_key xs) (map saved_key ys) s moved (subst (λ (ss : List Series). Among s ss) (sym keys) a),
+      );
+      columns = moved_all (SavesColumns columns) xs ys p each;
+    }

@@ -1,0 +1,94 @@
+-- Lists that a sort put in the order of distinct keys.
+use Rattle.std.proofs.Common.{◌≡◌, ◌≢◌, suc, ◌+◌, Bool, true, false, List, [], ◌∷◌, map, get_or, refl, sym, ◌∙◌, ap, subst, inl, inr, arith, true≢false, Ordering, Less, Equal, Greater, is_lt, is_eq}
+use Rattle.std.specs.Prelude.{IsPermutation}
+use Rattle.std.specs.Ordering.{ordering_reverse}
+use Rattle.std.specs.List.{AllByRecursion, All, IsDistinct}
+use Rattle.std.specs.List.Sorted.{IsSortedBy, IsSortedByKey}
+use Rattle.std.specs.Cmp.{IsTotalOrder, IsStrictWeakOrder}
+use Rattle.std.specs.Fn.{Called, ComparesAs}
+use Rattle.std.proofs.lemmas.Cmp.{eq_by_cmp_equiv}
+use Rattle.std.proofs.lemmas.Fn.{always_returns_same}
+use Rattle.std.proofs.lemmas.List.Elements.{All-nil, All-cons, All-head, All-tail}
+use Rattle.std.proofs.lemmas.List.Sorted.{All-permutation, IsPermutation-sym, IsPermutation-map, ranks_by}
+use Rattle.std.proofs.lemmas.Map.Keys.{IsDistinct-head, IsDistinct-tail, IsDistinct-cons, IsDistinct-IsPermutation}
+use Rattle.std.proofs.lemmas.Map.Lookups.{CmpEqualImpliesEq}
+use denote.Param.Members.{Mut}
+use denote.Ref.{Bor}
+use Rattle.ts_core.specs.lists.Members.{Among, AllDistinct}
+use Rattle.ts_core.proofs.facts.Ids.{equal_of}
+use Rattle.ts_store.specs.image.Saving.{AreRising}
+
+-- ---- what is moved
+
+all_at : {X : Type 0} (P : X → Type 0) (xs : List X) → AllByRecursion P xs → All P xs
+all_at P [] a = All-nil P
+all_at P (x ∷ xs) a = All-cons P x xs a.0 (all_at P xs a.1)
+
+all_by : {X : Type 0} (P : X → Type 0) (xs : List X) → All P xs → AllByRecursion P xs
+all_by P [] a = tt
+all_by P (x ∷ xs) a = (All-head P x xs a, all_by P xs (All-tail P x xs a))
+
+pub moved_all : {X : Type 0} (P : X → Type 0) (xs ys : List X) → IsPermutation xs ys → AllByRecursion P xs → AllByRecursion P ys
+moved_all P xs ys p a = all_by P ys (All-permutation P xs ys p (all_at P xs a))
+
+wider : {X : Type 0} (x : X) (xs ys : List X) → AllByRecursion (λ y. Among y xs) ys → AllByRecursion (λ y. Among y (x ∷ xs)) ys
+wider x xs [] a = tt
+wider x xs (y ∷ ys) a = (inr a.0, wider x xs ys a.1)
+
+members : {X : Type 0} (xs : List X) → AllByRecursion (λ x. Among x xs) xs
+members [] = tt
+members (x ∷ xs) = (inl refl, wider x xs xs (members xs))
+
+pick : {X : Type 0} (P : X → Type 0) (x : X) (xs : List X) → AllByRecursion P xs → Among x xs → P x
+pick P x [] a h = absurd h
+pick P x (y ∷ xs) a (inl e) = subst P (sym e) a.0
+pick P x (y ∷ xs) a (inr h) = pick P x xs a.1 h
+
+pub moved_among : {X : Type 0} (xs ys : List X) (x : X) → IsPermutation xs ys → Among x xs → Among x ys
+moved_among xs ys x p h = pick (λ z. Among z ys) x xs (moved_all (λ z. Among z ys) ys xs (IsPermutation-sym xs ys p) (members ys)) h
+
+-- ---- what a sort by keys gives
+
+module _ {K : Type 0} {R : K → K → Ordering} (o : IsTotalOrder R) {X : Type 0} (key : X → K) where
+  -- where each call of the closure compares the keys
+  pub sorted_by : {F : Type 0} {g : Mut F (Bor X × (Bor X × Unit {0})) Ordering} {f : F} (xs : List X)
+      → ((lt : X → X → Bool) → IsStrictWeakOrder lt → ComparesAs g lt f → IsSortedBy lt xs)
+      → ((a : Bor X × (Bor X × Unit {0})) (r : Ordering) (f' : F) → Called g f a r f' → (r ≡ R (key a.0.now) (key a.1.0.now)) × (f' ≡ f)) → IsSortedByKey key R xs
+  sorted_by {g = g} {f = f} xs up h = up (λ x y. is_lt (R (key x) (key y))) (ranks_by o key)
+      (always_returns_same g (λ a r. is_lt r ≡ is_lt (R (key a.0.now) (key a.1.0.now))) f (λ a r f' k. (ap is_lt (h a r f' k).0, (h a r f' k).1)))
+
+module _ {K : Type 0} {R : K → K → Ordering} (o : IsTotalOrder R) (exact : CmpEqualImpliesEq R) where
+  apart : (x y : K) → x ≢ y → is_eq (R x y) ≡ false
+  apart x y n = elim (is_eq (R x y)) as (λ b. is_eq (R x y) ≡ b → b ≡ false) [ true ↦ λ e. absurd (n (exact x y (equal_of (R x y) e))) | false ↦ λ e. refl ] refl
+
+  all_apart : (x : K) (ys : List K) → (Among x ys → ⊥) → AllByRecursion (λ y. is_eq (R x y) ≡ false) ys
+  all_apart x [] n = tt
+  all_apart x (y ∷ ys) n = (apart x y (λ e. n (inl e)), all_apart x ys (λ a. n (inr a)))
+
+  to_distinct : (xs : List K) → AllDistinct xs → IsDistinct (λ x y. is_eq (R x y)) xs
+  unfolding IsDistinct
+  to_distinct [] d = tt
+  to_distinct (x ∷ xs) d = IsDistinct-cons (λ x y. is_eq (R x y)) x xs (all_apart x xs d.0) (to_distinct xs d.1)
+
+  -- neighbours that differ, the later of which isn't less
+  before : (x y : K) → is_lt (R y x) ≡ false → is_eq (R x y) ≡ false → is_lt (R x y) ≡ true
+  before x y l e =
+      elim (R x y) as (λ r. R x y ≡ r → is_eq r ≡ false → is_lt r ≡ true) [
+        | Less ↦ λ q n. refl
+        | Equal ↦ λ q n. absurd (true≢false n)
+        | Greater ↦ λ q n. absurd (true≢false (sym (ap is_lt (o.antisymm y x ∙ ap ordering_reverse q)) ∙ l))
+      ] refl e
+
+  rising_of : {X : Type 0} (key : X → K) (xs : List X) → IsDistinct (λ x y. is_eq (R x y)) (map key xs) → IsSortedByKey key R xs → AreRising R (map key xs)
+  rising_of key [] d s = tt
+  rising_of key (x ∷ []) d s = tt
+  rising_of key (x ∷ y ∷ ys) d s = (
+    before (key x) (key y) (s 0 x (omega arith) (omega arith)) (IsDistinct-head (λ x y. is_eq (R x y)) (key x) (map key (y ∷ ys)) d).0,
+    rising_of key (y ∷ ys) (IsDistinct-tail (λ x y. is_eq (R x y)) (key x) (map key (y ∷ ys)) d) (λ k e l h. let m : suc k + 1 ≡ suc (k + 1) = omega arith in subst (λ j. is_lt (R (key (get_or (x ∷ y ∷ ys) j e)) (key (get_or (y ∷ ys) k e))) ≡ false) m (s (suc k) e (omega arith) (omega arith))),
+  )
+
+  -- a sorted list whose keys were distinct before
+  pub rising_sorted : {X : Type 0} (key : X → K) (xs ys : List X) → AllDistinct (map key xs) → IsPermutation xs ys → IsSortedByKey key R ys → AreRising R (map key ys)
+  rising_sorted key xs ys d p s =
+      rising_of key ys
+      (IsDistinct-IsPermutation (λ x y. is_eq (R x y)) ((eq_by_cmp_equiv o).symm) (map key xs) (map key ys) (IsPermutation-map key xs ys p) (to_distinct (map key xs) d)) s

@@ -1,0 +1,141 @@
+-- The store that is made of parts is as a store must be, and has these parts.
+use Rattle.std.proofs.Common.{◌≡◌, ◌≤◌, ◌+◌, ℕ, suc, ℤ, Bool, true, false, not, List, [], ◌∷◌, length, map, Option, None, refl, sym, ◌∙◌, ap, subst, arith, true≢false}
+use Rattle.std.specs.List.{AllByRecursion}
+use Rattle.std.specs.Option.{is_some}
+use Rattle.std.proofs.Math.Seq.{take-length}
+use Rattle.std.proofs.lemmas.List.{length-map}
+use Rattle.ts_core.specs.lists.Members.{Among}
+use Rattle.ts_core.specs.facts.Facts.{Series, Column, Fact}
+use Rattle.ts_core.specs.settings.Settings.{Rule, Settings}
+use Rattle.ts_core.specs.settings.SettingsFaults.{settings_fault}
+use Rattle.ts_core.specs.store.Marks.{Marks}
+use Rattle.ts_core.specs.store.Cells.{cell_of}
+use Rattle.ts_core.specs.store.StoreStates.{ColumnPoints, column_of, facts_of}
+use Rattle.ts_core.specs.store.StoreData.{CellMap, rules_of, AreLive}
+use Rattle.ts_core.proofs.moves.MovesStand.{key_there}
+use Rattle.ts_store.specs.image.Building.{AreLowIndices, IsBuildable, IsBuiltFrom, HaveCells, waiting_of}
+use Rattle.ts_store.specs.image.BuildingParts.{built_of, IsInOrder, FillsCells}
+use Rattle.ts_store.specs.store.CellCounts.{HoldFew, live_count}
+use Rattle.ts_store.specs.store.ColumnsKept.{Held}
+use Rattle.ts_store.specs.write.LinesPut.{OfEachRule, PutsCells}
+use Rattle.ts_store.specs.retain.OpenRuns.{Run, opened, unflagged, waiting_in, kept_data, IsWithin, IsKept}
+use Rattle.ts_store.specs.rollup.Rollups.{RollupState, AreRollups, cells_of}
+use Rattle.ts_store.specs.store.SizedStores.{IsSizedRule}
+use Rattle.ts_store.proofs.retain.RollupMoves.{rollups_with}
+use Rattle.ts_store.proofs.rollup.RollupsGrow.{rollups-length}
+use Rattle.ts_store.proofs.rollup.RulesFilled.{others-of}
+
+-- ---- rules
+
+pub lows-length : (mark : ℤ) (rs : List Rule) (lows : List ℤ) → AreLowIndices mark rs lows → length lows ≡ length rs
+lows-length mark [] [] h = refl
+lows-length mark [] (low ∷ lows) h = absurd h
+lows-length mark (r ∷ rs) [] h = absurd h
+lows-length mark (r ∷ rs) (low ∷ lows) h = ap suc (lows-length mark rs lows h.1)
+
+rules-sized : (mark : ℤ) (facts : List Fact) (rs : List Rule) (lows : List ℤ) (ns : List CellMap) → AreLowIndices mark rs lows → HaveCells rs lows facts ns → AllByRecursion (IsSizedRule mark facts) (rules_of rs lows ns)
+rules-sized mark facts [] lows ns h rooms = tt
+rules-sized mark facts (r ∷ rs) [] ns h rooms = tt
+rules-sized mark facts (r ∷ rs) (low ∷ lows) [] h rooms = tt
+rules-sized mark facts (r ∷ rs) (low ∷ lows) (n ∷ ns) h rooms = (
+  record { least = h.0.least; most = h.0.most; there = λ f a rolled above. key_there n (cell_of r f) (λ none. rooms.0 f a rolled above none) },
+  rules-sized mark facts rs lows ns h.1 rooms.1,
+)
+
+counts-built : (count : ℕ) (facts : List Fact) (columns : List ColumnPoints) (rs : List Rule) (lows : List ℤ) (ms ns : List CellMap) → length lows ≡ length rs → OfEachRule (PutsCells facts) rs lows ms ns → HoldFew count columns rs ms → HoldFew count columns rs ns
+counts-built count facts columns [] lows ms ns l puts h = tt
+counts-built count facts columns (r ∷ rs) lows ms [] l puts h = tt
+counts-built count facts columns (r ∷ rs) [] ms (n ∷ ns) l puts h = absurd (omega (arith, l))
+counts-built count facts columns (r ∷ rs) (low ∷ lows) [] (n ∷ ns) l puts h = absurd (let e = puts.0 in omega (arith, e))
+counts-built count facts columns (r ∷ rs) (low ∷ lows) (m ∷ ms) (n ∷ ns) l puts h = (
+  λ k.
+      let one : PutsCells facts r low m n = puts.1 0 r low m n refl refl refl refl in
+      subst (λ a. a + live_count r k columns ≤ count) (sym (ap (λ a. a.count) (one.frozen k))) (h.0 k),
+  counts-built count facts columns rs lows ms ns (omega (arith, l)) (others-of (PutsCells facts) r rs low lows m ms n ns puts) h.1,
+)
+
+-- ---- columns that wait
+
+waiting-flagged : (columns : List ColumnPoints) (passed : List Bool) → length passed ≡ length columns → unflagged passed (map column_of columns) ≡ waiting_of columns (map not passed)
+waiting-flagged [] [] e = refl
+waiting-flagged [] (b ∷ bs) e = absurd (omega (arith, e))
+waiting-flagged (c ∷ cs) [] e = absurd (omega (arith, e))
+waiting-flagged (c ∷ cs) (true ∷ bs) e = waiting-flagged cs bs (omega (arith, e))
+waiting-flagged (c ∷ cs) (false ∷ bs) e = ap (λ (xs : List Column). c.column ∷ xs) (waiting-flagged cs bs (omega (arith, e)))
+
+waiting-none : (columns : List ColumnPoints) (ws : List Bool) → AllByRecursion (λ (w : Bool). w ≡ false) ws → [] ≡ waiting_of columns ws
+waiting-none [] ws h = refl
+waiting-none (c ∷ cs) [] h = refl
+waiting-none (c ∷ cs) (true ∷ ws) h = absurd (true≢false h.0)
+waiting-none (c ∷ cs) (false ∷ ws) h = waiting-none cs ws h.1
+
+waiting-built : (running : Bool) (columns : List ColumnPoints) (passed : List Bool) → length passed ≡ length columns → (running ≡ false → AllByRecursion (λ (w : Bool). w ≡ false) (map not passed))
+    → waiting_in (opened running 0 (length columns) passed) columns ≡ waiting_of columns (map not passed)
+waiting-built true columns passed e idle = ap (λ (xs : List ColumnPoints). unflagged passed (map column_of xs)) (take-length columns) ∙ waiting-flagged columns passed e
+waiting-built false columns passed e idle = waiting-none columns (map not passed) (idle refl)
+
+running-built : (running : Bool) (next end : ℕ) (passed : List Bool) → is_some (opened running next end passed) ≡ running
+running-built true next end passed = refl
+running-built false next end passed = refl
+
+within-built : (running : Bool) (columns : List ColumnPoints) (passed : List Bool) → IsWithin (opened running 0 (length columns) passed) columns
+within-built true columns passed = (omega arith, omega arith)
+within-built false columns passed = tt
+
+-- ---- the whole
+
+module _ (settings : Settings) (marks : Marks) (running : Bool) (count : ℕ) (held after : Held) (passed : List Bool) (order : IsInOrder settings held passed) (well : settings_fault settings ≡ None) (can : IsBuildable (built_of settings marks running count held passed))
+    (fills : FillsCells settings.rules marks.lows held after) where
+  abbrev run : Option Run
+  run = opened running 0 (length after.columns) passed
+
+  same_columns : after.columns ≡ held.columns
+  same_columns = ap (λ (h : Held). h.columns) fills.others
+
+  same_series : after.series ≡ held.series
+  same_series = ap (λ (h : Held). h.series) fills.others
+
+  many : length passed ≡ length after.columns
+  many = order.each ∙ sym (ap length same_columns)
+
+  rules_many : length (cells_of after.rollups) ≡ length settings.rules
+  rules_many = fills.cells.0 ∙ length-map held.rollups (λ (s : RollupState). s.grid.cells) ∙ rollups-length settings.rules (map column_of held.columns) held.rollups order.rollups
+
+  pub kept_built : IsKept (kept_data settings marks count after run) after run
+  kept_built = record {
+    rollups = subst (λ (h : Held). AreRollups settings.rules (map column_of h.columns) h.rollups) (sym fills.others) (rollups_with settings.rules (map column_of held.columns) (cells_of after.rollups) held.rollups order.rollups);
+    few = within-built running after.columns passed;
+    counts = counts-built count (facts_of held.columns) after.columns settings.rules marks.lows (cells_of held.rollups) (cells_of after.rollups) (lows-length marks.raw settings.rules marks.lows can.lows) fills.cells
+        (subst (λ (cs : List ColumnPoints). HoldFew count cs settings.rules (cells_of held.rollups)) (sym same_columns) can.counts);
+    live = subst (λ (cs : List ColumnPoints). AreLive cs settings.rules (cells_of after.rollups)) (sym same_columns) fills.live;
+    indices = fills.indices can.indices;
+    sized = record {
+      settings = well;
+      accepted = can.accepted;
+      facts = subst (λ (cs : List ColumnPoints). length (facts_of cs) ≤ count) (sym same_columns) can.facts;
+      series = subst (λ (xs : List Series). length xs ≤ 1000000) (sym same_series) order.few;
+      named = λ s a. order.named s (subst (Among s) same_series a);
+      columns = fills.known.once;
+      registered = fills.known.registered;
+      keys = λ c a. order.keys c (subst (λ (cs : List ColumnPoints). Among c (map column_of cs)) same_columns a);
+      once = fills.once;
+      lows = lows-length marks.raw settings.rules marks.lows can.lows;
+      cells = rules_many;
+      rules = subst (λ (cs : List ColumnPoints). AllByRecursion (IsSizedRule marks.raw (facts_of cs)) (rules_of settings.rules marks.lows (cells_of after.rollups))) (sym same_columns)
+          (rules-sized marks.raw (facts_of held.columns) settings.rules marks.lows (cells_of after.rollups) can.lows fills.rooms);
+    };
+  }
+
+  pub built_from : IsBuiltFrom (built_of settings marks running count held passed) (kept_data settings marks count after run)
+  built_from = record {
+    settings = refl;
+    marks = refl;
+    running = running-built running 0 (length after.columns) passed;
+    accepted = refl;
+    series = same_series;
+    columns = same_columns;
+    waiting = waiting-built running after.columns passed many can.idle ∙ ap (λ (cs : List ColumnPoints). waiting_of cs (map not passed)) same_columns;
+    cells = fills.cells;
+    rooms = fills.rooms;
+    live = fills.live;
+  }

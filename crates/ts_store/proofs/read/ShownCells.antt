@@ -1,0 +1,174 @@
+-- The cells of a walk with their parts are those that a store shows of the rule.
+use Rattle.std.proofs.Common.{◌≡◌, ℕ, zero, suc, ℤ, pos, ◌<◌, ◌≤◌, ◌^◌, true, false, cond, List, [], ◌∷◌, length, map, filter, get_or, Option, Some, refl, sym, ◌∙◌, ap, ap₂, subst, inl, inr, arith}
+use Rattle.std.specs.FinMap as finmap
+use Rattle.std.specs.FinMap.{get-entries, entries_sorted}
+use Rattle.std.specs.List.{AllByRecursion}
+use Rattle.std.proofs.lemmas.List.{get_or_default}
+use Rattle.std.proofs.lemmas.Option.{none-some, same_Some, slice_get-get_or}
+use Rattle.ts_core.specs.lists.Members.{Among}
+use Rattle.ts_core.specs.facts.Facts.{Fact, is_within}
+use Rattle.ts_core.specs.settings.Settings.{Rule, Settings}
+use Rattle.ts_core.specs.store.Marks.{Marks}
+use Rattle.ts_core.specs.aggregates.Aggregates.{Aggregate}
+use Rattle.ts_core.specs.aggregates.MergeLaws.{aggregate_laws}
+use Rattle.ts_core.specs.store.Cells.{Cell, is_in_cell}
+use Rattle.ts_core.specs.lists.Changes.{or_else}
+use Rattle.ts_core.specs.store.StoreStates.{ColumnPoints, CellParts, column_of, facts_of, RuleCells, rule_of}
+use Rattle.ts_core.specs.store.StoreData.{CellMap, StoreData, no_parts, rule_cells, rules_of, state_of, IsLive, AreLive}
+use Rattle.ts_core.specs.store.Views.{seen_of}
+use Rattle.ts_core.proofs.store.Cuts.{one_fact}
+use Rattle.ts_core.proofs.aggregates.Folds.{fold-count}
+use Rattle.ts_core.proofs.lists.MembersLemmas.{Among-filter_was}
+use Rattle.ts_core.proofs.plans.PieceCells.{cells_total}
+use Rattle.ts_core.proofs.lists.Sorted.{found_among}
+use Rattle.ts_core.specs.lists.Numbered.{IsAt}
+use Rattle.ts_cells.specs.Walks.{KeptCell, entry_of, entries_within}
+use Rattle.ts_store.specs.store.CellCounts.{HoldsFew, HoldFew, frozen_count}
+use Rattle.ts_store.specs.store.ColumnsKept.{Held}
+use Rattle.ts_store.specs.retain.OpenRuns.{Run, IsKept, kept_data}
+use Rattle.ts_store.specs.read.LiveCells.{walked_cell, walked_cells, rollup_at, cells_of_rule, IsWhole, AreWhole, IsRuled}
+use Rattle.ts_store.specs.rollup.Rollups.{RollupState, new_rollup, cells_of}
+use Rattle.ts_store.specs.read.Seats.{SeenCell, with_parts, cells_within, cells_at, no_rule}
+use Rattle.ts_store.proofs.rollup.RollupsGrow.{rollups-length}
+
+-- ---- cells of a map
+
+-- a cell that was found
+abbrev IsFound : CellMap → KeptCell CellParts → Type 0
+IsFound m k = finmap.get m k.cell ≡ Some k.part
+
+parts_shown : (r : Rule) (low : ℤ) (m : CellMap) (k : KeptCell CellParts) → IsFound m k → walked_cell k ≡ with_parts (rule_cells r low m).parts k.cell
+parts_shown r low m k found =
+    let parts : k.part ≡ or_else no_parts (finmap.get m k.cell) = sym (ap (or_else no_parts) found) in
+    λ i. record { cell = k.cell; parts = parts i }
+
+cell_whole : (r : Rule) (columns : List ColumnPoints) (m : CellMap) → IsLive columns r m → HoldsFew (2 ^ 62) columns r m → (k : KeptCell CellParts) → IsFound m k → IsWhole k
+cell_whole r columns m live counts k found =
+    let frozen : k.part.frozen.count ≡ frozen_count m k.cell = sym (ap (λ o. (or_else no_parts o).frozen.count) found) in
+    let inside : List Fact = filter (is_in_cell r k.cell) (facts_of columns) in
+    let count : k.part.live.count ≡ length inside = ap (λ (a : Aggregate). a.count) (live k.cell k.part found) ∙ fold-count aggregate_laws one_fact (λ f. refl) inside in
+    let both = counts k.cell in
+    omega (arith, frozen, count, both)
+
+-- each entry of a map is found in it
+entry_found : (m : CellMap) (e : Cell × CellParts) → Among e (finmap.entries m) → finmap.get m e.0 ≡ Some e.1
+entry_found m e a = get-entries m e.0 ∙ found_among cells_total (finmap.entries m) (entries_sorted m) e a
+
+all_found : (m : CellMap) (es : List (Cell × CellParts)) → ((e : Cell × CellParts) → Among e es → finmap.get m e.0 ≡ Some e.1) → (ks : List (KeptCell CellParts)) → map entry_of ks ≡ es → AllByRecursion (IsFound m) ks
+all_found m es find [] e = tt
+all_found m es find (k ∷ ks) e = (
+  find (entry_of k) (subst (Among (entry_of k)) e (inl refl)),
+  all_found m (map entry_of ks) (λ x a. find x (subst (Among x) e (inr a))) ks refl,
+)
+
+walk_found : (m : CellMap) (a b : ℤ) (ks : List (KeptCell CellParts)) → map entry_of ks ≡ entries_within a b m → AllByRecursion (IsFound m) ks
+walk_found m a b ks e = all_found m (entries_within a b m) (λ x k. entry_found m x (Among-filter_was (λ (y : Cell × CellParts). is_within a b y.0.index) x (finmap.entries m) k)) ks e
+
+all_whole : (r : Rule) (columns : List ColumnPoints) (m : CellMap) → IsLive columns r m → HoldsFew (2 ^ 62) columns r m → (ks : List (KeptCell CellParts)) → AllByRecursion (IsFound m) ks → AreWhole ks
+all_whole r columns m live counts [] found = tt
+all_whole r columns m live counts (k ∷ ks) found = (cell_whole r columns m live counts k found.0, all_whole r columns m live counts ks found.1)
+
+all_shown : (r : Rule) (low : ℤ) (m : CellMap) (ks : List (KeptCell CellParts)) → AllByRecursion (IsFound m) ks → walked_cells ks ≡ map (with_parts (rule_cells r low m).parts) (map (λ (e : Cell × CellParts). e.0) (map entry_of ks))
+all_shown r low m [] found = refl
+all_shown r low m (k ∷ ks) found = ap₂ (λ (x : SeenCell) (xs : List SeenCell). x ∷ xs) (parts_shown r low m k found.0) (all_shown r low m ks found.1)
+
+keys_within : (a b : ℤ) (es : List (Cell × CellParts)) → map (λ (e : Cell × CellParts). e.0) (filter (λ (e : Cell × CellParts). is_within a b e.0.index) es) ≡ filter (λ (k : Cell). is_within a b k.index) (map (λ (e : Cell × CellParts). e.0) es)
+keys_within a b [] = refl
+keys_within a b (e ∷ es) =
+    let rest = keys_within a b es in
+    elim (is_within a b e.0.index) as (λ z. map (λ (x : Cell × CellParts). x.0) (cond z (e ∷ filter (λ (x : Cell × CellParts). is_within a b x.0.index) es) (filter (λ (x : Cell × CellParts). is_within a b x.0.index) es))
+    ≡ cond z (e.0 ∷ filter (λ (k : Cell). is_within a b k.index) (map (λ (x : Cell × CellParts). x.0) es)) (filter (λ (k : Cell). is_within a b k.index) (map (λ (x : Cell × CellParts). x.0) es))) [
+      | true ↦ ap (λ ks. e.0 ∷ ks) rest
+      | false ↦ rest
+    ]
+
+-- and they are those that are shown
+walk_shows : (r : Rule) (low : ℤ) (m : CellMap) (a b : ℤ) (ks : List (KeptCell CellParts)) → map entry_of ks ≡ entries_within a b m → walked_cells ks ≡ cells_within (rule_cells r low m) a b
+walk_shows r low m a b ks e =
+    let parts : Cell → CellParts = (rule_cells r low m).parts in
+    all_shown r low m ks (walk_found m a b ks e)
+    ∙ ap (λ es. map (with_parts parts) (map (λ (x : Cell × CellParts). x.0) es)) e
+    ∙ ap (map (with_parts parts)) (keys_within a b (finmap.entries m))
+
+-- ---- the rule of a number
+
+few_at : (k : ℕ) (columns : List ColumnPoints) (rs : List Rule) (ss : List RollupState) (n : ℕ) (r : Rule) (s : RollupState) → HoldFew k columns rs (cells_of ss) → IsAt rs n r → IsAt ss n s → HoldsFew k columns r s.grid.cells
+few_at k columns [] ss n r s all at here = absurd (none-some r at)
+few_at k columns (x ∷ rs) [] n r s all at here = absurd (none-some s here)
+few_at k columns (x ∷ rs) (y ∷ ss) zero r s all at here = subst (λ q. HoldsFew k columns q s.grid.cells) (same_Some x r at) (subst (λ t. HoldsFew k columns x t.grid.cells) (same_Some y s here) all.0)
+few_at k columns (x ∷ rs) (y ∷ ss) (suc n) r s all at here = few_at k columns rs ss n r s all.1 at here
+
+live_at : (columns : List ColumnPoints) (rs : List Rule) (ss : List RollupState) (n : ℕ) (r : Rule) (s : RollupState) → AreLive columns rs (cells_of ss) → IsAt rs n r → IsAt ss n s → IsLive columns r s.grid.cells
+live_at columns [] ss n r s all at here = absurd (none-some r at)
+live_at columns (x ∷ rs) [] n r s all at here = absurd (none-some s here)
+live_at columns (x ∷ rs) (y ∷ ss) zero r s all at here = subst (λ q. IsLive columns q s.grid.cells) (same_Some x r at) (subst (λ t. IsLive columns x t.grid.cells) (same_Some y s here) all.0)
+live_at columns (x ∷ rs) (y ∷ ss) (suc n) r s all at here = live_at columns rs ss n r s all.1 at here
+
+-- it is shown by its place
+shown_at : (rs : List Rule) (lows : List ℤ) (ss : List RollupState) (n : ℕ) (r : Rule) (s : RollupState) → IsAt rs n r → IsAt ss n s → length lows ≡ length rs
+    → (low : ℤ) × (get_or (rules_of rs lows (cells_of ss)) n no_rule ≡ rule_cells r low s.grid.cells)
+shown_at [] lows ss n r s at here l = absurd (none-some r at)
+shown_at (x ∷ rs) [] ss n r s at here l = absurd (omega (arith, l))
+shown_at (x ∷ rs) (low ∷ lows) [] n r s at here l = absurd (none-some s here)
+shown_at (x ∷ rs) (low ∷ lows) (y ∷ ss) zero r s at here l = (low, ap₂ (λ (q : Rule) (t : RollupState). rule_cells q low t.grid.cells) (same_Some x r at) (same_Some y s here))
+shown_at (x ∷ rs) (low ∷ lows) (y ∷ ss) (suc n) r s at here l = shown_at rs lows ss n r s at here (omega (arith, l))
+
+-- ---- of a whole store
+
+-- each rule is shown
+pub rules-length : (rs : List Rule) (lows : List ℤ) (ms : List CellMap) → length lows ≡ length rs → length ms ≡ length rs → length (rules_of rs lows ms) ≡ length rs
+rules-length [] lows ms e f = refl
+rules-length (r ∷ rs) [] ms e f = absurd (omega (arith, e))
+rules-length (r ∷ rs) (low ∷ lows) [] e f = absurd (omega (arith, f))
+rules-length (r ∷ rs) (low ∷ lows) (m ∷ ms) e f = ap suc (rules-length rs lows ms (omega (arith, e)) (omega (arith, f)))
+
+pub rules-shown : (rs : List Rule) (lows : List ℤ) (ms : List CellMap) → length lows ≡ length rs → length ms ≡ length rs → map rule_of (rules_of rs lows ms) ≡ rs
+rules-shown [] lows ms e f = refl
+rules-shown (r ∷ rs) [] ms e f = absurd (omega (arith, e))
+rules-shown (r ∷ rs) (low ∷ lows) [] e f = absurd (omega (arith, f))
+rules-shown (r ∷ rs) (low ∷ lows) (m ∷ ms) e f = ap (λ (xs : List Rule). r ∷ xs) (rules-shown rs lows ms (omega (arith, e)) (omega (arith, f)))
+
+rule_few : (n m : ℕ) (columns : List ColumnPoints) (r : Rule) (cells : CellMap) → n ≤ m → HoldsFew n columns r cells → HoldsFew m columns r cells
+rule_few n m columns r cells more few = λ k. let f = few k in omega (arith, f, more)
+
+-- the rule of a number, of a store between two calls
+pub store_ruled : (k : StoreData) (held : Held) (run : Option Run) (n : ℕ) (r : Rule) → IsKept k held run → k.columns ≡ held.columns → k.cells ≡ cells_of held.rollups → n < length k.settings.rules → r ≡ get_or k.settings.rules n r → IsRuled held r n
+store_ruled k held run n r kept columns cells there read =
+    let rs : List Rule = k.settings.rules in
+    let below : n < length held.rollups = let l = rollups-length rs (map column_of held.columns) held.rollups kept.rollups in omega (arith, l, there) in
+    let at : IsAt rs n r = slice_get-get_or rs n r there ∙ ap Some (sym read) in
+    let here : IsAt held.rollups n (rollup_at held.rollups n) = slice_get-get_or held.rollups n new_rollup below in
+    let counts : HoldFew k.accepted held.columns rs (cells_of held.rollups) = subst (λ ms. HoldFew k.accepted held.columns rs ms) cells (subst (λ cs. HoldFew k.accepted cs rs k.cells) columns kept.counts) in
+    let live : AreLive held.columns rs (cells_of held.rollups) = subst (λ ms. AreLive held.columns rs ms) cells (subst (λ cs. AreLive cs rs k.cells) columns kept.live) in
+    record {
+      there = below;
+      live = live_at held.columns rs held.rollups n r (rollup_at held.rollups n) live at here;
+      few = rule_few k.accepted (2 ^ 62) held.columns r (rollup_at held.rollups n).grid.cells kept.sized.accepted
+          (few_at k.accepted held.columns rs held.rollups n r (rollup_at held.rollups n) counts at here);
+    }
+
+-- its cells are shown
+pub store_shows : (settings : Settings) (marks : Marks) (accepted : ℕ) (held : Held) (run : Option Run) (n : ℕ) (r : Rule) (a b : ℤ) → IsKept (kept_data settings marks accepted held run) held run → n < length settings.rules → r ≡ get_or settings.rules n r
+    → cells_of_rule held r n a b ≡ cells_at (seen_of (state_of (kept_data settings marks accepted held run))).rules n a b
+store_shows settings marks accepted held run n r a b kept there read =
+    let rs : List Rule = settings.rules in
+    let below : n < length held.rollups = let l = rollups-length rs (map column_of held.columns) held.rollups kept.rollups in omega (arith, l, there) in
+    let at : IsAt rs n r = slice_get-get_or rs n r there ∙ ap Some (sym read) in
+    let here : IsAt held.rollups n (rollup_at held.rollups n) = slice_get-get_or held.rollups n new_rollup below in
+    let shown = shown_at rs marks.lows held.rollups n r (rollup_at held.rollups n) at here kept.sized.lows in
+    sym (ap (λ (t : RuleCells). cells_within t a b) shown.1)
+
+-- ---- a walk over the cells of the rule of a number
+
+module _ (held : Held) (r : Rule) (n : ℕ) (s : RollupState) (a b : ℤ) (ks : List (KeptCell CellParts)) (ruled : IsRuled held r n) (read : s ≡ get_or held.rollups n s) (entries : map entry_of ks ≡ entries_within a b s.grid.cells) where
+  its_rollup : s ≡ rollup_at held.rollups n
+  its_rollup = read ∙ get_or_default held.rollups n s new_rollup ruled.there
+
+  its_entries : map entry_of ks ≡ entries_within a b (rollup_at held.rollups n).grid.cells
+  its_entries = entries ∙ ap (λ (t : RollupState). entries_within a b t.grid.cells) its_rollup
+
+  pub facts_whole : AreWhole ks
+  facts_whole = all_whole r held.columns (rollup_at held.rollups n).grid.cells ruled.live ruled.few ks (walk_found (rollup_at held.rollups n).grid.cells a b ks its_entries)
+
+  pub facts_walked : walked_cells ks ≡ cells_of_rule held r n a b
+  facts_walked = walk_shows r (pos 0) (rollup_at held.rollups n).grid.cells a b ks its_entries

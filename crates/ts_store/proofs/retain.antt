@@ -1,0 +1,13 @@
+-- OpenRuns
+pub mod WaitingColumns
+pub mod RunsGoOn
+pub mod RunsStay
+-- RollupSteps: the steps of a run
+pub mod RollupMoves
+pub mod RollupExpiry
+pub mod PointsFrozen
+pub mod TurnsLeft
+-- CellCounts
+pub mod CountsMoved
+-- RollupSteps: the steps of a run
+pub mod Refolds

@@ -1,0 +1,175 @@
+-- What moving a column leaves: of rollups, and of columns with their points.
+use Rattle.std.proofs.Common.{◌≡◌, ℕ, zero, suc, ℤ, ◌<◌, ◌≤◌, true, false, cond, List, [], ◌∷◌, length, filter, map, set, get_or, refl, sym, ◌∙◌, ap, ap₂, subst, inl, inr, arith, Some, None, is_some, true≢false, int_le, Equal}
+use Rattle.std.specs.Ordering.{int_cmp}
+use Rattle.std.specs.List.{slice_get, AllByRecursion}
+use Rattle.std.specs.Cmp.{int_cmp_total}
+use Rattle.std.specs.FinMap as finmap
+use Rattle.std.specs.FinMap.{entries, entries_sorted, get-entries, get-retain_keys, int_cmp-IsAntisymmetric}
+use Rattle.std.specs.FinMap.Entries.{same_entries, is_sorted-where_key, find-where_key, where_key}
+use Rattle.std.proofs.lemmas.Option.{none-some, same_Some}
+use Rattle.std.proofs.lemmas.List.{length-map, map-set, get_or_default}
+use Rattle.std.proofs.lemmas.List.Sums.{sum_by-cons}
+use Rattle.ts_core.specs.lists.Members.{Among, AllDistinct}
+use Rattle.ts_core.specs.facts.Facts.{Column, Fact}
+use Rattle.ts_core.specs.settings.Settings.{Rule}
+use Rattle.ts_core.specs.store.RawFacts.{same_column}
+use Rattle.ts_core.specs.store.StoreStates.{ColumnPoints, column_of}
+use Rattle.ts_core.specs.store.StoreData.{CellMap}
+use Rattle.ts_core.specs.moves.StoreMoves.{frozen_points, refolded_points, moved_cells, all_moved, points_below, kept_points}
+use Rattle.ts_core.proofs.store.StateLemmas.{same_column-refl, same_column-eq}
+use Rattle.ts_raw.specs.Columns.{PointMap, ColumnState, points_from}
+use Rattle.ts_raw.specs.Indexed.{Indexed}
+use Rattle.ts_core.proofs.lists.NumberedLemmas.{at_among}
+use Rattle.ts_store.specs.store.ColumnsKept.{point_maps, with_points, columns_in, no_column, held_of, IsHeld}
+use Rattle.ts_store.specs.read.PointsRead.{number_of_points}
+use Rattle.ts_store.specs.rollup.Rollups.{RollupState, IsLaneOf, AreRollups, lane_at, with_frozen, cells_of}
+use Rattle.ts_store.specs.retain.RollupSteps.{with_frozen_all, FreezesFit, FreezeFit, facts_left, held_moved}
+use Rattle.ts_store.specs.write.LivePuts.{IsOver}
+use Rattle.ts_store.proofs.store.ColumnsLemmas.{names_held}
+use Rattle.ts_store.proofs.write.ColumnsAside.{points_at}
+use Rattle.ts_store.proofs.rollup.RollupsGrow.{lanes-length}
+use Rattle.ts_store.proofs.retain.RollupExpiry.{same_lanes}
+
+-- ---- other cells under the same lanes
+
+pub cells_with : (ms : List CellMap) (ss : List RollupState) → length ms ≡ length ss → cells_of (with_frozen_all ms ss) ≡ ms
+cells_with [] [] l = refl
+cells_with (m ∷ ms) [] l = absurd (omega arith)
+cells_with [] (s ∷ ss) l = absurd (omega arith)
+cells_with (m ∷ ms) (s ∷ ss) l = ap (λ ns. m ∷ ns) (cells_with ms ss (omega arith))
+
+pub rollups_with : (rs : List Rule) (cs : List Column) (ms : List CellMap) (ss : List RollupState) → AreRollups rs cs ss → AreRollups rs cs (with_frozen_all ms ss)
+rollups_with [] cs ms [] a = tt
+rollups_with [] cs ms (s ∷ ss) a = absurd a
+rollups_with (r ∷ rs) cs ms [] a = absurd a
+rollups_with (r ∷ rs) cs [] (s ∷ ss) a = a
+rollups_with (r ∷ rs) cs (m ∷ ms) (s ∷ ss) a = (a.0, rollups_with rs cs ms ss a.1)
+
+pub moved-length : (rs : List Rule) (c : Column) (ps : List (ℤ × ℤ)) (facts : List Fact) (ms : List CellMap) → length (all_moved rs c ps facts ms) ≡ length ms
+moved-length [] c ps facts ms = refl
+moved-length (r ∷ rs) c ps facts [] = refl
+moved-length (r ∷ rs) c ps facts (m ∷ ms) = let e = moved-length rs c ps facts ms in omega arith
+
+-- ---- a column is moved under a rule
+
+-- a rule that has a lane for it
+pub moved_rolled : (r : Rule) (c : Column) (ps : List (ℤ × ℤ)) (facts : List Fact) (n : ℕ) (s t u : RollupState) → is_some (lane_at s n) ≡ true → IsLaneOf r c s.grid.lanes (lane_at s n) → t ≡ with_frozen t.grid.cells s → u ≡ with_frozen u.grid.cells t
+    → ((l : ℕ) → lane_at s n ≡ Some l → IsLaneOf r c s.grid.lanes (Some l) → t.grid.cells ≡ frozen_points r c ps s.grid.cells)
+    → ((l : ℕ) → lane_at t n ≡ Some l → u.grid.cells ≡ refolded_points r c ps facts t.grid.cells) → u ≡ with_frozen (moved_cells r c ps facts s.grid.cells) s
+moved_rolled r c ps facts n s t u rolled is kept still frozen refold =
+    elim (lane_at s n) as (λ o. lane_at s n ≡ o → is_some o ≡ true → IsLaneOf r c s.grid.lanes o → u ≡ with_frozen (moved_cells r c ps facts s.grid.cells) s) [
+      | None ↦ λ e k h. absurd (true≢false (sym k))
+      | Some l ↦ λ e k h.
+          let cells : u.grid.cells ≡ moved_cells r c ps facts s.grid.cells =
+          refold l (ap (λ (x : RollupState). lane_at x n) kept ∙ e) ∙ ap (refolded_points r c ps facts) (frozen l e h)
+          ∙ sym (ap (λ b. cond b (refolded_points r c ps facts (frozen_points r c ps s.grid.cells)) s.grid.cells) h.0) in
+          still ∙ ap (with_frozen u.grid.cells) kept ∙ ap (λ (m : CellMap). with_frozen m s) cells
+    ] refl rolled is
+
+-- and one that has none
+pub moved_passed : (r : Rule) (c : Column) (ps : List (ℤ × ℤ)) (facts : List Fact) (n : ℕ) (s : RollupState) → is_some (lane_at s n) ≡ false → IsLaneOf r c s.grid.lanes (lane_at s n) → s ≡ with_frozen (moved_cells r c ps facts s.grid.cells) s
+moved_passed r c ps facts n s passed is =
+    elim (lane_at s n) as (λ o. is_some o ≡ false → IsLaneOf r c s.grid.lanes o → s ≡ with_frozen (moved_cells r c ps facts s.grid.cells) s) [
+      | None ↦ λ k h. ap (λ (m : CellMap). with_frozen m s) (sym (ap (λ b. cond b (refolded_points r c ps facts (frozen_points r c ps s.grid.cells)) s.grid.cells) h))
+      | Some l ↦ λ k h. absurd (true≢false k)
+    ] passed is
+
+-- ---- points at the mark and after it stay
+
+pub entries_from : (m : PointMap) (mark : ℤ) → entries (points_from m mark) ≡ filter (λ (p : ℤ × ℤ). int_le mark p.0) (entries m)
+entries_from m mark =
+    let alike : (q x : ℤ) → int_cmp q x ≡ Equal → int_le mark x ≡ int_le mark q = λ q x e. ap (int_le mark) (sym (int_cmp-IsAntisymmetric q x e)) in
+    same_entries int_cmp int_cmp_total int_cmp-IsAntisymmetric (entries (points_from m mark)) (where_key int_cmp (int_le mark) (entries m)) (entries_sorted (points_from m mark))
+    (is_sorted-where_key int_cmp (int_le mark) (entries m) (entries_sorted m))
+    (λ q. sym (get-entries (points_from m mark) q) ∙ get-retain_keys m (int_le mark) q (alike q) ∙ ap (λ o. cond (int_le mark q) o None) (get-entries m q) ∙ sym (find-where_key int_cmp (int_le mark) q (alike q) (entries m)))
+
+others_kept : (c : Column) (mark : ℤ) (cs : List Column) (ms : List PointMap) → (Among c cs → ⊥) → map (kept_points c mark) (with_points cs ms) ≡ with_points cs ms
+others_kept c mark [] ms a = refl
+others_kept c mark (d ∷ cs) [] a = refl
+others_kept c mark (d ∷ cs) (m ∷ ms) a =
+    let apart : same_column d c ≡ false = elim (same_column d c) as (λ b. same_column d c ≡ b → b ≡ false) [ true ↦ λ e. absurd (a (inl (sym (same_column-eq d c e)))) | false ↦ λ e. refl ] refl in
+    let s : ColumnPoints = record { column = d; points = entries m } in
+    ap₂ (λ (x : ColumnPoints) xs. x ∷ xs) (ap (λ b. cond b (record { column = d; points = filter (λ (p : ℤ × ℤ). int_le mark p.0) (entries m) }) s) apart) (others_kept c mark cs ms (λ k. a (inr k)))
+
+-- of the column of a number only the points from the mark on are kept
+pub columns_left : (c : Column) (mark : ℤ) (cs : List Column) (ms : List PointMap) (n : ℕ) → AllDistinct cs → length ms ≡ length cs → slice_get cs n ≡ Some c
+    → with_points cs (set ms n (points_from (get_or ms n finmap.empty) mark)) ≡ map (kept_points c mark) (with_points cs ms)
+columns_left c mark [] ms n d l e = absurd (none-some c e)
+columns_left c mark (b ∷ cs) [] n d l e = absurd (omega arith)
+columns_left c mark (b ∷ cs) (m ∷ ms) zero d l e =
+    let same : b ≡ c = same_Some b c e in
+    let is : same_column b c ≡ true = ap (λ x. same_column x c) same ∙ same_column-refl c in
+    let s : ColumnPoints = record { column = b; points = entries m } in
+    ap₂ (λ (x : ColumnPoints) xs. x ∷ xs)
+    (ap (λ (ps : List (ℤ × ℤ)). record { column = b; points = ps }) (entries_from m mark) ∙ sym (ap (λ v. cond v (record { column = b; points = filter (λ (p : ℤ × ℤ). int_le mark p.0) (entries m) }) s) is))
+    (sym (others_kept c mark cs ms (subst (λ (x : Column). Among x cs → ⊥) same d.0)))
+columns_left c mark (b ∷ cs) (m ∷ ms) (suc n) d l e =
+    let apart : same_column b c ≡ false =
+    elim (same_column b c) as (λ v. same_column b c ≡ v → v ≡ false) [ true ↦ λ k. absurd (d.0 (subst (λ (x : Column). Among x cs) (sym (same_column-eq b c k)) (at_among cs n c e))) | false ↦ λ k. refl ] refl in
+    let s : ColumnPoints = record { column = b; points = entries m } in
+    ap₂ (λ (x : ColumnPoints) xs. x ∷ xs) (sym (ap (λ v. cond v (record { column = b; points = filter (λ (p : ℤ × ℤ). int_le mark p.0) (entries m) }) s) apart)) (columns_left c mark cs ms n d.1 (omega (arith, l)) e)
+
+-- ---- under all rules
+
+pub lanes_within : (rs : List Rule) (cs : List Column) (ss : List RollupState) (n : ℕ) → AreRollups rs cs ss → n < length cs → AllByRecursion (λ (s : RollupState). n < length s.lanes) ss
+lanes_within [] cs [] n a l = tt
+lanes_within [] cs (s ∷ ss) n a l = absurd a
+lanes_within (r ∷ rs) cs [] n a l = tt
+lanes_within (r ∷ rs) cs (s ∷ ss) n a l = (let e = lanes-length r s.grid.lanes cs s.lanes a.0 in omega arith, lanes_within rs cs ss n a.1 l)
+
+-- without rules
+pub none_frozen : (ms : List CellMap) (ss : List RollupState) → length ss ≡ 0 → ss ≡ with_frozen_all ms ss
+none_frozen ms [] e = refl
+none_frozen ms (s ∷ ss) e = absurd (omega arith)
+
+pub all_moved-none : (rs : List Rule) (cs : List Column) (ss : List RollupState) (c : Column) (ps : List (ℤ × ℤ)) (facts : List Fact) → length rs ≡ 0 → AreRollups rs cs ss → ss ≡ with_frozen_all (all_moved rs c ps facts (cells_of ss)) ss
+all_moved-none [] cs ss c ps facts e a = same_lanes ss
+all_moved-none (r ∷ rs) cs ss c ps facts e a = absurd (let n : ⊥ = omega arith in n)
+
+-- the first rule, and the others
+pub all_moved-more : (r : Rule) (rs rs' : List Rule) (cs : List Column) (states : List ColumnState) (n : ℕ) (c : Column) (ps : List (ℤ × ℤ)) (facts : List Fact) (s t : RollupState) (ss ts ss' : List RollupState) → rs' ≡ r ∷ rs → ss' ≡ s ∷ ss
+    → length states ≡ length cs → AllDistinct cs → AreRollups rs' cs ss' → FreezeFit rs' c ps (cells_of ss')
+    → (IsOver r cs states s → FreezesFit r c ps s.grid.cells → t ≡ with_frozen (moved_cells r c ps facts s.grid.cells) s)
+    → (AreRollups rs cs ss → FreezeFit rs c ps (cells_of ss) → ts ≡ with_frozen_all (all_moved rs c ps facts (cells_of ss)) ss)
+    → t ∷ ts ≡ with_frozen_all (all_moved rs' c ps facts (cells_of ss')) ss'
+all_moved-more r rs rs' cs states n c ps facts s t ss ts ss' d e each once a fit one others =
+    let a' : AreRollups (r ∷ rs) cs (s ∷ ss) = subst (λ (us : List RollupState). AreRollups (r ∷ rs) cs us) e (subst (λ (qs : List Rule). AreRollups qs cs ss') d a) in
+    let fit' : FreezeFit (r ∷ rs) c ps (cells_of (s ∷ ss)) = subst (λ (us : List RollupState). FreezeFit (r ∷ rs) c ps (cells_of us)) e (subst (λ (qs : List Rule). FreezeFit qs c ps (cells_of ss')) d fit) in
+    ap₂ (λ u us. u ∷ us) (one (record { each = each; once = once; lanes = a'.0 }) fit'.0) (others a'.1 fit'.1)
+    ∙ sym (ap₂ (λ (qs : List Rule) (us : List RollupState). with_frozen_all (all_moved qs c ps facts (cells_of us)) us) d e)
+
+-- ---- a column of what is held
+
+pub one_of-points : (ss : List ColumnState) (n : ℕ) (d : ColumnState) → n < length ss → finmap.len (get_or ss n d).points ≤ number_of_points ss
+one_of-points [] n d l = absurd (omega arith)
+one_of-points (s ∷ ss) zero d l = let e = sum_by-cons (λ (t : ColumnState). finmap.len t.points) s ss in omega arith
+one_of-points (s ∷ ss) (suc n) d l = let e = sum_by-cons (λ (t : ColumnState). finmap.len t.points) s ss in let h = one_of-points ss n d (omega arith) in omega arith
+
+-- the column of a number, with its points
+with_points-at : (cs : List Column) (ms : List PointMap) (n : ℕ) (s : ColumnPoints) → slice_get (with_points cs ms) n ≡ Some s → (slice_get cs n ≡ Some s.column) × (s.points ≡ entries (get_or ms n finmap.empty))
+with_points-at [] ms n s e = absurd (none-some s e)
+with_points-at (c ∷ cs) [] n s e = absurd (none-some s e)
+with_points-at (c ∷ cs) (m ∷ ms) zero s e = let is = same_Some (record { column = c; points = entries m }) s e in (ap (λ (x : ColumnPoints). Some x.column) is, sym (ap (λ (x : ColumnPoints). x.points) is))
+with_points-at (c ∷ cs) (m ∷ ms) (suc n) s e = with_points-at cs ms n s e
+
+pub held_moves : (index : Indexed) (ss : List ColumnState) (us vs : List RollupState) (rs : List Rule) (mark : ℤ) (n : ℕ) (x y : ColumnState) → IsHeld index ss → n < length ss → x ≡ get_or ss n x → y.points ≡ points_from x.points mark
+    → AreRollups rs (map column_of (columns_in index ss)) us
+    → ((cs : List Column) (c : Column) → length ss ≡ length cs → AllDistinct cs → AreRollups rs cs us → slice_get cs n ≡ Some c → FreezeFit rs c (points_below mark (entries (get_or ss n no_column).points)) (cells_of us)
+    → vs ≡ with_frozen_all (all_moved rs c (points_below mark (entries (get_or ss n no_column).points)) (facts_left mark c cs ss) (cells_of us)) us)
+    → (s : ColumnPoints) → slice_get (columns_in index ss) n ≡ Some s → FreezeFit rs s.column (points_below mark s.points) (cells_of us) → held_of index (set ss n y) vs ≡ held_moved rs s mark (held_of index ss us)
+held_moves index ss us vs rs mark n x y held within is left a moved s at fit =
+    let cs : List Column = index.columns in
+    let ms : List PointMap = point_maps ss in
+    let each : length ms ≡ length cs = length-map ss (λ (t : ColumnState). t.points) ∙ held.each in
+    let place = with_points-at cs ms n s at in
+    let col : get_or ss n no_column ≡ x = sym (get_or_default ss n x no_column within) ∙ sym is in
+    let its : get_or ms n finmap.empty ≡ x.points = points_at ss n ∙ ap (λ (t : ColumnState). t.points) col in
+    let points : s.points ≡ entries (get_or ss n no_column).points = place.1 ∙ ap entries (points_at ss n) in
+    let rest : point_maps (set ss n y) ≡ set ms n (points_from (get_or ms n finmap.empty) mark) =
+    map-set (λ (t : ColumnState). t.points) ss n y ∙ ap (set ms n) (left ∙ ap (λ (m : PointMap). points_from m mark) (sym its)) in
+    let columns : columns_in index (set ss n y) ≡ map (kept_points s.column mark) (columns_in index ss) = ap (with_points cs) rest ∙ columns_left s.column mark cs ms n held.sound.columns_once each place.0 in
+    let have : AreRollups rs cs us = subst (λ (names : List Column). AreRollups rs names us) (names_held index ss held.each) a in
+    let rollups : vs ≡ with_frozen_all (all_moved rs s.column (points_below mark s.points) (facts_left mark s.column cs ss) (cells_of us)) us =
+    moved cs s.column held.each held.sound.columns_once have place.0 (subst (λ (ps : List (ℤ × ℤ)). FreezeFit rs s.column (points_below mark ps) (cells_of us)) points fit)
+    ∙ ap (λ (ps : List (ℤ × ℤ)). with_frozen_all (all_moved rs s.column (points_below mark ps) (facts_left mark s.column cs ss) (cells_of us)) us) (sym points) in
+    λ i. record { series = index.series; columns = columns i; rollups = rollups i }

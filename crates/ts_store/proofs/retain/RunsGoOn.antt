@@ -1,0 +1,336 @@
+-- A begin and the steps of a run, on what a store keeps: it goes on standing for its history, and is kept.
+use Rattle.std.proofs.Common.{◌≡◌, ◌⊎◌, ℕ, ℤ, ◌+◌, ◌≤◌, ◌^◌, true, false, true≢false, List, [], ◌∷◌, length, map, refl, sym, ◌∙◌, ap, ap₂, subst, inl, inr, arith, Option, Some, None, cond, filter, int_le, get_or}
+use Rattle.std.specs.Int.{int_max}
+use Rattle.std.proofs.lemmas.List.{length-map, append-nil}
+use Rattle.std.proofs.lemmas.Option.{slice_get-get_or}
+use Rattle.ts_core.specs.facts.Facts.{Column}
+use Rattle.ts_core.specs.settings.Settings.{Rule, Settings}
+use Rattle.ts_core.specs.store.Marks.{Marks}
+use Rattle.ts_core.specs.store.History.{Step, kept_since}
+use Rattle.ts_core.specs.store.RawFacts.{same_column}
+use Rattle.ts_core.specs.store.StoreStates.{ColumnPoints, StandsFor, column_of, facts_of}
+use Rattle.ts_core.specs.store.StoreData.{CellMap, StoreData, rules_of, state_of, AreLive, GoesOn}
+use Rattle.ts_core.proofs.moves.LivesKept.{lives_go, lives_left}
+use Rattle.ts_core.specs.moves.StoreMoves.{all_moved, points_below, kept_points, column_moved, raised, run_begun, with_cells, run_ended}
+use Rattle.ts_core.specs.moves.Runs.{turns_left, steps_left}
+use Rattle.ts_core.proofs.moves.StepStands.{step_stands}
+use Rattle.ts_core.proofs.moves.MovesStand.{cells_go, run_ends}
+use Rattle.ts_core.proofs.store.RunSteps.{idle_step_stands}
+use Rattle.ts_core.specs.lists.Numbered.{IsAt}
+use Rattle.ts_core.proofs.lists.NumberedLemmas.{at_among}
+use Rattle.ts_store.specs.store.CellCounts.{HoldFew}
+use Rattle.ts_store.specs.store.ColumnsKept.{Held}
+use Rattle.std.specs.Option.{is_some}
+use Rattle.ts_store.specs.retain.OpenRuns.{Run, run_over, waiting_in, IsWithin, TakesFirst, kept_data, IsKept}
+use Rattle.ts_store.proofs.retain.WaitingColumns.{same_waiting, within_more, all_wait}
+use Rattle.ts_store.specs.rollup.Rollups.{RollupState, AreRollups, cells_of}
+use Rattle.ts_store.specs.read.Seats.{no_points}
+use Rattle.ts_store.specs.store.SizedStores.{IsSized}
+use Rattle.ts_store.specs.store.CellIndices.{HaveIndices}
+use Rattle.ts_store.specs.retain.RollupSteps.{held_with, FreezeFit, held_moved}
+use Rattle.ts_store.proofs.retain.CountsMoved.{counts-fit, counts-moved}
+use Rattle.ts_store.proofs.retain.RollupMoves.{cells_with, rollups_with, moved-length}
+use Rattle.ts_store.proofs.rollup.RollupsGrow.{rollups-length}
+use Rattle.ts_store.proofs.store.IndicesKept.{indices_moved, indices_gone}
+use Rattle.ts_store.proofs.store.SizesKept.{sized_begun, sized_moved, sized_gone, sized_ended}
+use Rattle.ts_store.specs.retain.WholeRuns.{AreAbove, FirstLoses, MovesFirst, RemovesCells}
+use Rattle.ts_store.proofs.retain.TurnsLeft.{turns_left-loses, turns_left-moved, of-loses, expired-loses, counts-removed, turns_left-above}
+
+-- ---- a column keeps its name
+
+pub kept-names : (c : Column) (mark : ℤ) (cs : List ColumnPoints) → map column_of (map (kept_points c mark) cs) ≡ map column_of cs
+kept-names c mark [] = refl
+kept-names c mark (s ∷ cs) =
+    ap₂ (λ (x : Column) xs. x ∷ xs) (elim (same_column s.column c) as (λ b. (cond b (record { column = s.column; points = filter (λ (p : ℤ × ℤ). int_le mark p.0) s.points }) s).column ≡ s.column) [ true ↦ refl | false ↦ refl ]) (kept-names c mark cs)
+
+-- ---- what a store of these parts keeps
+
+module _ (settings : Settings) (marks : Marks) (n : ℕ) where
+  -- no count overflows
+  pub few_accepted : (held : Held) (run : Option Run) → IsKept (kept_data settings marks n held run) held run → n ≤ 2 ^ 62
+  few_accepted held run k = k.sized.accepted
+
+  pub few_facts : (held : Held) (run : Option Run) → IsKept (kept_data settings marks n held run) held run → length (facts_of held.columns) ≤ 2 ^ 62
+  few_facts held run k = let facts = k.sized.facts in let few = k.sized.accepted in omega (arith, facts, few)
+
+  pub kept-fits : (held : Held) (run : Option Run) (next : ℕ) (s : ColumnPoints) → IsKept (kept_data settings marks n held run) held run → IsAt held.columns next s → FreezeFit settings.rules s.column (points_below marks.raw s.points) (cells_of held.rollups)
+  kept-fits held run next s k at = counts-fit n marks.raw s held.columns k.sized.columns (at_among held.columns next s at) (few_accepted held run k) settings.rules (cells_of held.rollups) k.counts
+
+  -- ---- a column is moved
+
+  module _ (held : Held) (run left : Run) (number : ℕ) (s : ColumnPoints) (first : waiting_in (Some run) held.columns ≡ s.column ∷ waiting_in (Some left) held.columns) (within : IsWithin (Some left) held.columns) (at : IsAt held.columns number s)
+      (kept : IsKept (kept_data settings marks n held (Some run)) held (Some run)) where
+    abbrev before : StoreData
+    before = kept_data settings marks n held (Some run)
+
+    abbrev after : Held
+    after = held_moved settings.rules s marks.raw held
+
+    abbrev moved : StoreData
+    moved = kept_data settings marks n after (Some left)
+
+    rest : List Column
+    rest = waiting_in (Some left) held.columns
+
+    waits : before.waiting ≡ s.column ∷ rest
+    unfolding rest
+    waits = first
+
+    cells : cells_of after.rollups ≡ all_moved settings.rules s.column (points_below marks.raw s.points) (facts_of (map (kept_points s.column marks.raw) held.columns)) (cells_of held.rollups)
+    cells = cells_with (all_moved settings.rules s.column (points_below marks.raw s.points) (facts_of (map (kept_points s.column marks.raw) held.columns)) (cells_of held.rollups)) held.rollups
+        (moved-length settings.rules s.column (points_below marks.raw s.points) (facts_of (map (kept_points s.column marks.raw) held.columns)) (cells_of held.rollups) ∙ length-map held.rollups (λ (u : RollupState). u.grid.cells))
+
+    is_moved : column_moved s.column s.points rest before ≡ moved
+    unfolding rest
+    is_moved =
+        let others : rest ≡ waiting_in (Some left) after.columns = same_waiting (Some left) held.columns after.columns (sym (kept-names s.column marks.raw held.columns)) in
+        λ i. record {
+          settings = settings;
+          marks = marks;
+          running = true;
+          waiting = others i;
+          series = held.series;
+          columns = map (kept_points s.column marks.raw) held.columns;
+          accepted = n;
+          cells = sym cells i;
+        }
+
+    pub moves-first : MovesFirst before moved
+    unfolding rest
+    moves-first = record { column = s.column; points = s.points; others = rest; waits = waits; there = at_among held.columns number s at; moved = sym is_moved }
+
+    pub moved-stands : GoesOn before (Step false) moved
+    moved-stands = λ opening h st.
+        subst (λ (k : StoreData). StandsFor opening (Step false ∷ h) (state_of k)) is_moved (step_stands opening h before s.column s.points rest st waits (at_among held.columns number s at))
+
+    pub moved-steps : steps_left (state_of before) ≡ steps_left (state_of moved) + 1
+    moved-steps =
+        let one : length before.waiting ≡ length rest + 1 = ap (λ (ws : List Column). length ws) waits ∙ (let m : length (s.column ∷ rest) ≡ length rest + 1 = omega arith in m) in
+        let others : length moved.waiting ≡ length rest = ap (λ (k : StoreData). length k.waiting) (sym is_moved) in
+        let turns : turns_left (rules_of settings.rules marks.lows moved.cells) ≡ turns_left (rules_of settings.rules marks.lows (cells_of held.rollups)) =
+        ap (λ (ms : List CellMap). turns_left (rules_of settings.rules marks.lows ms)) cells
+        ∙ turns_left-moved s.column (points_below marks.raw s.points) (facts_of (map (kept_points s.column marks.raw) held.columns)) settings.rules marks.lows (cells_of held.rollups) in
+        omega arith
+
+    pub moved-kept : IsKept moved after (Some left)
+    moved-kept = record {
+      rollups = subst (λ (cs : List Column). AreRollups settings.rules cs after.rollups) (sym (kept-names s.column marks.raw held.columns))
+          (rollups_with settings.rules (map column_of held.columns) (all_moved settings.rules s.column (points_below marks.raw s.points) (facts_of (map (kept_points s.column marks.raw) held.columns)) (cells_of held.rollups)) held.rollups kept.rollups);
+      few = within_more (Some left) held.columns after.columns [] (kept-names s.column marks.raw held.columns ∙ sym (append-nil (map column_of held.columns))) within;
+      counts = subst (λ (ms : List CellMap). HoldFew n after.columns settings.rules ms) (sym cells)
+          (counts-moved n marks.raw s held.columns kept.sized.columns (at_among held.columns number s at) settings.rules (cells_of held.rollups) kept.counts);
+      live = subst (λ (ms : List CellMap). AreLive after.columns settings.rules ms) (sym cells)
+          (lives_left s.column marks.raw held.columns s.points kept.sized.columns (at_among held.columns number s at) settings.rules (cells_of held.rollups) kept.live);
+      indices = subst (λ (ms : List CellMap). HaveIndices settings.rules ms) (sym cells)
+          (indices_moved s.column (points_below marks.raw s.points) (facts_of (map (kept_points s.column marks.raw) held.columns)) settings.rules (cells_of held.rollups) kept.indices);
+      sized = subst IsSized is_moved (sized_moved before s.column s.points rest kept.sized);
+    }
+
+  -- ---- cells are removed
+
+  module _ (held left : Held) (run : Run) (is : left ≡ held_with (cells_of left.rollups) held) (loses : FirstLoses marks.lows (cells_of held.rollups) (cells_of left.rollups)) (kept : IsKept (kept_data settings marks n held (Some run)) held (Some run)) where
+    abbrev full : StoreData
+    full = kept_data settings marks n held (Some run)
+
+    is_removed : with_cells (cells_of left.rollups) full ≡ kept_data settings marks n left (Some run)
+    is_removed = λ i.
+        let h : Held = sym is i in
+        record { settings = settings; marks = marks; running = true; waiting = waiting_in (Some run) h.columns; series = h.series; columns = h.columns; accepted = n; cells = cells_of left.rollups }
+
+    pub removes-cells : waiting_in (Some run) held.columns ≡ [] → RemovesCells full (kept_data settings marks n left (Some run))
+    removes-cells none = record { waits = none; loses = loses; others = sym is_removed }
+
+    pub removed-stands : GoesOn full (Step false) (kept_data settings marks n left (Some run))
+    removed-stands = λ opening h st.
+        subst (λ (k : StoreData). StandsFor opening (Step false ∷ h) (state_of k)) is_removed (cells_go opening h full (cells_of left.rollups) st (expired-loses marks.lows (cells_of held.rollups) (cells_of left.rollups) loses))
+
+    pub removed-steps : steps_left (state_of full) ≡ steps_left (state_of (kept_data settings marks n left (Some run))) + 1
+    removed-steps =
+        let many : length (cells_of held.rollups) ≡ length settings.rules = length-map held.rollups (λ (u : RollupState). u.grid.cells) ∙ rollups-length settings.rules (map column_of held.columns) held.rollups kept.rollups in
+        let turns = turns_left-loses settings.rules marks.lows (cells_of held.rollups) (cells_of left.rollups) many loses in
+        let same = ap (λ (k : StoreData). steps_left (state_of k)) is_removed in
+        omega arith
+
+    pub removed-kept : IsKept (kept_data settings marks n left (Some run)) left (Some run)
+    removed-kept =
+        let columns : left.columns ≡ held.columns = ap (λ (h : Held). h.columns) is in
+        record {
+          rollups = subst (λ (h : Held). AreRollups settings.rules (map column_of h.columns) h.rollups) (sym is) (rollups_with settings.rules (map column_of held.columns) (cells_of left.rollups) held.rollups kept.rollups);
+          few = (kept.few.0, subst (λ (cs : List ColumnPoints). run.end ≤ length cs) (sym columns) kept.few.1);
+          counts = subst (λ (cs : List ColumnPoints). HoldFew n cs settings.rules (cells_of left.rollups)) (sym columns) (counts-removed n held.columns settings.rules marks.lows (cells_of held.rollups) (cells_of left.rollups) loses kept.counts);
+          live = subst (λ (cs : List ColumnPoints). AreLive cs settings.rules (cells_of left.rollups)) (sym columns) (lives_go held.columns settings.rules (cells_of held.rollups) (cells_of left.rollups) (of-loses marks.lows (cells_of held.rollups) (cells_of left.rollups) loses) kept.live);
+          indices = indices_gone settings.rules (cells_of held.rollups) (cells_of left.rollups) (of-loses marks.lows (cells_of held.rollups) (cells_of left.rollups) loses) kept.indices;
+          sized = subst IsSized is_removed (sized_gone full (cells_of left.rollups) (expired-loses marks.lows (cells_of held.rollups) (cells_of left.rollups) loses) kept.sized);
+        }
+
+  -- ---- the run ends
+
+  module _ (held : Held) (run : Run) (none : waiting_in (Some run) held.columns ≡ []) (kept : IsKept (kept_data settings marks n held (Some run)) held (Some run)) where
+    abbrev open_run : StoreData
+    open_run = kept_data settings marks n held (Some run)
+
+    is_ended : run_ended open_run ≡ kept_data settings marks n held None
+    is_ended = λ i. record {
+      settings = settings;
+      marks = marks;
+      running = false;
+      waiting = none i;
+      series = held.series;
+      columns = held.columns;
+      accepted = n;
+      cells = cells_of held.rollups;
+    }
+
+    ended-stands : GoesOn open_run (Step true) (kept_data settings marks n held None)
+    ended-stands = λ opening h st. subst (λ (k : StoreData). StandsFor opening (Step true ∷ h) (state_of k)) is_ended (run_ends opening h open_run st none)
+
+    ended-kept : IsKept (kept_data settings marks n held None) held None
+    ended-kept = record {
+      rollups = kept.rollups;
+      few = tt;
+      counts = kept.counts;
+      live = kept.live;
+      indices = kept.indices;
+      sized = subst IsSized is_ended (sized_ended open_run kept.sized);
+    }
+
+  -- ---- a run begins
+
+  module _ (held : Held) (now : ℤ) (end : ℕ) (all : end ≡ length held.columns) (kept : IsKept (kept_data settings marks n held None) held None) where
+    abbrev idle : StoreData
+    idle = kept_data settings marks n held None
+
+    abbrev risen : Marks
+    risen = record { raw = int_max marks.raw (kept_since settings.raw_duration now); lows = raised now settings.rules marks.lows }
+
+    pub is_begun : kept_data settings risen n held (Some (run_over end)) ≡ run_begun now idle
+    is_begun = λ i. record {
+      settings = settings;
+      marks = risen;
+      running = true;
+      waiting = all_wait held.columns end all i;
+      series = held.series;
+      columns = held.columns;
+      accepted = n;
+      cells = cells_of held.rollups;
+    }
+
+    pub begun-kept : IsKept (kept_data settings risen n held (Some (run_over end))) held (Some (run_over end))
+    begun-kept = record {
+      rollups = kept.rollups;
+      few = (omega arith, omega arith);
+      counts = kept.counts;
+      live = kept.live;
+      indices = kept.indices;
+      sized = subst IsSized (sym is_begun) (sized_begun idle now kept.sized);
+    }
+
+-- ---- a step of the run that is open
+
+-- the store goes on with one step fewer left, and is kept
+pub record IsStep (before after : StoreData) (held : Held) (run : Option Run) : Type 0 where
+  pub goes : GoesOn before (Step false) after
+  pub fewer : steps_left (state_of before) ≡ steps_left (state_of after) + 1
+  pub moves : MovesFirst before after ⊎ RemovesCells before after
+  pub series : after.series ≡ before.series
+  pub kept : IsKept after held run
+
+module _ (settings : Settings) (marks : Marks) (n : ℕ) (held after : Held) (before : StoreData) where
+  -- the first waiting column is taken off the run, and moved
+  pub move_steps : (run left : Option Run) (number : ℕ) (rs : List Rule) (mark : ℤ) → kept_data settings marks n held run ≡ before → IsKept (kept_data settings marks n held run) held run → is_some run ≡ true → TakesFirst run left (Some number)
+      → rs ≡ settings.rules → mark ≡ marks.raw → ((s : ColumnPoints) → IsAt held.columns number s → FreezeFit rs s.column (points_below mark s.points) (cells_of held.rollups) → after ≡ held_moved rs s mark held)
+      → IsStep before (kept_data settings marks n after left) after left
+  move_steps None left number rs mark shown kept runs takes same raw moves = absurd (true≢false (sym runs))
+  move_steps (Some run) None number rs mark shown kept runs takes same raw moves = absurd (true≢false (sym takes.running))
+  move_steps (Some run) (Some left) number rs mark shown kept runs takes same raw moves =
+      let s : ColumnPoints = get_or held.columns number no_points in
+      let within = takes.within held.columns kept.few in
+      let at : IsAt held.columns number s = slice_get-get_or held.columns number no_points within.1 in
+      let first : waiting_in (Some run) held.columns ≡ s.column ∷ waiting_in (Some left) held.columns = takes.first held.columns s at in
+      let fit : FreezeFit settings.rules s.column (points_below marks.raw s.points) (cells_of held.rollups) = kept-fits settings marks n held (Some run) number s kept at in
+      let is : after ≡ held_moved settings.rules s marks.raw held =
+      moves s at (subst (λ (us : List Rule). FreezeFit us s.column (points_below mark s.points) (cells_of held.rollups)) (sym same) (subst (λ m. FreezeFit settings.rules s.column (points_below m s.points) (cells_of held.rollups)) (sym raw) fit))
+      ∙ ap₂ (λ (us : List Rule) m. held_moved us s m held) same raw in
+      let step : IsStep (kept_data settings marks n held (Some run)) (kept_data settings marks n after (Some left)) after (Some left) =
+      subst (λ (h : Held). IsStep (kept_data settings marks n held (Some run)) (kept_data settings marks n h (Some left)) h (Some left)) (sym is)
+      (record {
+        goes = moved-stands settings marks n held run left number s first within.0 at kept;
+        fewer = moved-steps settings marks n held run left number s first within.0 at kept;
+        moves = inl (moves-first settings marks n held run left number s first within.0 at kept);
+        series = refl;
+        kept = moved-kept settings marks n held run left number s first within.0 at kept;
+      }) in
+      subst (λ (k : StoreData). IsStep k (kept_data settings marks n after (Some left)) after (Some left)) shown step
+
+  -- the store with what is left of a run of which no column waits
+  pub record IsThrough (left : Option Run) : Type 0 where
+    pub shown : kept_data settings marks n held left ≡ before
+    pub kept : IsKept (kept_data settings marks n held left) held left
+    pub none : waiting_in left held.columns ≡ []
+    pub running : is_some left ≡ true
+
+  pub run_through : (run left : Option Run) → kept_data settings marks n held run ≡ before → IsKept (kept_data settings marks n held run) held run → is_some run ≡ true → TakesFirst run left None → IsThrough left
+  run_through run left shown kept runs takes =
+      let none = takes.none held.columns in
+      let same : kept_data settings marks n held left ≡ kept_data settings marks n held run = λ i. record {
+        settings = settings;
+        marks = marks;
+        running = takes.running i;
+        waiting = (none.1 ∙ sym none.0) i;
+        series = held.series;
+        columns = held.columns;
+        accepted = n;
+        cells = cells_of held.rollups;
+      } in
+      record {
+        shown = same ∙ shown;
+        kept = record {
+          rollups = kept.rollups;
+          few = (takes.within held.columns kept.few).0;
+          counts = kept.counts;
+          live = kept.live;
+          indices = kept.indices;
+          sized = subst IsSized (sym same) kept.sized;
+        };
+        none = none.1;
+        running = takes.running ∙ runs;
+      }
+
+  -- then cells are removed
+  pub removal_steps : (run : Option Run) (lows : List ℤ) → IsThrough run → lows ≡ marks.lows → after ≡ held_with (cells_of after.rollups) held → FirstLoses lows (cells_of held.rollups) (cells_of after.rollups)
+      → IsStep before (kept_data settings marks n after run) after run
+  removal_steps None lows all same is loses = absurd (true≢false (sym all.running))
+  removal_steps (Some r) lows all same is loses =
+      let some : FirstLoses marks.lows (cells_of held.rollups) (cells_of after.rollups) = subst (λ (ls : List ℤ). FirstLoses ls (cells_of held.rollups) (cells_of after.rollups)) same loses in
+      let step : IsStep (kept_data settings marks n held (Some r)) (kept_data settings marks n after (Some r)) after (Some r) = record {
+        goes = removed-stands settings marks n held after r is some all.kept;
+        fewer = removed-steps settings marks n held after r is some all.kept;
+        moves = inr (removes-cells settings marks n held after r is some all.kept all.none);
+        series = ap (λ (h : Held). h.series) is;
+        kept = removed-kept settings marks n held after r is some all.kept;
+      } in
+      subst (λ (k : StoreData). IsStep k (kept_data settings marks n after (Some r)) after (Some r)) all.shown step
+
+  -- or nothing was left, and the run is over
+  pub end_steps : (run : Option Run) → IsThrough run → after ≡ held
+      → (kept_data settings marks n after None ≡ run_ended before) × GoesOn before (Step true) (kept_data settings marks n after None) × IsKept (kept_data settings marks n after None) after None
+  end_steps None all is = absurd (true≢false (sym all.running))
+  end_steps (Some r) all is =
+      subst (λ (h : Held). (kept_data settings marks n h None ≡ run_ended before) × GoesOn before (Step true) (kept_data settings marks n h None) × IsKept (kept_data settings marks n h None) h None) (sym is) (
+        sym (is_ended settings marks n held r all.none all.kept) ∙ ap run_ended all.shown,
+        subst (λ (k : StoreData). GoesOn k (Step true) (kept_data settings marks n held None)) all.shown (ended-stands settings marks n held r all.none all.kept),
+        ended-kept settings marks n held r all.none all.kept,
+      )
+
+  -- and this was the last step
+  pub end_last : (run : Option Run) → IsThrough run → AreAbove marks.lows (cells_of held.rollups) → steps_left (state_of before) ≡ 1
+  end_last None all above = absurd (true≢false (sym all.running))
+  end_last (Some r) all above =
+      let waits : length (waiting_in (Some r) held.columns) ≡ 0 = ap (λ (ws : List Column). length ws) all.none in
+      let turns = turns_left-above settings.rules marks.lows (cells_of held.rollups) above in
+      let one : steps_left (state_of (kept_data settings marks n held (Some r))) ≡ 1 = omega arith in
+      subst (λ (k : StoreData). steps_left (state_of k) ≡ 1) all.shown one
+
+-- without an open run a step changes nothing
+pub idle-stands : (k : StoreData) → k.running ≡ false → GoesOn k (Step true) k
+idle-stands k e = λ opening h st. idle_step_stands opening h (state_of k) st e

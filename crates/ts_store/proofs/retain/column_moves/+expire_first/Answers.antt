@@ -1,0 +1,45 @@
+use Rattle.std.proofs.Common.{rules, ◌≡◌, List, ◌∷◌, arith}
+use Rattle.ts_cells.proofs.ExpiryLemmas.{on_true, on_false}
+use Rattle.ts_store.specs.rollup.Rollups.{RollupState}
+use Rattle.ts_store.proofs.retain.RollupExpiry.{IsExpired, same_lanes, lanes_first, first_loses, later_loses, none_lost}
+use Rattle.ts_store.proofs.retain.column_moves.+expire_first.Goals as goal
+
+pub returns-in_default-clause-lanes : goal.returns-in_default-clause-lanes
+returns-in_default-clause-lanes g t c = same_lanes c.args.rollups.now
+
+pub returns-then-expire-gt0-clause-lanes : goal.returns-then-expire-gt0-clause-lanes
+returns-then-expire-gt0-clause-lanes g t c =
+    let s : RollupState = c.in-Some-split_first_mut.rollup.now in
+    let ss : List RollupState = c.in-Some-split_first_mut.rollups.now in
+    let kept : c.args.rollups.now ≡ s ∷ ss = search rules in
+    let gone : IsExpired c.in-Some.low.now c.expire.result s c.expire.new.self = record { cells = c.expire.ensures.cells; below = c.expire.ensures.below } in
+    lanes_first c.in-Some.low.now c.expire.result s c.expire.new.self ss c.args.rollups.now kept gone
+
+pub returns-then-expire-gt0-clause-some : goal.returns-then-expire-gt0-clause-some
+returns-then-expire-gt0-clause-some g t c =
+    let s : RollupState = c.in-Some-split_first_mut.rollup.now in
+    let ss : List RollupState = c.in-Some-split_first_mut.rollups.now in
+    let lows : c.args.lows.now ≡ c.in-Some.low.now ∷ c.in-Some.lows.now = search rules in
+    let kept : c.args.rollups.now ≡ s ∷ ss = search rules in
+    let gone : IsExpired c.in-Some.low.now c.expire.result s c.expire.new.self = record { cells = c.expire.ensures.cells; below = c.expire.ensures.below } in
+    first_loses c.in-Some.low.now c.in-Some.lows.now c.args.lows.now c.expire.result s c.expire.new.self ss c.args.rollups.now lows kept c.if-expire-gt0.true gone
+
+pub returns-clause-some : goal.returns-clause-some
+returns-clause-some g t c =
+    let s : RollupState = c.in-Some-split_first_mut.rollup.now in
+    let ss : List RollupState = c.in-Some-split_first_mut.rollups.now in
+    let lows : c.args.lows.now ≡ c.in-Some.low.now ∷ c.in-Some.lows.now = search rules in
+    let kept : c.args.rollups.now ≡ s ∷ ss = search rules in
+    let gone : IsExpired c.in-Some.low.now c.expire.result s c.expire.new.self = record { cells = c.expire.ensures.cells; below = c.expire.ensures.below } in
+    let none : c.expire.result ≡ 0 = omega (arith, c.if-expire-gt0.false) in
+    on_true c.expire_first.result (λ h. later_loses c.in-Some.low.now c.in-Some.lows.now c.args.lows.now c.expire.result s c.expire.new.self ss c.expire_first.new.rollups c.args.rollups.now lows kept none gone h) c.expire_first.ensures.some
+
+pub returns-clause-none : goal.returns-clause-none
+returns-clause-none g t c =
+    let s : RollupState = c.in-Some-split_first_mut.rollup.now in
+    let ss : List RollupState = c.in-Some-split_first_mut.rollups.now in
+    let lows : c.args.lows.now ≡ c.in-Some.low.now ∷ c.in-Some.lows.now = search rules in
+    let kept : c.args.rollups.now ≡ s ∷ ss = search rules in
+    let gone : IsExpired c.in-Some.low.now c.expire.result s c.expire.new.self = record { cells = c.expire.ensures.cells; below = c.expire.ensures.below } in
+    let none : c.expire.result ≡ 0 = omega (arith, c.if-expire-gt0.false) in
+    on_false c.expire_first.result (λ h. none_lost c.in-Some.low.now c.in-Some.lows.now c.args.lows.now c.expire.result s c.expire.new.self ss c.expire_first.new.rollups c.args.rollups.now lows kept none gone h) c.expire_first.ensures.none

@@ -1,0 +1,10 @@
+-- Rollups
+pub mod RollupsGrow
+pub mod RollupLemmas
+-- LivePoints
+pub mod LanePoints
+pub mod LiveParts
+-- Rollups: cells of given points
+pub mod CellsCreated
+pub mod LivesFilled
+pub mod RulesFilled

@@ -1,0 +1,229 @@
+-- The cells that points need are created, from the low index on, and no others.
+use Rattle.std.proofs.Common.{◌≡◌, ◌⊎◌, ◌≤ℤ◌, ◌<ℤ◌, ◌<◌, ◌&&◌, ℕ, ℤ, true, false, cond, List, [], ◌∷◌, ◌++◌, length, get_or, Option, Some, None, Result, Ok, Err, OnOk, refl, sym, ◌∙◌, ap, subst, inl, inr, ⊎_elim, true≢false, arith}
+use Rattle.std.specs.FinMap as finmap
+use Rattle.std.proofs.lemmas.Int.{ints}
+use Rattle.std.proofs.lemmas.Option.{get_or_from_slice_get, slice_get-get_or, slice_get_within, none-some, same_Some}
+use Rattle.ts_core.specs.lists.Members.{Among}
+use Rattle.ts_core.specs.lists.Numbered.{IsAt}
+use Rattle.ts_core.specs.facts.Facts.{Column, Fact, same_text}
+use Rattle.ts_core.specs.facts.Times.{IsTime}
+use Rattle.ts_core.specs.settings.Settings.{Rule}
+use Rattle.ts_core.specs.store.Marks.{index_of}
+use Rattle.ts_core.specs.store.Cells.{Cell, cell_of, is_rolled, same_cell}
+use Rattle.ts_core.specs.lists.Changes.{or_else}
+use Rattle.ts_core.specs.store.StoreStates.{CellParts, fact_at, facts_at}
+use Rattle.ts_core.specs.store.StoreData.{CellMap, no_parts}
+use Rattle.ts_core.proofs.lists.MembersLemmas.{Among-append, Among-left, Among-right}
+use Rattle.ts_core.proofs.moves.MovesStand.{key_there, key_not}
+use Rattle.ts_core.proofs.plans.PieceCells.{same_cell-eq, same_cell-refl}
+use Rattle.ts_cells.specs.CellChanges.{roomy}
+use Rattle.ts_cells.specs.Grids.{no_lane, cell_at}
+use Rattle.ts_cells.proofs.GridMoves.{get-roomy}
+use Rattle.ts_store.specs.image.BuildingParts.{MakesCells}
+use Rattle.ts_store.specs.store.CellIndices.{IsIndex, HasIndices}
+use Rattle.ts_store.specs.write.LinesPut.{OfEachRule, IsOfFacts, GainsCells}
+use Rattle.ts_store.specs.rollup.Rollups.{RollupState, IsLaneOf, lane_under, cells_of, with_frozen, roomed_in}
+use Rattle.ts_store.proofs.write.CellsMade.{each_same, each_more}
+use Rattle.ts_store.proofs.store.ColumnsLemmas.{in_column}
+
+-- ---- one cell
+
+room-stays : (n : CellMap) (q k : Cell) (p : CellParts) → finmap.get n k ≡ Some p → finmap.get (roomy n q no_parts) k ≡ Some p
+room-stays n q k p e =
+    get-roomy n q no_parts k
+    ∙ elim (same_cell k q) as (λ b. same_cell k q ≡ b → cond b (Some (or_else no_parts (finmap.get n q))) (finmap.get n k) ≡ Some p) [
+      | true ↦ λ s. ap (λ o. Some (or_else no_parts o)) (ap (finmap.get n) (sym (same_cell-eq k q s)) ∙ e)
+      | false ↦ λ s. e
+    ] refl
+
+room-new : (n : CellMap) (q k : Cell) (p : CellParts) → finmap.get n k ≡ None → finmap.get (roomy n q no_parts) k ≡ Some p → (p ≡ no_parts) × (k ≡ q)
+room-new n q k p none some =
+    elim (same_cell k q) as (λ b. same_cell k q ≡ b → cond b (Some (or_else no_parts (finmap.get n q))) (finmap.get n k) ≡ Some p → (p ≡ no_parts) × (k ≡ q)) [
+      | true ↦ λ s e.
+          let is : k ≡ q = same_cell-eq k q s in
+          (sym (same_Some no_parts p (sym (ap (λ o. Some (or_else no_parts o)) (ap (finmap.get n) (sym is) ∙ none)) ∙ e)), is)
+      | false ↦ λ s e. absurd (none-some p (sym none ∙ e))
+    ] refl (sym (get-roomy n q no_parts k) ∙ some)
+
+room-there : (n : CellMap) (q : Cell) → finmap.get (roomy n q no_parts) q ≡ None → ⊥
+room-there n q none =
+    none-some (or_else no_parts (finmap.get n q)) (sym none ∙ get-roomy n q no_parts q ∙ ap (λ b. cond b (Some (or_else no_parts (finmap.get n q))) (finmap.get n q)) (same_cell-refl q))
+
+-- a cell that is missing now was missing
+missing : (m n : CellMap) → ((k : Cell) (p : CellParts) → finmap.get m k ≡ Some p → finmap.get n k ≡ Some p) → (k : Cell) → finmap.get n k ≡ None → finmap.get m k ≡ None
+missing m n stays k none =
+    elim (finmap.get m k) as (λ o. finmap.get m k ≡ o → o ≡ None) [
+      | None ↦ λ e. refl
+      | Some p ↦ λ e. absurd (none-some p (sym none ∙ stays k p e))
+    ] refl
+
+-- ---- facts one after another
+
+-- the rule has the fact's cell, if it is rolled up and not below the low index
+abbrev pub HasCellOf : Fact → Rule → ℤ → CellMap → Type 0
+HasCellOf f r low m = is_rolled r f ≡ true → low ≤ℤ (cell_of r f).index → finmap.get m (cell_of r f) ≡ None → ⊥
+
+-- the cells of these facts were created, but for those that are left
+pub record IsMadeBut (left facts : List Fact) (r : Rule) (low : ℤ) (m n : CellMap) : Type 0 where
+  pub within : (f : Fact) → Among f left → Among f facts
+  pub gains : GainsCells facts r low m n
+  pub there : (f : Fact) → Among f facts → Among f left ⊎ HasCellOf f r low n
+  pub indices : HasIndices r m → HasIndices r n
+
+gains_nothing : (fs : List Fact) (r : Rule) (low : ℤ) (m : CellMap) → GainsCells fs r low m m
+gains_nothing fs r low m = record { stays = λ k p e. e; created = λ k p none some. absurd (none-some p (sym none ∙ some)) }
+
+pub made-none : (facts : List Fact) (r : Rule) (low : ℤ) (m : CellMap) → IsMadeBut facts facts r low m m
+made-none facts r low m = record { within = λ f a. a; gains = gains_nothing facts r low m; there = λ f a. inl a; indices = λ h. h }
+
+pub made-as : (left left' facts : List Fact) (r : Rule) (low : ℤ) (m n n' : CellMap) → left' ≡ left → n' ≡ n → IsMadeBut left facts r low m n → IsMadeBut left' facts r low m n'
+made-as left left' facts r low m n n' d e h = subst (λ (xs : List Fact). IsMadeBut xs facts r low m n') (sym d) (subst (IsMadeBut left facts r low m) (sym e) h)
+
+pub made-skip : (f : Fact) (left facts : List Fact) (r : Rule) (low : ℤ) (m n : CellMap) → HasCellOf f r low n → IsMadeBut (f ∷ left) facts r low m n → IsMadeBut left facts r low m n
+made-skip f left facts r low m n has h = record {
+  within = λ g a. h.within g (inr a);
+  gains = h.gains;
+  there = λ g a.
+      ⊎_elim {C = Among g left ⊎ HasCellOf g r low n} (λ q. ⊎_elim {C = Among g left ⊎ HasCellOf g r low n} (λ e. inr (subst (λ (x : Fact). HasCellOf x r low n) (sym e) has)) (λ z. inl z) q) (λ z. inr z) (h.there g a);
+  indices = h.indices;
+}
+
+pub made-more : (f : Fact) (left facts : List Fact) (r : Rule) (low : ℤ) (m n : CellMap) → IsTime f.time → is_rolled r f ≡ true → low ≤ℤ (cell_of r f).index
+    → IsMadeBut (f ∷ left) facts r low m n → IsMadeBut left facts r low m (roomy n (cell_of r f) no_parts)
+made-more f left facts r low m n valid rolled above h =
+    let q : Cell = cell_of r f in
+    let o : CellMap = roomy n q no_parts in
+    let of_facts : IsOfFacts facts r q = (f, h.within f (inl refl), ap (λ b. b && same_cell q q) rolled ∙ same_cell-refl q) in
+    record {
+      within = λ g a. h.within g (inr a);
+      gains = record {
+        stays = λ k p e. room-stays n q k p (h.gains.stays k p e);
+        created = λ k p none some. elim (finmap.get n k) as (λ x. finmap.get n k ≡ x → (p ≡ no_parts) × (low ≤ℤ k.index) × IsOfFacts facts r k) [
+          | None ↦ λ e.
+              let new = room-new n q k p e some in
+              (new.0, subst (λ (z : Cell). low ≤ℤ z.index) (sym new.1) above, subst (IsOfFacts facts r) (sym new.1) of_facts)
+          | Some x ↦ λ e.
+              let old = h.gains.created k x none e in
+              (same_Some p x (sym some ∙ room-stays n q k x e) ∙ old.0, old.1, old.2)
+        ] refl;
+      };
+      there = λ g a.
+          ⊎_elim {C = Among g left ⊎ HasCellOf g r low o}
+          (λ z. ⊎_elim {C = Among g left ⊎ HasCellOf g r low o} (λ e. inr (λ rl ab none. room-there n q (ap (λ (x : Fact). finmap.get o (cell_of r x)) (sym e) ∙ none))) (λ y. inl y) z)
+          (λ has. inr (λ rl ab none. has rl ab (missing n o (room-stays n q) (cell_of r g) none))) (h.there g a);
+      indices = λ valids k a.
+          elim (finmap.get n k) as (λ x. finmap.get n k ≡ x → IsIndex r k.index) [
+            | None ↦ λ e. elim (finmap.get o k) as (λ x. finmap.get o k ≡ x → IsIndex r k.index) [
+              | None ↦ λ none. absurd (key_not o k a none)
+              | Some p ↦ λ some. subst (λ (z : Cell). IsIndex r z.index) (sym (room-new n q k p e some).1) (f.time, valid, refl)
+            ] refl
+            | Some x ↦ λ e. h.indices valids k (key_there n k (λ none. none-some x (sym none ∙ e)))
+          ] refl;
+    }
+
+-- the cell of the last bucket is there
+abbrev pub IsLastThere : Rule → Column → Option ℤ → CellMap → Type 0
+IsLastThere r c last m = (i : ℤ) → last ≡ Some i → finmap.get m (cell_at i (lane_under r c)) ≡ None → ⊥
+
+pub last-none : (r : Rule) (c : Column) (last : Option ℤ) (m : CellMap) → last ≡ None → IsLastThere r c last m
+last-none r c last m none = λ i some. absurd (none-some i (sym none ∙ some))
+
+pub last-made : (r : Rule) (c : Column) (i : ℤ) (n : CellMap) → IsLastThere r c (Some i) (roomy n (cell_at i (lane_under r c)) no_parts)
+last-made r c i n = λ j some none. room-there n (cell_at i (lane_under r c)) (ap (λ (z : ℤ). finmap.get (roomy n (cell_at i (lane_under r c)) no_parts) (cell_at z (lane_under r c))) (same_Some i j some) ∙ none)
+
+-- a point below the low index, or of the last bucket, needs no other cell
+pub skipped : (r : Rule) (c : Column) (p : ℤ × ℤ) (low index : ℤ) (last : Option ℤ) (n : CellMap) → index ≡ index_of r p.0 → (index <ℤ low) ⊎ (last ≡ Some index) → IsLastThere r c last n → HasCellOf (fact_at c p) r low n
+skipped r c p low index last n is spared there = λ rolled above none.
+    ⊎_elim {C = ⊥} (λ (below : index <ℤ low). omega (arith, ints, below, is, above))
+    (λ e. there index e (ap (λ (i : ℤ). finmap.get n (cell_at i (lane_under r c))) is ∙ none)) spared
+
+pub made-all : (facts : List Fact) (r : Rule) (low : ℤ) (m n : CellMap) → IsMadeBut [] facts r low m n → MakesCells facts r low m n
+made-all facts r low m n h = record {
+  gains = h.gains;
+  there = λ f a. ⊎_elim {C = HasCellOf f r low n} (λ z. absurd z) (λ has. has) (h.there f a);
+  indices = h.indices;
+}
+
+-- the points as they were given
+pub points_made : (c : Column) (ps qs : List (ℤ × ℤ)) (r : Rule) (low : ℤ) (m n : CellMap) → ps ≡ qs → MakesCells (facts_at c ps) r low m n → MakesCells (facts_at c qs) r low m n
+points_made c ps qs r low m n e h = subst (λ (xs : List (ℤ × ℤ)). MakesCells (facts_at c xs) r low m n) e h
+
+-- points of another measurement need none
+pub made-apart : (c : Column) (ps : List (ℤ × ℤ)) (r : Rule) (low : ℤ) (m : CellMap) → same_text c.series.measurement r.measurement ≡ false → MakesCells (facts_at c ps) r low m m
+made-apart c ps r low m apart = record {
+  gains = gains_nothing (facts_at c ps) r low m;
+  there = λ f a rolled above none.
+      let of : f.column ≡ c = (in_column c ps f a).0 in
+      true≢false (sym rolled ∙ ap (λ (d : Column). same_text d.series.measurement r.measurement) of ∙ apart);
+  indices = λ h. h;
+}
+
+-- ---- more facts
+
+makes-nothing : (r : Rule) (low : ℤ) (m : CellMap) → MakesCells [] r low m m
+makes-nothing r low m = record { gains = gains_nothing [] r low m; there = λ f a. absurd a; indices = λ h. h }
+
+of_left : (fs gs : List Fact) (r : Rule) (k : Cell) → IsOfFacts fs r k → IsOfFacts (fs ++ gs) r k
+of_left fs gs r k h = (h.0, Among-left h.0 fs gs h.1, h.2)
+
+of_right : (fs gs : List Fact) (r : Rule) (k : Cell) → IsOfFacts gs r k → IsOfFacts (fs ++ gs) r k
+of_right fs gs r k h = (h.0, Among-right h.0 fs gs h.1, h.2)
+
+makes-then : (fs gs : List Fact) (r : Rule) (low : ℤ) (m n o : CellMap) → MakesCells fs r low m n → MakesCells gs r low n o → MakesCells (fs ++ gs) r low m o
+makes-then fs gs r low m n o a b = record {
+  gains = record {
+    stays = λ k p e. b.gains.stays k p (a.gains.stays k p e);
+    created = λ k p none some. elim (finmap.get n k) as (λ x. finmap.get n k ≡ x → (p ≡ no_parts) × (low ≤ℤ k.index) × IsOfFacts (fs ++ gs) r k) [
+      | None ↦ λ e. let new = b.gains.created k p e some in (new.0, new.1, of_right fs gs r k new.2)
+      | Some x ↦ λ e. let old = a.gains.created k x none e in (same_Some p x (sym some ∙ b.gains.stays k x e) ∙ old.0, old.1, of_left fs gs r k old.2)
+    ] refl;
+  };
+  there = λ f h rolled above none.
+      ⊎_elim {C = ⊥} (λ x. a.there f x rolled above (missing n o b.gains.stays (cell_of r f) none)) (λ x. b.there f x rolled above none) (Among-append f fs gs h);
+  indices = λ h. b.indices (a.indices h);
+}
+
+pub all-made-none : (rs : List Rule) (lows : List ℤ) (ms : List CellMap) → OfEachRule (MakesCells []) rs lows ms ms
+all-made-none = each_same (MakesCells []) makes-nothing
+
+pub all-made-then : (fs gs : List Fact) (rs : List Rule) (lows : List ℤ) (ms ns os : List CellMap) → OfEachRule (MakesCells fs) rs lows ms ns → OfEachRule (MakesCells gs) rs lows ns os → OfEachRule (MakesCells (fs ++ gs)) rs lows ms os
+all-made-then fs gs rs lows ms ns os a b = (
+  b.0 ∙ a.0,
+  λ i r low m o ar al am ao.
+      let n : CellMap = get_or ns i finmap.empty in
+      let an : IsAt ns i n = slice_get-get_or ns i finmap.empty (subst (λ (z : ℕ). i < z) (sym a.0) (slice_get_within ms i m am)) in
+      makes-then fs gs r low m n o (a.1 i r low m n ar al am an) (b.1 i r low n o ar al an ao),
+)
+
+-- ---- under each rule
+
+-- there is no rule, no low index or no rollup left
+pub no_rules_left : (P : Rule → ℤ → CellMap → CellMap → Type 0) (rs : List Rule) (lows : List ℤ) (ms : List CellMap) → length rs ≡ 0 → OfEachRule P rs lows ms ms
+no_rules_left P [] lows ms e = (refl, λ i r low m n ar al am an. absurd (none-some r ar))
+no_rules_left P (r ∷ rs) lows ms e = absurd (omega arith)
+
+pub no_lows_left : (P : Rule → ℤ → CellMap → CellMap → Type 0) (rs : List Rule) (lows : List ℤ) (ms : List CellMap) → length lows ≡ 0 → OfEachRule P rs lows ms ms
+no_lows_left P rs [] ms e = (refl, λ i r low m n ar al am an. absurd (none-some low al))
+no_lows_left P rs (low ∷ lows) ms e = absurd (omega arith)
+
+pub no_rollups_left : (P : Rule → ℤ → CellMap → CellMap → Type 0) (rs : List Rule) (lows : List ℤ) (ss : List RollupState) → length ss ≡ 0 → OfEachRule P rs lows (cells_of ss) (cells_of ss)
+no_rollups_left P rs lows [] e = (refl, λ i r low m n ar al am an. absurd (none-some m am))
+no_rollups_left P rs lows (s ∷ ss) e = absurd (omega arith)
+
+-- the first rule, and the others
+pub each_made-more : {T E : Type 0} (P : Rule → ℤ → CellMap → CellMap → Type 0) (result : Result T E) (r : Rule) (rs rs' : List Rule) (low : ℤ) (lows lows' : List ℤ) (s t : RollupState) (ss ts ss' : List RollupState) → rs' ≡ r ∷ rs → lows' ≡ low ∷ lows → ss' ≡ s ∷ ss
+    → P r low s.grid.cells t.grid.cells → OnOk result (OfEachRule P rs lows (cells_of ss) (cells_of ts)) → OnOk result (OfEachRule P rs' lows' (cells_of ss') (cells_of (t ∷ ts)))
+each_made-more P (Err x) r rs rs' low lows lows' s t ss ts ss' d e f one others = tt
+each_made-more P (Ok x) r rs rs' low lows lows' s t ss ts ss' d e f one others =
+    subst (λ (qs : List Rule). OfEachRule P qs lows' (cells_of ss') (cells_of (t ∷ ts))) (sym d)
+    (subst (λ (ls : List ℤ). OfEachRule P (r ∷ rs) ls (cells_of ss') (cells_of (t ∷ ts))) (sym e)
+    (subst (λ (us : List RollupState). OfEachRule P (r ∷ rs) (low ∷ lows) (cells_of us) (cells_of (t ∷ ts))) (sym f)
+    (each_more P r rs low lows s.grid.cells (cells_of ss) t.grid.cells (cells_of ts) one others)))
+
+-- ---- under the lanes of a rule, which stay
+
+pub roomed_in-lane : (before s : RollupState) (l : ℕ) (r : Rule) (c : Column) (index : ℤ) → s ≡ with_frozen s.grid.cells before → IsLaneOf r c before.grid.lanes (Some l)
+    → roomed_in s (Some l) index ≡ roomy s.grid.cells (cell_at index (lane_under r c)) no_parts
+roomed_in-lane before s l r c index e is =
+    let key : get_or s.grid.lanes l no_lane ≡ lane_under r c = ap (λ (x : RollupState). get_or x.grid.lanes l no_lane) e ∙ get_or_from_slice_get before.grid.lanes l (lane_under r c) no_lane is.1 in
+    ap (λ k. roomy s.grid.cells (cell_at index k) no_parts) key

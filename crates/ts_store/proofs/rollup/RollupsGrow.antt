@@ -1,0 +1,113 @@
+-- What is kept for rules, when a column is made.
+use Rattle.std.proofs.Common.{◌≡◌, ◌<◌, ℕ, zero, suc, List, [], ◌∷◌, ◌++◌, length, map, Option, Some, None, IsSome, refl, sym, ◌∙◌, ap, subst, inl, inr, ⊎_elim, arith}
+use Rattle.std.specs.List.{AllByRecursion, slice_get}
+use Rattle.std.proofs.lemmas.List.{append-nil}
+use Rattle.ts_core.specs.facts.Facts.{Column}
+use Rattle.ts_core.specs.settings.Settings.{Rule}
+use Rattle.ts_cells.specs.Grids.{Lane}
+use Rattle.ts_store.specs.rollup.Rollups.{RollupState, cells_of, lane_under, IsLaneOf, HaveLanes, AreRollups, Extends, KeepCells, HaveNext, joined_lane, with_next}
+use Rattle.ts_core.specs.lists.Members.{Among}
+use Rattle.ts_core.specs.lists.Numbered.{IsAt, Gains}
+use Rattle.std.proofs.lemmas.Option.{none-some, same_Some}
+use Rattle.ts_store.proofs.write.ColumnsAside.{slice_get_left}
+
+pub none_next : (rs : List Rule) (c : Column) (ss : List RollupState) → length rs ≡ 0 → length ss ≡ length rs → HaveNext rs c ss
+none_next [] c [] e h = tt
+none_next [] c (s ∷ ss) e h = absurd (omega arith)
+none_next (r ∷ rs) c ss e h = absurd (omega arith)
+
+pub keep_same : (ss : List RollupState) → KeepCells ss ss
+keep_same [] = tt
+keep_same (s ∷ ss) = (record { made = ([], sym (append-nil s.grid.lanes)); cells = refl; lanes = refl }, keep_same ss)
+
+-- ---- more lanes
+
+lane_kept : (r : Rule) (c : Column) (lanes lanes' : List Lane) (o : Option ℕ) → Extends lanes lanes' → IsLaneOf r c lanes o → IsLaneOf r c lanes' o
+lane_kept r c lanes lanes' None e at = at
+lane_kept r c lanes lanes' (Some l) e at = (at.0, ap (λ (ls : List Lane). slice_get ls l) e.1 ∙ slice_get_left lanes e.0 l (lane_under r c) at.1)
+
+pub lanes_kept : (r : Rule) (lanes lanes' : List Lane) (cs : List Column) (os : List (Option ℕ)) → Extends lanes lanes' → HaveLanes r lanes cs os → HaveLanes r lanes' cs os
+lanes_kept r lanes lanes' [] [] e h = tt
+lanes_kept r lanes lanes' [] (o ∷ os) e h = absurd h
+lanes_kept r lanes lanes' (c ∷ cs) [] e h = absurd h
+lanes_kept r lanes lanes' (c ∷ cs) (o ∷ os) e h = (lane_kept r c lanes lanes' o e h.0, lanes_kept r lanes lanes' cs os e h.1)
+
+pub rollups_kept : (rs : List Rule) (cs : List Column) (ss ts : List RollupState) → AreRollups rs cs ss → KeepCells ss ts → AreRollups rs cs ts
+rollups_kept [] cs [] [] h k = tt
+rollups_kept [] cs [] (t ∷ ts) h k = absurd k
+rollups_kept [] cs (s ∷ ss) ts h k = absurd h
+rollups_kept (r ∷ rs) cs [] ts h k = absurd h
+rollups_kept (r ∷ rs) cs (s ∷ ss) [] h k = absurd k
+rollups_kept (r ∷ rs) cs (s ∷ ss) (t ∷ ts) h k = (
+  subst (HaveLanes r t.grid.lanes cs) (sym k.0.lanes) (lanes_kept r s.grid.lanes t.grid.lanes cs s.lanes k.0.made h.0),
+  rollups_kept rs cs ss ts h.1 k.1,
+)
+
+pub cells_kept : (ss ts : List RollupState) → KeepCells ss ts → cells_of ts ≡ cells_of ss
+cells_kept [] [] k = refl
+cells_kept [] (t ∷ ts) k = absurd k
+cells_kept (s ∷ ss) [] k = absurd k
+cells_kept (s ∷ ss) (t ∷ ts) k = ap (λ m. m ∷ cells_of ts) k.0.cells ∙ ap (λ ms. s.grid.cells ∷ ms) (cells_kept ss ts k.1)
+
+-- ---- one more column
+
+at_behind : (cs : List Column) (n : ℕ) (c : Column) → (Among c cs → ⊥) → IsAt (cs ++ c ∷ []) n c → n ≡ length cs
+at_behind [] zero c away at = refl
+at_behind [] (suc n) c away at = absurd (none-some c at)
+at_behind (d ∷ cs) zero c away at = absurd (away (inl (sym (same_Some d c at))))
+at_behind (d ∷ cs) (suc n) c away at = ap suc (at_behind cs n c (λ a. away (inr a)) at)
+
+pub rollups-length : (rs : List Rule) (cs : List Column) (ss : List RollupState) → AreRollups rs cs ss → length ss ≡ length rs
+rollups-length [] cs [] h = refl
+rollups-length [] cs (s ∷ ss) h = absurd h
+rollups-length (r ∷ rs) cs [] h = absurd h
+rollups-length (r ∷ rs) cs (s ∷ ss) h = ap suc (rollups-length rs cs ss h.1)
+
+pub lanes-length : (r : Rule) (lanes : List Lane) (cs : List Column) (os : List (Option ℕ)) → HaveLanes r lanes cs os → length os ≡ length cs
+lanes-length r lanes [] [] h = refl
+lanes-length r lanes [] (o ∷ os) h = absurd h
+lanes-length r lanes (c ∷ cs) [] h = absurd h
+lanes-length r lanes (c ∷ cs) (o ∷ os) h = ap suc (lanes-length r lanes cs os h.1)
+
+-- each number of a column is one of a lane's place
+pub numbers_inside : (rs : List Rule) (cs : List Column) (ss : List RollupState) (ns : List ℕ) → AreRollups rs cs ss → AllByRecursion (λ n. n < length cs) ns → AllByRecursion (λ (s : RollupState). AllByRecursion (λ n. n < length s.lanes) ns) ss
+numbers_inside [] cs [] ns h a = tt
+numbers_inside [] cs (s ∷ ss) ns h a = absurd h
+numbers_inside (r ∷ rs) cs [] ns h a = absurd h
+numbers_inside (r ∷ rs) cs (s ∷ ss) ns h a = (subst (λ m. AllByRecursion (λ n. n < m) ns) (sym (lanes-length r s.grid.lanes cs s.lanes h.0)) a, numbers_inside rs cs ss ns h.1 a)
+
+pub lanes_push : (r : Rule) (lanes : List Lane) (cs : List Column) (os : List (Option ℕ)) (c : Column) (o : Option ℕ) → HaveLanes r lanes cs os → IsLaneOf r c lanes o → HaveLanes r lanes (cs ++ c ∷ []) (os ++ o ∷ [])
+lanes_push r lanes [] [] c o h at = (at, tt)
+lanes_push r lanes [] (p ∷ os) c o h at = absurd h
+lanes_push r lanes (d ∷ cs) [] c o h at = absurd h
+lanes_push r lanes (d ∷ cs) (p ∷ os) c o h at = (h.0, lanes_push r lanes cs os c o h.1 at)
+
+pub rollups_made : (rs : List Rule) (cs : List Column) (c : Column) (ss : List RollupState) → AreRollups rs cs ss → HaveNext rs c ss → AreRollups rs (cs ++ c ∷ []) (map with_next ss)
+rollups_made [] cs c [] h k = tt
+rollups_made [] cs c (s ∷ ss) h k = absurd h
+rollups_made (r ∷ rs) cs c [] h k = absurd h
+rollups_made (r ∷ rs) cs c (s ∷ ss) h k = (
+  subst (λ (o : Option (Option ℕ)). HaveLanes r s.grid.lanes (cs ++ c ∷ []) (joined_lane s.lanes o)) (sym k.0.1) (lanes_push r s.grid.lanes cs s.lanes c k.0.0 h.0 k.0.2),
+  rollups_made rs cs c ss h.1 k.1,
+)
+
+pub cells_made : (ss : List RollupState) → cells_of (map with_next ss) ≡ cells_of ss
+cells_made [] = refl
+cells_made (s ∷ ss) = ap (λ ms. s.grid.cells ∷ ms) (cells_made ss)
+
+-- a column behind the others can be made
+pub ready_to_make : (rs : List Rule) (cs : List Column) (c : Column) (n : ℕ) (ss : List RollupState) → AreRollups rs cs ss → HaveNext rs c ss → n ≡ length cs
+    → AllByRecursion (λ (s : RollupState). IsSome s.next × (n ≡ length s.lanes)) ss
+ready_to_make [] cs c n [] h k e = tt
+ready_to_make [] cs c n (s ∷ ss) h k e = absurd h
+ready_to_make (r ∷ rs) cs c n [] h k e = absurd h
+ready_to_make (r ∷ rs) cs c n (s ∷ ss) h k e = (
+  (subst (λ (o : Option (Option ℕ)). IsSome o) (sym k.0.1) refl, e ∙ sym (lanes-length r s.grid.lanes cs s.lanes h.0)),
+  ready_to_make rs cs c n ss h.1 k.1 e,
+)
+
+-- a column that wasn't there is made behind the others
+pub made_behind : (cs cs' : List Column) (c : Column) (n : ℕ) → (Among c cs → ⊥) → Gains cs cs' c → IsAt cs' n c → (cs' ≡ cs ++ c ∷ []) × (n ≡ length cs)
+made_behind cs cs' c n away gains at =
+    ⊎_elim {C = (cs' ≡ cs ++ c ∷ []) × (n ≡ length cs)} (λ old. absurd (away old.0))
+    (λ new. (new.1, at_behind cs n c away (subst (λ (ds : List Column). IsAt ds n c) new.1 at))) gains

@@ -1,0 +1,309 @@
+-- Cells of all rules, filled with raw facts.
+use Rattle.std.proofs.Common.{◌≡◌, ◌≢◌, ◌⊎◌, ◌≤ℤ◌, ◌<◌, ◌&&◌, ℕ, zero, suc, ℤ, true, false, cond, List, [], ◌∷◌, length, map, filter, get_or, Option, Some, None, option_map, refl, sym, ◌∙◌, ap, subst, inl, inr, ⊎_elim, true≢false, arith}
+use Rattle.std.specs.FinMap as finmap
+use Rattle.std.specs.List.{AllByRecursion}
+use Rattle.std.proofs.lemmas.List.{length-map}
+use Rattle.std.proofs.lemmas.Option.{slice_get-get_or, slice_get_within, none-some, same_Some}
+use Rattle.ts_core.specs.lists.Members.{Among}
+use Rattle.ts_core.specs.lists.Numbered.{IsAt}
+use Rattle.ts_core.specs.facts.Facts.{Column, Fact}
+use Rattle.ts_core.specs.settings.Settings.{Rule}
+use Rattle.ts_core.specs.aggregates.Aggregates.{empty_aggregate, merged, aggregate_of}
+use Rattle.ts_core.specs.aggregates.MergeLaws.{aggregate_laws}
+use Rattle.ts_core.specs.store.Cells.{Cell, cell_of, is_rolled, is_in_cell, same_cell, total_of}
+use Rattle.ts_core.specs.lists.Changes.{or_else}
+use Rattle.ts_core.specs.store.StoreStates.{ColumnPoints, CellParts, column_of, facts_of}
+use Rattle.ts_core.specs.store.StoreData.{CellMap, no_parts, IsLive, AreLive}
+use Rattle.ts_core.proofs.moves.MovesStand.{key_there, key_not}
+use Rattle.ts_core.proofs.plans.PieceCells.{same_cell-eq, same_cell-refl}
+use Rattle.ts_store.specs.image.Building.{HaveCells}
+use Rattle.ts_store.specs.image.BuildingParts.{IsIdle, AreIdle, MakesCells, FillsCells, KeepsFrozen, KeepFrozen, IsFilledBut, AreFilledBut}
+use Rattle.ts_raw.specs.Columns.{ColumnState}
+use Rattle.ts_raw.specs.Indexed.{Indexed}
+use Rattle.ts_store.specs.store.CellIndices.{HaveIndices}
+use Rattle.ts_store.specs.store.ColumnsKept.{IsHeld, held_of, columns_in, with_points, point_maps}
+use Rattle.ts_store.specs.write.LinesPut.{OfEachRule, IsOfFacts, PutsCells}
+use Rattle.ts_store.specs.rollup.Rollups.{RollupState, AreRollups, HaveLanes, IsLaneOf, lane_at, cells_of}
+use Rattle.ts_store.specs.retain.RollupSteps.{with_frozen_all}
+use Rattle.ts_store.proofs.store.ColumnsLemmas.{known_of, names_held, facts-distinct}
+use Rattle.ts_store.proofs.write.PointsPut.{lanes_then}
+use Rattle.ts_store.proofs.retain.RollupMoves.{rollups_with}
+use Rattle.ts_store.proofs.rollup.RollupsGrow.{rollups-length}
+use Rattle.ts_store.proofs.write.RoomLemmas.{lane_known}
+
+-- ---- the first rule, and the others
+
+-- what is known of the first rollup, and of the others
+pub rollups_first : (r : Rule) (rs rs' : List Rule) (cs : List Column) (s : RollupState) (ss ss' : List RollupState) → rs' ≡ r ∷ rs → ss' ≡ s ∷ ss → AreRollups rs' cs ss' → HaveLanes r s.grid.lanes cs s.lanes × AreRollups rs cs ss
+rollups_first r rs rs' cs s ss ss' d e h = subst (λ (us : List RollupState). AreRollups (r ∷ rs) cs us) e (subst (λ (qs : List Rule). AreRollups qs cs ss') d h)
+
+pub lane_first : (r : Rule) (cs : List Column) (n : ℕ) (c : Column) (s : RollupState) → HaveLanes r s.grid.lanes cs s.lanes → IsAt cs n c → IsLaneOf r c s.grid.lanes (lane_at s n)
+lane_first r cs n c s h at = lane_known r s.grid.lanes cs s.lanes n c h at
+
+pub wide_first : (n : ℕ) (ss : List RollupState) (m : ℕ) → m < n → AllByRecursion (λ (s : RollupState). length s.lanes ≡ n) ss → AllByRecursion (λ (s : RollupState). m < length s.lanes) ss
+wide_first n [] m l h = tt
+wide_first n (s ∷ ss) m l h = (subst (λ k. m < k) (sym h.0) l, wide_first n ss m l h.1)
+
+-- ---- frozen parts stay
+
+pub frozen-same : (ms : List CellMap) → KeepFrozen ms ms
+frozen-same [] = tt
+frozen-same (m ∷ ms) = (λ k. refl, frozen-same ms)
+
+pub frozen-both : (ms ns os : List CellMap) → KeepFrozen ms ns → KeepFrozen ns os → KeepFrozen ms os
+frozen-both [] [] [] a b = tt
+frozen-both [] [] (o ∷ os) a b = absurd b
+frozen-both [] (n ∷ ns) os a b = absurd a
+frozen-both (m ∷ ms) [] os a b = absurd a
+frozen-both (m ∷ ms) (n ∷ ns) [] a b = absurd b
+frozen-both (m ∷ ms) (n ∷ ns) (o ∷ os) a b = (λ k. b.0 k ∙ a.0 k, frozen-both ms ns os a.1 b.1)
+
+pub frozen-more : (s t : RollupState) (ss ts ss' : List RollupState) → ss' ≡ s ∷ ss → KeepsFrozen s.grid.cells t.grid.cells → KeepFrozen (cells_of ss) (cells_of ts) → KeepFrozen (cells_of ss') (cells_of (t ∷ ts))
+frozen-more s t ss ts ss' e one others = subst (λ (us : List RollupState). KeepFrozen (cells_of us) (cells_of (t ∷ ts))) (sym e) (one, others)
+
+frozen-length : (ms ns : List CellMap) → KeepFrozen ms ns → length ns ≡ length ms
+frozen-length [] [] a = refl
+frozen-length [] (n ∷ ns) a = absurd a
+frozen-length (m ∷ ms) [] a = absurd a
+frozen-length (m ∷ ms) (n ∷ ns) a = ap suc (frozen-length ms ns a.1)
+
+frozen-at : (ms ns : List CellMap) (i : ℕ) (m n : CellMap) → KeepFrozen ms ns → IsAt ms i m → IsAt ns i n → KeepsFrozen m n
+frozen-at [] ns i m n a am an = absurd (none-some m am)
+frozen-at (x ∷ ms) [] i m n a am an = absurd (none-some n an)
+frozen-at (x ∷ ms) (y ∷ ns) zero m n a am an = subst (KeepsFrozen m) (same_Some y n an) (subst (λ (z : CellMap). KeepsFrozen z y) (same_Some x m am) a.0)
+frozen-at (x ∷ ms) (y ∷ ns) (suc i) m n a am an = frozen-at ms ns i m n a.1 am an
+
+-- ---- facts that are left
+
+pub filled-none : (left all : List Fact) (rs : List Rule) (ms : List CellMap) → length rs ≡ 0 → AreFilledBut left all rs ms
+filled-none left all [] ms e = tt
+filled-none left all (r ∷ rs) ms e = absurd (omega arith)
+
+pub filled-nowhere : (left all : List Fact) (rs : List Rule) (ss : List RollupState) → length ss ≡ 0 → AreFilledBut left all rs (cells_of ss)
+filled-nowhere left all [] ss e = tt
+filled-nowhere left all (r ∷ rs) [] e = tt
+filled-nowhere left all (r ∷ rs) (s ∷ ss) e = absurd (omega arith)
+
+pub filled-more : (before left all : List Fact) (r : Rule) (rs rs' : List Rule) (s t : RollupState) (ss ts ss' : List RollupState) → rs' ≡ r ∷ rs → ss' ≡ s ∷ ss → AreFilledBut before all rs' (cells_of ss')
+    → (IsFilledBut before all r s.grid.cells → IsFilledBut left all r t.grid.cells) → (AreFilledBut before all rs (cells_of ss) → AreFilledBut left all rs (cells_of ts)) → AreFilledBut left all rs' (cells_of (t ∷ ts))
+filled-more before left all r rs rs' s t ss ts ss' d e h one others =
+    let h' : AreFilledBut before all (r ∷ rs) (cells_of (s ∷ ss)) = subst (λ (us : List RollupState). AreFilledBut before all (r ∷ rs) (cells_of us)) e (subst (λ (qs : List Rule). AreFilledBut before all qs (cells_of ss')) d h) in
+    subst (λ (qs : List Rule). AreFilledBut left all qs (cells_of (t ∷ ts))) (sym d) (one h'.0, others h'.1)
+
+-- nothing is added yet
+pub filled-idle : (all : List Fact) (rs : List Rule) (ms : List CellMap) → AreIdle ms → AreFilledBut all all rs ms
+filled-idle all [] ms h = tt
+filled-idle all (r ∷ rs) [] h = tt
+filled-idle all (r ∷ rs) (m ∷ ms) h = (λ k p e. ap (λ a. merged a (total_of r k all)) (h.0 k p e) ∙ aggregate_laws.unit (total_of r k all), filled-idle all rs ms h.1)
+
+-- nothing is left
+pub filled-live : (columns : List ColumnPoints) (rs : List Rule) (ms : List CellMap) → AreFilledBut [] (facts_of columns) rs ms → AreLive columns rs ms
+filled-live columns [] ms h = tt
+filled-live columns (r ∷ rs) [] h = tt
+filled-live columns (r ∷ rs) (m ∷ ms) h = (λ k p e. sym (aggregate_laws.comm p.live empty_aggregate ∙ aggregate_laws.unit p.live) ∙ h.0 k p e, filled-live columns rs ms h.1)
+
+-- ---- cells with their parts
+
+total-nothing : (r : Rule) (k : Cell) (facts : List Fact) → (IsOfFacts facts r k → ⊥) → total_of r k facts ≡ empty_aggregate
+total-nothing r k [] apart = refl
+total-nothing r k (f ∷ fs) apart =
+    elim (is_in_cell r k f) as (λ b. is_in_cell r k f ≡ b → aggregate_of (cond b (f ∷ filter (is_in_cell r k) fs) (filter (is_in_cell r k) fs)) ≡ empty_aggregate) [
+      | true ↦ λ e. absurd (apart (f, inl refl, e))
+      | false ↦ λ e. total-nothing r k fs (λ h. apart (h.0, inr h.1, h.2))
+    ] refl
+
+module _ (columns : List ColumnPoints) (r : Rule) (low : ℤ) (m o n : CellMap) (made : MakesCells (facts_of columns) r low m o) (keeps : KeepsFrozen o n) (live : IsLive columns r n) (idle : IsIdle m) where
+  abbrev facts : List Fact
+  facts = facts_of columns
+
+  there-still : (k : Cell) → finmap.get o k ≢ None → finmap.get n k ≢ None
+  there-still k some none =
+      elim (finmap.get o k) as (λ x. finmap.get o k ≡ x → ⊥) [
+        | None ↦ λ e. some e
+        | Some p ↦ λ e. none-some p.frozen (ap (option_map (λ (y : CellParts). y.frozen)) (sym none) ∙ keeps k ∙ ap (option_map (λ (y : CellParts). y.frozen)) e)
+      ] refl
+
+  there-before : (k : Cell) → finmap.get n k ≢ None → finmap.get o k ≢ None
+  there-before k some none =
+      elim (finmap.get n k) as (λ x. finmap.get n k ≡ x → ⊥) [
+        | None ↦ λ e. some e
+        | Some p ↦ λ e. none-some p.frozen (ap (option_map (λ (y : CellParts). y.frozen)) (sym none) ∙ sym (keeps k) ∙ ap (option_map (λ (y : CellParts). y.frozen)) e)
+      ] refl
+
+  comes-from : (k : Cell) → finmap.get o k ≢ None → (finmap.get m k ≢ None) ⊎ ((low ≤ℤ k.index) × IsOfFacts facts r k)
+  comes-from k some =
+      elim (finmap.get m k) as (λ x. finmap.get m k ≡ x → (finmap.get m k ≢ None) ⊎ ((low ≤ℤ k.index) × IsOfFacts facts r k)) [
+        | Some p ↦ λ e. inl (λ none. none-some p (sym none ∙ e))
+        | None ↦ λ e. elim (finmap.get o k) as (λ x. finmap.get o k ≡ x → (finmap.get m k ≢ None) ⊎ ((low ≤ℤ k.index) × IsOfFacts facts r k)) [
+          | Some q ↦ λ here. let new = made.gains.created k q e here in inr (new.1, new.2)
+          | None ↦ λ none. absurd (some none)
+        ] refl
+      ] refl
+
+  stays-there : (k : Cell) → finmap.get m k ≢ None → finmap.get o k ≢ None
+  stays-there k some none =
+      elim (finmap.get m k) as (λ x. finmap.get m k ≡ x → ⊥) [
+        | None ↦ λ e. some e
+        | Some p ↦ λ e. none-some p (sym none ∙ made.gains.stays k p e)
+      ] refl
+
+  needed-there : (k : Cell) → low ≤ℤ k.index → IsOfFacts facts r k → finmap.get o k ≢ None
+  needed-there k above q =
+      elim (is_rolled r q.0) as (λ b. is_rolled r q.0 ≡ b → b && same_cell (cell_of r q.0) k ≡ true → finmap.get o k ≢ None) [
+        | true ↦ λ rolled t.
+            let is : cell_of r q.0 ≡ k = same_cell-eq (cell_of r q.0) k t in
+            λ none. made.there q.0 q.1 rolled (subst (λ (x : Cell). low ≤ℤ x.index) (sym is) above) (ap (finmap.get o) is ∙ none)
+        | false ↦ λ rolled t. absurd (true≢false (sym t))
+      ] refl q.2
+
+  frozen-made : (k : Cell) → (or_else no_parts (finmap.get o k)).frozen ≡ (or_else no_parts (finmap.get m k)).frozen
+  frozen-made k =
+      elim (finmap.get m k) as (λ x. finmap.get m k ≡ x → (or_else no_parts (finmap.get o k)).frozen ≡ (or_else no_parts x).frozen) [
+        | Some p ↦ λ e. ap (λ y. (or_else no_parts y).frozen) (made.gains.stays k p e)
+        | None ↦ λ e. elim (finmap.get o k) as (λ x. finmap.get o k ≡ x → (or_else no_parts x).frozen ≡ empty_aggregate) [
+          | Some q ↦ λ here. ap (λ (y : CellParts). y.frozen) (made.gains.created k q e here).0
+          | None ↦ λ none. refl
+        ] refl
+      ] refl
+
+  or_frozen : (x : Option CellParts) → (or_else no_parts x).frozen ≡ or_else empty_aggregate (option_map (λ (y : CellParts). y.frozen) x)
+  or_frozen None = refl
+  or_frozen (Some p) = refl
+
+  frozen-kept : (k : Cell) → (or_else no_parts (finmap.get n k)).frozen ≡ (or_else no_parts (finmap.get m k)).frozen
+  frozen-kept k = or_frozen (finmap.get n k) ∙ ap (or_else empty_aggregate) (keeps k) ∙ sym (or_frozen (finmap.get o k)) ∙ frozen-made k
+
+  others-kept : (k : Cell) → (IsOfFacts facts r k → ⊥) → finmap.get n k ≡ finmap.get m k
+  others-kept k apart =
+      elim (finmap.get m k) as (λ x. finmap.get m k ≡ x → finmap.get n k ≡ x) [
+        | Some p ↦ λ e. elim (finmap.get n k) as (λ x. finmap.get n k ≡ x → x ≡ Some p) [
+          | None ↦ λ none. absurd (there-still k (λ z. none-some p (sym z ∙ made.gains.stays k p e)) none)
+          | Some q ↦ λ here.
+              let frozen : q.frozen ≡ p.frozen =
+              same_Some q.frozen p.frozen (ap (option_map (λ (y : CellParts). y.frozen)) (sym here) ∙ keeps k ∙ ap (option_map (λ (y : CellParts). y.frozen)) (made.gains.stays k p e)) in
+              let alive : q.live ≡ p.live = live k q here ∙ total-nothing r k facts apart ∙ sym (idle k p e) in
+              λ i. Some (record { frozen = frozen i; live = alive i })
+        ] refl
+        | None ↦ λ e. elim (finmap.get n k) as (λ x. finmap.get n k ≡ x → x ≡ None) [
+          | None ↦ λ none. refl
+          | Some q ↦ λ here. absurd (⊎_elim {C = ⊥} (λ z. z e) (λ z. apart z.1) (comes-from k (there-before k (λ none. none-some q (sym none ∙ here)))))
+        ] refl
+      ] refl
+
+  pub fills : PutsCells facts r low m n
+  fills = record {
+    there = λ k. (λ some. comes-from k (there-before k some), λ s. there-still k (⊎_elim {C = finmap.get o k ≢ None} (stays-there k) (λ q. needed-there k q.0 q.1) s));
+    frozen = frozen-kept;
+    others = others-kept;
+  }
+
+live-at : (columns : List ColumnPoints) (rs : List Rule) (ns : List CellMap) (i : ℕ) (r : Rule) (n : CellMap) → AreLive columns rs ns → IsAt rs i r → IsAt ns i n → IsLive columns r n
+live-at columns [] ns i r n h ar an = absurd (none-some r ar)
+live-at columns (q ∷ rs) [] i r n h ar an = absurd (none-some n an)
+live-at columns (q ∷ rs) (x ∷ ns) zero r n h ar an = subst (IsLive columns r) (same_Some x n an) (subst (λ (z : Rule). IsLive columns z x) (same_Some q r ar) h.0)
+live-at columns (q ∷ rs) (x ∷ ns) (suc i) r n h ar an = live-at columns rs ns i r n h.1 ar an
+
+idle-at : (ms : List CellMap) (i : ℕ) (m : CellMap) → AreIdle ms → IsAt ms i m → IsIdle m
+idle-at [] i m h am = absurd (none-some m am)
+idle-at (x ∷ ms) zero m h am = subst IsIdle (same_Some x m am) h.0
+idle-at (x ∷ ms) (suc i) m h am = idle-at ms i m h.1 am
+
+pub all-filled : (columns : List ColumnPoints) (rs : List Rule) (lows : List ℤ) (ms os ns : List CellMap) → OfEachRule (MakesCells (facts_of columns)) rs lows ms os → KeepFrozen os ns → AreLive columns rs ns → AreIdle ms
+    → OfEachRule (PutsCells (facts_of columns)) rs lows ms ns
+all-filled columns rs lows ms os ns made keeps live idle = (
+  frozen-length os ns keeps ∙ made.0,
+  λ i r low m n ar al am an.
+      let o : CellMap = get_or os i finmap.empty in
+      let ao : IsAt os i o = slice_get-get_or os i finmap.empty (subst (λ (z : ℕ). i < z) (sym made.0) (slice_get_within ms i m am)) in
+      fills columns r low m o n (made.1 i r low m o ar al am ao) (frozen-at os ns i o n keeps ao an) (live-at columns rs ns i r n live ar an) (idle-at ms i m idle am),
+)
+
+-- ---- what follows
+
+-- the others
+pub others-of : (P : Rule → ℤ → CellMap → CellMap → Type 0) (r : Rule) (rs : List Rule) (low : ℤ) (lows : List ℤ) (m : CellMap) (ms : List CellMap) (n : CellMap) (ns : List CellMap) → OfEachRule P (r ∷ rs) (low ∷ lows) (m ∷ ms) (n ∷ ns) → OfEachRule P rs lows ms ns
+others-of P r rs low lows m ms n ns h = (let e = h.0 in omega (arith, e), λ i. h.1 (suc i))
+
+pub rooms-had : (facts : List Fact) (rs : List Rule) (lows : List ℤ) (ms ns : List CellMap) → OfEachRule (PutsCells facts) rs lows ms ns → HaveCells rs lows facts ns
+rooms-had facts [] lows ms ns h = tt
+rooms-had facts (r ∷ rs) [] ms ns h = tt
+rooms-had facts (r ∷ rs) (low ∷ lows) ms [] h = tt
+rooms-had facts (r ∷ rs) (low ∷ lows) [] (n ∷ ns) h = absurd (let e = h.0 in omega (arith, e))
+rooms-had facts (r ∷ rs) (low ∷ lows) (m ∷ ms) (n ∷ ns) h = (
+  λ f a rolled above none.
+      let puts : PutsCells facts r low m n = h.1 0 r low m n refl refl refl refl in
+      (puts.there (cell_of r f)).1 (inr (above, (f, a, ap (λ b. b && same_cell (cell_of r f) (cell_of r f)) rolled ∙ same_cell-refl (cell_of r f)))) none,
+  rooms-had facts rs lows ms ns (others-of (PutsCells facts) r rs low lows m ms n ns h),
+)
+
+pub indices-had : (facts : List Fact) (rs : List Rule) (lows : List ℤ) (ms os : List CellMap) → length lows ≡ length rs → OfEachRule (MakesCells facts) rs lows ms os → HaveIndices rs ms → HaveIndices rs os
+indices-had facts [] lows ms os l h v = tt
+indices-had facts (r ∷ rs) lows ms [] l h v = tt
+indices-had facts (r ∷ rs) [] ms (o ∷ os) l h v = absurd (omega (arith, l))
+indices-had facts (r ∷ rs) (low ∷ lows) [] (o ∷ os) l h v = absurd (let e = h.0 in omega (arith, e))
+indices-had facts (r ∷ rs) (low ∷ lows) (m ∷ ms) (o ∷ os) l h v = (
+  let made : MakesCells facts r low m o = h.1 0 r low m o refl refl refl refl in made.indices v.0,
+  indices-had facts rs lows ms os (omega (arith, l)) (others-of (MakesCells facts) r rs low lows m ms o os h) v.1,
+)
+
+still-keys : (m n : CellMap) → KeepsFrozen m n → (k : Cell) → Among k (finmap.keys n) → Among k (finmap.keys m)
+still-keys m n keeps k a =
+    key_there m k (λ none. elim (finmap.get n k) as (λ x. finmap.get n k ≡ x → ⊥) [
+      | None ↦ λ e. key_not n k a e
+      | Some p ↦ λ e. none-some p.frozen (ap (option_map (λ (y : CellParts). y.frozen)) (sym none) ∙ sym (keeps k) ∙ ap (option_map (λ (y : CellParts). y.frozen)) e)
+    ] refl)
+
+pub indices-kept : (rs : List Rule) (ms ns : List CellMap) → KeepFrozen ms ns → HaveIndices rs ms → HaveIndices rs ns
+indices-kept [] ms ns keeps v = tt
+indices-kept (r ∷ rs) [] [] keeps v = tt
+indices-kept (r ∷ rs) [] (n ∷ ns) keeps v = absurd keeps
+indices-kept (r ∷ rs) (m ∷ ms) [] keeps v = absurd keeps
+indices-kept (r ∷ rs) (m ∷ ms) (n ∷ ns) keeps v = (λ k a. v.0 k (still-keys m n keeps.0 k a), indices-kept rs ms ns keeps.1 v.1)
+
+-- created cells have no live part
+idle-made : (facts : List Fact) (rs : List Rule) (lows : List ℤ) (ms os : List CellMap) → length lows ≡ length rs → length ms ≡ length rs → OfEachRule (MakesCells facts) rs lows ms os → AreIdle ms → AreIdle os
+idle-made facts rs lows ms [] l n h idle = tt
+idle-made facts rs lows [] (o ∷ os) l n h idle = absurd (let e = h.0 in omega (arith, e))
+idle-made facts [] lows (m ∷ ms) (o ∷ os) l n h idle = absurd (omega (arith, n))
+idle-made facts (r ∷ rs) [] (m ∷ ms) (o ∷ os) l n h idle = absurd (omega (arith, l))
+idle-made facts (r ∷ rs) (low ∷ lows) (m ∷ ms) (o ∷ os) l n h idle = (
+  λ k p e.
+      let made : MakesCells facts r low m o = h.1 0 r low m o refl refl refl refl in
+      elim (finmap.get m k) as (λ x. finmap.get m k ≡ x → p.live ≡ empty_aggregate) [
+        | None ↦ λ none. ap (λ (y : CellParts). y.live) (made.gains.created k p none e).0
+        | Some q ↦ λ some. ap (λ (y : CellParts). y.live) (same_Some p q (sym e ∙ made.gains.stays k q some)) ∙ idle.0 k q some
+      ] refl,
+  idle-made facts rs lows ms os (omega (arith, l)) (omega (arith, n)) (others-of (MakesCells facts) r rs low lows m ms o os h) idle.1,
+)
+
+-- ---- the whole
+
+-- cells are made under these rules, and filled
+abbrev pub Makes : List Rule → List ℤ → List RollupState → List ColumnState → List RollupState → Type 0
+Makes rs lows vs ss us = (cs : List Column) → length ss ≡ length cs → AreRollups rs cs us → OfEachRule (MakesCells (facts_of (with_points cs (point_maps ss)))) rs lows (cells_of us) (cells_of vs)
+
+abbrev pub Adds : List Rule → List RollupState → List ColumnState → List RollupState → Type 0
+Adds rs ws ss vs = (cs : List Column) → length ss ≡ length cs → AreRollups rs cs vs → AreIdle (cells_of vs) → AreLive (with_points cs (point_maps ss)) rs (cells_of ws)
+
+module _ (rs : List Rule) (lows : List ℤ) (index : Indexed) (ss : List ColumnState) (us vs ws : List RollupState) (held : IsHeld index ss) (many : length lows ≡ length rs) (rollups : AreRollups rs (map column_of (columns_in index ss)) us) (idle : AreIdle (cells_of us)) where
+  names : AreRollups rs index.columns us
+  names = subst (λ (cs : List Column). AreRollups rs cs us) (names_held index ss held.each) rollups
+
+  pub all_fill : vs ≡ with_frozen_all (cells_of vs) us → ws ≡ with_frozen_all (cells_of ws) vs → Makes rs lows vs ss us → KeepFrozen (cells_of vs) (cells_of ws) → Adds rs ws ss vs
+      → FillsCells rs lows (held_of index ss us) (held_of index ss ws)
+  all_fill one two make frozen add =
+      let facts : List Fact = facts_of (columns_in index ss) in
+      let made : OfEachRule (MakesCells facts) rs lows (cells_of us) (cells_of vs) = make index.columns held.each names in
+      let between : AreRollups rs index.columns vs = subst (AreRollups rs index.columns) (sym one) (rollups_with rs index.columns (cells_of vs) us names) in
+      let live : AreLive (columns_in index ss) rs (cells_of ws) =
+      add index.columns held.each between (idle-made facts rs lows (cells_of us) (cells_of vs) many (length-map us (λ (s : RollupState). s.grid.cells) ∙ rollups-length rs index.columns us names) made idle) in
+      let cells : OfEachRule (PutsCells facts) rs lows (cells_of us) (cells_of ws) = all-filled (columns_in index ss) rs lows (cells_of us) (cells_of vs) (cells_of ws) made frozen live idle in
+      record {
+        others = ap (held_of index ss) (lanes_then us vs ws one two);
+        cells = cells;
+        rooms = rooms-had facts rs lows (cells_of us) (cells_of ws) cells;
+        live = live;
+        indices = λ v. indices-kept rs (cells_of vs) (cells_of ws) frozen (indices-had facts rs lows (cells_of us) (cells_of vs) many made v);
+        known = known_of index ss ws held;
+        once = facts-distinct index.columns (point_maps ss) held.sound.columns_once;
+      }

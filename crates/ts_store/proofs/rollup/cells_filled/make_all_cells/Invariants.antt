@@ -1,0 +1,16 @@
+use Rattle.std.proofs.Common.{◌≡◌, List, length, take}
+use Rattle.ts_core.specs.facts.Facts.{Column}
+use Rattle.ts_core.specs.store.StoreStates.{facts_of}
+use Rattle.ts_store.specs.image.BuildingParts.{MakesCells}
+use Rattle.ts_store.specs.store.ColumnsKept.{with_points, point_maps}
+use Rattle.ts_store.specs.write.LinesPut.{OfEachRule}
+use Rattle.ts_store.specs.rollup.Rollups.{AreRollups, cells_of}
+use Rattle.ts_store.specs.retain.RollupSteps.{with_frozen_all}
+use Rattle.ts_store.proofs.rollup.cells_filled.make_all_cells.Given as goal
+
+abbrev pub invariant-loop-number : goal.invariant-loop-number
+invariant-loop-number g l = record {
+  lanes : l.rollups ≡ with_frozen_all (cells_of l.rollups) l.fn.rollups;
+  cells : (cs : List Column) → length l.columns ≡ length cs → AreRollups l.rules cs l.fn.rollups
+      → OfEachRule (MakesCells (facts_of (take l.number (with_points cs (point_maps l.columns))))) l.rules l.lows (cells_of l.fn.rollups) (cells_of l.rollups);
+}

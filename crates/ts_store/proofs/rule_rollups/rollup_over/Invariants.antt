@@ -1,5 +1,0 @@
-use Rattle.ts_store.specs.RuleRollups.{HasFirstLanes}
-use Rattle.ts_store.proofs.rule_rollups.rollup_over.Given as goal
-
-abbrev pub invariant-loop-number : goal.invariant-loop-number
-invariant-loop-number g l = HasFirstLanes l.rule l.index.columns l.number l.rollup

@@ -1,0 +1,114 @@
+-- The rollup of a rule over columns that exist: its lanes, column after column, and its cells.
+use Rattle.std.proofs.Common.{◌≡◌, ◌≢◌, ◌≤ℤ◌, ◌&&◌, ◌+◌, ℕ, suc, ℤ, List, [], ◌∷◌, ◌++◌, length, map, take, Option, Some, None, refl, sym, ◌∙◌, ap, ap₂, subst, inr, ⊎_elim, arith}
+use Rattle.std.specs.FinMap as finmap
+use Rattle.std.specs.FinMap.{get-empty}
+use Rattle.std.specs.List.{AllByRecursion}
+use Rattle.std.proofs.Math.Seq.{take-suc, take-length}
+use Rattle.std.proofs.lemmas.Int.{ints}
+use Rattle.std.proofs.lemmas.List.{length_push}
+use Rattle.std.proofs.lemmas.Option.{none-some, slice_get_within, get_or_from_slice_get}
+use Rattle.ts_core.specs.lists.Numbered.{IsAt}
+use Rattle.ts_core.specs.facts.Facts.{Column, Fact}
+use Rattle.ts_core.specs.settings.Settings.{Rule}
+use Rattle.ts_core.specs.store.Cells.{Cell, cell_cmp, cell_of, total_of}
+use Rattle.ts_core.specs.lists.Changes.{or_else}
+use Rattle.ts_core.specs.store.StoreStates.{CellParts, column_of, facts_of}
+use Rattle.ts_core.specs.store.StoreData.{CellMap, no_parts}
+use Rattle.ts_core.specs.moves.RuleMoves.{IsFresh}
+use Rattle.ts_core.proofs.moves.MovesStand.{keys_once, key_there, key_not}
+use Rattle.ts_core.proofs.plans.PieceCells.{same_cell-refl}
+use Rattle.ts_core.proofs.store.StateLemmas.{same_head}
+use Rattle.ts_raw.specs.Columns.{ColumnState}
+use Rattle.ts_raw.specs.Indexed.{Indexed}
+use Rattle.ts_store.specs.image.BuildingParts.{AreIdle, FillsCells, KeepFrozen}
+use Rattle.ts_store.specs.store.CellIndices.{HasIndices}
+use Rattle.ts_store.specs.store.ColumnsKept.{IsHeld, held_of, columns_in}
+use Rattle.ts_store.specs.store.Inventories.{AreFilled}
+use Rattle.ts_store.specs.write.LinesPut.{IsOfFacts, PutsCells}
+use Rattle.ts_store.specs.rules.RuleRollups.{HasFirstLanes, IsRollupOf}
+use Rattle.ts_store.specs.rollup.Rollups.{RollupState, HaveLanes, KeepsCells, HasNext, cells_of, new_rollup, joined_lane, with_next, with_frozen}
+use Rattle.ts_store.specs.retain.RollupSteps.{with_frozen_all}
+use Rattle.ts_store.proofs.store.ColumnsLemmas.{names_held}
+use Rattle.ts_store.proofs.write.PointsPut.{lanes_then}
+use Rattle.ts_store.proofs.rollup.RollupsGrow.{lanes_kept, lanes_push}
+use Rattle.ts_store.proofs.rollup.RulesFilled.{Makes, Adds, all_fill}
+
+-- ---- lanes
+
+pub no_lanes : (r : Rule) (columns : List Column) → HasFirstLanes r columns 0 new_rollup
+no_lanes r columns = record { lanes = tt; many = refl; cells = refl }
+
+take-push : {X : Type 0} (xs : List X) (n : ℕ) (x : X) → IsAt xs n x → take (n + 1) xs ≡ take n xs ++ x ∷ []
+take-push xs n x at = ap (λ k. take k xs) (let e : n + 1 ≡ suc n = omega arith in e) ∙ take-suc xs n x (slice_get_within xs n x at) ∙ ap (λ y. take n xs ++ y ∷ []) (get_or_from_slice_get xs n x x at)
+
+pub one_lane : (r : Rule) (columns : List Column) (n : ℕ) (c : Column) (s t : RollupState) → IsAt columns n c → KeepsCells s t → HasNext r c t → HasFirstLanes r columns n s → HasFirstLanes r columns (n + 1) (with_next t)
+one_lane r columns n c s t at keeps next h =
+    let os : List (Option ℕ) = t.lanes in
+    let first : List Column = take n columns in
+    let lanes : HaveLanes r t.grid.lanes first os = subst (HaveLanes r t.grid.lanes first) (sym keeps.lanes) (lanes_kept r s.grid.lanes t.grid.lanes first s.lanes keeps.made h.lanes) in
+    let joined : joined_lane os t.next ≡ os ++ next.0 ∷ [] = ap (joined_lane os) next.1 in
+    record {
+      lanes = subst (λ (cs : List Column). HaveLanes r t.grid.lanes cs (joined_lane os t.next)) (sym (take-push columns n c at))
+          (subst (HaveLanes r t.grid.lanes (first ++ c ∷ [])) (sym joined) (lanes_push r t.grid.lanes first os c next.0 lanes next.2));
+      many = ap (λ (xs : List (Option ℕ)). length xs) joined ∙ length_push os next.0 ∙ ap (λ (xs : List (Option ℕ)). length xs + 1) keeps.lanes ∙ ap (λ k. k + 1) h.many;
+      cells = keeps.cells ∙ h.cells;
+    }
+
+-- ---- cells
+
+module _ (facts : List Fact) (r : Rule) (low : ℤ) (m : CellMap) (puts : PutsCells facts r low finmap.empty m) where
+  made : (k : Cell) → finmap.get m k ≢ None → (low ≤ℤ k.index) × IsOfFacts facts r k
+  made k some = ⊎_elim {C = (low ≤ℤ k.index) × IsOfFacts facts r k} (λ h. absurd (h (get-empty cell_cmp k))) (λ q. q) ((puts.there k).0 some)
+
+  pub fresh_of : ((k : Cell) (p : CellParts) → finmap.get m k ≡ Some p → p.live ≡ total_of r k facts) → IsFresh r low facts m
+  fresh_of live = record {
+    there = λ f a rolled l none. (puts.there (cell_of r f)).1 (inr (l, (f, a, ap₂ (λ x y. x && y) rolled (same_cell-refl (cell_of r f))))) none;
+    above = λ k l. elim (finmap.get m k) as (λ o. finmap.get m k ≡ o → o ≡ None) [
+      | None ↦ λ e. refl
+      | Some p ↦ λ e. absurd (let q = (made k (λ none. none-some p (sym none ∙ e))).0 in omega (arith, ints, l, q))
+    ] refl;
+    frozen = λ k p e. ap (λ o. (or_else no_parts o).frozen) (sym e) ∙ puts.frozen k ∙ ap (λ o. (or_else no_parts o).frozen) (get-empty cell_cmp k);
+    live = live;
+  }
+
+  pub filled_of : AreFilled facts r low (finmap.keys m)
+  filled_of = record { there = λ k. (λ a. made k (key_not m k a), λ q. key_there m k ((puts.there k).1 (inr q))); once = keys_once m }
+
+-- ---- the whole
+
+no_indices : (r : Rule) → HasIndices r finmap.empty
+no_indices r = λ k a. absurd (key_not finmap.empty k a (get-empty cell_cmp k))
+
+pub rollup_made : (index : Indexed) (ss : List ColumnState) (us : List RollupState) (r : Rule) (low : ℤ) (s t : RollupState) → IsHeld index ss → HasFirstLanes r index.columns (length index.columns) s
+    → t ≡ with_frozen t.grid.cells s → FillsCells (r ∷ []) (low ∷ []) (held_of index ss (s ∷ [])) (held_of index ss (t ∷ [])) → IsRollupOf (held_of index ss us) r low t
+rollup_made index ss us r low s t held first same fills =
+    let facts : List Fact = facts_of (held_of index ss us).columns in
+    let puts : PutsCells facts r low finmap.empty t.grid.cells = subst (λ (m : CellMap). PutsCells facts r low m t.grid.cells) first.cells (fills.cells.1 0 r low s.grid.cells t.grid.cells refl refl refl refl) in
+    let lanes : HaveLanes r s.grid.lanes index.columns s.lanes = subst (λ (cs : List Column). HaveLanes r s.grid.lanes cs s.lanes) (take-length index.columns) first.lanes in
+    record {
+      lanes = subst (λ (x : RollupState). HaveLanes r x.grid.lanes (map column_of (held_of index ss us).columns) x.lanes) (sym same) (subst (λ (cs : List Column). HaveLanes r s.grid.lanes cs s.lanes) (sym (names_held index ss held.each)) lanes);
+      fresh = fresh_of facts r low t.grid.cells puts fills.live.0;
+      filled = filled_of facts r low t.grid.cells puts;
+      indices = (fills.indices (subst (HasIndices r) (sym first.cells) (no_indices r), tt)).0;
+    }
+
+-- ---- one rollup, made and filled
+
+-- a list of one that ends in an item is this item alone
+pub alone : {X : Type 0} (xs ys : List X) (x : X) → length xs ≡ 1 → xs ≡ ys ++ x ∷ [] → xs ≡ x ∷ []
+alone xs [] x one e = e
+alone {X} xs (y ∷ ys) x one e = absurd (let n : length xs ≡ length (y ∷ (ys ++ x ∷ [])) = ap (λ (zs : List X). length zs) e in let m = length_push ys x in omega (arith, n, m, one))
+
+pub alone_wide : (n : ℕ) (s : RollupState) (us : List RollupState) → us ≡ s ∷ [] → length s.lanes ≡ n → AllByRecursion (λ (u : RollupState). length u.lanes ≡ n) us
+alone_wide n s us e wide = subst (AllByRecursion (λ (u : RollupState). length u.lanes ≡ n)) (sym e) (wide, tt)
+
+pub alone_made : (index : Indexed) (ss : List ColumnState) (us : List RollupState) (r : Rule) (low : ℤ) (s t : RollupState) (vs ws : List RollupState) → IsHeld index ss → HasFirstLanes r index.columns (length index.columns) s
+    → vs ≡ with_frozen_all (cells_of vs) (s ∷ []) → ws ≡ with_frozen_all (cells_of ws) vs → Makes (r ∷ []) (low ∷ []) vs ss (s ∷ []) → KeepFrozen (cells_of vs) (cells_of ws) → Adds (r ∷ []) ws ss vs → ws ≡ t ∷ [] → IsRollupOf (held_of index ss us) r low t
+alone_made index ss us r low s t vs ws held first one two make frozen add only =
+    let lanes : HaveLanes r s.grid.lanes index.columns s.lanes = subst (λ (cs : List Column). HaveLanes r s.grid.lanes cs s.lanes) (take-length index.columns) first.lanes in
+    let named : HaveLanes r s.grid.lanes (map column_of (columns_in index ss)) s.lanes = subst (λ (cs : List Column). HaveLanes r s.grid.lanes cs s.lanes) (sym (names_held index ss held.each)) lanes in
+    let idle : AreIdle (cells_of (s ∷ [])) = (λ k p e. absurd (none-some p (sym (ap (λ (m : CellMap). finmap.get m k) first.cells ∙ get-empty cell_cmp k) ∙ e)), tt) in
+    let fills : FillsCells (r ∷ []) (low ∷ []) (held_of index ss (s ∷ [])) (held_of index ss ws) = all_fill (r ∷ []) (low ∷ []) index ss (s ∷ []) vs ws held refl (named, tt) idle one two make frozen add in
+    let same : t ≡ with_frozen t.grid.cells s =
+    same_head t (with_frozen t.grid.cells s) [] [] (sym only ∙ lanes_then (s ∷ []) vs ws one two ∙ ap (λ (xs : List RollupState). with_frozen_all (cells_of xs) (s ∷ [])) only) in
+    rollup_made index ss us r low s t held first same (subst (λ (xs : List RollupState). FillsCells (r ∷ []) (low ∷ []) (held_of index ss (s ∷ [])) (held_of index ss xs)) only fills)

@@ -1,0 +1,62 @@
+-- The state and the inventory of a store after a rule came or went.
+use Rattle.std.proofs.Common.{◌≡◌, ◌↔◌, ◌∙◌, ℤ, Bool, true, false, true≢false, List, refl, sym, ap}
+use Rattle.ts_core.specs.lists.Members.{Among}
+use Rattle.ts_core.specs.facts.Facts.{Text, Fact}
+use Rattle.ts_core.specs.settings.Settings.{Rule, Settings}
+use Rattle.ts_core.specs.store.History.{History}
+use Rattle.ts_core.specs.facts.Latest.{latest_of}
+use Rattle.ts_core.specs.store.Cells.{Cell}
+use Rattle.ts_core.specs.store.Marks.{Marks, first_from}
+use Rattle.ts_core.specs.store.RawFacts.{is_kept, kept_from}
+use Rattle.ts_core.specs.store.StoreStates.{StandsFor, facts_of}
+use Rattle.ts_core.specs.store.StoreData.{StoreData, state_of}
+use Rattle.ts_core.proofs.store.Cuts.{Holds}
+use Rattle.ts_core.proofs.lists.MembersLemmas.{Among-filter_passes, Among-filter_was, Among-filter_stays}
+use Rattle.ts_core.proofs.store.StateLemmas.{StandsFor-Holds}
+use Rattle.ts_store.specs.store.Inventories.{AreFilled, inventory_of}
+use Rattle.ts_store.specs.write.LineTexts.{State, IsIn}
+use Rattle.ts_store.specs.read.PointsRead.{all_raw}
+use Rattle.ts_store.specs.rules.RulesChanged.{GainsRule, RuleComes, RuleGoes}
+use Rattle.ts_store.specs.rules.RuleTexts.{low_in, with_rule_added, with_rule_dropped}
+
+pub rule_came : (s : State) (old new : StoreData) (r : Rule) (low : ℤ) → IsIn s old → RuleComes old new r low → (low ≡ low_in s r) × IsIn (with_rule_added r s) new
+rule_came s old new r low i c = (
+  c.first ∙ ap (λ (z : Marks). first_from r z.raw) i.stands.marks,
+  record { stands = c.history s.opening s.history i.stands; series = ap (λ (z : StoreData). z.series) c.whole ∙ i.series },
+)
+
+pub rule_went : (s : State) (old new : StoreData) (name : Text) → IsIn s old → RuleGoes old new name → IsIn (with_rule_dropped name s) new
+rule_went s old new name i c = record { stands = c.history s.opening s.history i.stands; series = ap (λ (z : StoreData). z.series) c.whole ∙ i.series }
+
+-- a call that isn't refused found the name
+pub was_named : (b : Bool) → ((false ≡ true) ↔ (b ≡ false)) → b ≡ true
+was_named true unknown = refl
+was_named false unknown = absurd (true≢false (sym (unknown.1 refl)))
+
+-- ---- the cells of an added rule are those of the raw facts of the history
+
+same_filled : (facts others : List Fact) (r : Rule) (low : ℤ) (cells : List Cell) → ((f : Fact) → Among f facts ↔ Among f others) → AreFilled facts r low cells → AreFilled others r low cells
+same_filled facts others r low cells same x = record {
+  there = λ k. (
+    λ a. let o = (x.there k).0 a in (o.0, (o.1.0, (same o.1.0).0 o.1.1, o.1.2)),
+    λ o. (x.there k).1 (o.0, (o.1.0, (same o.1.0).1 o.1.1, o.1.2)),
+  );
+  once = x.once;
+}
+
+raw_facts_are : (opening : Settings) (h : History) (k : StoreData) → StandsFor opening h (state_of k) → (f : Fact) → Among f (facts_of k.columns) ↔ Among f (all_raw k.waiting opening h)
+raw_facts_are opening h k st f =
+    let p : Fact → Bool = is_kept (kept_from opening h k.waiting) in
+    let held : Holds (kept_from opening h k.waiting) (latest_of h) (facts_of k.columns) = StandsFor-Holds opening h (state_of k) st in (
+      λ a. let q = held.only f a in Among-filter_stays p f (latest_of h) q.0 q.1,
+      λ a. held.all f (Among-filter_was p f (latest_of h) a) (Among-filter_passes p f (latest_of h) a),
+    )
+
+pub rule_gained : (s : State) (old new : StoreData) (r : Rule) (low : ℤ) → IsIn s old → RuleComes old new r low → GainsRule (all_raw old.waiting s.opening s.history) r low (inventory_of old) (inventory_of new)
+rule_gained s old new r low i c = record {
+  columns = c.inventory.columns;
+  waiting = c.inventory.waiting;
+  made = c.inventory.made;
+  cells = c.inventory.cells;
+  filled = same_filled (facts_of old.columns) (all_raw old.waiting s.opening s.history) r low c.inventory.made (raw_facts_are s.opening s.history old i.stands) c.inventory.filled;
+}

@@ -1,0 +1,73 @@
+-- A rule comes by its text, or the text is refused.
+use Rattle.std.proofs.Common.{◌≡◌, ◌⊎◌, ⊎_elim, ◌∙◌, ◌≤◌, ℤ, length, sym, ap, subst, refl, Option, Some, None, Result, Ok, Err, IfSome}
+use Rattle.ts_core.specs.facts.Facts.{Text}
+use Rattle.ts_core.specs.settings.Settings.{Rule, Settings}
+use Rattle.ts_core.specs.settings.SettingsFaults.{added_fault}
+use Rattle.ts_core.specs.settings.SettingsTexts.{rule_read, IsRefusal}
+use Rattle.ts_core.specs.declared.settings.settings_fault.SettingsError.{SettingsError}
+use Rattle.ts_core.specs.declared.settings.settings_fault.SettingsError.TheVariants as errors
+use Rattle.ts_core.specs.declared.settings.settings_fault.SettingsFault.{SettingsFault}
+use Rattle.ts_core.specs.store.StoreData.{StoreData}
+use Rattle.ts_store.specs.rules.RulesChanged.{AddsRule}
+use Rattle.ts_store.specs.rules.RuleTexts.{rule_for, rule_or_fault, unless_added, IsErrorOf, TextComes}
+use Rattle.ts_store.specs.declared.rules.rule_text.AddedRule.{AddedRule}
+use Rattle.ts_store.proofs.rules.ShortNames.{added_short}
+
+pub read_refused : (s : Settings) (text : Text) (e : SettingsError) → IsRefusal e (rule_read text) → IsErrorOf (rule_for s text) e
+unfolding rule_for
+read_refused s text errors.OutOfMemory h = tt
+read_refused s text (errors.Fault fault) h = ap (rule_or_fault s) h.1 ∙ ap Err (sym h.0)
+
+abbrev Added : Type 0
+Added = Result ℤ SettingsError
+
+abbrev added : ℤ → Added
+added low = Ok low
+
+abbrev refused_by : SettingsError → Added
+refused_by e = Err e
+
+not_both : (low : ℤ) (e : SettingsError) → added low ≡ refused_by e → ⊥
+not_both low e h = absurd cc
+
+same_error : (e f : SettingsError) → refused_by e ≡ refused_by f → e ≡ f
+same_error e f h = cc
+
+same_fault : (f g : SettingsFault) → errors.Fault f ≡ errors.Fault g → f ≡ g
+same_fault f g h = cc
+
+not_memory : (f : SettingsFault) → errors.Fault f ≡ errors.OutOfMemory → ⊥
+not_memory f h = absurd cc
+
+-- a rule that was added had no fault
+faultless : (v : Option SettingsFault) (old new : StoreData) (r : Rule) (low : ℤ) → added_fault old.settings r ≡ v → AddsRule old new r (Ok low) → added_fault old.settings r ≡ None
+faultless None old new r low is a = is
+faultless (Some fault) old new r low is a = absurd (not_both low (errors.Fault fault) (let P : Option SettingsFault → Type 0 = λ o. IfSome o (λ f. added low ≡ refused_by (errors.Fault f)) in subst P is a.refused))
+
+pub text_came : (old new : StoreData) (text : Text) (r : Rule) (added : AddedRule) → rule_read text ≡ Some r → added.name.bytes ≡ r.name → AddsRule old new r (Ok added.low) → TextComes old new text added
+unfolding rule_for
+text_came old new text r added read name a = record {
+  rule = r;
+  read = ap (rule_or_fault old.settings) read ∙ ap (unless_added r) (faultless (added_fault old.settings r) old new r added.low refl a);
+  name = name;
+  comes = a.ok;
+}
+
+pub name_fits : (old new : StoreData) (r : Rule) (low : ℤ) → AddsRule old new r (Ok low) → length r.name ≤ 32
+name_fits old new r low a = added_short old.settings r (faultless (added_fault old.settings r) old new r low refl a)
+
+-- the fault of a rule that was refused
+fault_is : (v : Option SettingsFault) (old new : StoreData) (r : Rule) (fault : SettingsFault) → added_fault old.settings r ≡ v → AddsRule old new r (Err (errors.Fault fault)) → added_fault old.settings r ≡ Some fault
+fault_is None old new r fault is a =
+    ⊎_elim {C = added_fault old.settings r ≡ Some fault}
+    (λ ok. absurd (not_both ok.0 (errors.Fault fault) (sym ok.1)))
+    (λ memory. absurd (not_memory fault (same_error (errors.Fault fault) errors.OutOfMemory memory)))
+    (a.taken (rw is refl))
+fault_is (Some other) old new r fault is a =
+    let told : refused_by (errors.Fault fault) ≡ refused_by (errors.Fault other) = let P : Option SettingsFault → Type 0 = λ o. IfSome o (λ f. refused_by (errors.Fault fault) ≡ refused_by (errors.Fault f)) in subst P is a.refused in
+    is ∙ ap Some (sym (same_fault fault other (same_error (errors.Fault fault) (errors.Fault other) told)))
+
+pub text_refused : (old new : StoreData) (text : Text) (r : Rule) (e : SettingsError) → rule_read text ≡ Some r → AddsRule old new r (Err e) → IsErrorOf (rule_for old.settings text) e × (new ≡ old)
+unfolding rule_for
+text_refused old new text r errors.OutOfMemory read a = (tt, a.err)
+text_refused old new text r (errors.Fault fault) read a = (ap (rule_or_fault old.settings) read ∙ ap (unless_added r) (fault_is (added_fault old.settings r) old new r fault refl a), a.err)

@@ -1,0 +1,230 @@
+-- A store with one more rule: its invariant, and what it stands for.
+use Rattle.std.proofs.Common.{◌≡◌, ◌≤ℤ◌, ◌+ℤ◌, ◌≤◌, ◌^◌, ℕ, ℤ, pos, List, [], ◌∷◌, ◌++◌, length, map, Option, Some, None, Result, Ok, Err, IfSome, is_some, refl, sym, ◌∙◌, ap, subst, inl, inr, unsigned_abs, FitsSigned, true≢false, arith}
+use Rattle.std.specs.Int.{w64}
+use Rattle.std.specs.FinMap as finmap
+use Rattle.std.specs.List.{AllByRecursion}
+use Rattle.std.proofs.lemmas.Int.{ints}
+use Rattle.std.proofs.lemmas.List.{map-append}
+use Rattle.ts_core.specs.declared.settings.settings_fault.SettingsError.{SettingsError}
+use Rattle.ts_core.specs.declared.settings.settings_fault.SettingsError.TheVariants.{Fault, OutOfMemory}
+use Rattle.ts_core.specs.declared.settings.settings_fault.SettingsFault.{SettingsFault}
+use Rattle.ts_core.specs.facts.Facts.{Column}
+use Rattle.ts_core.specs.facts.Times.{IsTime, least_time}
+use Rattle.ts_core.specs.settings.Settings.{Rule, Settings, IsPossibleRule, with_rule}
+use Rattle.ts_core.specs.settings.SettingsFaults.{settings_fault, added_fault}
+use Rattle.ts_core.specs.aggregates.Buckets.{bucket_start}
+use Rattle.ts_core.specs.store.Marks.{Marks, index_of, first_from}
+use Rattle.ts_core.specs.aggregates.Aggregates.{Aggregate}
+use Rattle.ts_core.specs.store.Cells.{cell_of, is_in_cell}
+use Rattle.ts_core.specs.lists.Changes.{or_else}
+use Rattle.ts_core.specs.store.StoreStates.{ColumnPoints, RuleCells, column_of, facts_of}
+use Rattle.ts_core.specs.store.StoreData.{CellMap, StoreData, no_parts, rule_cells, rules_of}
+use Rattle.ts_core.specs.moves.RuleMoves.{IsEven, rule_added}
+use Rattle.ts_core.proofs.aggregates.BucketsOrder.{bucket_le, bucket_is, bucket_of-start}
+use Rattle.ts_core.proofs.aggregates.IndicesFit.{indices_fit}
+use Rattle.ts_core.proofs.lists.ListSteps.{length-filter}
+use Rattle.ts_core.proofs.store.LowIndices.{first_from-is}
+use Rattle.ts_core.proofs.settings.RuleLaws.{with_rule-fault}
+use Rattle.ts_core.proofs.moves.RulesMove.{rule_comes, lives_push, left_added, even_added}
+use Rattle.ts_core.proofs.settings.SettingsLaws.{settings_are}
+use Rattle.ts_core.proofs.moves.MovesStand.{key_there}
+use Rattle.ts_store.specs.store.CellCounts.{HoldsFew, HoldFew}
+use Rattle.ts_store.specs.store.CellIndices.{HasIndices, HaveIndices}
+use Rattle.ts_store.specs.store.ColumnsKept.{Held}
+use Rattle.ts_store.specs.retain.OpenRuns.{Run, kept_data, IsKept}
+use Rattle.ts_store.specs.rollup.Rollups.{RollupState, HaveLanes, AreRollups, cells_of}
+use Rattle.ts_store.specs.rules.RuleRollups.{IsRollupOf, with_rollup}
+use Rattle.ts_store.specs.rules.RulesChanged.{RuleComes, AddsRule}
+use Rattle.ts_store.specs.store.SizedStores.{IsSizedRule}
+
+-- ---- lists that are one longer
+
+all_last : {X : Type 0} (P : X → Type 0) (xs : List X) (x : X) → AllByRecursion P (xs ++ x ∷ []) → P x
+all_last P [] x a = a.0
+all_last P (y ∷ ys) x a = all_last P ys x a.1
+
+rollups_push : (rs : List Rule) (cs : List Column) (ss : List RollupState) (r : Rule) (s : RollupState) → AreRollups rs cs ss → HaveLanes r s.grid.lanes cs s.lanes → AreRollups (rs ++ r ∷ []) cs (ss ++ s ∷ [])
+rollups_push [] cs [] r s h one = (one, tt)
+rollups_push [] cs (t ∷ ss) r s h one = absurd h
+rollups_push (q ∷ rs) cs [] r s h one = absurd h
+rollups_push (q ∷ rs) cs (t ∷ ss) r s h one = (h.0, rollups_push rs cs ss r s h.1 one)
+
+counts_push : (n : ℕ) (columns : List ColumnPoints) (rs : List Rule) (ms : List CellMap) (r : Rule) (m : CellMap) → length ms ≡ length rs → HoldsFew n columns r m → HoldFew n columns rs ms → HoldFew n columns (rs ++ r ∷ []) (ms ++ m ∷ [])
+counts_push n columns [] [] r m e one h = (one, tt)
+counts_push n columns [] (x ∷ ms) r m e one h = absurd (omega (arith, e))
+counts_push n columns (q ∷ rs) [] r m e one h = absurd (omega (arith, e))
+counts_push n columns (q ∷ rs) (x ∷ ms) r m e one h = (h.0, counts_push n columns rs ms r m (omega (arith, e)) one h.1)
+
+indices_push : (rs : List Rule) (ms : List CellMap) (r : Rule) (m : CellMap) → length ms ≡ length rs → HasIndices r m → HaveIndices rs ms → HaveIndices (rs ++ r ∷ []) (ms ++ m ∷ [])
+indices_push [] [] r m e one h = (one, tt)
+indices_push [] (x ∷ ms) r m e one h = absurd (omega (arith, e))
+indices_push (q ∷ rs) [] r m e one h = absurd (omega (arith, e))
+indices_push (q ∷ rs) (x ∷ ms) r m e one h = (h.0, indices_push rs ms r m (omega (arith, e)) one h.1)
+
+sized_push : (P : RuleCells → Type 0) (rs : List Rule) (lows : List ℤ) (ms : List CellMap) (r : Rule) (low : ℤ) (m : CellMap) → length lows ≡ length rs → length ms ≡ length rs → P (rule_cells r low m) → AllByRecursion P (rules_of rs lows ms)
+    → AllByRecursion P (rules_of (rs ++ r ∷ []) (lows ++ low ∷ []) (ms ++ m ∷ []))
+sized_push P [] [] [] r low m d e one h = (one, tt)
+sized_push P [] [] (x ∷ ms) r low m d e one h = absurd (omega (arith, e))
+sized_push P [] (l ∷ lows) ms r low m d e one h = absurd (omega (arith, d))
+sized_push P (q ∷ rs) [] ms r low m d e one h = absurd (omega (arith, d))
+sized_push P (q ∷ rs) (l ∷ lows) [] r low m d e one h = absurd (omega (arith, e))
+sized_push P (q ∷ rs) (l ∷ lows) (x ∷ ms) r low m d e one h = (h.0, sized_push P rs lows ms r low m (omega (arith, d)) (omega (arith, e)) one h.1)
+
+-- ---- the rule
+
+-- a rule that may be added has buckets of a second or more
+pub added_seconds : (settings : Settings) (r : Rule) → settings_fault settings ≡ None → added_fault settings r ≡ None → pos 1000000000 ≤ℤ r.interval
+added_seconds settings r faultless well =
+    all_last (λ (x : Rule). pos 1000000000 ≤ℤ x.interval) settings.rules r (settings_are (with_rule r settings) (with_rule-fault settings r faultless ∙ well)).seconds
+
+pub added_wide : (settings : Settings) (r : Rule) → settings_fault settings ≡ None → added_fault settings r ≡ None → pos 1 ≤ℤ r.interval
+added_wide settings r faultless well = let s = added_seconds settings r faultless well in omega (arith, ints, s)
+
+-- its low index fits in 64 bits
+pub low_fits : (settings : Settings) (r : Rule) (mark : ℤ) → settings_fault settings ≡ None → added_fault settings r ≡ None → IsPossibleRule r → IsTime mark → FitsSigned w64 (first_from r mark)
+low_fits settings r mark faultless well possible time =
+    let a = time.not_before in
+    let b = time.not_after in
+    indices_fit.first r mark (added_seconds settings r faultless well) possible.offset (let near : unsigned_abs mark ≤ 2 ^ 65 = omega (arith, ints, a, b) in near)
+
+-- it lies between those of the least time and of the raw mark
+first_least : (r : Rule) (mark : ℤ) → pos 1 ≤ℤ r.interval → IsTime mark → index_of r least_time ≤ℤ first_from r mark
+first_least r mark w time =
+    let starts = (first_from-is r mark w).starts in
+    let before : least_time ≤ℤ bucket_start (first_from r mark) r.interval r.offset = (let a = time.not_before in omega (arith, ints, a, starts)) in
+    subst (λ k. index_of r least_time ≤ℤ k) (bucket_of-start (first_from r mark) r.interval r.offset w) (bucket_le least_time (bucket_start (first_from r mark) r.interval r.offset) r.interval r.offset w before)
+
+first_most : (r : Rule) (mark : ℤ) → pos 1 ≤ℤ r.interval → first_from r mark ≤ℤ (index_of r mark +ℤ pos 1)
+first_most r mark w =
+    (first_from-is r mark w).first (index_of r mark +ℤ pos 1)
+    (let b = (bucket_is mark r.interval r.offset w).before_end in let h : mark ≤ℤ bucket_start (index_of r mark +ℤ pos 1) r.interval r.offset = omega (arith, ints, b) in h)
+
+-- ---- the store
+
+module _ (settings : Settings) (marks : Marks) (n : ℕ) (held : Held) (run : Option Run) (kept : IsKept (kept_data settings marks n held run) held run) where
+  abbrev now : StoreData
+  now = kept_data settings marks n held run
+
+  pub even : IsEven now
+  even = record { lows = kept.sized.lows; cells = kept.sized.cells }
+
+  module _ (r : Rule) (s : RollupState) (well : added_fault settings r ≡ None) (mark : IsTime marks.raw) (rollup : IsRollupOf held r (first_from r marks.raw) s) where
+    abbrev low : ℤ
+    low = first_from r marks.raw
+
+    abbrev cells : CellMap
+    cells = s.grid.cells
+
+    abbrev later : StoreData
+    later = rule_added r low cells now
+
+    wide : pos 1 ≤ℤ r.interval
+    wide = added_wide settings r kept.sized.settings well
+
+    few : HoldsFew n held.columns r cells
+    few = λ k.
+        let none : (or_else no_parts (finmap.get cells k)).frozen.count ≡ 0 = elim (finmap.get cells k) as (λ o. finmap.get cells k ≡ o → (or_else no_parts o).frozen.count ≡ 0) [
+          | None ↦ λ e. refl
+          | Some p ↦ λ e. ap (λ (a : Aggregate). a.count) (rollup.fresh.frozen k p e)
+        ] refl in
+        let some = length-filter (is_in_cell r k) (facts_of held.columns) in
+        let all = kept.sized.facts in
+        omega (arith, none, some, all)
+
+    pub is_added : kept_data (with_rule r settings) (record { raw = marks.raw; lows = marks.lows ++ low ∷ [] }) n (with_rollup s held) run ≡ later
+    is_added = ap (λ (ms : List CellMap). record {
+      settings = with_rule r settings;
+      marks = record { raw = marks.raw; lows = marks.lows ++ low ∷ [] };
+      running = now.running;
+      waiting = now.waiting;
+      series = held.series;
+      columns = held.columns;
+      accepted = n;
+      cells = ms;
+    }) (map-append (λ (x : RollupState). x.grid.cells) held.rollups (s ∷ []))
+
+    pub kept_added : IsKept later (with_rollup s held) run
+    kept_added = record {
+      rollups = rollups_push settings.rules (map column_of held.columns) held.rollups r s kept.rollups rollup.lanes;
+      few = kept.few;
+      counts = counts_push n held.columns settings.rules (cells_of held.rollups) r cells kept.sized.cells few kept.counts;
+      live = lives_push held.columns settings.rules (cells_of held.rollups) r cells kept.sized.cells rollup.fresh.live kept.live;
+      indices = indices_push settings.rules (cells_of held.rollups) r cells kept.sized.cells rollup.indices kept.indices;
+      sized = record {
+        settings = with_rule-fault settings r kept.sized.settings ∙ well;
+        accepted = kept.sized.accepted;
+        facts = kept.sized.facts;
+        series = kept.sized.series;
+        named = kept.sized.named;
+        columns = kept.sized.columns;
+        registered = kept.sized.registered;
+        keys = kept.sized.keys;
+        once = kept.sized.once;
+        lows = (even_added now r low cells even).lows;
+        cells = (even_added now r low cells even).cells;
+        rules = sized_push (IsSizedRule marks.raw (facts_of held.columns)) settings.rules marks.lows (cells_of held.rollups) r low cells kept.sized.lows kept.sized.cells
+            (record {
+              least = first_least r marks.raw wide mark;
+              most = first_most r marks.raw wide;
+              there = λ f a rolled above. key_there cells (cell_of r f) (λ none. rollup.fresh.there f a rolled above none);
+            }) kept.sized.rules;
+      };
+    }
+
+    pub comes : RuleComes now later r low
+    comes = record {
+      first = refl;
+      cells = cells;
+      fresh = rollup.fresh;
+      whole = refl;
+      history = λ opening h st. rule_comes opening h now r cells st even well rollup.fresh;
+      inventory = record {
+        columns = refl;
+        waiting = refl;
+        made = finmap.keys cells;
+        cells = map-append (λ (m : CellMap). finmap.keys m) (cells_of held.rollups) (cells ∷ []);
+        filled = rollup.filled;
+      };
+      left = left_added now r low cells even rollup.fresh;
+    }
+
+    abbrev HasCome : Settings → Marks → Held → Type 0
+    HasCome x m h = IsKept (kept_data x m n h run) h run × RuleComes now (kept_data x m n h run) r low
+
+    has_come : HasCome (with_rule r settings) (record { raw = marks.raw; lows = marks.lows ++ low ∷ [] }) (with_rollup s held)
+    has_come = (subst (λ (k : StoreData). IsKept k (with_rollup s held) run) (sym is_added) kept_added, subst (λ (k : StoreData). RuleComes now k r low) (sym is_added) comes)
+
+    pub parts_come : (x : Settings) (m : Marks) (h : Held) → x ≡ with_rule r settings → m ≡ record { raw = marks.raw; lows = marks.lows ++ low ∷ [] } → h ≡ with_rollup s held → HasCome x m h
+    parts_come x m h ex em eh =
+        subst (λ (y : Settings). HasCome y m h) (sym ex) (subst (λ (y : Marks). HasCome (with_rule r settings) y h) (sym em) (subst (HasCome (with_rule r settings) (record { raw = marks.raw; lows = marks.lows ++ low ∷ [] })) (sym eh) has_come))
+
+-- the same from what the calls ensure
+pub rule_is_added : (settings : Settings) (marks : Marks) (n : ℕ) (held : Held) (run : Option Run) (r : Rule) (low : ℤ) (s : RollupState) (x : Settings) (m : Marks) (h : Held) → IsKept (kept_data settings marks n held run) held run → added_fault settings r ≡ None → IsTime marks.raw
+    → low ≡ first_from r marks.raw → IsRollupOf held r low s → x ≡ with_rule r settings → m ≡ record { raw = marks.raw; lows = marks.lows ++ low ∷ [] } → h ≡ with_rollup s held
+    → IsKept (kept_data x m n h run) h run × RuleComes (kept_data settings marks n held run) (kept_data x m n h run) r low
+rule_is_added settings marks n held run r l s x m h kept well mark is =
+    subst (λ (z : ℤ). IsRollupOf held r z s → x ≡ with_rule r settings → m ≡ record { raw = marks.raw; lows = marks.lows ++ z ∷ [] } → h ≡ with_rollup s held
+    → IsKept (kept_data x m n h run) h run × RuleComes (kept_data settings marks n held run) (kept_data x m n h run) r z) (sym is)
+    (λ rollup ex em eh. parts_come settings marks n held run kept r s well mark rollup x m h ex em eh)
+
+-- ---- the call
+
+abbrev failed : SettingsError → Result ℤ SettingsError
+failed e = Err e
+
+abbrev succeeded : ℤ → Result ℤ SettingsError
+succeeded l = Ok l
+
+pub refused_as : (k : StoreData) (r : Rule) (fault : SettingsFault) → added_fault k.settings r ≡ Some fault → AddsRule k k r (Err (Fault fault))
+refused_as k r fault e = record {
+  ok = tt;
+  err = refl;
+  refused = subst (λ o. IfSome o (λ x. failed (Fault fault) ≡ failed (Fault x))) (sym e) refl;
+  taken = λ none. absurd (true≢false (ap is_some (sym e) ∙ none));
+}
+
+pub out_of_memory : (k : StoreData) (r : Rule) → added_fault k.settings r ≡ None → AddsRule k k r (Err OutOfMemory)
+out_of_memory k r e = record { ok = tt; err = refl; refused = subst (λ o. IfSome o (λ x. failed OutOfMemory ≡ failed (Fault x))) (sym e) tt; taken = λ none. inr refl }
+
+pub rule_came : (old new : StoreData) (r : Rule) (l : ℤ) → added_fault old.settings r ≡ None → RuleComes old new r l → AddsRule old new r (Ok l)
+rule_came old new r l e came = record { ok = came; err = tt; refused = subst (λ o. IfSome o (λ x. succeeded l ≡ failed (Fault x))) (sym e) tt; taken = λ none. inl (l, refl) }

@@ -1,0 +1,164 @@
+-- A store without one of its rules: its invariant, and what it stands for.
+use Rattle.std.proofs.Common.{◌≡◌, ℕ, zero, suc, ℤ, Bool, true, false, cond, List, [], ◌∷◌, length, map, filter, Option, Ok, refl, sym, ◌∙◌, ap, subst, true≢false, arith}
+use Rattle.std.specs.FinMap as finmap
+use Rattle.std.specs.List.{AllByRecursion, remove}
+use Rattle.ts_core.specs.facts.Facts.{Text, Column}
+use Rattle.ts_core.specs.settings.Settings.{Rule, Settings, is_unnamed}
+use Rattle.ts_core.specs.store.Marks.{Marks}
+use Rattle.ts_core.specs.store.StoreStates.{ColumnPoints, RuleCells, column_of, facts_of}
+use Rattle.ts_core.specs.store.StoreData.{CellMap, StoreData, rules_of}
+use Rattle.ts_core.specs.moves.RuleMoves.{IsEven, IsRuleAt, kept_beside, rule_dropped}
+use Rattle.ts_core.proofs.settings.RuleLaws.{without_rule-faultless}
+use Rattle.ts_core.proofs.moves.RulesMove.{rule_goes, lives_kept, left_dropped, even_dropped}
+use Rattle.ts_store.specs.store.CellCounts.{HoldFew}
+use Rattle.ts_store.specs.store.CellIndices.{HaveIndices}
+use Rattle.ts_store.specs.store.ColumnsKept.{Held}
+use Rattle.ts_store.specs.retain.OpenRuns.{Run, kept_data, IsKept}
+use Rattle.ts_store.specs.rollup.Rollups.{RollupState, AreRollups, cells_of}
+use Rattle.ts_store.specs.rules.RuleRollups.{without_rollup}
+use Rattle.ts_store.specs.rules.RulesChanged.{RuleGoes, DropsRule}
+use Rattle.ts_store.specs.store.SizedStores.{IsSizedRule}
+
+-- ---- lists without one of their items
+
+removed : {X Y : Type 0} (f : X → Y) (xs : List X) (i : ℕ) → map f (remove xs i) ≡ remove (map f xs) i
+removed f [] zero = refl
+removed f [] (suc i) = refl
+removed f (x ∷ xs) zero = refl
+removed f (x ∷ xs) (suc i) = ap (λ ys. f x ∷ ys) (removed f xs i)
+
+rollups_removed : (rs : List Rule) (cs : List Column) (ss : List RollupState) (i : ℕ) → AreRollups rs cs ss → AreRollups (remove rs i) cs (remove ss i)
+rollups_removed [] cs [] zero h = tt
+rollups_removed [] cs [] (suc i) h = tt
+rollups_removed [] cs (s ∷ ss) i h = absurd h
+rollups_removed (r ∷ rs) cs [] i h = absurd h
+rollups_removed (r ∷ rs) cs (s ∷ ss) zero h = h.1
+rollups_removed (r ∷ rs) cs (s ∷ ss) (suc i) h = (h.0, rollups_removed rs cs ss i h.1)
+
+module _ (p : Rule → Bool) where
+  none_few : (n : ℕ) (columns : List ColumnPoints) (rs : List Rule) → HoldFew n columns rs []
+  none_few n columns [] = tt
+  none_few n columns (r ∷ rs) = tt
+
+  counts_beside : (n : ℕ) (columns : List ColumnPoints) (rs : List Rule) (ms : List CellMap) → HoldFew n columns rs ms → HoldFew n columns (filter p rs) (kept_beside p rs ms)
+  counts_beside n columns [] ms h = tt
+  counts_beside n columns (r ∷ rs) [] h = none_few n columns (filter p (r ∷ rs))
+  counts_beside n columns (r ∷ rs) (m ∷ ms) h =
+      elim (p r) as (λ b. HoldFew n columns (cond b (r ∷ filter p rs) (filter p rs)) (cond b (m ∷ kept_beside p rs ms) (kept_beside p rs ms))) [
+        | true ↦ (h.0, counts_beside n columns rs ms h.1)
+        | false ↦ counts_beside n columns rs ms h.1
+      ]
+
+  none_placed : (rs : List Rule) → HaveIndices rs []
+  none_placed [] = tt
+  none_placed (r ∷ rs) = tt
+
+  indices_beside : (rs : List Rule) (ms : List CellMap) → HaveIndices rs ms → HaveIndices (filter p rs) (kept_beside p rs ms)
+  indices_beside [] ms h = tt
+  indices_beside (r ∷ rs) [] h = none_placed (filter p (r ∷ rs))
+  indices_beside (r ∷ rs) (m ∷ ms) h =
+      elim (p r) as (λ b. HaveIndices (cond b (r ∷ filter p rs) (filter p rs)) (cond b (m ∷ kept_beside p rs ms) (kept_beside p rs ms))) [
+        | true ↦ (h.0, indices_beside rs ms h.1)
+        | false ↦ indices_beside rs ms h.1
+      ]
+
+  sized_beside : (P : RuleCells → Type 0) (rs : List Rule) (lows : List ℤ) (ms : List CellMap) → length lows ≡ length rs → length ms ≡ length rs → AllByRecursion P (rules_of rs lows ms)
+      → AllByRecursion P (rules_of (filter p rs) (kept_beside p rs lows) (kept_beside p rs ms))
+  sized_beside P [] lows ms d e h = tt
+  sized_beside P (r ∷ rs) [] ms d e h = absurd (omega (arith, d))
+  sized_beside P (r ∷ rs) (low ∷ lows) [] d e h = absurd (omega (arith, e))
+  sized_beside P (r ∷ rs) (low ∷ lows) (m ∷ ms) d e h =
+      let rest = sized_beside P rs lows ms (omega (arith, d)) (omega (arith, e)) h.1 in
+      elim (p r) as (λ b. AllByRecursion P (rules_of (cond b (r ∷ filter p rs) (filter p rs)) (cond b (low ∷ kept_beside p rs lows) (kept_beside p rs lows)) (cond b (m ∷ kept_beside p rs ms) (kept_beside p rs ms)))) [
+        | true ↦ (h.0, rest)
+        | false ↦ rest
+      ]
+
+  beside_map : {X Y : Type 0} (f : X → Y) (rs : List Rule) (xs : List X) → map f (kept_beside p rs xs) ≡ kept_beside p rs (map f xs)
+  beside_map f [] xs = refl
+  beside_map f (r ∷ rs) [] = refl
+  beside_map f (r ∷ rs) (x ∷ xs) =
+      elim (p r) as (λ b. map f (cond b (x ∷ kept_beside p rs xs) (kept_beside p rs xs)) ≡ cond b (f x ∷ kept_beside p rs (map f xs)) (kept_beside p rs (map f xs))) [
+        | true ↦ ap (λ ys. f x ∷ ys) (beside_map f rs xs)
+        | false ↦ beside_map f rs xs
+      ]
+
+-- ---- the store
+
+module _ (settings : Settings) (marks : Marks) (n : ℕ) (held : Held) (run : Option Run) (kept : IsKept (kept_data settings marks n held run) held run) (name : Text) (i : ℕ) (at : IsRuleAt name settings.rules i) where
+  abbrev now : StoreData
+  now = kept_data settings marks n held run
+
+  abbrev stays : Rule → Bool
+  stays = is_unnamed name
+
+  abbrev later : StoreData
+  later = rule_dropped name now
+
+  lasting : IsEven now
+  lasting = record { lows = kept.sized.lows; cells = kept.sized.cells }
+
+  pub is_dropped : kept_data (record { raw_duration = settings.raw_duration; rules = remove settings.rules i }) (record { raw = marks.raw; lows = remove marks.lows i }) n (without_rollup i held) run ≡ later
+  is_dropped =
+      let cells : cells_of (remove held.rollups i) ≡ kept_beside stays settings.rules (cells_of held.rollups) = removed (λ (s : RollupState). s.grid.cells) held.rollups i ∙ sym (at.cells (cells_of held.rollups) kept.sized.cells) in
+      λ j. record {
+        settings = record { raw_duration = settings.raw_duration; rules = sym at.without j };
+        marks = record { raw = marks.raw; lows = sym (at.lows marks.lows kept.sized.lows) j };
+        running = now.running;
+        waiting = now.waiting;
+        series = held.series;
+        columns = held.columns;
+        accepted = n;
+        cells = cells j;
+      }
+
+  pub kept_dropped : IsKept later (without_rollup i held) run
+  kept_dropped = record {
+    rollups = subst (λ (rs : List Rule). AreRollups rs (map column_of held.columns) (remove held.rollups i)) (sym at.without) (rollups_removed settings.rules (map column_of held.columns) held.rollups i kept.rollups);
+    few = kept.few;
+    counts = counts_beside stays n held.columns settings.rules (cells_of held.rollups) kept.counts;
+    live = lives_kept stays held.columns settings.rules (cells_of held.rollups) kept.live;
+    indices = indices_beside stays settings.rules (cells_of held.rollups) kept.indices;
+    sized = record {
+      settings = without_rule-faultless settings name kept.sized.settings;
+      accepted = kept.sized.accepted;
+      facts = kept.sized.facts;
+      series = kept.sized.series;
+      named = kept.sized.named;
+      columns = kept.sized.columns;
+      registered = kept.sized.registered;
+      keys = kept.sized.keys;
+      once = kept.sized.once;
+      lows = (even_dropped now name lasting).lows;
+      cells = (even_dropped now name lasting).cells;
+      rules = sized_beside stays (IsSizedRule marks.raw (facts_of held.columns)) settings.rules marks.lows (cells_of held.rollups) kept.sized.lows kept.sized.cells kept.sized.rules;
+    };
+  }
+
+  pub goes : RuleGoes now later name
+  goes = record {
+    whole = refl;
+    history = λ opening h st. rule_goes opening h now name st lasting at.named;
+    columns = refl;
+    waiting = refl;
+    cells = beside_map stays (λ (m : CellMap). finmap.keys m) settings.rules (cells_of held.rollups);
+    left = left_dropped now name lasting;
+  }
+
+  -- the parts of the store after the call
+  module _ (others : Settings) (lower : Marks) (left : Held) (es : others ≡ record { raw_duration = settings.raw_duration; rules = remove settings.rules i }) (em : lower ≡ record { raw = marks.raw; lows = remove marks.lows i }) (eh : left ≡ without_rollup i held) where
+    pub comes_later : kept_data others lower n left run ≡ later
+    comes_later =
+        ap (λ (s : Settings). kept_data s lower n left run) es
+        ∙ ap (λ (m : Marks). kept_data (record { raw_duration = settings.raw_duration; rules = remove settings.rules i }) m n left run) em
+        ∙ ap (λ (h : Held). kept_data (record { raw_duration = settings.raw_duration; rules = remove settings.rules i }) (record { raw = marks.raw; lows = remove marks.lows i }) n h run) eh
+        ∙ is_dropped
+
+    pub kept_later : IsKept (kept_data others lower n left run) left run
+    kept_later = subst (λ (k : StoreData). IsKept k left run) (sym comes_later) (subst (λ (h : Held). IsKept later h run) (sym eh) kept_dropped)
+
+    dropped : {E : Type 0} → DropsRule {E = E} now later name (Ok tt)
+    dropped = record { ok = goes; err = tt; unknown = (λ wrong. absurd (true≢false (sym wrong)), λ none. absurd (true≢false (sym at.named ∙ none))) }
+
+    pub rule_went : {E : Type 0} (was : StoreData) → now ≡ was → DropsRule {E = E} was (kept_data others lower n left run) name (Ok tt)
+    rule_went {E} was e = subst (λ (k : StoreData). DropsRule {E = E} k (kept_data others lower n left run) name (Ok tt)) e (subst (λ (k : StoreData). DropsRule {E = E} now k name (Ok tt)) (sym comes_later) dropped)

@@ -1,0 +1,393 @@
+-- A store goes on standing for its history, and what it tells is of that history.
+use Rattle.std.proofs.Common.{◌≡◌, ℕ, ℤ, ◌+◌, ◌<◌, ◌≤◌, ◌≤ℤ◌, ◌^◌, Bool, int_le, int_lt, Less, Equal, Greater, true, false, cond, not, ◌&&◌, ◌||◌, nat_le, List, [], ◌∷◌, ◌++◌, length, map, replicate, refl, sym, ◌∙◌, ap, subst, inl, inr, ⊎_elim, arith, true≢false, Option, Some, None, IfSome, IfNone}
+use Rattle.std.specs.Option.{is_some}
+use Rattle.std.specs.FinMap as finmap
+use Rattle.std.specs.List.{slice_get, AllByRecursion}
+use Rattle.std.specs.Ordering.{int_cmp, is_lt}
+use Rattle.std.proofs.lemmas.Int.{ints}
+use Rattle.std.proofs.lemmas.Option.{none-some}
+use Rattle.std.proofs.lemmas.List.{append-nil}
+use Rattle.ts_core.specs.lists.Members.{Among, AllDistinct}
+use Rattle.ts_core.specs.facts.Facts.{Text, Series, Column, Fact, is_within}
+use Rattle.ts_core.specs.settings.Settings.{Rule, Settings}
+use Rattle.ts_core.specs.facts.Times.{least_time}
+use Rattle.ts_core.specs.store.History.{History, Line, MayBeTaken, accepted, raw_mark}
+use Rattle.ts_core.specs.facts.Latest.{latest_of}
+use Rattle.ts_core.specs.store.Marks.{Marks, marks_of}
+use Rattle.ts_core.specs.store.RawFacts.{same_column, raw_facts, is_waiting, kept_from}
+use Rattle.ts_core.specs.store.StoreStates.{ColumnPoints, StandsFor, column_of, fact_at, facts_at, facts_of}
+use Rattle.ts_core.specs.store.StoreData.{CellMap, StoreData, state_of, new_data, AreLive}
+use Rattle.ts_core.specs.moves.StoreMoves.{PutsFacts, HaveRoom, grown, put_facts}
+use Rattle.ts_core.proofs.moves.LivesKept.{no_live, lives_line}
+use Rattle.ts_core.proofs.lists.MembersLemmas.{Among-left, Among-right, Among-map, Among-filter_passes, Among-filter_was, Among-filter_stays, AllDistinct-filter}
+use Rattle.ts_core.proofs.aggregates.Folds.{length-same}
+use Rattle.ts_core.proofs.lists.Comparisons.{le_from, le_true, lt_not}
+use Rattle.ts_core.proofs.facts.Latests.{latest-distinct}
+use Rattle.ts_core.proofs.store.Cuts.{Holds}
+use Rattle.ts_core.proofs.store.StateLemmas.{StandsFor-Holds, same_column-eq}
+use Rattle.ts_core.proofs.store.Shown.{stands_shows}
+use Rattle.ts_core.proofs.store.ColumnFacts.{facts_of-there, facts_of-here}
+use Rattle.ts_core.proofs.moves.MovesStand.{grows}
+use Rattle.ts_core.proofs.moves.LineStands.{length_before, line_put}
+use Rattle.ts_core.proofs.moves.LeftOnData.{left-grows, left-puts}
+use Rattle.ts_core.specs.moves.Runs.{steps_left}
+use Rattle.ts_core.specs.settings.SettingsFaults.{unless, settings_fault}
+use Rattle.ts_line.specs.Names.{AreKeys, IsNamed}
+use Rattle.ts_line.specs.Parts.{LinePart, Parts, series_of, fact_of, field_text, line_facts}
+use Rattle.ts_core.specs.lists.Numbered.{IsAt}
+use Rattle.ts_core.proofs.lists.NumberedLemmas.{at_among}
+use Rattle.ts_store.specs.store.ColumnsKept.{Held}
+use Rattle.ts_store.specs.read.PointsRead.{points_between, AreLatestOf}
+use Rattle.ts_store.specs.write.Registered.{new_columns, with_columns}
+use Rattle.ts_store.specs.declared.write.fault.WriteFault.{WriteFault}
+use Rattle.ts_store.specs.declared.write.fault.WriteFault.TheVariants.{BelowRawMark, TooManySeries, TooManyFacts}
+use Rattle.ts_store.specs.write.Refusals.{is_registered, is_too_many, write_fault}
+use Rattle.ts_store.specs.retain.OpenRuns.{Run, waiting_in, IsWithin, kept_data, IsKept}
+use Rattle.ts_store.specs.store.CellCounts.{HoldFew}
+use Rattle.ts_store.specs.store.SizedStores.{IsSized}
+use Rattle.ts_store.specs.store.CellIndices.{HaveIndices}
+use Rattle.ts_store.specs.rollup.Rollups.{new_rollup, AreRollups, cells_of}
+use Rattle.ts_store.specs.write.LinesInColumns.{PutsLine, GrowsForLine}
+use Rattle.ts_store.specs.write.LivePuts.{StayLive}
+use Rattle.ts_store.specs.write.LinesPut.{Accepts, Leaves}
+use Rattle.ts_store.proofs.retain.WaitingColumns.{NamesMore, within_more, waiting_more}
+use Rattle.ts_store.proofs.write.ColumnsAside.{names_with, same_facts}
+use Rattle.ts_store.proofs.store.ColumnsLemmas.{in_column}
+use Rattle.ts_store.proofs.store.CountsKept.{counts-put, counts-grown, counts-new}
+use Rattle.ts_store.proofs.store.SizesKept.{puts_names, sized_new, sized_grown, sized_put}
+use Rattle.ts_store.proofs.write.LivesGrown.{lives_grown}
+use Rattle.ts_store.proofs.store.IndicesKept.{indices_new, taken_valid, indices_gained, indices_put}
+use Rattle.ts_store.proofs.write.NamesKept.{gains_named, may_gain_named, all_keys, first_keys}
+use Rattle.ts_store.proofs.write.SeriesLimit.{registered-there, registered-not, gains_few, may_gain_few}
+
+-- ---- columns without points
+
+names_stay : (before : List ColumnPoints) (made : List Column) (c : Column) → Among c (map column_of before) → Among c (map column_of (with_columns before made))
+names_stay before made c a = subst (Among c) (sym (names_with before made)) (Among-left c (map column_of before) made a)
+
+-- a new store
+pub new_rollups : (rs : List Rule) → AreRollups rs [] (replicate (length rs) new_rollup)
+new_rollups [] = tt
+new_rollups (r ∷ rs) = (tt, new_rollups rs)
+
+pub new_cells : (rs : List Rule) → cells_of (replicate (length rs) new_rollup) ≡ map (λ (r : Rule). finmap.empty) rs
+new_cells [] = refl
+new_cells (r ∷ rs) = ap (λ (ms : List CellMap). finmap.empty ∷ ms) (new_cells rs)
+
+-- no columns, under these rules
+abbrev pub held_new : Settings → Held
+held_new settings = record { series = []; columns = []; rollups = replicate (length settings.rules) new_rollup }
+
+pub data_new : (settings : Settings) (marks : Marks) (held : Held) → marks ≡ marks_of settings [] → held ≡ held_new settings → kept_data settings marks 0 held None ≡ new_data settings
+data_new settings marks held m h =
+    (λ i. kept_data settings (m i) 0 (h i) None)
+    ∙ (λ i. record { settings = settings; marks = marks_of settings []; running = false; waiting = []; series = []; columns = []; accepted = 0; cells = new_cells settings.rules i })
+
+pub kept_new : (settings : Settings) (marks : Marks) (held : Held) → settings_fault settings ≡ None → marks ≡ marks_of settings [] → held ≡ held_new settings → IsKept (kept_data settings marks 0 held None) held None
+kept_new settings marks held well m h =
+    let rs : List Rule = settings.rules in
+    record {
+      rollups = subst (λ (x : Held). AreRollups rs (map column_of x.columns) x.rollups) (sym h) (new_rollups rs);
+      few = tt;
+      counts = subst (λ (x : Held). HoldFew 0 x.columns rs (cells_of x.rollups)) (sym h) (subst (λ ms. HoldFew 0 [] rs ms) (sym (new_cells rs)) (counts-new rs));
+      live = subst (λ (x : Held). AreLive x.columns rs (cells_of x.rollups)) (sym h) (subst (λ ms. AreLive [] rs ms) (sym (new_cells rs)) (no_live [] rs));
+      indices = subst (λ (x : Held). HaveIndices rs (cells_of x.rollups)) (sym h) (subst (HaveIndices rs) (sym (new_cells rs)) (indices_new rs));
+      sized = subst IsSized (sym (data_new settings marks held m h)) (sized_new settings well);
+    }
+
+-- a store of these parts
+abbrev data_of : Settings → Marks → ℕ → Option Run → List Series → List ColumnPoints → List CellMap → StoreData
+data_of settings marks n run series columns ms = record {
+  settings = settings;
+  marks = marks;
+  running = is_some run;
+  waiting = waiting_in run columns;
+  series = series;
+  columns = columns;
+  accepted = n;
+  cells = ms;
+}
+
+-- in which these columns wait
+abbrev waits : Settings → Marks → ℕ → Option Run → List Column → List Series → List ColumnPoints → List CellMap → StoreData
+waits settings marks n run waiting series columns ms = record {
+  settings = settings;
+  marks = marks;
+  running = is_some run;
+  waiting = waiting;
+  series = series;
+  columns = columns;
+  accepted = n;
+  cells = ms;
+}
+
+-- the plain facts don't depend on which columns wait
+sized_waits : (settings : Settings) (marks : Marks) (n : ℕ) (run : Option Run) (before after : List Column) (series : List Series) (columns : List ColumnPoints) (ms : List CellMap) → IsSized (waits settings marks n run before series columns ms) → IsSized (waits settings marks n run after series columns ms)
+sized_waits settings marks n run before after series columns ms s = record {
+  settings = s.settings;
+  accepted = s.accepted;
+  facts = s.facts;
+  series = s.series;
+  columns = s.columns;
+  named = s.named;
+  registered = s.registered;
+  keys = s.keys;
+  once = s.once;
+  lows = s.lows;
+  cells = s.cells;
+  rules = s.rules;
+}
+
+-- a store that has only grown
+grown_stands : (opening : Settings) (h : History) (settings : Settings) (marks : Marks) (n : ℕ) (before : Held) (run : Option Run) (made : List Column) (facts : List Fact) (series : List Series) (columns : List ColumnPoints) (ms : List CellMap)
+    → columns ≡ with_columns before.columns made → AllDistinct (map column_of columns) → ((c : Column) → Among c (map column_of columns) → Among c.series series) → HaveRoom settings.rules marks.lows facts (cells_of before.rollups) ms → IsWithin run before.columns
+    → StandsFor opening h (state_of (kept_data settings marks n before run)) → StandsFor opening h (state_of (data_of settings marks n run series columns ms))
+grown_stands opening h settings marks n before run made facts series columns ms e once registered room within st =
+    let more : NamesMore before.columns columns made = ap (map column_of) e ∙ names_with before.columns made in
+    subst (λ ws. StandsFor opening h (state_of (waits settings marks n run ws series columns ms))) (sym (waiting_more run before.columns columns made more within))
+    (grows opening h (kept_data settings marks n before run) series columns ms facts st once
+    (λ c a. subst (λ (cs : List ColumnPoints). Among c (map column_of cs)) (sym e) (names_stay before.columns made c a)) registered (ap facts_of e ∙ same_facts before.columns made) room)
+
+-- after out of memory
+pub left_by : (settings : Settings) (marks : Marks) (n : ℕ) (before after : Held) (run : Option Run) (p : Parts) → IsKept (kept_data settings marks n before run) before run → GrowsForLine settings.rules marks.lows before after p
+    → Leaves (kept_data settings marks n before run) (kept_data settings marks n after run) p
+left_by settings marks n before after run p kept g =
+    let old : StoreData = kept_data settings marks n before run in
+    let more : NamesMore before.columns after.columns g.columns.made = ap (map column_of) g.columns.columns ∙ names_with before.columns g.columns.made in
+    let others : kept_data settings marks n after run ≡ grown after.series after.columns (cells_of after.rollups) old =
+    ap (λ ws. waits settings marks n run ws after.series after.columns (cells_of after.rollups)) (waiting_more run before.columns after.columns g.columns.made more kept.few) in
+    record {
+      history = λ opening h st. grown_stands opening h settings marks n before run g.columns.made [] after.series after.columns (cells_of after.rollups) g.columns.columns g.known.once g.known.registered g.rooms kept.few st;
+      series = g.series;
+      columns = g.columns;
+      cells = g.cells;
+      others = others;
+      left = ap (λ (k : StoreData). steps_left (state_of k)) others ∙ left-grows old after.series after.columns (cells_of after.rollups) [] g.rooms;
+    }
+
+-- the store is as it was between two calls
+pub kept_left : (settings : Settings) (marks : Marks) (n : ℕ) (before after : Held) (run : Option Run) (p : Parts) → IsKept (kept_data settings marks n before run) before run → is_too_many before.series (series_of p) ≡ false → IsNamed (series_of p) → AreKeys (map field_text p.fields) → GrowsForLine settings.rules marks.lows before after p
+    → IsKept (kept_data settings marks n after run) after run
+kept_left settings marks n before after run p kept registers named keys g =
+    let made : List Column = g.columns.made in
+    let k : StoreData = kept_data settings marks n before run in
+    let same : facts_of after.columns ≡ facts_of before.columns = ap facts_of g.columns.columns ∙ same_facts before.columns made in
+    record {
+      rollups = g.rollups;
+      few = within_more run before.columns after.columns made (ap (map column_of) g.columns.columns ∙ names_with before.columns made) kept.few;
+      counts = counts-grown n before.columns after.columns same [] settings.rules marks.lows (cells_of before.rollups) (cells_of after.rollups) kept.sized.lows g.rooms kept.counts;
+      live = lives_grown marks.raw before.columns after.columns same settings.rules marks.lows [] (cells_of before.rollups) (cells_of after.rollups) kept.sized.lows g.rooms kept.sized.rules kept.live;
+      indices = ⊎_elim {C = HaveIndices settings.rules (cells_of after.rollups)} (λ e. subst (HaveIndices settings.rules) (sym e) kept.indices)
+          (λ taken. indices_gained (line_facts p) (taken_valid least_time (line_facts p) taken) settings.rules marks.lows (cells_of before.rollups) (cells_of after.rollups) kept.sized.lows g.cells kept.indices) g.taken;
+      sized = sized_waits settings marks n run (waiting_in run before.columns) (waiting_in run after.columns) after.series after.columns (cells_of after.rollups)
+          (sized_grown k after.series after.columns (cells_of after.rollups) [] (may_gain_few before.series after.series (series_of p) kept.sized.series registers g.series) g.known.once g.known.registered
+          (may_gain_named before.series after.series (series_of p) named g.series kept.sized.named) (first_keys p before.columns after.columns keys g.columns kept.sized.keys) same g.rooms kept.sized);
+    }
+
+-- ---- a line
+
+waiting_among : (c : Column) (ds : List Column) → is_waiting ds c ≡ true → Among c ds
+waiting_among c [] e = absurd (true≢false (sym e))
+waiting_among c (d ∷ ds) e =
+    elim (same_column c d) as (λ b. same_column c d ≡ b → b || is_waiting ds c ≡ true → Among c (d ∷ ds)) [
+      | true ↦ λ q r. inl (same_column-eq c d q)
+      | false ↦ λ q r. inr (waiting_among c ds r)
+    ] refl e
+
+-- each column of facts is there, or is new
+column_new : (before : List ColumnPoints) (facts : List Fact) (f : Fact) → Among f facts → Among f.column (map column_of (with_columns before (new_columns (map column_of before) facts)))
+column_new before facts f a =
+    let names : List Column = map column_of before in
+    let q : Column → Bool = λ c. not (is_waiting names c) in
+    let there : Among f.column (map (λ (g : Fact). g.column) facts) = Among-map (λ (g : Fact). g.column) f facts a in
+    subst (Among f.column) (sym (names_with before (new_columns names facts)))
+    (elim (is_waiting names f.column) as (λ b. is_waiting names f.column ≡ b → Among f.column (names ++ new_columns names facts)) [
+      | true ↦ λ e. Among-left f.column names (new_columns names facts) (waiting_among f.column names e)
+      | false ↦ λ e. Among-right f.column names (new_columns names facts) (Among-filter_stays q f.column (map (λ (g : Fact). g.column) facts) there (ap not e))
+    ] refl)
+
+-- the columns of a line are made, and its facts put
+line_names : (rs : List Rule) (before : List ColumnPoints) (ms : List CellMap) (after : List ColumnPoints) (ns : List CellMap) (fs : List Fact) → PutsFacts rs (with_columns before (new_columns (map column_of before) fs)) ms after ns fs → NamesMore before after (new_columns (map column_of before) fs)
+line_names rs before ms after ns fs puts =
+    let made : List Column = new_columns (map column_of before) fs in
+    puts_names rs (with_columns before made) ms after ns fs puts ∙ names_with before made
+
+write_stands : (opening : Settings) (h : History) (settings : Settings) (marks : Marks) (n : ℕ) (before after : Held) (run : Option Run) (p : Parts) → PutsLine settings.rules marks.lows before after p → AllByRecursion (MayBeTaken marks.raw) (line_facts p)
+    → n + length (line_facts p) ≤ 2 ^ 62 → IsWithin run before.columns → StandsFor opening h (state_of (kept_data settings marks n before run))
+    → StandsFor opening (Line (line_facts p) ∷ h) (state_of (kept_data settings marks (n + length (line_facts p)) after run))
+write_stands opening h settings marks n before after run p put taken few within st =
+    let fs : List Fact = line_facts p in
+    let made : List Column = new_columns (map column_of before.columns) fs in
+    let columns : List ColumnPoints = with_columns before.columns made in
+    let names : map column_of after.columns ≡ map column_of columns = puts_names settings.rules columns put.roomy after.columns (cells_of after.rollups) fs put.facts in
+    let room : StandsFor opening h (state_of (data_of settings marks n run after.series columns put.roomy)) =
+    grown_stands opening h settings marks n before run made fs after.series columns put.roomy refl (subst AllDistinct names put.known.once) (λ c a. put.known.registered c (subst (Among c) (sym names) a)) put.rooms within st in
+    let mark : marks.raw ≡ raw_mark opening h = ap (λ (m : Marks). m.raw) st.marks in
+    let more = length_before fs (accepted h) in
+    let none : NamesMore columns after.columns [] = names ∙ sym (append-nil (map column_of columns)) in
+    subst (λ ws. StandsFor opening (Line fs ∷ h) (state_of (waits settings marks (n + length fs) run ws after.series after.columns (cells_of after.rollups))))
+    (sym (waiting_more run columns after.columns [] none (within_more run before.columns columns made (names_with before.columns made) within)))
+    (line_put opening h (data_of settings marks n run after.series columns put.roomy) after.columns fs (cells_of before.rollups) (cells_of after.rollups) room put.rooms
+    (λ f a. column_new before.columns fs f a) put.facts (st.lawful, subst (λ (m : ℤ). AllByRecursion (MayBeTaken m) fs) mark taken, omega (arith, st.accepted, more, few)))
+
+pub accepted_by : (settings : Settings) (marks : Marks) (n : ℕ) (before after : Held) (run : Option Run) (p : Parts) → IsKept (kept_data settings marks n before run) before run → PutsLine settings.rules marks.lows before after p
+    → AllByRecursion (MayBeTaken marks.raw) (line_facts p) → n + length (line_facts p) ≤ 2 ^ 62 → Accepts (kept_data settings marks n before run) (kept_data settings marks (n + length (line_facts p)) after run) p
+accepted_by settings marks n before after run p kept put taken few =
+    let fs : List Fact = line_facts p in
+    let made : List Column = new_columns (map column_of before.columns) fs in
+    let old : StoreData = kept_data settings marks n before run in
+    let others : kept_data settings marks (n + length fs) after run ≡ put_facts after.columns (cells_of after.rollups) (length fs) (grown after.series after.columns (cells_of after.rollups) old) =
+    ap (λ ws. waits settings marks (n + length fs) run ws after.series after.columns (cells_of after.rollups))
+    (waiting_more run before.columns after.columns made (line_names settings.rules before.columns put.roomy after.columns (cells_of after.rollups) fs put.facts) kept.few) in
+    let roomy : StoreData = grown after.series (with_columns before.columns made) put.roomy old in
+    record {
+      history = λ opening h st. write_stands opening h settings marks n before after run p put taken few kept.few st;
+      series = put.series;
+      columns = puts_names settings.rules (with_columns before.columns made) put.roomy after.columns (cells_of after.rollups) fs put.facts;
+      cells = put.cells;
+      others = others;
+      left = ap (λ (k : StoreData). steps_left (state_of k)) others ∙ left-puts roomy after.columns fs (cells_of after.rollups) (length fs) put.facts ∙ left-grows old after.series (with_columns before.columns made) put.roomy fs put.rooms;
+    }
+
+-- live parts stay those of the raw facts, when room is made
+pub stay_live : (settings : Settings) (marks : Marks) (n : ℕ) (before : Held) (run : Option Run) → IsKept (kept_data settings marks n before run) before run → StayLive settings.rules marks.lows before.columns (cells_of before.rollups)
+stay_live settings marks n before run kept = λ facts ms room. lives_grown marks.raw before.columns before.columns refl settings.rules marks.lows facts (cells_of before.rollups) ms kept.sized.lows room kept.sized.rules kept.live
+
+-- the store is again what it is between two calls
+pub kept_accepted : (settings : Settings) (marks : Marks) (n : ℕ) (before after : Held) (run : Option Run) (p : Parts) → IsKept (kept_data settings marks n before run) before run → is_too_many before.series (series_of p) ≡ false → IsNamed (series_of p) → AreKeys (map field_text p.fields) → PutsLine settings.rules marks.lows before after p
+    → n + length (line_facts p) ≤ 2 ^ 62 → IsKept (kept_data settings marks (n + length (line_facts p)) after run) after run
+kept_accepted settings marks n before after run p kept registers named keys put few =
+    let fs : List Fact = line_facts p in
+    let made : List Column = new_columns (map column_of before.columns) fs in
+    let columns : List ColumnPoints = with_columns before.columns made in
+    let ms : List CellMap = cells_of before.rollups in
+    let ns : List CellMap = cells_of after.rollups in
+    let k : StoreData = kept_data settings marks n before run in
+    let same : facts_of columns ≡ facts_of before.columns = same_facts before.columns made in
+    let names : map column_of after.columns ≡ map column_of columns = puts_names settings.rules columns put.roomy after.columns ns fs put.facts in
+    let roomy : AreLive columns settings.rules put.roomy = lives_grown marks.raw before.columns columns same settings.rules marks.lows fs ms put.roomy kept.sized.lows put.rooms kept.sized.rules kept.live in
+    let sized : IsSized (grown after.series columns put.roomy k) =
+    sized_grown k after.series columns put.roomy fs (gains_few before.series after.series (series_of p) kept.sized.series registers put.series) (subst AllDistinct names put.known.once) (λ c a. put.known.registered c (subst (Among c) (sym names) a))
+    (gains_named before.series after.series (series_of p) named put.series kept.sized.named) (all_keys p before.columns keys kept.sized.keys) same put.rooms kept.sized in
+    record {
+      rollups = put.rollups;
+      few = within_more run before.columns after.columns made (line_names settings.rules before.columns put.roomy after.columns ns fs put.facts) kept.few;
+      counts = counts-put n settings.rules columns put.roomy after.columns ns fs put.facts (counts-grown n before.columns columns same fs settings.rules marks.lows ms put.roomy kept.sized.lows put.rooms kept.counts);
+      live = lives_line settings.rules fs columns after.columns put.roomy ns sized.once put.facts roomy;
+      indices = indices_put fs (taken_valid least_time fs put.taken) settings.rules marks.lows ms ns kept.sized.lows put.cells kept.indices;
+      sized = sized_waits settings marks (n + length fs) run (waiting_in run before.columns) (waiting_in run after.columns) after.series after.columns ns
+          (sized_put (grown after.series columns put.roomy k) after.columns fs ms ns put.rooms put.facts few sized);
+    }
+
+-- ---- what is told
+
+-- where no column waits, as many facts are kept as are latest from the raw mark on
+pub raw_stands : (opening : Settings) (h : History) (k : StoreData) → k.waiting ≡ [] → StandsFor opening h (state_of k) → length (facts_of k.columns) ≡ length (raw_facts opening h)
+raw_stands opening h k none st =
+    let p : Fact → Bool = λ (f : Fact). int_le (raw_mark opening h) f.time in
+    let held : Holds (kept_from opening h []) (latest_of h) (facts_of k.columns) = subst (λ ws. Holds (kept_from opening h ws) (latest_of h) (facts_of k.columns)) none (StandsFor-Holds opening h (state_of k) st) in
+    length-same (facts_of k.columns) (raw_facts opening h) st.once (AllDistinct-filter p (latest_of h) (latest-distinct (accepted h)))
+    (λ g a. let q = held.only g a in Among-filter_stays p g (latest_of h) q.0 q.1)
+    (λ g a. held.all g (Among-filter_was p g (latest_of h) a) (Among-filter_passes p g (latest_of h) a))
+
+-- so where no run is open
+pub idle_stands : (opening : Settings) (h : History) (k : StoreData) → k.running ≡ false → StandsFor opening h (state_of k) → length (facts_of k.columns) ≡ length (raw_facts opening h)
+idle_stands opening h k idle st = raw_stands opening h k (st.idle (λ runs. true≢false (sym (st.running.1 runs) ∙ idle))) st
+
+at_fact : (c : Column) (ps : List (ℤ × ℤ)) (p : ℤ × ℤ) → Among p ps → Among (fact_at c p) (facts_at c ps)
+at_fact c ps p a = Among-map (fact_at c) p ps a
+
+-- the points of a column are those of its latest facts
+pub range_stands : (opening : Settings) (h : History) (k : StoreData) (n : ℕ) (s : ColumnPoints) (a b : ℤ) → IsAt k.columns n s → StandsFor opening h (state_of k) → AreLatestOf s.column a b (points_between a b s.points) opening h
+range_stands opening h k n s a b at st = λ p above.
+    let shown = stands_shows opening h (state_of k) st in
+    let here : Among s k.columns = at_among k.columns n s at in
+    let late : k.marks.raw ≤ℤ p.0 = subst (λ (m : Marks). m.raw ≤ℤ p.0) (sym st.marks) above in
+    let within : ℤ × ℤ → Bool = λ q. is_within a b q.0 in (
+      λ m. let was = Among-filter_was within p s.points m in
+          ((shown.raw (fact_at s.column p) late).0 (facts_of-there k.columns s (fact_at s.column p) here (at_fact s.column s.points p was)), Among-filter_passes within p s.points m),
+      λ l. let there = (shown.raw (fact_at s.column p) late).1 l.0 in
+          Among-filter_stays within p s.points (in_column s.column s.points (fact_at s.column p) (facts_of-here k.columns s (fact_at s.column p) st.columns_once here refl there)).1 l.1,
+    )
+
+-- ---- the facts of a line
+
+pub series_from : (p : Parts) (measurement : Text) (tags : List (Text × Text)) → measurement ≡ p.measurement.text → tags ≡ (series_of p).tags → record { measurement = measurement; tags = tags } ≡ series_of p
+series_from p measurement tags m t = λ i. record { measurement = m i; tags = t i }
+
+pub taken_more : (mark : ℤ) (facts : List Fact) (f : Fact) → AllByRecursion (MayBeTaken mark) facts → MayBeTaken mark f → AllByRecursion (MayBeTaken mark) (facts ++ f ∷ [])
+taken_more mark [] f all one = (one, tt)
+taken_more mark (g ∷ facts) f all one = (all.0, taken_more mark facts f all.1 one)
+
+-- ---- refusals
+
+-- what is looked for in an index is registered, or not
+is_refused : (series : List Series) (s : Series) (r : Option ℕ) → IfSome r (λ id. slice_get series id ≡ Some s) → IfNone r (Among s series → ⊥) → not (is_registered series s) ≡ not (is_some r)
+is_refused series s None found absent = ap not (registered-not s series absent)
+is_refused series s (Some id) found absent = ap not (registered-there s series (at_among series id s found))
+
+nat_le_yes : (x y : ℕ) → x ≤ y → nat_le x y ≡ true
+nat_le_yes x y h = grind arith
+
+nat_le_from : (x y : ℕ) → nat_le x y ≡ true → x ≤ y
+nat_le_from x y h = grind arith
+
+nat_le_not : (x y : ℕ) → y < x → nat_le x y ≡ false
+nat_le_not x y h = grind arith
+
+-- whether a series is too many, by what was found of it
+full_or_not : (series : List Series) (s : Series) (none : Bool) → not (is_registered series s) ≡ none → 1000000 ≤ length series → none ≡ is_too_many series s
+full_or_not series s none e full = sym (ap (λ b. b && not (is_registered series s)) (nat_le_yes 1000000 (length series) full) ∙ e)
+
+not_not : (b : Bool) → not (not b) ≡ b
+not_not true = refl
+not_not false = refl
+
+pub looked_for : (series : List Series) (s : Series) (r : Option ℕ) (none : Bool) → is_some r ≡ not none → IfSome r (λ id. slice_get series id ≡ Some s) → IfNone r (Among s series → ⊥) → 1000000 ≤ length series → none ≡ is_too_many series s
+looked_for series s r none e found absent full = full_or_not series s none (is_refused series s r found absent ∙ ap not e ∙ not_not none) full
+
+-- what isn't refused
+pub record IsWelcome (mark : ℤ) (series : List Series) (n : ℕ) (p : Parts) : Type 0 where
+  pub late : mark ≤ℤ p.time
+  pub registers : is_too_many series (series_of p) ≡ false
+  pub few : n + length (line_facts p) ≤ 2 ^ 62
+
+nothing_said : {F : Type 0} (well : Bool) (fault : F) (next : Option F) → unless well fault next ≡ None → (well ≡ true) × (next ≡ None)
+nothing_said true fault next e = (refl, e)
+nothing_said false fault next e = absurd (none-some fault (sym e))
+
+pub not_refused : (mark : ℤ) (series : List Series) (n : ℕ) (p : Parts) → write_fault mark series n p ≡ None → IsWelcome mark series n p
+not_refused mark series n p e =
+    let below = nothing_said (int_le mark p.time) (BelowRawMark mark) _ e in
+    let series_said = nothing_said (not (is_too_many series (series_of p))) TooManySeries _ below.1 in
+    let facts_said = nothing_said (nat_le (n + length (line_facts p)) (2 ^ 62)) TooManyFacts None series_said.1 in
+    record {
+      late = le_from mark p.time below.0;
+      registers = sym (not_not (is_too_many series (series_of p))) ∙ ap not series_said.0;
+      few = nat_le_from (n + length (line_facts p)) (2 ^ 62) facts_said.0;
+    }
+
+-- a moment that isn't before the mark
+pub not_before : (time mark t m : ℤ) → t ≡ time → m ≡ mark → is_lt (int_cmp t m) ≡ false → mark ≤ℤ time
+not_before time mark t m et em e =
+    let below : int_lt t m ≡ false = elim (int_lt t m) as (λ b. is_lt (cond b Less (cond (int_lt m t) Greater Equal)) ≡ false → b ≡ false) [ true ↦ λ q. q | false ↦ λ q. refl ] e in
+    let late : m ≤ℤ t = lt_not t m below in
+    omega (arith, ints, late, et, em)
+
+pub facts_refused : (mark : ℤ) (series : List Series) (n : ℕ) (p : Parts) → mark ≤ℤ p.time → is_too_many series (series_of p) ≡ false → 2 ^ 62 < n + length (line_facts p) → write_fault mark series n p ≡ Some TooManyFacts
+facts_refused mark series n p late registers many =
+    let rest : Option WriteFault = unless (nat_le (n + length (line_facts p)) (2 ^ 62)) TooManyFacts None in
+    ap (λ b. unless b (BelowRawMark mark) (unless (not (is_too_many series (series_of p))) TooManySeries rest)) (le_true mark p.time late) ∙ ap (λ b. unless (not b) TooManySeries rest) registers ∙ ap (λ b. unless b TooManyFacts None) (nat_le_not (n + length (line_facts p)) (2 ^ 62) many)
+
+pub welcome : (mark : ℤ) (series : List Series) (n : ℕ) (p : Parts) → mark ≤ℤ p.time → is_too_many series (series_of p) ≡ false → n + length (line_facts p) ≤ 2 ^ 62 → write_fault mark series n p ≡ None
+welcome mark series n p late registers few =
+    let rest : Option WriteFault = unless (nat_le (n + length (line_facts p)) (2 ^ 62)) TooManyFacts None in
+    ap (λ b. unless b (BelowRawMark mark) (unless (not (is_too_many series (series_of p))) TooManySeries rest)) (le_true mark p.time late) ∙ ap (λ b. unless (not b) TooManySeries rest) registers ∙ ap (λ b. unless b TooManyFacts None) (nat_le_yes (n + length (line_facts p)) (2 ^ 62) few)
+
+taken_fields : (mark : ℤ) (p : Parts) → mark ≤ℤ p.time → (fields : List (LinePart × ℤ)) → AllByRecursion (MayBeTaken least_time) (map (fact_of p) fields) → AllByRecursion (MayBeTaken mark) (map (fact_of p) fields)
+taken_fields mark p late [] all = tt
+taken_fields mark p late (f ∷ fields) all = (record { valid = all.0.valid; fits = all.0.fits; raw = late }, taken_fields mark p late fields all.1)
+
+-- the facts of a line from the mark on may be taken
+pub taken_from : (mark : ℤ) (p : Parts) → mark ≤ℤ p.time → AllByRecursion (MayBeTaken least_time) (line_facts p) → AllByRecursion (MayBeTaken mark) (line_facts p)
+taken_from mark p late all = taken_fields mark p late p.fields all

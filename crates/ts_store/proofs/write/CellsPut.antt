@@ -1,0 +1,99 @@
+-- A fact that was put into its column is put into its cell: one fact more is added, or the live part is corrected.
+use Rattle.std.proofs.Common.{◌≡◌, ℕ, ℤ, false, cond, List, length, filter, Option, Some, None, option_map, refl, sym, ◌∙◌, ap, subst, arith}
+use Rattle.std.specs.FinMap as finmap
+use Rattle.std.proofs.lemmas.Option.{get_or_from_slice_get, none-some, same_Some}
+use Rattle.ts_core.specs.lists.Members.{AllDistinct}
+use Rattle.ts_core.specs.facts.Facts.{Column, Fact}
+use Rattle.ts_core.specs.settings.Settings.{Rule}
+use Rattle.ts_core.specs.store.Marks.{index_of}
+use Rattle.ts_core.specs.aggregates.Aggregates.{Aggregate, aggregate_of_one, merged, IsSound}
+use Rattle.ts_core.specs.aggregates.MergeLaws.{aggregate_laws}
+use Rattle.ts_core.specs.aggregates.Remainders.{IsOnlyRest}
+use Rattle.ts_core.specs.store.Cells.{cell_of, is_rolled, is_in_cell, total_of}
+use Rattle.ts_core.specs.lists.Changes.{changed, with_change}
+use Rattle.ts_core.specs.store.TwoParts.{in_live, with_live}
+use Rattle.ts_core.specs.store.StoreStates.{ColumnPoints, facts_of}
+use Rattle.ts_core.specs.store.StoreData.{IsLive}
+use Rattle.ts_core.specs.moves.StoreMoves.{frozen_with, refolded, put_cell}
+use Rattle.ts_core.proofs.store.Cuts.{one_fact}
+use Rattle.ts_core.proofs.aggregates.Folds.{fold-count}
+use Rattle.ts_core.proofs.lists.ListSteps.{length-filter}
+use Rattle.ts_core.proofs.moves.PutCells.{add_puts, correct_puts}
+use Rattle.ts_cells.specs.Grids.{no_lane, cell_at, cell_in}
+use Rattle.ts_raw.specs.Columns.{ColumnState}
+use Rattle.ts_store.specs.store.ColumnsKept.{with_points, point_maps}
+use Rattle.ts_store.specs.rollup.LivePoints.{lane_total}
+use Rattle.ts_store.specs.write.LivePuts.{IsOver, WasThere, IsPut}
+use Rattle.ts_store.specs.rollup.Rollups.{RollupState, IsLaneOf, lane_under, lane_at, added_in, corrected_in, live_part}
+use Rattle.ts_store.proofs.rollup.LiveParts.{cell_total}
+use Rattle.ts_store.proofs.write.RoomLemmas.{lane_known}
+
+-- ---- the cell of a fact under a rule
+
+module _ (r : Rule) (cs : List Column) (states : List ColumnState) (before : List ColumnPoints) (s : RollupState) (column : ℕ) (f : Fact) (old : Option ℤ) (over : IsOver r cs states s) (put : IsPut cs states before column f old) (live : IsLive before r s.grid.cells) where
+  abbrev after : List ColumnPoints
+  after = with_points cs (point_maps states)
+
+  lane_is : IsLaneOf r f.column s.grid.lanes (lane_at s column)
+  lane_is = lane_known r s.grid.lanes cs s.lanes column f.column over.lanes put.at
+
+  -- a rule that doesn't roll it up
+  pub put_passed : lane_at s column ≡ None → s.grid.cells ≡ put_cell r f (facts_of after) s.grid.cells
+  put_passed e =
+      let passed : is_rolled r f ≡ false = subst (IsLaneOf r f.column s.grid.lanes) e lane_is in
+      sym (ap (λ b. cond b (refolded r (cell_of r f) (facts_of after) s.grid.cells) s.grid.cells) passed)
+
+  module _ (l : ℕ) (at : lane_at s column ≡ Some l) (index : ℤ) (at_index : index ≡ index_of r f.time) where
+    is : IsLaneOf r f.column s.grid.lanes (Some l)
+    is = subst (IsLaneOf r f.column s.grid.lanes) at lane_is
+
+    key : cell_in s.grid.lanes index l ≡ cell_of r f
+    key = ap (λ i. cell_in s.grid.lanes i l) at_index ∙ ap (cell_at (index_of r f.time)) (get_or_from_slice_get s.grid.lanes l (lane_under r f.column) no_lane is.1)
+
+    put_is : put_cell r f (facts_of after) s.grid.cells ≡ refolded r (cell_of r f) (facts_of after) s.grid.cells
+    put_is = ap (λ b. cond b (refolded r (cell_of r f) (facts_of after) s.grid.cells) s.grid.cells) is.0
+
+    -- of a new id
+    pub put_added : (part : Aggregate) → old ≡ None → part ≡ aggregate_of_one f.time f.value → added_in s l index part ≡ put_cell r f (facts_of after) s.grid.cells
+    put_added part none one =
+        ap (λ k. changed s.grid.cells k (in_live (frozen_with part))) key
+        ∙ ap (λ a. changed s.grid.cells (cell_of r f) (in_live (frozen_with a))) one
+        ∙ add_puts before after f put.distinct put.put r s.grid.cells live is.0 (subst (WasThere before f) none put.was)
+        (λ p e.
+        let inside : List Fact = filter (is_in_cell r (cell_of r f)) (facts_of before) in
+        let count : p.live.count ≡ length inside = ap (λ (a : Aggregate). a.count) (live (cell_of r f) p e) ∙ fold-count aggregate_laws one_fact (λ g. refl) inside in
+        let fewer = length-filter (is_in_cell r (cell_of r f)) (facts_of before) in
+        let few = put.few in
+        omega (arith, count, fewer, few))
+
+    -- the cell is missing
+    pub put_missing : option_map live_part (finmap.get s.grid.cells (cell_in s.grid.lanes index l)) ≡ None → s.grid.cells ≡ put_cell r f (facts_of after) s.grid.cells
+    put_missing none =
+        let gone : option_map live_part (finmap.get s.grid.cells (cell_of r f)) ≡ None = ap (λ k. option_map live_part (finmap.get s.grid.cells k)) (sym key) ∙ none in
+        sym (put_is ∙ elim (finmap.get s.grid.cells (cell_of r f)) as (λ o. option_map live_part o ≡ None → with_change s.grid.cells (cell_of r f) (with_live (total_of r (cell_of r f) (facts_of after))) o ≡ s.grid.cells) [
+          | None ↦ λ e. refl
+          | Some p ↦ λ e. absurd (none-some p.live (sym e))
+        ] gone)
+
+    -- in place of a value, where the rest is determined
+    pub put_corrected : (v : ℤ) (a rest new : Aggregate) → old ≡ Some v → option_map live_part (finmap.get s.grid.cells (cell_in s.grid.lanes index l)) ≡ Some a → IsOnlyRest IsSound merged a (aggregate_of_one f.time v) rest
+        → new ≡ merged (aggregate_of_one f.time f.value) rest → corrected_in s l index new ≡ put_cell r f (facts_of after) s.grid.cells
+    put_corrected v a rest new was there determined made =
+        let there' : option_map live_part (finmap.get s.grid.cells (cell_of r f)) ≡ Some a = ap (λ k. option_map live_part (finmap.get s.grid.cells k)) (sym key) ∙ there in
+        let whole : a ≡ total_of r (cell_of r f) (facts_of before) =
+        elim (finmap.get s.grid.cells (cell_of r f)) as (λ o. finmap.get s.grid.cells (cell_of r f) ≡ o → option_map live_part o ≡ Some a → a ≡ total_of r (cell_of r f) (facts_of before)) [
+          | None ↦ λ g e. absurd (none-some a e)
+          | Some p ↦ λ g e. sym (same_Some p.live a e) ∙ live (cell_of r f) p g
+        ] refl there' in
+        ap (λ k. changed s.grid.cells k (with_live new)) key
+        ∙ ap (λ x. changed s.grid.cells (cell_of r f) (with_live x)) made
+        ∙ correct_puts before after f put.distinct put.put r s.grid.cells live is.0 (record { column = f.column; time = f.time; value = v }) (subst (WasThere before f) was put.was) rest
+        (subst (λ x. IsOnlyRest IsSound merged x (aggregate_of_one f.time v) rest) whole determined)
+
+    -- and where it isn't, folded anew
+    pub put_folded : (new : Aggregate) → AllDistinct s.grid.lanes → new ≡ lane_total r s states l index → corrected_in s l index new ≡ put_cell r f (facts_of after) s.grid.cells
+    put_folded new once made =
+        let total : new ≡ total_of r (cell_of r f) (facts_of after) = made ∙ ap (lane_total r s states l) at_index ∙ cell_total r s (cell_of r f) l cs states once is.1 over.each over.lanes in
+        ap (λ k. changed s.grid.cells k (with_live new)) key
+        ∙ ap (λ x. changed s.grid.cells (cell_of r f) (with_live x)) total
+        ∙ sym put_is

@@ -1,0 +1,86 @@
+-- LineTexts: the outcome of a text, by the result of parsing it and the store's answer.
+use Rattle.std.proofs.Common.{◌≡◌, ◌⊎◌, ⊎_elim, ℤ, int_le, ◌+◌, ◌^◌, nat_le, length, List, Bool, true, false, not, Option, Some, None, Result, Ok, Err, IfSome, IsNone, refl, sym, ap, ◌∙◌, subst}
+use Rattle.ts_core.specs.facts.Facts.{Text, Series}
+use Rattle.ts_core.specs.settings.SettingsFaults.{unless}
+use Rattle.ts_core.specs.store.StoreData.{StoreData}
+use Rattle.ts_core.specs.declared.facts.time_unit.TimeUnit.{TimeUnit}
+use Rattle.ts_line.specs.Parts.{Parts, series_of, line_facts}
+use Rattle.ts_store.specs.write.LinesPut.{Leaves}
+use Rattle.ts_store.specs.write.LineTexts.{State, IsIn, WritesParts, WritesText, RunsOutOfMemory, WritesFrom, refusal_in, parts_in, with_line, with_series}
+use Rattle.ts_store.specs.write.Refusals.{is_too_many, write_fault}
+use Rattle.ts_store.specs.write.Registered.{MayGain}
+use Rattle.ts_store.specs.declared.write.fault.WriteFault.{WriteFault}
+use Rattle.ts_store.specs.declared.write.fault.WriteFault.TheVariants as write
+use Rattle.ts_store.specs.declared.write.write_text.LineOutcome.{LineOutcome}
+use Rattle.ts_store.specs.declared.write.write_text.LineOutcome.TheVariants.{Accepted, NoLine, Refused}
+use Rattle.ts_store.specs.declared.write.write_text.LineRefusal.TheVariants.{Parse, Write}
+
+pub wrote_parts : {E : Type 0} (precision : TimeUnit) (now : ℤ) (s : State) (text : Text) (parts : Parts) (r : Result LineOutcome E) (k : StoreData) → parts_in precision now text ≡ Ok (Some parts) → WritesParts s parts r k → WritesFrom precision now s text r k
+wrote_parts precision now s text parts (Ok Accepted) k e w = (with_line parts w.1.0 s, WritesText.accepts parts w.1.0 e w.0 w.1.1, w.1.2)
+wrote_parts precision now s text parts (Ok NoLine) k e w = absurd w
+wrote_parts precision now s text parts (Ok (Refused (Parse fault))) k e w = absurd w
+wrote_parts precision now s text parts (Ok (Refused (Write fault))) k e w = (s, WritesText.refuses parts fault e w.0, w.1)
+wrote_parts precision now s text parts (Err x) k e w = (with_series w.1.0 s, RunsOutOfMemory.in_writing parts w.1.0 e w.0 w.1.1, w.1.2)
+
+-- ---- the store's answer
+
+abbrev pub Written : Type 0
+Written = Result (Unit {0}) WriteFault
+
+abbrev pub refused_by : WriteFault → Written
+refused_by f = Err f
+
+err_same : (f g : WriteFault) → refused_by f ≡ refused_by g → f ≡ g
+err_same f g e = cc
+
+-- an error other than out of memory is the line's refusal, and nothing has changed
+refused_now : (o : Option WriteFault) (old new : StoreData) (parts : Parts) (fault : WriteFault)
+    → IfSome o (λ f. (refused_by fault ≡ Err f) × (new ≡ old)) → (IsNone o → (refused_by fault ≡ Ok tt) ⊎ ((refused_by fault ≡ Err write.OutOfMemory) × Leaves old new parts))
+    → (fault ≡ write.OutOfMemory → ⊥) → (o ≡ Some fault) × (new ≡ old)
+refused_now (Some f) old new parts fault refused taken other = (ap Some (sym (err_same fault f refused.0)), refused.1)
+refused_now None old new parts fault refused taken other =
+    ⊎_elim {C = (None ≡ Some fault) × (new ≡ old)} (λ done. absurd cc) (λ want. absurd (other (err_same fault write.OutOfMemory want.0))) (taken refl)
+
+-- the fault that the store finds is the one of its state
+same_refusal : (s : State) (parts : Parts) (k : StoreData) → IsIn s k → write_fault k.marks.raw k.series k.accepted parts ≡ refusal_in s parts
+same_refusal s parts k i = λ j. write_fault (i.stands.marks j).raw (i.series j) (i.stands.accepted j) parts
+
+module _ (parts : Parts) (old new : StoreData) (fault : WriteFault) (refused : IfSome (write_fault old.marks.raw old.series old.accepted parts) (λ f. (refused_by fault ≡ Err f) × (new ≡ old)))
+    (taken : IsNone (write_fault old.marks.raw old.series old.accepted parts) → (refused_by fault ≡ Ok tt) ⊎ ((refused_by fault ≡ Err write.OutOfMemory) × Leaves old new parts)) (other : fault ≡ write.OutOfMemory → ⊥) where
+  pub refused_same : new ≡ old
+  refused_same = (refused_now (write_fault old.marks.raw old.series old.accepted parts) old new parts fault refused taken other).1
+
+  pub wrote_refused : (s : State) → IsIn s old → (refusal_in s parts ≡ Some fault) × IsIn s new
+  wrote_refused s i =
+      let now = refused_now (write_fault old.marks.raw old.series old.accepted parts) old new parts fault refused taken other in
+      (sym (same_refusal s parts old i) ∙ now.0, subst (IsIn s) (sym now.1) i)
+
+-- ---- out of memory
+
+-- a line is never refused as out of memory
+never_memory : (a b c : Bool) (mark : ℤ) → unless a (write.BelowRawMark mark) (unless b write.TooManySeries (unless c write.TooManyFacts None)) ≡ Some write.OutOfMemory → ⊥
+never_memory true true true mark e = cc
+never_memory true true false mark e = cc
+never_memory true false c mark e = cc
+never_memory false b c mark e = cc
+
+module _ (parts : Parts) (old new : StoreData) (fault : WriteFault) (refused : IfSome (write_fault old.marks.raw old.series old.accepted parts) (λ f. (refused_by fault ≡ Err f) × (new ≡ old)))
+    (taken : IsNone (write_fault old.marks.raw old.series old.accepted parts) → (refused_by fault ≡ Ok tt) ⊎ ((refused_by fault ≡ Err write.OutOfMemory) × Leaves old new parts)) (memory : fault ≡ write.OutOfMemory) where
+  left_by_cases : (o : Option WriteFault) → write_fault old.marks.raw old.series old.accepted parts ≡ o → (write_fault old.marks.raw old.series old.accepted parts ≡ None) × Leaves old new parts
+  left_by_cases (Some f) e =
+      let same : f ≡ write.OutOfMemory = sym (err_same fault f (subst (λ (p : Option WriteFault). IfSome p (λ g. (refused_by fault ≡ Err g) × (new ≡ old))) e refused).0) ∙ memory in
+      absurd (never_memory (int_le old.marks.raw parts.time) (not (is_too_many old.series (series_of parts))) (nat_le (old.accepted + length (line_facts parts)) (2 ^ 62)) old.marks.raw (e ∙ ap Some same))
+  left_by_cases None e = (
+    e,
+    ⊎_elim {C = Leaves old new parts} (λ done. absurd (let p : refused_by fault ≡ Ok tt = done in cc)) (λ want. want.1) (subst (λ (p : Option WriteFault). IsNone p → (refused_by fault ≡ Ok tt) ⊎ ((refused_by fault ≡ Err write.OutOfMemory) × Leaves old new parts)) e taken refl),
+  )
+
+  pub left_without_memory : Leaves old new parts
+  left_without_memory = (left_by_cases (write_fault old.marks.raw old.series old.accepted parts) refl).1
+
+  pub wrote_without_memory : (s : State) → IsIn s old → (refusal_in s parts ≡ None) × ((series : List Series) × MayGain s.series series (series_of parts) × IsIn (with_series series s) new)
+  wrote_without_memory s i =
+      let none = (left_by_cases (write_fault old.marks.raw old.series old.accepted parts) refl).0 in (
+        sym (same_refusal s parts old i) ∙ none,
+        (new.series, subst (λ (before : List Series). MayGain before new.series (series_of parts)) i.series left_without_memory.series, record { stands = left_without_memory.history s.opening s.history i.stands; series = refl }),
+      )

@@ -1,0 +1,50 @@
+-- The series and the columns that a line makes have names that a line can state.
+use Rattle.std.proofs.Common.{ℤ, not, List, [], ◌∷◌, map, sym, subst, ⊎_elim}
+use Rattle.ts_core.specs.lists.Members.{Among}
+use Rattle.ts_core.specs.facts.Facts.{Series, Column, Fact}
+use Rattle.ts_core.specs.lists.Numbered.{Gains}
+use Rattle.ts_core.specs.store.RawFacts.{is_waiting}
+use Rattle.ts_core.specs.store.StoreStates.{ColumnPoints, column_of}
+use Rattle.ts_core.proofs.lists.MembersLemmas.{Among-left, Among-append, Among-filter_was}
+use Rattle.ts_line.specs.Names.{IsKey, AreKeys, IsNamed}
+use Rattle.ts_line.specs.Parts.{LinePart, Parts, fact_of, field_text, line_facts}
+use Rattle.ts_store.specs.write.Registered.{MayGain, new_columns, with_columns, MakesFirst}
+use Rattle.ts_store.proofs.write.ColumnsAside.{names_with}
+
+abbrev pub AreNamed : List Series → Type 0
+AreNamed series = (s : Series) → Among s series → IsNamed s
+
+abbrev pub HaveKeys : List ColumnPoints → Type 0
+HaveKeys columns = (c : Column) → Among c (map column_of columns) → IsKey c.field
+
+pub gains_named : (before after : List Series) (s : Series) → IsNamed s → Gains before after s → AreNamed before → AreNamed after
+gains_named before after s named gains all =
+    ⊎_elim {C = AreNamed after} (λ same. subst AreNamed (sym same.1) all)
+    (λ new. subst AreNamed (sym new.1) (λ x a.
+    ⊎_elim {C = IsNamed x} (all x) (λ last. ⊎_elim {C = IsNamed x} (λ e. subst IsNamed (sym e) named) (λ none. absurd none) last) (Among-append x before (s ∷ []) a))) gains
+
+pub may_gain_named : (before after : List Series) (s : Series) → IsNamed s → MayGain before after s → AreNamed before → AreNamed after
+may_gain_named before after s named gains all =
+    ⊎_elim {C = AreNamed after} (λ same. subst AreNamed (sym same) all) (λ more. gains_named before after s named more all) gains
+
+-- the column of a line's fact
+fields_keys : (p : Parts) (fields : List (LinePart × ℤ)) (c : Column) → AreKeys (map field_text fields) → Among c (map (λ (f : Fact). f.column) (map (fact_of p) fields)) → IsKey c.field
+fields_keys p [] c keys a = absurd a
+fields_keys p (f ∷ fields) c keys a =
+    ⊎_elim {C = IsKey c.field} (λ e. subst (λ (d : Column). IsKey d.field) (sym e) keys.0) (fields_keys p fields c keys.1) a
+
+made_keys : (p : Parts) (names : List Column) (c : Column) → AreKeys (map field_text p.fields) → Among c (new_columns names (line_facts p)) → IsKey c.field
+made_keys p names c keys a =
+    fields_keys p p.fields c keys (Among-filter_was (λ (d : Column). not (is_waiting names d)) c (map (λ (f : Fact). f.column) (line_facts p)) a)
+
+with_keys : (p : Parts) (before : List ColumnPoints) (made : List Column) → ((c : Column) → Among c made → IsKey c.field) → HaveKeys before → HaveKeys (with_columns before made)
+with_keys p before made new all = λ c a.
+    ⊎_elim {C = IsKey c.field} (all c) (new c) (Among-append c (map column_of before) made (subst (Among c) (names_with before made) a))
+
+pub all_keys : (p : Parts) (before : List ColumnPoints) → AreKeys (map field_text p.fields) → HaveKeys before → HaveKeys (with_columns before (new_columns (map column_of before) (line_facts p)))
+all_keys p before keys all = with_keys p before (new_columns (map column_of before) (line_facts p)) (λ c a. made_keys p (map column_of before) c keys a) all
+
+pub first_keys : (p : Parts) (before after : List ColumnPoints) → AreKeys (map field_text p.fields) → MakesFirst before after (line_facts p) → HaveKeys before → HaveKeys after
+first_keys p before after keys makes all =
+    subst HaveKeys (sym makes.columns)
+    (with_keys p before makes.made (λ c a. made_keys p (map column_of before) c keys (subst (Among c) makes.order (Among-left c makes.made makes.others a))) all)

@@ -1,0 +1,151 @@
+-- A store that is made of parts: settings, marks, columns with their points, and frozen parts of cells. Whatever follows
+-- from these, such as live parts, is computed. (Own rules.)
+use Rattle.std.specs.Prelude.{◌≡◌, ℕ, ℤ, pos, ◌+ℤ◌, ◌≤◌, ◌≤ℤ◌, ◌^◌, Bool, true, false, List, [], ◌∷◌, ◌++◌, length, map, set, get_or, None, if◌then◌else◌, refl}
+use Rattle.std.specs.FinMap as finmap
+use Rattle.std.specs.List.{AllByRecursion}
+use Rattle.std.specs.Coded.{Coded, code_by, coded×, coded_list, coded_bool}
+use Rattle.ts_core.specs.lists.Members.{Among}
+use Rattle.ts_core.specs.facts.Facts.{Series, Column, Fact}
+use Rattle.ts_core.specs.settings.Settings.{Rule, Settings}
+use Rattle.ts_core.specs.facts.Times.{least_time}
+use Rattle.ts_core.specs.store.Marks.{Marks, index_of}
+use Rattle.ts_core.specs.aggregates.Aggregates.{Aggregate, empty_aggregate}
+use Rattle.ts_core.specs.store.Cells.{Cell, cell_of, is_rolled}
+use Rattle.ts_core.specs.store.StoreStates.{ColumnPoints, facts_of}
+use Rattle.ts_core.specs.store.StoreCodes.{coded_store_data}
+use Rattle.ts_core.specs.store.StoreData.{CellMap, StoreData, AreLive}
+use Rattle.ts_store.specs.store.CellCounts.{HoldFew}
+use Rattle.ts_store.specs.store.CellIndices.{HaveIndices}
+use Rattle.ts_store.specs.write.LinesPut.{OfEachRule, PutsCells}
+
+-- a store under construction
+pub record Built : Type 0 where
+  pub settings : Settings
+  pub marks : Marks
+  pub running : Bool
+  pub accepted : ℕ
+  -- the registered series, and the columns with their points, each in creation order
+  pub series : List Series
+  pub columns : List ColumnPoints
+  -- for each column, whether it waits for the open run
+  pub waits : List Bool
+  -- the cells of each rule; live parts are empty
+  pub cells : List CellMap
+
+abbrev pub new_built : Settings → Marks → ℕ → Bool → Built
+new_built settings marks accepted running = record {
+  settings = settings;
+  marks = marks;
+  running = running;
+  accepted = accepted;
+  series = [];
+  columns = [];
+  waits = [];
+  cells = map (λ (r : Rule). finmap.empty) settings.rules;
+}
+
+-- ---- parts are appended
+
+abbrev pub with_series : Series → Built → Built
+with_series s b = record {
+  settings = b.settings;
+  marks = b.marks;
+  running = b.running;
+  accepted = b.accepted;
+  series = b.series ++ s ∷ [];
+  columns = b.columns;
+  waits = b.waits;
+  cells = b.cells;
+}
+
+abbrev pub with_column : ColumnPoints → Bool → Built → Built
+with_column c waits b = record {
+  settings = b.settings;
+  marks = b.marks;
+  running = b.running;
+  accepted = b.accepted;
+  series = b.series;
+  columns = b.columns ++ c ∷ [];
+  waits = b.waits ++ waits ∷ [];
+  cells = b.cells;
+}
+
+-- the cells of the rule with this number
+abbrev pub cells_at : List CellMap → ℕ → CellMap
+cells_at ms rule = get_or ms rule finmap.empty
+
+-- a cell of the rule with this number, with a frozen part
+abbrev pub with_cell : ℕ → Cell → Aggregate → Built → Built
+with_cell rule k frozen b = record {
+  settings = b.settings;
+  marks = b.marks;
+  running = b.running;
+  accepted = b.accepted;
+  series = b.series;
+  columns = b.columns;
+  waits = b.waits;
+  cells = set b.cells rule (finmap.insert (cells_at b.cells rule) k (record { frozen = frozen; live = empty_aggregate }));
+}
+
+-- ---- a store can be made of the parts
+
+-- a low index: at least that of the least time, and at most one more than that of the raw mark
+pub record IsLowIndex (mark : ℤ) (r : Rule) (low : ℤ) : Type 0 where
+  pub least : index_of r least_time ≤ℤ low
+  pub most : low ≤ℤ (index_of r mark +ℤ pos 1)
+
+-- each rule has one
+abbrev pub AreLowIndices : ℤ → List Rule → List ℤ → Type 0
+AreLowIndices mark [] [] = Unit {0}
+AreLowIndices mark [] (low ∷ lows) = ⊥
+AreLowIndices mark (r ∷ rs) [] = ⊥
+AreLowIndices mark (r ∷ rs) (low ∷ lows) = IsLowIndex mark r low × AreLowIndices mark rs lows
+
+-- no count overflows, each rule has a low index, each cell is of a bucket with a valid time, and no column waits unless a
+-- run is in progress
+pub record IsBuildable (b : Built) : Type 0 where
+  pub accepted : b.accepted ≤ 2 ^ 62
+  pub facts : length (facts_of b.columns) ≤ b.accepted
+  pub lows : AreLowIndices b.marks.raw b.settings.rules b.marks.lows
+  pub counts : HoldFew b.accepted b.columns b.settings.rules b.cells
+  pub indices : HaveIndices b.settings.rules b.cells
+  pub idle : b.running ≡ false → AllByRecursion (λ (w : Bool). w ≡ false) b.waits
+
+-- ---- the store that is made of them
+
+-- the columns that wait, in creation order
+abbrev pub waiting_of : List ColumnPoints → List Bool → List Column
+waiting_of [] ws = []
+waiting_of (c ∷ cs) [] = []
+waiting_of (c ∷ cs) (w ∷ ws) = if w then c.column ∷ waiting_of cs ws else waiting_of cs ws
+
+-- each fact has its cell under each rule, from the low index on
+abbrev pub HaveCells : List Rule → List ℤ → List Fact → List CellMap → Type 0
+HaveCells [] lows facts ms = Unit {0}
+HaveCells (r ∷ rs) [] facts ms = Unit {0}
+HaveCells (r ∷ rs) (low ∷ lows) facts [] = Unit {0}
+HaveCells (r ∷ rs) (low ∷ lows) facts (m ∷ ms) =
+    ((f : Fact) → Among f facts → is_rolled r f ≡ true → low ≤ℤ (cell_of r f).index → finmap.get m (cell_of r f) ≡ None → ⊥) × HaveCells rs lows facts ms
+
+-- The store has these parts. Besides the given cells it has those of raw facts from the low index on, and no others.
+-- Frozen parts are the given ones, and live parts those of the raw facts.
+pub record IsBuiltFrom (b : Built) (k : StoreData) : Type 0 where
+  pub settings : k.settings ≡ b.settings
+  pub marks : k.marks ≡ b.marks
+  pub running : k.running ≡ b.running
+  pub accepted : k.accepted ≡ b.accepted
+  pub series : k.series ≡ b.series
+  pub columns : k.columns ≡ b.columns
+  pub waiting : k.waiting ≡ waiting_of b.columns b.waits
+  pub cells : OfEachRule (PutsCells (facts_of b.columns)) b.settings.rules b.marks.lows b.cells k.cells
+  pub rooms : HaveCells b.settings.rules b.marks.lows (facts_of b.columns) k.cells
+  pub live : AreLive b.columns b.settings.rules k.cells
+
+-- ---- codes
+
+-- as the data of a store, and which columns wait
+abbrev pub coded_built : Coded Built
+coded_built =
+    code_by (StoreData × List Bool) (coded× coded_store_data (coded_list coded_bool))
+    (λ b. (record { settings = b.settings; marks = b.marks; running = b.running; waiting = []; series = b.series; columns = b.columns; accepted = b.accepted; cells = b.cells }, b.waits))
+    (λ p. record { settings = p.0.settings; marks = p.0.marks; running = p.0.running; accepted = p.0.accepted; series = p.0.series; columns = p.0.columns; waits = p.1; cells = p.0.cells }) (λ _. refl)

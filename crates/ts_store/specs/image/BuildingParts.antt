@@ -1,0 +1,90 @@
+-- What a store under construction is made of in memory. (Own rules.)
+use Rattle.std.specs.Prelude.{◌≡◌, ◌≤◌, ◌≤ℤ◌, ℕ, ℤ, Bool, true, not, List, [], ◌∷◌, length, map, Some, None, option_map}
+use Rattle.std.specs.FinMap as finmap
+use Rattle.std.specs.List.{AllByRecursion}
+use Rattle.ts_core.specs.lists.Members.{Among, AllDistinct}
+use Rattle.ts_core.specs.facts.Facts.{Series, Column, Fact}
+use Rattle.ts_core.specs.settings.Settings.{Rule, Settings}
+use Rattle.ts_core.specs.store.Marks.{Marks}
+use Rattle.ts_core.specs.aggregates.Aggregates.{empty_aggregate, merged}
+use Rattle.ts_core.specs.store.Cells.{Cell, cell_of, is_rolled, total_of}
+use Rattle.ts_core.specs.store.StoreStates.{CellParts, column_of, facts_of}
+use Rattle.ts_core.specs.store.StoreData.{CellMap, AreLive}
+use Rattle.ts_line.specs.Names.{IsKey, IsNamed}
+use Rattle.ts_store.specs.image.Building.{Built, HaveCells}
+use Rattle.ts_store.specs.store.CellIndices.{HasIndices, HaveIndices}
+use Rattle.ts_store.specs.store.ColumnsKept.{Held, AreKnown}
+use Rattle.ts_store.specs.write.LinesPut.{OfEachRule, PutsCells, GainsCells}
+use Rattle.ts_store.specs.rollup.Rollups.{AreRollups, cells_of}
+use Rattle.ts_store.specs.retain.RollupSteps.{held_with}
+
+-- a column that isn't passed waits
+abbrev pub built_of : Settings → Marks → Bool → ℕ → Held → List Bool → Built
+built_of settings marks running accepted held passed = record {
+  settings = settings;
+  marks = marks;
+  running = running;
+  accepted = accepted;
+  series = held.series;
+  columns = held.columns;
+  waits = map not passed;
+  cells = cells_of held.rollups;
+}
+
+-- no live part has a fact yet
+abbrev pub IsIdle : CellMap → Type 0
+IsIdle m = (k : Cell) (p : CellParts) → finmap.get m k ≡ Some p → p.live ≡ empty_aggregate
+
+abbrev pub AreIdle : List CellMap → Type 0
+AreIdle ms = AllByRecursion IsIdle ms
+
+-- the invariant of a store under construction
+pub record IsInOrder (settings : Settings) (held : Held) (passed : List Bool) : Type 0 where
+  pub rollups : AreRollups settings.rules (map column_of held.columns) held.rollups
+  pub each : length passed ≡ length held.columns
+  pub idle : AreIdle (cells_of held.rollups)
+  pub few : length held.series ≤ 1000000
+  pub named : (s : Series) → Among s held.series → IsNamed s
+  pub keys : (c : Column) → Among c (map column_of held.columns) → IsKey c.field
+
+-- ---- cells of raw facts
+
+-- the rule has the cell of each of these facts, from the low index on
+abbrev pub HasCellsOf : List Fact → Rule → ℤ → CellMap → Type 0
+HasCellsOf facts r low m = (f : Fact) → Among f facts → is_rolled r f ≡ true → low ≤ℤ (cell_of r f).index → finmap.get m (cell_of r f) ≡ None → ⊥
+
+-- the missing cells of these facts are created, without content, but none below the low index, and none whose bucket has
+-- no valid time
+pub record MakesCells (facts : List Fact) (r : Rule) (low : ℤ) (m n : CellMap) : Type 0 where
+  pub gains : GainsCells facts r low m n
+  pub there : HasCellsOf facts r low n
+  pub indices : HasIndices r m → HasIndices r n
+
+-- no cell comes or goes, and each frozen part stays
+abbrev pub KeepsFrozen : CellMap → CellMap → Type 0
+KeepsFrozen m n = (k : Cell) → option_map (λ (p : CellParts). p.frozen) (finmap.get n k) ≡ option_map (λ (p : CellParts). p.frozen) (finmap.get m k)
+
+abbrev pub KeepFrozen : List CellMap → List CellMap → Type 0
+KeepFrozen [] [] = Unit {0}
+KeepFrozen [] (n ∷ ns) = ⊥
+KeepFrozen (m ∷ ms) [] = ⊥
+KeepFrozen (m ∷ ms) (n ∷ ns) = KeepsFrozen m n × KeepFrozen ms ns
+
+-- merged with the facts that are still to be added, each live part is the aggregate of all facts
+abbrev pub IsFilledBut : List Fact → List Fact → Rule → CellMap → Type 0
+IsFilledBut left all r m = (k : Cell) (p : CellParts) → finmap.get m k ≡ Some p → merged p.live (total_of r k left) ≡ total_of r k all
+
+abbrev pub AreFilledBut : List Fact → List Fact → List Rule → List CellMap → Type 0
+AreFilledBut left all [] ms = Unit {0}
+AreFilledBut left all (r ∷ rs) [] = Unit {0}
+AreFilledBut left all (r ∷ rs) (m ∷ ms) = IsFilledBut left all r m × AreFilledBut left all rs ms
+
+-- the missing cells of raw facts are created, and the facts are added to empty live parts; series, columns and lanes stay
+pub record FillsCells (rules : List Rule) (lows : List ℤ) (old new : Held) : Type 0 where
+  pub others : new ≡ held_with (cells_of new.rollups) old
+  pub cells : OfEachRule (PutsCells (facts_of old.columns)) rules lows (cells_of old.rollups) (cells_of new.rollups)
+  pub rooms : HaveCells rules lows (facts_of old.columns) (cells_of new.rollups)
+  pub live : AreLive old.columns rules (cells_of new.rollups)
+  pub indices : HaveIndices rules (cells_of old.rollups) → HaveIndices rules (cells_of new.rollups)
+  pub known : AreKnown new
+  pub once : AllDistinct (facts_of new.columns)

@@ -1,0 +1,27 @@
+-- The remaining cells of an iterator over frozen parts, and buckets that it doesn't leave out. (Own rules.)
+use Rattle.std.specs.Prelude.{ℕ, ◌<◌, pos, ◌≤ℤ◌, FitsSigned, Bool, nat_lt, List, length, map, filter}
+use Rattle.std.specs.Int.{w64}
+use Rattle.ts_core.specs.settings.Settings.{Rule}
+use Rattle.ts_core.specs.store.StoreStates.{CellParts}
+use Rattle.ts_cells.specs.Walks.{KeptCell}
+use Rattle.ts_store.specs.store.CellIndices.{HasIndices}
+use Rattle.ts_store.specs.store.ColumnsKept.{Held}
+use Rattle.ts_store.specs.read.LiveCells.{rollup_at}
+use Rattle.ts_store.specs.image.Saving.{FrozenCell}
+
+-- the cell has frozen facts
+abbrev pub has_frozen : KeptCell CellParts → Bool
+has_frozen k = nat_lt 0 k.part.frozen.count
+
+abbrev pub frozen_cell : KeptCell CellParts → FrozenCell
+frozen_cell k = record { cell = k.cell; frozen = k.part.frozen }
+
+abbrev pub frozen_left : List (KeptCell CellParts) → List FrozenCell
+frozen_left ks = map frozen_cell (filter has_frozen ks)
+
+-- the indices of the cells of the rule with this index fit 64 bits
+pub record HasNearCells (held : Held) (r : Rule) (n : ℕ) : Type 0 where
+  pub there : n < length held.rollups
+  pub second : pos 1000000000 ≤ℤ r.interval
+  pub offset : FitsSigned w64 r.offset
+  pub indices : HasIndices r (rollup_at held.rollups n).grid.cells

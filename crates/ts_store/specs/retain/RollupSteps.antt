@@ -1,0 +1,49 @@
+-- What a step of a run does to the cells of rules: points of a column are frozen. (Own rules.)
+use Rattle.std.specs.Prelude.{ℕ, ℤ, ◌+◌, ◌^◌, ◌≤◌, List, [], ◌∷◌, filter, length, map}
+use Rattle.ts_core.specs.facts.Facts.{Column, Fact}
+use Rattle.ts_core.specs.settings.Settings.{Rule}
+use Rattle.ts_core.specs.store.Cells.{Cell, is_in_cell}
+use Rattle.ts_core.specs.store.StoreStates.{ColumnPoints, fact_at, facts_of}
+use Rattle.ts_core.specs.store.StoreData.{CellMap}
+use Rattle.ts_core.specs.moves.StoreMoves.{all_moved, points_below, kept_points}
+use Rattle.ts_store.specs.store.CellCounts.{frozen_count}
+use Rattle.ts_raw.specs.Columns.{ColumnState}
+use Rattle.ts_store.specs.store.ColumnsKept.{Held, with_points, point_maps}
+use Rattle.ts_store.specs.rollup.Rollups.{RollupState, with_frozen, cells_of}
+
+-- other cells for each rule, under the same lanes
+abbrev pub with_frozen_all : List CellMap → List RollupState → List RollupState
+with_frozen_all ms [] = []
+with_frozen_all [] (s ∷ ss) = s ∷ ss
+with_frozen_all (m ∷ ms) (s ∷ ss) = with_frozen m s ∷ with_frozen_all ms ss
+
+abbrev pub held_with : List CellMap → Held → Held
+held_with ms held = record { series = held.series; columns = held.columns; rollups = with_frozen_all ms held.rollups }
+
+-- ---- a column is moved
+
+-- the facts that columns have when one of them has no point below a mark
+abbrev pub facts_left : ℤ → Column → List Column → List ColumnState → List Fact
+facts_left mark c cs states = facts_of (map (kept_points c mark) (with_points cs (point_maps states)))
+
+-- the number of points of a column that are in a cell of a rule
+abbrev pub points_in_cell : Rule → Column → Cell → List (ℤ × ℤ) → ℕ
+points_in_cell r c k ps = length (filter (λ (p : ℤ × ℤ). is_in_cell r k (fact_at c p)) ps)
+
+-- each cell holds at most 2^62 facts, with these points
+abbrev pub FreezesFit : Rule → Column → List (ℤ × ℤ) → CellMap → Type 0
+FreezesFit r c ps m = (k : Cell) → frozen_count m k + points_in_cell r c k ps ≤ 2 ^ 62
+
+-- so for each rule
+abbrev pub FreezeFit : List Rule → Column → List (ℤ × ℤ) → List CellMap → Type 0
+FreezeFit [] c ps ms = Unit {0}
+FreezeFit (r ∷ rs) c ps [] = Unit {0}
+FreezeFit (r ∷ rs) c ps (m ∷ ms) = FreezesFit r c ps m × FreezeFit rs c ps ms
+
+-- the points of a column below a mark are frozen under each rule, and leave it; the live parts of their cells are what is left
+abbrev pub held_moved : List Rule → ColumnPoints → ℤ → Held → Held
+held_moved rs s mark held = record {
+  series = held.series;
+  columns = map (kept_points s.column mark) held.columns;
+  rollups = with_frozen_all (all_moved rs s.column (points_below mark s.points) (facts_of (map (kept_points s.column mark) held.columns)) (cells_of held.rollups)) held.rollups;
+}

@@ -1,0 +1,5 @@
+-- The rollup of a rule: lanes with their columns.
+-- used only by models and proofs of the code
+pub mod ColumnLists
+pub mod Rollups
+pub mod LivePoints

@@ -1,0 +1,33 @@
+-- The rollup of one rule over columns that exist already. (Own rules.)
+use Rattle.std.specs.Prelude.{◌≡◌, ℕ, ℤ, List, [], ◌∷◌, ◌++◌, length, map, take}
+use Rattle.std.specs.List.{remove}
+use Rattle.std.specs.FinMap as finmap
+use Rattle.ts_core.specs.facts.Facts.{Column}
+use Rattle.ts_core.specs.settings.Settings.{Rule}
+use Rattle.ts_core.specs.store.StoreStates.{column_of, facts_of}
+use Rattle.ts_core.specs.moves.RuleMoves.{IsFresh}
+use Rattle.ts_store.specs.store.CellIndices.{HasIndices}
+use Rattle.ts_store.specs.store.ColumnsKept.{Held}
+use Rattle.ts_store.specs.store.Inventories.{AreFilled}
+use Rattle.ts_store.specs.rollup.Rollups.{RollupState, HaveLanes}
+
+-- the first of these columns have their lanes, and there are no cells yet
+pub record HasFirstLanes (r : Rule) (columns : List Column) (n : ℕ) (s : RollupState) : Type 0 where
+  pub lanes : HaveLanes r s.grid.lanes (take n columns) s.lanes
+  pub many : length s.lanes ≡ n
+  pub cells : s.grid.cells ≡ finmap.empty
+
+-- each column has its lane, and the rollup has exactly the cells of the raw facts from the low index on
+pub record IsRollupOf (held : Held) (r : Rule) (low : ℤ) (s : RollupState) : Type 0 where
+  pub lanes : HaveLanes r s.grid.lanes (map column_of held.columns) s.lanes
+  pub fresh : IsFresh r low (facts_of held.columns) s.grid.cells
+  pub filled : AreFilled (facts_of held.columns) r low (finmap.keys s.grid.cells)
+  pub indices : HasIndices r s.grid.cells
+
+-- the rollup of one more rule
+abbrev pub with_rollup : RollupState → Held → Held
+with_rollup s held = record { series = held.series; columns = held.columns; rollups = held.rollups ++ s ∷ [] }
+
+-- without that of the rule with this index
+abbrev pub without_rollup : ℕ → Held → Held
+without_rollup n held = record { series = held.series; columns = held.columns; rollups = remove held.rollups n }

@@ -1,0 +1,8 @@
+-- The columns and cells of a store, and plain facts about them.
+-- cited by public contracts and laws
+pub mod Inventories
+-- used only by models and proofs of the code
+pub mod ColumnsKept
+pub mod CellCounts
+pub mod SizedStores
+pub mod CellIndices

@@ -1,0 +1,51 @@
+-- What a line leaves in columns and in what is kept for rules: its facts are put, or there was no memory. (Own rules.)
+use Rattle.std.specs.Prelude.{◌≡◌, ◌⊎◌, ℕ, ℤ, List, [], map, Result, OnOk}
+use Rattle.std.specs.List.{AllByRecursion}
+use Rattle.ts_core.specs.settings.Settings.{Rule}
+use Rattle.ts_core.specs.facts.Times.{least_time}
+use Rattle.ts_core.specs.store.History.{MayBeTaken}
+use Rattle.ts_core.specs.store.StoreStates.{column_of}
+use Rattle.ts_core.specs.store.StoreData.{CellMap}
+use Rattle.ts_core.specs.moves.StoreMoves.{PutsFacts, HaveRoom}
+use Rattle.ts_line.specs.Parts.{Parts, series_of, line_facts}
+use Rattle.ts_core.specs.lists.Numbered.{Gains}
+use Rattle.ts_raw.specs.Columns.{ColumnState}
+use Rattle.ts_raw.specs.Indexed.{Indexed}
+use Rattle.ts_store.specs.store.ColumnsKept.{Held, IsHeld, AreAside, AreKnown, columns_in}
+use Rattle.ts_store.specs.rollup.Rollups.{AreRollups, cells_of}
+use Rattle.ts_store.specs.write.LinesPut.{OfEachRule, PutsCells, GainsCells}
+use Rattle.ts_store.specs.write.Registered.{MayGain, MakesAll, MakesFirst, new_columns, with_columns}
+
+-- what is left by a call that sets a line's points aside, each in its column, and answers the numbers of these: columns that weren't
+-- there are made, in the order in which fields first stand, and without memory the first of them
+pub record SetsAside {E : Type 0} (p : Parts) (before : Indexed) (states : List ColumnState) (after : Indexed) (states' : List ColumnState) (numbers : List ℕ) (result : Result (Unit {0}) E) : Type 0 where
+  pub aside : OnOk result (AreAside after.columns states' numbers (line_facts p))
+  pub taken : OnOk result (AllByRecursion (MayBeTaken least_time) (line_facts p))
+  pub all : OnOk result (MakesAll (columns_in before states) (columns_in after states') (line_facts p))
+  pub made : MakesFirst (columns_in before states) (columns_in after states') (line_facts p)
+  pub held : IsHeld after states'
+  pub series : after.series ≡ before.series
+
+-- under these rules the line's series is registered, its new columns are made, there is room for its facts in cells from low indices on,
+-- and they are put, into columns and cells: facts that may be taken from the least time on
+pub record PutsLine (rules : List Rule) (lows : List ℤ) (old new : Held) (p : Parts) : Type 0 where
+  pub series : Gains old.series new.series (series_of p)
+  -- the cells before the first fact is put
+  pub roomy : List CellMap
+  pub facts : PutsFacts rules (with_columns old.columns (new_columns (map column_of old.columns) (line_facts p))) roomy new.columns (cells_of new.rollups) (line_facts p)
+  pub taken : AllByRecursion (MayBeTaken least_time) (line_facts p)
+  pub known : AreKnown new
+  pub rollups : AreRollups rules (map column_of new.columns) new.rollups
+  pub rooms : HaveRoom rules lows (line_facts p) (cells_of old.rollups) roomy
+  pub cells : OfEachRule (PutsCells (line_facts p)) rules lows (cells_of old.rollups) (cells_of new.rollups)
+
+-- without memory the series may be registered, and the first of the new columns and cells made
+pub record GrowsForLine (rules : List Rule) (lows : List ℤ) (old new : Held) (p : Parts) : Type 0 where
+  pub series : MayGain old.series new.series (series_of p)
+  pub columns : MakesFirst old.columns new.columns (line_facts p)
+  pub known : AreKnown new
+  pub rollups : AreRollups rules (map column_of new.columns) new.rollups
+  pub rooms : HaveRoom rules lows [] (cells_of old.rollups) (cells_of new.rollups)
+  pub cells : OfEachRule (GainsCells (line_facts p)) rules lows (cells_of old.rollups) (cells_of new.rollups)
+  -- cells are created only for facts that may be taken
+  pub taken : (cells_of new.rollups ≡ cells_of old.rollups) ⊎ AllByRecursion (MayBeTaken least_time) (line_facts p)

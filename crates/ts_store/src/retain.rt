@@ -1,0 +1,5 @@
+//! Steps of a retention run: columns are moved, and cells expire.
+
+mod column_moves;
+pub(crate) mod freezing;
+pub(crate) mod run;

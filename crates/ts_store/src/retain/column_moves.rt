@@ -1,0 +1,71 @@
+//! What a step of a run does to columns and cells.
+ghost use Rattle.std.specs.Prelude.{◌≡◌, ◌<◌, ◌≤◌, ◌^◌, pos, ◌≤ℤ◌, length, map};
+ghost use Rattle.std.specs.Bool.{OnTrue, OnFalse};
+ghost use Rattle.std.specs.List.{AllByRecursion};
+ghost use Rattle.ts_core.specs.store.StoreStates.{ColumnPoints, column_of, facts_of};
+ghost use Rattle.ts_core.specs.moves.StoreMoves.{points_below};
+ghost use Rattle.ts_core.specs.lists.Numbered.{IsAt};
+ghost use Rattle.ts_store.specs.read.PointsRead.{HasRisingPoints};
+ghost use Rattle.ts_store.specs.rollup.Rollups.{AreRollups, cells_of};
+ghost use Rattle.ts_store.specs.retain.RollupSteps.{with_frozen_all, held_with, FreezeFit, held_moved};
+ghost use Rattle.ts_store.specs.retain.WholeRuns.{AreAbove, FirstLoses};
+
+use crate::retain::freezing::move_all;
+use crate::rollup::Rollup;
+use crate::store::column_facts::ColumnFacts;
+use std::alloc::Allocator;
+use ts_core::{Rule, Time};
+use ts_raw::Column as _;
+
+/// Removes cells of the first rule that has some below its low index: 256, or all where there are fewer. It answers whether there were
+/// any.
+fn expire_first<A: Allocator + Copy>(rollups: &mut [Rollup<A>], lows: &[i128]) -> bool
+    ensures lanes { rollups.new ≡ with_frozen_all (cells_of rollups.new) rollups.old }
+    ensures some { OnTrue result (FirstLoses lows.now (cells_of rollups.old) (cells_of rollups.new)) }
+    ensures none { OnFalse result ((rollups.new ≡ rollups.old) × AreAbove lows.now (cells_of rollups.old)) }
+{
+    let Some((low, lows)) = lows.split_first() else {
+        return false;
+    };
+    let Some((rollup, rollups)) = rollups.split_first_mut() else {
+        return false;
+    };
+    if rollup.expire(low) > 0 {
+        return true;
+    }
+    expire_first(rollups, lows)
+}
+
+impl<A: Allocator + Copy> ColumnFacts<A> {
+    /// Returns the number of columns. Also states that the points of each column are in the order of time.
+    pub(crate) fn column_count(&self) -> usize
+        ensures count { result ≡ length self.now.columns }
+        ensures rising { AllByRecursion HasRisingPoints self.now.columns }
+    {
+        self.columns.len()
+    }
+
+    /// Moves a column: its points below the mark are frozen under each rule, and leave it, and the live parts of their cells are
+    /// what is left. It takes no memory.
+    pub(crate) fn move_column(&mut self, rules: &[Rule<A>], column: usize, mark: Time)
+        requires intervals { AllByRecursion (λ r. pos 1 ≤ℤ r.interval) rules.now }
+        requires rollups { AreRollups rules.now (map column_of self.old.columns) self.old.rollups }
+        requires column { column < length self.old.columns }
+        requires few { length (facts_of self.old.columns) ≤ 2 ^ 62 }
+        ensures { (s : ColumnPoints) → IsAt self.old.columns column s → FreezeFit rules.now s.column (points_below mark s.points) (cells_of self.old.rollups) → self.new ≡ held_moved rules.now s mark self.old }
+    {
+        let columns = self.columns.as_slice();
+        move_all(rules, self.rollups.as_mut_slice(), columns, column, mark);
+        self.columns[column].drop_below(mark);
+    }
+
+    /// Removes cells below a low index, of the first rule that has such: 256, or all where there are fewer. It answers whether
+    /// there were any. It takes no memory.
+    pub(crate) fn expire(&mut self, lows: &[i128]) -> bool
+        ensures lanes { self.new ≡ held_with (cells_of self.new.rollups) self.old }
+        ensures some { OnTrue result (FirstLoses lows.now (cells_of self.old.rollups) (cells_of self.new.rollups)) }
+        ensures none { OnFalse result ((self.new ≡ self.old) × AreAbove lows.now (cells_of self.old.rollups)) }
+    {
+        expire_first(self.rollups.as_mut_slice(), lows)
+    }
+}

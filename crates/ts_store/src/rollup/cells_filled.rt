@@ -1,0 +1,190 @@
+//! Cells that are made for raw points, and filled with them.
+ghost use Rattle.std.specs.Prelude.{◌≡◌, ◌⊎◌, ◌≤◌, ◌<◌, ◌<ℤ◌, ◌++◌, ◌^◌, pos, ◌≤ℤ◌, List, length, map, OnOk, true, false, Some};
+ghost use Rattle.std.specs.FinMap as finmap;
+ghost use Rattle.std.specs.List.{AllByRecursion};
+ghost use Rattle.ts_core.specs.facts.Facts.{Column, Fact};
+ghost use Rattle.ts_core.specs.lists.Numbered.{IsAt};
+ghost use Rattle.ts_core.specs.store.StoreData.{AreLive};
+ghost use Rattle.ts_core.specs.store.StoreStates.{column_of, facts_at, facts_of};
+ghost use Rattle.ts_store.specs.image.BuildingParts.{AreIdle, MakesCells, FillsCells, KeepsFrozen, KeepFrozen, IsFilledBut, AreFilledBut};
+ghost use Rattle.ts_store.specs.store.ColumnsKept.{with_points, point_maps};
+ghost use Rattle.ts_store.specs.write.LinesPut.{OfEachRule};
+ghost use Rattle.ts_store.specs.read.PointsRead.{number_of_points};
+ghost use Rattle.ts_store.specs.retain.RollupSteps.{with_frozen_all};
+ghost use Rattle.ts_store.specs.rollup.Rollups.{AreRollups, IsLaneOf, cells_of, lane_at, with_frozen};
+
+use crate::retain::freezing::is_last;
+use crate::rollup::Rollup;
+use crate::store::column_facts::{ColumnFacts, StoredColumn};
+use std::alloc::{AllocError, Allocator};
+use ts_core::{Agg, Partial, Rule, index_of};
+use ts_raw::Points;
+
+/// Returns true if a bucket is neither below the low index nor the last one.
+fn is_needed(index: &i128, low: &i128, last: &Option<i128>) -> bool
+    ensures above { (result ≡ true) → low.now ≤ℤ index.now }
+    ensures spared { (result ≡ false) → (index.now <ℤ low.now) ⊎ (last.now ≡ Some index.now) }
+{
+    *index >= *low && !is_last(last, index)
+}
+
+/// Creates the missing cells of a column's points under a rule, from the low index on.
+fn make_cells<A: Allocator + Copy>(
+    rule: &Rule<A>,
+    low: &i128,
+    rollup: &mut Rollup<A>,
+    column: usize,
+    points: Points<'_>,
+) -> Result<(), AllocError>
+    requires interval { pos 1 ≤ℤ rule.now.interval }
+    requires column { column < length rollup.old.lanes }
+    ensures lanes { rollup.new ≡ with_frozen rollup.new.grid.cells rollup.old }
+    ensures cells { (c : Column) → IsLaneOf rule.now c rollup.old.grid.lanes (lane_at rollup.old column) → OnOk result (MakesCells (facts_at c points.entry) rule.now low.now rollup.old.grid.cells rollup.new.grid.cells) }
+{
+    let Some(lane) = rollup.lane_of(column) else {
+        return Ok(());
+    };
+    let mut last = None;
+    for (time, _) in points {
+        let index = index_of(rule, i128::from(time.nanos()));
+        if is_needed(&index, low, &last) {
+            rollup.make_room_in(lane, &index)?;
+            last = Some(index);
+        }
+    }
+    Ok(())
+}
+
+/// Does the same under each rule.
+fn make_under_all<A: Allocator + Copy>(
+    rules: &[Rule<A>],
+    lows: &[i128],
+    rollups: &mut [Rollup<A>],
+    number: usize,
+    column: &StoredColumn<A>,
+) -> Result<(), AllocError>
+    requires intervals { AllByRecursion (λ r. pos 1 ≤ℤ r.interval) rules.now }
+    requires inside { AllByRecursion (λ s. number < length s.lanes) rollups.old }
+    ensures lanes { rollups.new ≡ with_frozen_all (cells_of rollups.new) rollups.old }
+    ensures cells { (cs : List Column) (c : Column) → IsAt cs number c → AreRollups rules.now cs rollups.old → OnOk result (OfEachRule (MakesCells (facts_at c (finmap.entries column.now.points))) rules.now lows.now (cells_of rollups.old) (cells_of rollups.new)) }
+{
+    let Some((rule, rules)) = rules.split_first() else {
+        return Ok(());
+    };
+    let Some((low, lows)) = lows.split_first() else {
+        return Ok(());
+    };
+    let Some((rollup, rollups)) = rollups.split_first_mut() else {
+        return Ok(());
+    };
+    make_cells(rule, low, rollup, number, column.all())?;
+    make_under_all(rules, lows, rollups, number, column)
+}
+
+/// Creates the missing cells of all points.
+pub(crate) fn make_all_cells<A: Allocator + Copy>(
+    rules: &[Rule<A>],
+    lows: &[i128],
+    rollups: &mut [Rollup<A>],
+    columns: &[StoredColumn<A>],
+) -> Result<(), AllocError>
+    requires intervals { AllByRecursion (λ r. pos 1 ≤ℤ r.interval) rules.now }
+    requires each { AllByRecursion (λ s. length s.lanes ≡ length columns.now) rollups.old }
+    ensures lanes { rollups.new ≡ with_frozen_all (cells_of rollups.new) rollups.old }
+    ensures cells { (cs : List Column) → length columns.now ≡ length cs → AreRollups rules.now cs rollups.old → OnOk result (OfEachRule (MakesCells (facts_of (with_points cs (point_maps columns.now)))) rules.now lows.now (cells_of rollups.old) (cells_of rollups.new)) }
+{
+    for number in 0..columns.len() {
+        make_under_all(rules, lows, rollups, number, &columns[number])?;
+    }
+    Ok(())
+}
+
+/// Adds points of a column to the live parts of their cells under a rule. Points of one bucket mostly follow one another,
+/// so it folds them first and adds them at once.
+fn add_points<A: Allocator + Copy>(
+    rule: &Rule<A>,
+    rollup: &mut Rollup<A>,
+    column: usize,
+    points: Points<'_>,
+)
+    requires interval { pos 1 ≤ℤ rule.now.interval }
+    requires column { column < length rollup.old.lanes }
+    requires few { length points ≤ 2 ^ 62 }
+    ensures lanes { rollup.new ≡ with_frozen rollup.new.grid.cells rollup.old }
+    ensures frozen { KeepsFrozen rollup.old.grid.cells rollup.new.grid.cells }
+    ensures live { (c : Column) (left all : List Fact) → IsLaneOf rule.now c rollup.old.grid.lanes (lane_at rollup.old column) → length all ≤ 2 ^ 62 → IsFilledBut (facts_at c points.entry ++ left) all rule.now rollup.old.grid.cells → IsFilledBut left all rule.now rollup.new.grid.cells }
+{
+    let Some(lane) = rollup.lane_of(column) else {
+        return;
+    };
+    let mut bucket = 0;
+    let mut folded = Agg::empty();
+    for (time, value) in points {
+        let index = index_of(rule, i128::from(time.nanos()));
+        if index != bucket {
+            rollup.add(&bucket, lane, folded);
+            bucket = index;
+            folded = Agg::empty();
+        }
+        folded = folded.merge(Agg::single(time, value));
+    }
+    rollup.add(&bucket, lane, folded);
+}
+
+/// Does the same under each rule.
+fn add_under_all<A: Allocator + Copy>(
+    rules: &[Rule<A>],
+    rollups: &mut [Rollup<A>],
+    number: usize,
+    column: &StoredColumn<A>,
+)
+    requires intervals { AllByRecursion (λ r. pos 1 ≤ℤ r.interval) rules.now }
+    requires inside { AllByRecursion (λ s. number < length s.lanes) rollups.old }
+    requires few { finmap.len column.now.points ≤ 2 ^ 62 }
+    ensures lanes { rollups.new ≡ with_frozen_all (cells_of rollups.new) rollups.old }
+    ensures frozen { KeepFrozen (cells_of rollups.old) (cells_of rollups.new) }
+    ensures live { (cs : List Column) (c : Column) (left all : List Fact) → IsAt cs number c → AreRollups rules.now cs rollups.old → length all ≤ 2 ^ 62 → AreFilledBut (facts_at c (finmap.entries column.now.points) ++ left) all rules.now (cells_of rollups.old) → AreFilledBut left all rules.now (cells_of rollups.new) }
+{
+    if let Some((rule, rules)) = rules.split_first() {
+        if let Some((rollup, rollups)) = rollups.split_first_mut() {
+            add_points(rule, rollup, number, column.all());
+            add_under_all(rules, rollups, number, column);
+        }
+    }
+}
+
+/// Adds all points to live parts, which must be empty.
+pub(crate) fn add_all_points<A: Allocator + Copy>(
+    rules: &[Rule<A>],
+    rollups: &mut [Rollup<A>],
+    columns: &[StoredColumn<A>],
+)
+    requires intervals { AllByRecursion (λ r. pos 1 ≤ℤ r.interval) rules.now }
+    requires each { AllByRecursion (λ s. length s.lanes ≡ length columns.now) rollups.old }
+    requires few { number_of_points columns.now ≤ 2 ^ 62 }
+    ensures lanes { rollups.new ≡ with_frozen_all (cells_of rollups.new) rollups.old }
+    ensures frozen { KeepFrozen (cells_of rollups.old) (cells_of rollups.new) }
+    ensures live { (cs : List Column) → length columns.now ≡ length cs → AreRollups rules.now cs rollups.old → AreIdle (cells_of rollups.old) → AreLive (with_points cs (point_maps columns.now)) rules.now (cells_of rollups.new) }
+{
+    for number in 0..columns.len() {
+        add_under_all(rules, rollups, number, &columns[number]);
+    }
+}
+
+impl<A: Allocator + Copy> ColumnFacts<A> {
+    /// Creates the missing cells of raw facts, from low indices on, and adds the facts to live parts. After out of memory,
+    /// some cells may be missing.
+    pub(crate) fn fill_cells(&mut self, rules: &[Rule<A>], lows: &[i128]) -> Result<(), AllocError>
+        requires intervals { AllByRecursion (λ r. pos 1 ≤ℤ r.interval) rules.now }
+        requires rollups { AreRollups rules.now (map column_of self.old.columns) self.old.rollups }
+        requires lows { length lows.now ≡ length rules.now }
+        requires idle { AreIdle (cells_of self.old.rollups) }
+        requires few { length (facts_of self.old.columns) ≤ 2 ^ 62 }
+        ensures { OnOk result (FillsCells rules.now lows.now self.old self.new) }
+    {
+        let columns = self.columns.as_slice();
+        make_all_cells(rules, lows, self.rollups.as_mut_slice(), columns)?;
+        add_all_points(rules, self.rollups.as_mut_slice(), columns);
+        Ok(())
+    }
+}

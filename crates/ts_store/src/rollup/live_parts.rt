@@ -1,0 +1,92 @@
+//! Live parts of cells, folded from the points of columns.
+ghost use Rattle.std.specs.Prelude.{◌≡◌, ◌+◌, ◌<◌, ◌≤◌, ◌^◌, pos, ◌≤ℤ◌, length};
+ghost use Rattle.ts_core.specs.aggregates.Aggregates.{merged, aggregate_of_points};
+ghost use Rattle.ts_core.specs.lists.Members.{AllDistinct};
+ghost use Rattle.ts_store.specs.rollup.LivePoints.{points_since, left_states, lane_total as total_in};
+ghost use Rattle.ts_store.specs.read.PointsRead.{number_of_points};
+
+use crate::rollup::Rollup;
+use crate::store::column_facts::StoredColumn;
+use std::alloc::Allocator;
+use ts_cells::LaneId;
+use ts_core::{Agg, Partial, Rule, Time};
+use ts_raw::{Column, Points};
+
+/// An aggregate with points merged in.
+fn with_points(total: Agg, points: Points<'_>) -> Agg
+    requires { total.count + length points ≤ 2 ^ 62 }
+    ensures { result ≡ merged total (aggregate_of_points points.entry) }
+{
+    let mut all = total;
+    for (time, value) in points {
+        all = all.merge(Agg::single(time, value));
+    }
+    all
+}
+
+/// An aggregate with points from a mark on merged in.
+fn with_points_since(total: Agg, points: Points<'_>, mark: Time) -> Agg
+    requires { total.count + length (points_since mark points) ≤ 2 ^ 62 }
+    ensures { result ≡ merged total (aggregate_of_points (points_since mark points.entry)) }
+{
+    let mut all = total;
+    for (time, value) in points {
+        if time >= mark {
+            all = all.merge(Agg::single(time, value));
+        }
+    }
+    all
+}
+
+/// What the points of a lane's columns in a bucket add up to.
+pub(crate) fn lane_total<A: Allocator + Copy>(
+    rule: &Rule<A>,
+    rollup: &Rollup<A>,
+    columns: &[StoredColumn<A>],
+    lane: LaneId,
+    index: &i128,
+) -> Agg
+    requires interval { pos 1 ≤ℤ rule.now.interval }
+    requires lane { lane < length rollup.now.grid.lanes }
+    requires each { length rollup.now.lanes ≡ length columns.now }
+    requires few { number_of_points columns.now ≤ 2 ^ 62 }
+    ensures total { result ≡ total_in rule.now rollup.now columns.now lane index.now }
+    ensures once { AllDistinct rollup.now.grid.lanes }
+{
+    let mut total = Agg::empty();
+    for column in rollup.columns_of(lane) {
+        let points = columns[column.number()].bucket(index, rule.interval(), rule.offset());
+        total = with_points(total, points);
+    }
+    total
+}
+
+/// The same, where of one column only the points from a mark on count.
+pub(crate) fn lane_left<A: Allocator + Copy>(
+    rule: &Rule<A>,
+    rollup: &Rollup<A>,
+    columns: &[StoredColumn<A>],
+    lane: LaneId,
+    index: &i128,
+    moved: usize,
+    mark: Time,
+) -> Agg
+    requires interval { pos 1 ≤ℤ rule.now.interval }
+    requires lane { lane < length rollup.now.grid.lanes }
+    requires each { length rollup.now.lanes ≡ length columns.now }
+    requires few { number_of_points columns.now ≤ 2 ^ 62 }
+    requires moved { moved < length columns.now }
+    ensures total { result ≡ total_in rule.now rollup.now (left_states mark moved columns.now) lane index.now }
+    ensures once { AllDistinct rollup.now.grid.lanes }
+{
+    let mut total = Agg::empty();
+    for column in rollup.columns_of(lane) {
+        let points = columns[column.number()].bucket(index, rule.interval(), rule.offset());
+        total = if column.number() == moved {
+            with_points_since(total, points, mark)
+        } else {
+            with_points(total, points)
+        };
+    }
+    total
+}

@@ -1,0 +1,169 @@
+//! Facts in columns, which an index finds.
+ghost use Rattle.std.specs.Prelude.{◌≡◌, ◌≤◌, ◌<◌, ◌+◌, ◌*◌, ◌^◌, [], false, length, map, pos, ◌≤ℤ◌, replicate, slice_index_or, IfOk, OnOk, OnErr};
+ghost use Rattle.std.specs.List.{AllByRecursion};
+ghost use Rattle.ts_core.specs.facts.Facts.{is_of};
+ghost use Rattle.ts_core.specs.store.StoreStates.{facts_of as facts_in};
+ghost use Rattle.ts_line.specs.Parts.{series_of, line_facts};
+ghost use Rattle.ts_store.specs.write.LivePuts.{StayLive};
+ghost use Rattle.ts_raw.specs.Columns.{AreTimed};
+ghost use Rattle.ts_raw.specs.PlainColumns.{IsRising};
+ghost use Rattle.ts_store.specs.write.Refusals.{is_too_many};
+ghost use Rattle.ts_store.specs.read.Seats.{no_points, seats_where, points_at};
+ghost use Rattle.ts_store.specs.write.LinesInColumns.{PutsLine, GrowsForLine};
+ghost use Rattle.ts_store.specs.rollup.Rollups.{new_rollup, AreRollups, cells_of};
+ghost use Rattle.ts_core.specs.store.StoreStates.{column_of};
+
+use crate::read::Columns;
+use crate::read::column_reads::{all_points, held_points, raw_points, raw_range};
+use crate::rollup::{Rollup, new_rollups};
+use crate::write::columns::prepare_line;
+use crate::write::putting::put_points;
+use crate::write::rooms::make_rooms;
+use std::alloc::{AllocError, Allocator};
+use std::marker::Model;
+use ts_core::{KeyRef, Rule};
+use ts_line::Line;
+use ts_raw::{ColumnId, Index, PlainColumn, Points, SERIES_LIMIT};
+
+/// Type of a store's columns. Storing them in another way is a change of this line.
+pub(crate) type StoredColumn<A> = PlainColumn<A>;
+
+/// Index, one column per series and field, one rollup per rule, and a scratch list of the columns that the current line
+/// touches.
+#[derive(Drop)]
+pub(crate) struct ColumnFacts<A: Allocator> {
+    pub(crate) index: Index<A>,
+    pub(crate) columns: Vec<StoredColumn<A>, A>,
+    pub(crate) rollups: Vec<Rollup<A>, A>,
+    touched: Vec<ColumnId, A>,
+}
+
+impl<A: Allocator> Model for ColumnFacts<A> {
+    ghost use Rattle.ts_store.specs.store.ColumnsKept.{Held, coded_held, held_of, IsHeld};
+
+    ghost Value = { Held };
+
+    ghost coded = { coded_held };
+
+    ghost view = { λ f. held_of f.index f.columns.items f.rollups.items };
+
+    ghost invariant = { λ f. IsHeld f.index f.columns.items };
+}
+
+impl<A: Allocator + Copy> ColumnFacts<A> {
+    /// Creates an empty index without columns, and this number of empty rollups.
+    pub(crate) fn new(alloc: A, rules: usize) -> Result<ColumnFacts<A>, AllocError>
+        ensures { IfOk result (λ f. f ≡ record { series = []; columns = []; rollups = replicate rules new_rollup }) }
+    {
+        let rollups = new_rollups(alloc, rules)?;
+        Ok(ColumnFacts {
+            index: Index::new(alloc),
+            columns: Vec::new(alloc),
+            rollups,
+            touched: Vec::new(alloc),
+        })
+    }
+
+    /// Returns true if the series is new and 1,000,000 series are registered.
+    pub(crate) fn refuses(&self, key: &KeyRef<'_>) -> bool
+        ensures { result ≡ is_too_many self.now.series key.now }
+    {
+        self.index.series_count() >= SERIES_LIMIT && self.index.lookup(key).is_none()
+    }
+
+    /// Inserts the facts of a line, replacing those with their ids, and adds them to the cells of the rules that roll
+    /// them up. Allocates everything before it inserts the first. On allocation failure, no fact is inserted, but the
+    /// series, some columns without points and some cells without facts may exist.
+    pub(crate) fn put_line<L: Allocator>(
+        &mut self,
+        rules: &[Rule<A>],
+        lows: &[i128],
+        line: &Line<'_, L>,
+        key: &KeyRef<'_>,
+    ) -> Result<(), AllocError>
+        requires key { key.now ≡ series_of line.now }
+        requires few { is_too_many self.old.series (series_of line.now) ≡ false }
+        requires rollups { AreRollups rules.now (map column_of self.old.columns) self.old.rollups }
+        requires intervals { AllByRecursion (λ r. pos 1 ≤ℤ r.interval) rules.now }
+        requires live { StayLive rules.now lows.now self.old.columns (cells_of self.old.rollups) }
+        requires fit { length (facts_in self.old.columns) + length (line_facts line.now) ≤ 2 ^ 62 }
+        ensures ok { OnOk result (PutsLine rules.now lows.now self.old self.new line.now) }
+        ensures err { OnErr result (GrowsForLine rules.now lows.now self.old self.new line.now) }
+    {
+        let series = match self.index.register(key) {
+            Ok(series) => series,
+            Err(_) => return Err(AllocError),
+        };
+        self.touched.clear();
+        self.touched.reserve(line.fields().len())?;
+        prepare_line(
+            &mut self.index,
+            &mut self.columns,
+            rules,
+            self.rollups.as_mut_slice(),
+            &mut self.touched,
+            series,
+            line,
+        )?;
+        make_rooms(
+            rules,
+            lows,
+            self.rollups.as_mut_slice(),
+            self.touched.as_slice(),
+            line.time(),
+        )?;
+        put_points(
+            &mut self.columns,
+            rules,
+            self.rollups.as_mut_slice(),
+            self.touched.as_slice(),
+            line.fields(),
+            line.time(),
+        );
+        Ok(())
+    }
+
+    /// Returns the number of facts.
+    pub(crate) fn raw_points(&self) -> u64
+        requires { length (facts_in self.now.columns) ≤ 2 ^ 62 }
+        ensures { result ≡ length (facts_in self.now.columns) }
+    {
+        raw_points(self.columns.as_slice())
+    }
+
+    /// Returns the number of points in memory, which may include up to 256 removed ones per column.
+    pub(crate) fn held_points(&self) -> u64
+        requires { length (facts_in self.now.columns) ≤ 2 ^ 62 }
+        ensures all { length (facts_in self.now.columns) ≤ result }
+        ensures few_more { result ≤ length (facts_in self.now.columns) + 256 * length self.now.columns }
+    {
+        held_points(self.columns.as_slice())
+    }
+
+    /// Returns the columns of a measurement and a field, in creation order.
+    pub(crate) fn columns_of(&self, measurement: &str, field: &str) -> Columns<'_, A>
+        ensures { result ≡ seats_where (is_of measurement.now field.now) self.now.columns }
+    {
+        Columns::all_of(&self.index, measurement, field)
+    }
+
+    /// Returns the points of a column from `from`, inclusive, to `to`, exclusive (nanoseconds).
+    pub(crate) fn raw_range(&self, column: ColumnId, from: i64, to: i64) -> Points<'_>
+        requires { column < length self.now.columns }
+        ensures points { result ≡ points_at self.now.columns column from to }
+        ensures rising { IsRising result }
+        ensures timed { AreTimed result }
+    {
+        raw_range(self.columns.as_slice(), column.number(), from, to)
+    }
+
+    /// Returns all points of a column, ordered by time.
+    pub(crate) fn points_of(&self, column: ColumnId) -> Points<'_>
+        requires { column < length self.now.columns }
+        ensures points { result ≡ (slice_index_or self.now.columns column no_points).points }
+        ensures rising { IsRising result }
+        ensures timed { AreTimed result }
+    {
+        all_points(self.columns.as_slice(), column.number())
+    }
+}

@@ -1,0 +1,10 @@
+//! Writes: the text of a line, its columns, and the cells of its facts.
+
+pub(crate) mod columns;
+mod fault;
+pub(crate) mod putting;
+pub(crate) mod rooms;
+mod write_text;
+
+pub use fault::{RunInProgress, WriteFault};
+pub use write_text::{LineOutcome, LineRefusal};

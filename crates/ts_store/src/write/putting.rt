@@ -1,0 +1,167 @@
+//! Facts that are put into columns, and then into the cells of rules.
+ghost use Rattle.std.specs.Prelude.{◌≡◌, ◌+◌, ◌<◌, ◌≤◌, ◌^◌, pos, ◌≤ℤ◌, List, [], ◌∷◌, length, get_or, set};
+ghost use Rattle.std.specs.Bool.{OnFalse};
+ghost use Rattle.std.specs.List.{AllByRecursion};
+ghost use Rattle.ts_core.specs.facts.Facts.{Column, Fact};
+ghost use Rattle.ts_core.specs.lists.Members.{AllDistinct};
+ghost use Rattle.ts_core.specs.store.StoreData.{IsLive, AreLive};
+ghost use Rattle.ts_core.specs.moves.StoreMoves.{put_cell, put_cells, PutsFacts};
+ghost use Rattle.ts_core.specs.store.StoreStates.{ColumnPoints, facts_of};
+ghost use Rattle.ts_store.specs.store.ColumnsKept.{no_column, with_points, point_maps, committed, all_committed, AreReady, AreAside};
+ghost use Rattle.ts_store.specs.write.LivePuts.{IsOver, IsPut, AreOfFields};
+ghost use Rattle.ts_store.specs.read.PointsRead.{number_of_points};
+ghost use Rattle.ts_store.specs.rollup.Rollups.{AreRollups, lane_at, with_frozen, cells_of};
+ghost use Rattle.ts_store.specs.retain.RollupSteps.{with_frozen_all};
+
+use crate::rollup::Rollup;
+use crate::rollup::live_parts::lane_total;
+use crate::store::column_facts::StoredColumn;
+use std::alloc::Allocator;
+use ts_core::{Agg, Partial, Remainder, Rule, Time, index_of};
+use ts_line::Field;
+use ts_raw::{Column as _, ColumnId};
+
+/// Returns true if one of the rules rolls a column up.
+fn is_rolled<A: Allocator + Copy>(rollups: &[Rollup<A>], column: usize) -> bool
+    requires { AllByRecursion (λ s. column < length s.lanes) rollups.now }
+    ensures { OnFalse result (AllByRecursion (λ s. lane_at s column ≡ None) rollups.now) }
+{
+    match rollups.split_first() {
+        Some((rollup, rollups)) => rollup.rolls(column) || is_rolled(rollups, column),
+        None => false,
+    }
+}
+
+/// Puts a fact, which is in its column already, into the cell of its bucket, where the rule rolls the column up and the cell is
+/// there. `old` is the value in whose place it was put.
+fn put_under<A: Allocator + Copy>(
+    rule: &Rule<A>,
+    rollup: &mut Rollup<A>,
+    columns: &[StoredColumn<A>],
+    column: ColumnId,
+    time: Time,
+    value: i64,
+    old: Option<i64>,
+)
+    requires interval { pos 1 ≤ℤ rule.now.interval }
+    requires column { column < length columns.now }
+    requires each { length rollup.old.lanes ≡ length columns.now }
+    requires few { number_of_points columns.now ≤ 2 ^ 62 }
+    ensures lanes { rollup.new ≡ with_frozen rollup.new.grid.cells rollup.old }
+    ensures cells { (cs : List Column) (before : List ColumnPoints) (f : Fact) → f.time ≡ time → f.value ≡ value → IsOver rule.now cs columns.now rollup.old → IsPut cs columns.now before column f old → IsLive before rule.now rollup.old.grid.cells → rollup.new.grid.cells ≡ put_cell rule.now f (facts_of (with_points cs (point_maps columns.now))) rollup.old.grid.cells }
+{
+    let Some(lane) = rollup.lane_of(column.number()) else {
+        return;
+    };
+    let index = index_of(rule, i128::from(time.nanos()));
+    let Some(old) = old else {
+        rollup.add(&index, lane, Agg::single(time, value));
+        return;
+    };
+    let Some(live) = rollup.live(&index, lane) else {
+        return;
+    };
+    let live = match live.without(Agg::single(time, old)) {
+        Some(rest) => Agg::single(time, value).merge(rest),
+        None => lane_total(rule, rollup, columns, lane, &index),
+    };
+    rollup.correct(&index, lane, live);
+}
+
+/// The same under each rule.
+fn put_under_all<A: Allocator + Copy>(
+    rules: &[Rule<A>],
+    rollups: &mut [Rollup<A>],
+    columns: &[StoredColumn<A>],
+    column: ColumnId,
+    time: Time,
+    value: i64,
+    old: Option<i64>,
+)
+    requires intervals { AllByRecursion (λ r. pos 1 ≤ℤ r.interval) rules.now }
+    requires column { column < length columns.now }
+    requires each { AllByRecursion (λ s. length s.lanes ≡ length columns.now) rollups.old }
+    requires few { number_of_points columns.now ≤ 2 ^ 62 }
+    ensures lanes { rollups.new ≡ with_frozen_all (cells_of rollups.new) rollups.old }
+    ensures cells { (cs : List Column) (before : List ColumnPoints) (f : Fact) → f.time ≡ time → f.value ≡ value → length columns.now ≡ length cs → AllDistinct cs → AreRollups rules.now cs rollups.old → IsPut cs columns.now before column f old → AreLive before rules.now (cells_of rollups.old) → cells_of rollups.new ≡ put_cells rules.now f (facts_of (with_points cs (point_maps columns.now))) (cells_of rollups.old) }
+{
+    if let Some((rule, rules)) = rules.split_first() {
+        if let Some((rollup, rollups)) = rollups.split_first_mut() {
+            put_under(rule, rollup, columns, column, time, value, old);
+            put_under_all(rules, rollups, columns, column, time, value, old);
+        }
+    }
+}
+
+/// Puts in what is aside in a column, a point of this time and value, and corrects the cells of the rules.
+fn put_rolled<A: Allocator + Copy>(
+    columns: &mut Vec<StoredColumn<A>, A>,
+    rules: &[Rule<A>],
+    rollups: &mut [Rollup<A>],
+    column: ColumnId,
+    time: Time,
+    value: i64,
+)
+    requires intervals { AllByRecursion (λ r. pos 1 ≤ℤ r.interval) rules.now }
+    requires ready { AreReady columns.old.items (column ∷ []) }
+    requires each { AllByRecursion (λ s. length s.lanes ≡ length columns.old.items) rollups.old }
+    requires few { number_of_points columns.old.items + 1 ≤ 2 ^ 62 }
+    ensures columns { columns.new.items ≡ set columns.old.items column (committed (get_or columns.old.items column no_column)) }
+    ensures lanes { rollups.new ≡ with_frozen_all (cells_of rollups.new) rollups.old }
+    ensures cells { (cs : List Column) (f : Fact) → f.time ≡ time → f.value ≡ value → length columns.old.items ≡ length cs → AllDistinct cs → AreRollups rules.now cs rollups.old → AreAside cs columns.old.items (column ∷ []) (f ∷ []) → AreLive (with_points cs (point_maps columns.old.items)) rules.now (cells_of rollups.old) → cells_of rollups.new ≡ put_cells rules.now f (facts_of (with_points cs (point_maps columns.new.items))) (cells_of rollups.old) }
+{
+    let old = columns[column.number()].value_at(time);
+    columns[column.number()].commit();
+    put_under_all(rules, rollups, columns.as_slice(), column, time, value, old);
+}
+
+/// Puts in what is aside in a column: a point of this time and value. If no rule rolls the column up,
+/// asks nothing else of it.
+fn put_point<A: Allocator + Copy>(
+    columns: &mut Vec<StoredColumn<A>, A>,
+    rules: &[Rule<A>],
+    rollups: &mut [Rollup<A>],
+    column: ColumnId,
+    time: Time,
+    value: i64,
+)
+    requires intervals { AllByRecursion (λ r. pos 1 ≤ℤ r.interval) rules.now }
+    requires ready { AreReady columns.old.items (column ∷ []) }
+    requires each { AllByRecursion (λ s. length s.lanes ≡ length columns.old.items) rollups.old }
+    requires few { number_of_points columns.old.items + 1 ≤ 2 ^ 62 }
+    ensures columns { columns.new.items ≡ set columns.old.items column (committed (get_or columns.old.items column no_column)) }
+    ensures lanes { rollups.new ≡ with_frozen_all (cells_of rollups.new) rollups.old }
+    ensures cells { (cs : List Column) (f : Fact) → f.time ≡ time → f.value ≡ value → length columns.old.items ≡ length cs → AllDistinct cs → AreRollups rules.now cs rollups.old → AreAside cs columns.old.items (column ∷ []) (f ∷ []) → AreLive (with_points cs (point_maps columns.old.items)) rules.now (cells_of rollups.old) → cells_of rollups.new ≡ put_cells rules.now f (facts_of (with_points cs (point_maps columns.new.items))) (cells_of rollups.old) }
+{
+    if is_rolled(rollups, column.number()) {
+        put_rolled(columns, rules, rollups, column, time, value);
+    } else {
+        columns[column.number()].commit();
+    }
+}
+
+/// Puts in what is aside in the columns of these numbers: points of this time with the values of fields. It takes no memory.
+pub(crate) fn put_points<A: Allocator + Copy, L: Allocator>(
+    columns: &mut Vec<StoredColumn<A>, A>,
+    rules: &[Rule<A>],
+    rollups: &mut [Rollup<A>],
+    numbers: &[ColumnId],
+    fields: &[Field<'_, L>],
+    time: Time,
+)
+    requires intervals { AllByRecursion (λ r. pos 1 ≤ℤ r.interval) rules.now }
+    requires ready { AreReady columns.old.items numbers.now }
+    requires fields { length fields.now ≡ length numbers.now }
+    requires each { AllByRecursion (λ s. length s.lanes ≡ length columns.old.items) rollups.old }
+    requires few { number_of_points columns.old.items + length numbers.now ≤ 2 ^ 62 }
+    ensures columns { columns.new.items ≡ all_committed columns.old.items numbers.now }
+    ensures lanes { rollups.new ≡ with_frozen_all (cells_of rollups.new) rollups.old }
+    ensures cells { (cs : List Column) (fs : List Fact) → AreOfFields time fields.now fs → length columns.old.items ≡ length cs → AllDistinct cs → AreRollups rules.now cs rollups.old → AreAside cs columns.old.items numbers.now fs → AreLive (with_points cs (point_maps columns.old.items)) rules.now (cells_of rollups.old) → PutsFacts rules.now (with_points cs (point_maps columns.old.items)) (cells_of rollups.old) (with_points cs (point_maps columns.new.items)) (cells_of rollups.new) fs }
+{
+    if let Some((number, numbers)) = numbers.split_first() {
+        if let Some((field, fields)) = fields.split_first() {
+            put_point(columns, rules, rollups, *number, time, field.value());
+            put_points(columns, rules, rollups, numbers, fields, time);
+        }
+    }
+}
