@@ -21,7 +21,7 @@ use Rattle.ts_core.proofs.lists.Places.{both_of, less_of}
 use Rattle.ts_core.specs.lists.Numbered.{IsAt}
 use Rattle.ts_cells.specs.Grids.{Lane, no_lane, lane_of, cell_at, cell_in, RowOf, held, entries_of, RowsRise, cells_of_bucket}
 use Rattle.ts_cells.specs.Lanes.{lane_cmp, lanes_numbered, AreInside, IsOrdered}
-use Rattle.ts_cells.specs.Walks.{KeptCell, entry_of, with_kept, row_left, walk_left, entries_within}
+use Rattle.ts_cells.specs.Walks.{CellWithPart, entry_of, with_entry, row_left, walk_left, entries_within}
 use Rattle.ts_cells.proofs.Searches.{find_below}
 use Rattle.ts_cells.proofs.GridLemmas.{first_of, first_none, find-both, get_among, same_grid}
 use Rattle.ts_cells.proofs.LaneOrder.{exact_lanes}
@@ -66,17 +66,17 @@ module _ {P : Type 0} (ls : List Lane) where
       let m : Lane = get_or ls n no_lane in
       let p = both_of _ _ s in
       let rest = row_find i l cs ns p.1 in
-      let left : List (KeptCell P) = row_left ls i cs ns in
-      elim (eq_by_cmp lane_cmp l m) as (λ b. eq_by_cmp lane_cmp l m ≡ b → find cell_cmp (cell_at i l) (map entry_of (with_kept (held cs n) n (cell_at i m) left)) ≡ then_held (cond b (Some n) (find lane_cmp l (lanes_numbered ls ns))) cs) [
+      let left : List (CellWithPart P) = row_left ls i cs ns in
+      elim (eq_by_cmp lane_cmp l m) as (λ b. eq_by_cmp lane_cmp l m ≡ b → find cell_cmp (cell_at i l) (map entry_of (with_entry (held cs n) n (cell_at i m) left)) ≡ then_held (cond b (Some n) (find lane_cmp l (lanes_numbered ls ns))) cs) [
         | true ↦ λ e.
             let same : l ≡ m = exact_lanes l m (equal_of (lane_cmp l m) e) in
             let none : find lane_cmp l (lanes_numbered ls ns) ≡ None = find_below lane_cmp l (lanes_numbered ls ns) (subst (λ (x : Lane). T (below_all lane_cmp x (lanes_numbered ls ns))) (sym same) p.0) in
-            elim (held cs n) as (λ o. find cell_cmp (cell_at i l) (map entry_of (with_kept o n (cell_at i m) left)) ≡ o) [
+            elim (held cs n) as (λ o. find cell_cmp (cell_at i l) (map entry_of (with_entry o n (cell_at i m) left)) ≡ o) [
               | None ↦ rest ∙ ap (λ o. then_held o cs) none
               | Some x ↦ ap (λ b. cond b (Some x) (find cell_cmp (cell_at i l) (map entry_of left))) (ap is_eq (same_bucket i l m) ∙ e)
             ]
         | false ↦ λ e.
-            elim (held cs n) as (λ o. find cell_cmp (cell_at i l) (map entry_of (with_kept o n (cell_at i m) left)) ≡ then_held (find lane_cmp l (lanes_numbered ls ns)) cs) [
+            elim (held cs n) as (λ o. find cell_cmp (cell_at i l) (map entry_of (with_entry o n (cell_at i m) left)) ≡ then_held (find lane_cmp l (lanes_numbered ls ns)) cs) [
               | None ↦ rest
               | Some x ↦ ap (λ b. cond b (Some x) (find cell_cmp (cell_at i l) (map entry_of left))) (ap is_eq (same_bucket i l m) ∙ e) ∙ rest
             ]
@@ -86,8 +86,8 @@ module _ {P : Type 0} (ls : List Lane) where
   row_other : (k : Cell) (i : ℤ) (cs : List (Option P)) (order : List ℕ) → (k.index ≡ i → ⊥) → find cell_cmp k (map entry_of (row_left ls i cs order)) ≡ None
   row_other k i cs [] h = refl
   row_other k i cs (n ∷ ns) h =
-      let left : List (KeptCell P) = row_left ls i cs ns in
-      elim (held cs n) as (λ o. find cell_cmp k (map entry_of (with_kept o n (cell_in ls i n) left)) ≡ None) [
+      let left : List (CellWithPart P) = row_left ls i cs ns in
+      elim (held cs n) as (λ o. find cell_cmp k (map entry_of (with_entry o n (cell_in ls i n) left)) ≡ None) [
         | None ↦ row_other k i cs ns h
         | Some x ↦ elim (same_cell k (cell_in ls i n)) as (λ b. same_cell k (cell_in ls i n) ≡ b → cond b (Some x) (find cell_cmp k (map entry_of left)) ≡ None) [
           | true ↦ λ e. absurd (h (ap (λ (c : Cell). c.index) (same_cell-eq k (cell_in ls i n) e)))
@@ -99,8 +99,8 @@ module _ {P : Type 0} (ls : List Lane) where
       → find cell_cmp k (map entry_of (walk_left ls order rows order)) ≡ then_held (find lane_cmp (lane_of k) (lanes_numbered ls order)) (cells_of_bucket rows k.index)
   walk_find k order [] s t = sym (then_none (find lane_cmp (lane_of k) (lanes_numbered ls order)))
   walk_find k order (r ∷ rs) s t =
-      let row : List (KeptCell P) = row_left ls r.0 r.1 order in
-      let left : List (KeptCell P) = walk_left ls order rs order in
+      let row : List (CellWithPart P) = row_left ls r.0 r.1 order in
+      let left : List (CellWithPart P) = walk_left ls order rs order in
       let number : Option ℕ = find lane_cmp (lane_of k) (lanes_numbered ls order) in
       let rest : find cell_cmp k (map entry_of left) ≡ then_held number (cells_of_bucket rs k.index) = walk_find k order rs s (both_of _ _ t).1 in
       ap (find cell_cmp k) (map-append entry_of row left) ∙ find-both k (map entry_of row) (map entry_of left)
@@ -123,7 +123,7 @@ module _ {P : Type 0} (ls : List Lane) where
   row_below i l cs (n ∷ ns) ys h k =
       let b = both_of _ _ h in
       let rest = row_below i l cs ns ys b.1 k in
-      elim (held cs n) as (λ o. T (below_all cell_cmp (cell_at i l) (map entry_of (with_kept o n (cell_in ls i n) (row_left ls i cs ns)) ++ ys))) [
+      elim (held cs n) as (λ o. T (below_all cell_cmp (cell_at i l) (map entry_of (with_entry o n (cell_in ls i n) (row_left ls i cs ns)) ++ ys))) [
         | None ↦ rest
         | Some x ↦ together _ _ (subst (λ o. T (is_lt o)) (sym (same_bucket i l (get_or ls n no_lane))) b.0) rest
       ]
@@ -133,7 +133,7 @@ module _ {P : Type 0} (ls : List Lane) where
   later_below i j l cs [] ys h k = k
   later_below i j l cs (n ∷ ns) ys h k =
       let rest = later_below i j l cs ns ys h k in
-      elim (held cs n) as (λ o. T (below_all cell_cmp (cell_at i l) (map entry_of (with_kept o n (cell_in ls j n) (row_left ls j cs ns)) ++ ys))) [
+      elim (held cs n) as (λ o. T (below_all cell_cmp (cell_at i l) (map entry_of (with_entry o n (cell_in ls j n) (row_left ls j cs ns)) ++ ys))) [
         | None ↦ rest
         | Some x ↦ together _ _ (subst (λ o. T (is_lt o)) (sym (earlier_bucket i j l (get_or ls n no_lane) h)) tt) rest
       ]
@@ -151,7 +151,7 @@ module _ {P : Type 0} (ls : List Lane) where
   row_sorted i cs (n ∷ ns) ys s t b =
       let p = both_of _ _ s in
       let rest = row_sorted i cs ns ys p.1 t b in
-      elim (held cs n) as (λ o. T (is_sorted cell_cmp (map entry_of (with_kept o n (cell_in ls i n) (row_left ls i cs ns)) ++ ys))) [
+      elim (held cs n) as (λ o. T (is_sorted cell_cmp (map entry_of (with_entry o n (cell_in ls i n) (row_left ls i cs ns)) ++ ys))) [
         | None ↦ rest
         | Some x ↦ together _ _ (row_below i (get_or ls n no_lane) cs ns ys p.0 (b (get_or ls n no_lane))) rest
       ]
@@ -168,9 +168,9 @@ module _ {P : Type 0} (ls : List Lane) where
   row_passes : (q : ℤ → Bool) (i : ℤ) (cs : List (Option P)) (order : List ℕ) → q i ≡ true → filter (λ (e : Cell × P). q e.0.index) (map entry_of (row_left ls i cs order)) ≡ map entry_of (row_left ls i cs order)
   row_passes q i cs [] h = refl
   row_passes q i cs (n ∷ ns) h =
-      let left : List (KeptCell P) = row_left ls i cs ns in
+      let left : List (CellWithPart P) = row_left ls i cs ns in
       let rest = row_passes q i cs ns h in
-      elim (held cs n) as (λ o. filter (λ (e : Cell × P). q e.0.index) (map entry_of (with_kept o n (cell_in ls i n) left)) ≡ map entry_of (with_kept o n (cell_in ls i n) left)) [
+      elim (held cs n) as (λ o. filter (λ (e : Cell × P). q e.0.index) (map entry_of (with_entry o n (cell_in ls i n) left)) ≡ map entry_of (with_entry o n (cell_in ls i n) left)) [
         | None ↦ rest
         | Some x ↦
             ap (λ b. cond b ((cell_in ls i n, x) ∷ filter (λ (e : Cell × P). q e.0.index) (map entry_of left)) (filter (λ (e : Cell × P). q e.0.index) (map entry_of left))) h
@@ -180,9 +180,9 @@ module _ {P : Type 0} (ls : List Lane) where
   row_fails : (q : ℤ → Bool) (i : ℤ) (cs : List (Option P)) (order : List ℕ) → q i ≡ false → filter (λ (e : Cell × P). q e.0.index) (map entry_of (row_left ls i cs order)) ≡ []
   row_fails q i cs [] h = refl
   row_fails q i cs (n ∷ ns) h =
-      let left : List (KeptCell P) = row_left ls i cs ns in
+      let left : List (CellWithPart P) = row_left ls i cs ns in
       let rest = row_fails q i cs ns h in
-      elim (held cs n) as (λ o. filter (λ (e : Cell × P). q e.0.index) (map entry_of (with_kept o n (cell_in ls i n) left)) ≡ []) [
+      elim (held cs n) as (λ o. filter (λ (e : Cell × P). q e.0.index) (map entry_of (with_entry o n (cell_in ls i n) left)) ≡ []) [
         | None ↦ rest
         | Some x ↦
             ap (λ b. cond b ((cell_in ls i n, x) ∷ filter (λ (e : Cell × P). q e.0.index) (map entry_of left)) (filter (λ (e : Cell × P). q e.0.index) (map entry_of left))) h ∙ rest
@@ -192,8 +192,8 @@ module _ {P : Type 0} (ls : List Lane) where
       → filter (λ (e : Cell × P). q e.0.index) (map entry_of (walk_left ls order rows order)) ≡ map entry_of (walk_left ls order (filter (λ (r : RowOf P). q r.0) rows) order)
   walk_within q order [] = refl
   walk_within q order (r ∷ rs) =
-      let row : List (KeptCell P) = row_left ls r.0 r.1 order in
-      let left : List (KeptCell P) = walk_left ls order rs order in
+      let row : List (CellWithPart P) = row_left ls r.0 r.1 order in
+      let left : List (CellWithPart P) = walk_left ls order rs order in
       let kept : List (RowOf P) = filter (λ (x : RowOf P). q x.0) rs in
       let rest = walk_within q order rs in
       ap (filter (λ (e : Cell × P). q e.0.index)) (map-append entry_of row left)
@@ -205,17 +205,17 @@ module _ {P : Type 0} (ls : List Lane) where
 
   -- ---- lanes
 
-  row_lanes : (i : ℤ) (cs : List (Option P)) (order : List ℕ) (ys : List (KeptCell P)) → AreInside ls order → AllByRecursion (λ (k : KeptCell P). IsAt ls k.lane (lane_of k.cell)) ys
-      → AllByRecursion (λ (k : KeptCell P). IsAt ls k.lane (lane_of k.cell)) (row_left ls i cs order ++ ys)
+  row_lanes : (i : ℤ) (cs : List (Option P)) (order : List ℕ) (ys : List (CellWithPart P)) → AreInside ls order → AllByRecursion (λ (k : CellWithPart P). IsAt ls k.lane (lane_of k.cell)) ys
+      → AllByRecursion (λ (k : CellWithPart P). IsAt ls k.lane (lane_of k.cell)) (row_left ls i cs order ++ ys)
   row_lanes i cs [] ys a h = h
   row_lanes i cs (n ∷ ns) ys a h =
       let rest = row_lanes i cs ns ys a.1 h in
-      elim (held cs n) as (λ o. AllByRecursion (λ (k : KeptCell P). IsAt ls k.lane (lane_of k.cell)) (with_kept o n (cell_in ls i n) (row_left ls i cs ns) ++ ys)) [
+      elim (held cs n) as (λ o. AllByRecursion (λ (k : CellWithPart P). IsAt ls k.lane (lane_of k.cell)) (with_entry o n (cell_in ls i n) (row_left ls i cs ns) ++ ys)) [
         | None ↦ rest
         | Some x ↦ (slice_get-get_or ls n no_lane a.0, rest)
       ]
 
-  pub walk_lanes : (order : List ℕ) (rows : List (RowOf P)) → AreInside ls order → AllByRecursion (λ (k : KeptCell P). IsAt ls k.lane (lane_of k.cell)) (walk_left ls order rows order)
+  pub walk_lanes : (order : List ℕ) (rows : List (RowOf P)) → AreInside ls order → AllByRecursion (λ (k : CellWithPart P). IsAt ls k.lane (lane_of k.cell)) (walk_left ls order rows order)
   walk_lanes order [] a = tt
   walk_lanes order (r ∷ rs) a = row_lanes r.0 r.1 order (walk_left ls order rs order) a (walk_lanes order rs a)
 

@@ -9,12 +9,12 @@ use Rattle.ts_core.specs.store.StoreCodes.{coded_cell}
 use Rattle.ts_cells.specs.Grids.{Lane, cell_in, RowOf, held}
 
 -- a cell with its part and the index of its lane
-pub record KeptCell (P : Type 0) : Type 0 where
+pub record CellWithPart (P : Type 0) : Type 0 where
   pub lane : ℕ
   pub cell : Cell
   pub part : P
 
-abbrev pub entry_of : {P : Type 0} → KeptCell P → Cell × P
+abbrev pub entry_of : {P : Type 0} → CellWithPart P → Cell × P
 entry_of k = (k.cell, k.part)
 
 -- the cells from index `from`, inclusive, to index `to`, exclusive, in their order
@@ -24,21 +24,21 @@ entries_within {P} from to m = filter (λ (e : Cell × P). is_within from to e.0
 -- ---- the remaining cells of an iterator
 
 -- prepends a cell, if it exists
-abbrev pub with_kept : {P : Type 0} → Option P → ℕ → Cell → List (KeptCell P) → List (KeptCell P)
-with_kept None n k rest = rest
-with_kept (Some p) n k rest = record { lane = n; cell = k; part = p } ∷ rest
+abbrev pub with_entry : {P : Type 0} → Option P → ℕ → Cell → List (CellWithPart P) → List (CellWithPart P)
+with_entry None n k rest = rest
+with_entry (Some p) n k rest = record { lane = n; cell = k; part = p } ∷ rest
 
 -- the cells of a bucket in the lanes with these indices
-abbrev pub row_left : {P : Type 0} → List Lane → ℤ → List (Option P) → List ℕ → List (KeptCell P)
+abbrev pub row_left : {P : Type 0} → List Lane → ℤ → List (Option P) → List ℕ → List (CellWithPart P)
 row_left lanes i cs [] = []
-row_left lanes i cs (n ∷ ns) = with_kept (held cs n) n (cell_in lanes i n) (row_left lanes i cs ns)
+row_left lanes i cs (n ∷ ns) = with_entry (held cs n) n (cell_in lanes i n) (row_left lanes i cs ns)
 
 -- the cells of the first row in the remaining lanes, and those of the other rows in all lanes
-abbrev pub walk_left : {P : Type 0} → List Lane → List ℕ → List (RowOf P) → List ℕ → List (KeptCell P)
+abbrev pub walk_left : {P : Type 0} → List Lane → List ℕ → List (RowOf P) → List ℕ → List (CellWithPart P)
 walk_left lanes order [] left = []
 walk_left lanes order (r ∷ rs) left = row_left lanes r.0 r.1 left ++ walk_left lanes order rs order
 
 -- ---- codes
 
-abbrev pub coded_kept : {P : Type 0} → Coded P → Coded (KeptCell P)
-coded_kept {P} c = code_by (ℕ × (Cell × P)) (coded× coded_ℕ (coded× coded_cell c)) (λ k. (k.lane, (k.cell, k.part))) (λ p. record { lane = p.0; cell = p.1.0; part = p.1.1 }) (λ _. refl)
+abbrev pub coded_cell_with_part : {P : Type 0} → Coded P → Coded (CellWithPart P)
+coded_cell_with_part {P} c = code_by (ℕ × (Cell × P)) (coded× coded_ℕ (coded× coded_cell c)) (λ k. (k.lane, (k.cell, k.part))) (λ p. record { lane = p.0; cell = p.1.0; part = p.1.1 }) (λ _. refl)

@@ -3,7 +3,7 @@ use Rattle.std.specs.Prelude.{◌≡◌, ℕ, pos, ◌≤ℤ◌, List, Option, S
 use Rattle.std.specs.List.{AllByRecursion}
 use Rattle.ts_core.specs.settings.Settings.{Settings}
 use Rattle.ts_core.specs.store.Marks.{Marks}
-use Rattle.ts_core.specs.plans.Pieces.{Piece, MarkedRule, Asked, IsValid}
+use Rattle.ts_core.specs.plans.Pieces.{Piece, MarkedRule, QueryContext, IsValid}
 use Rattle.ts_core.specs.declared.plans.fault.Fault.{Fault}
 use Rattle.ts_core.specs.plans.Faults.{first_fault}
 use Rattle.ts_ql.specs.Selects.{Select}
@@ -11,7 +11,7 @@ use Rattle.ts_check.specs.declared.fault.CheckError.{CheckError}
 use Rattle.ts_check.specs.declared.fault.CheckError.TheVariants as errors
 
 -- the intervals of the query and of all rules are at least 1 nanosecond
-pub record HasPositiveIntervals (t : Asked) : Type 0 where
+pub record HasPositiveIntervals (t : QueryContext) : Type 0 where
   pub query : pos 1 ≤ℤ t.query.interval
   pub rules : AllByRecursion (λ (r : MarkedRule). pos 1 ≤ℤ r.rule.interval) t.rules
 

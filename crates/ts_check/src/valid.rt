@@ -5,8 +5,8 @@ ghost use Rattle.std.specs.Ordering.{int_eq};
 ghost use Rattle.ts_core.specs.store.Marks.{index_of};
 ghost use Rattle.ts_core.specs.plans.Faults.{rule_fault, piece_fault, gap_at, pieces_fault, first_fault};
 
-use crate::asked::{Asked, MarkedRule};
 use crate::certificate::{Piece, PieceSource};
+use crate::query_context::{MarkedRule, QueryContext};
 use crate::serves::{fits, is_boundary, keeps_tags};
 use std::alloc::Allocator;
 use ts_core::{Fault, Marks, Settings, index_of};
@@ -52,7 +52,7 @@ fn rule_fault<A: Allocator>(
     None
 }
 
-impl<'a, A: Allocator> Asked<'a, A> {
+impl<'a, A: Allocator> QueryContext<'a, A> {
     /// Returns the first error of a piece by itself, whatever its neighbours are.
     pub(crate) fn piece_fault(&self, piece: &Piece) -> Option<Fault>
         requires { AllByRecursion (λ r. pos 1 ≤ℤ r.rule.interval) self.now.rules }
@@ -97,12 +97,15 @@ fn gap(from: i64, end: i64, pieces: &[Piece]) -> Option<usize>
 }
 
 /// Returns the first error of a piece by itself, with the piece's index.
-fn first_of_pieces<A: Allocator>(asked: &Asked<'_, A>, pieces: &[Piece]) -> Option<(Fault, usize)>
-    requires { AllByRecursion (λ r. pos 1 ≤ℤ r.rule.interval) asked.now.rules }
-    ensures { result ≡ pieces_fault asked.now 0 pieces.now }
+fn first_of_pieces<A: Allocator>(
+    query_context: &QueryContext<'_, A>,
+    pieces: &[Piece],
+) -> Option<(Fault, usize)>
+    requires { AllByRecursion (λ r. pos 1 ≤ℤ r.rule.interval) query_context.now.rules }
+    ensures { result ≡ pieces_fault query_context.now 0 pieces.now }
 {
     for (number, piece) in pieces.iter().enumerate() {
-        if let Some(fault) = asked.piece_fault(piece) {
+        if let Some(fault) = query_context.piece_fault(piece) {
             return Some((fault, number));
         }
     }
@@ -122,5 +125,5 @@ pub(crate) fn first_fault<A: Allocator>(
     if let Some(number) = gap(query.from(), query.to(), pieces) {
         return Some((Fault::Gap, number));
     }
-    first_of_pieces(&Asked::new(settings, marks, query), pieces)
+    first_of_pieces(&QueryContext::new(settings, marks, query), pieces)
 }

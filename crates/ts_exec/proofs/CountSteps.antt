@@ -8,13 +8,13 @@ use Rattle.ts_core.specs.store.Marks.{index_of}
 use Rattle.ts_core.specs.queries.Queries.{Query, meets}
 use Rattle.ts_core.specs.plans.Pieces.{Piece}
 use Rattle.ts_core.specs.store.StoreStates.{ColumnPoints, RuleCells, total_in}
-use Rattle.ts_core.specs.store.Views.{Seen}
+use Rattle.ts_core.specs.store.Views.{ViewState}
 use Rattle.ts_core.specs.plans.Assembly.{rule_shown}
-use Rattle.ts_store.specs.read.Seats.{Seat, points_at, SeenCell, no_rule, cells_within, cells_at}
+use Rattle.ts_store.specs.read.ViewResults.{ColumnRef, points_at, SeenCell, no_rule, cells_within, view_cells_at}
 use Rattle.ts_exec.specs.GroupTables.{is_cell_taken}
-use Rattle.ts_exec.specs.Shares.{Share, points_of_shares, seat_shares, seats_shares, cell_share, rule_shares, source_shares, pieces_shares}
+use Rattle.ts_exec.specs.Shares.{Share, points_of_shares, column_ref_shares, column_refs_shares, cell_share, rule_shares, source_shares, pieces_shares}
 use Rattle.ts_exec.proofs.NamedRules.{IsShownAt}
-use Rattle.ts_exec.proofs.PointCounts.{seat-points, points-append}
+use Rattle.ts_exec.proofs.PointCounts.{column_ref-points, points-append}
 
 -- what is counted already and what is still to be counted
 abbrev pub counted : ℕ → List Share → ℕ
@@ -28,20 +28,20 @@ pub counted-more : (n new : ℕ) (xs ys : List Share) → new ≡ min (n + point
 counted-more n new xs ys e = more (points_of_shares (xs ++ ys)) (points_of_shares xs) (points_of_shares ys) n new (points-append xs ys) e
 
 -- a column that meets the conditions
-pub counted-seat : (q : Query) (cs : List ColumnPoints) (a b : ℤ) (s : Seat) (ss : List Seat) (n new : ℕ)
+pub counted-column_ref : (q : Query) (cs : List ColumnPoints) (a b : ℤ) (s : ColumnRef) (ss : List ColumnRef) (n new : ℕ)
     → list_all (meets s.series) q.conditions ≡ true → new ≡ min (n + length (points_at cs s.number a b)) 18446744073709551615
-    → counted new (seats_shares q cs a b ss) ≡ counted n (seats_shares q cs a b (s ∷ ss))
-counted-seat q cs a b s ss n new met e =
-    let own : points_of_shares (seat_shares q cs a b s) ≡ length (points_at cs s.number a b) = seat-points q cs a b s ∙ ap (λ z. cond z (length (points_at cs s.number a b)) 0) met in
-    counted-more n new (seat_shares q cs a b s) (seats_shares q cs a b ss) (e ∙ ap (λ k. min (n + k) 18446744073709551615) (sym own))
+    → counted new (column_refs_shares q cs a b ss) ≡ counted n (column_refs_shares q cs a b (s ∷ ss))
+counted-column_ref q cs a b s ss n new met e =
+    let own : points_of_shares (column_ref_shares q cs a b s) ≡ length (points_at cs s.number a b) = column_ref-points q cs a b s ∙ ap (λ z. cond z (length (points_at cs s.number a b)) 0) met in
+    counted-more n new (column_ref_shares q cs a b s) (column_refs_shares q cs a b ss) (e ∙ ap (λ k. min (n + k) 18446744073709551615) (sym own))
 
 -- a column that doesn't
-pub counted-other_seat : (q : Query) (cs : List ColumnPoints) (a b : ℤ) (s : Seat) (ss : List Seat) (n : ℕ)
-    → list_all (meets s.series) q.conditions ≡ false → counted n (seats_shares q cs a b ss) ≡ counted n (seats_shares q cs a b (s ∷ ss))
-counted-other_seat q cs a b s ss n not_met =
-    let own : points_of_shares (seat_shares q cs a b s) ≡ 0 = seat-points q cs a b s ∙ ap (λ z. cond z (length (points_at cs s.number a b)) 0) not_met in
-    let all = points-append (seat_shares q cs a b s) (seats_shares q cs a b ss) in
-    let same : points_of_shares (seats_shares q cs a b ss) ≡ points_of_shares (seats_shares q cs a b (s ∷ ss)) = omega arith in
+pub counted-other_column_ref : (q : Query) (cs : List ColumnPoints) (a b : ℤ) (s : ColumnRef) (ss : List ColumnRef) (n : ℕ)
+    → list_all (meets s.series) q.conditions ≡ false → counted n (column_refs_shares q cs a b ss) ≡ counted n (column_refs_shares q cs a b (s ∷ ss))
+counted-other_column_ref q cs a b s ss n not_met =
+    let own : points_of_shares (column_ref_shares q cs a b s) ≡ 0 = column_ref-points q cs a b s ∙ ap (λ z. cond z (length (points_at cs s.number a b)) 0) not_met in
+    let all = points-append (column_ref_shares q cs a b s) (column_refs_shares q cs a b ss) in
+    let same : points_of_shares (column_refs_shares q cs a b ss) ≡ points_of_shares (column_refs_shares q cs a b (s ∷ ss)) = omega arith in
     ap (λ k. min (k + n) 18446744073709551615) same
 
 -- a cell
@@ -57,7 +57,7 @@ counted-cell q r a b c cs n new e =
     ] e
 
 -- a piece
-pub counted-piece : (seen : Seen) (q : Query) (ps : List Piece) (i : ℕ) (p : Piece) (n new : ℕ)
+pub counted-piece : (seen : ViewState) (q : Query) (ps : List Piece) (i : ℕ) (p : Piece) (n new : ℕ)
     → i < length ps → p ≡ get_or ps i p → new ≡ min (n + min (points_of_shares (source_shares seen q p.source p.from p.to)) 18446744073709551615) 18446744073709551615
     → counted new (pieces_shares seen q (drop (i + 1) ps)) ≡ counted n (pieces_shares seen q (drop i ps))
 counted-piece seen q ps i p n new below at e =
@@ -76,6 +76,6 @@ counted-none ss = omega arith
 
 -- the cells of a rule that is shown
 pub found-shares : (q : Query) (a b : ℤ) (name : Text) (shown : List RuleCells) (number : ℕ) (rule : Rule) → IsShownAt name shown number rule
-    → taken_shares q rule a b (cells_at shown number (index_of rule a) (index_of rule b)) ≡ rule_shares q a b (rule_shown name shown)
+    → taken_shares q rule a b (view_cells_at shown number (index_of rule a) (index_of rule b)) ≡ rule_shares q a b (rule_shown name shown)
 found-shares q a b name shown number rule s =
     sym (ap (rule_shares q a b) s.found ∙ ap (λ r. taken_shares q r a b (cells_within (get_or shown number no_rule) (index_of r a) (index_of r b))) s.is)

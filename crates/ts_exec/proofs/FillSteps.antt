@@ -18,8 +18,8 @@ use Rattle.ts_core.proofs.aggregates.BucketsOrder.{one_more}
 use Rattle.ts_exec.specs.RowParts.{BucketGrid, bucket_grid}
 use Rattle.ts_exec.specs.GroupTables.{rows_from, group_with}
 use Rattle.ts_ql.specs.Selects.{Projection, Select}
-use Rattle.ts_exec.specs.declared.filled.Shown.TheVariants.{Data, Number}
-use Rattle.ts_exec.specs.Fillings.{functions_of, rows_at, EndsFit, AreNear, group_at, shown_row, shown_by, shown_rows, rows_behind}
+use Rattle.ts_exec.specs.declared.filled.RowContent.TheVariants.{Data, Number}
+use Rattle.ts_exec.specs.Fillings.{functions_of, rows_at, EndsFit, AreNear, group_at, content_row, row_content, content_rows, rows_behind}
 
 -- ---- one by one
 
@@ -31,7 +31,7 @@ some_shown : (fs : List Function) (e : Option Aggregate) (rows : List Row) → r
 some_shown fs e [] = refl
 some_shown fs e (r ∷ rows) = ap (λ (more : List FilledRow). shown fs r ∷ more) (some_shown fs (last_data e r) rows)
 
-repeated_is : (fs : List Function) (o : Option Aggregate) (own : Aggregate) (start : ℤ) → shown_row (shown_by PreviousFill o own) fs start ≡ repeated fs o start
+repeated_is : (fs : List Function) (o : Option Aggregate) (own : Aggregate) (start : ℤ) → content_row (row_content PreviousFill o own) fs start ≡ repeated fs o start
 repeated_is fs None own start = refl
 repeated_is fs (Some a) own start = refl
 
@@ -39,9 +39,9 @@ all_repeated : (fs : List Function) (e : Option Aggregate) (rows : List Row) →
 all_repeated fs e [] = refl
 all_repeated fs e (r ∷ rows) = ap₂ (λ (x : FilledRow) (more : List FilledRow). x ∷ more) (repeated_is fs (last_data e r) r.aggregate r.start) (all_repeated fs (last_data e r) rows)
 
-numbered_is : (fs : List Function) (n : ℤ) (r : Row) → shown_row (cond (is_empty r.aggregate) (Number n) (Data r.aggregate)) fs r.start ≡ numbered fs n r
+numbered_is : (fs : List Function) (n : ℤ) (r : Row) → content_row (cond (is_empty r.aggregate) (Number n) (Data r.aggregate)) fs r.start ≡ numbered fs n r
 numbered_is fs n r =
-    elim (is_empty r.aggregate) as (λ b. shown_row (cond b (Number n) (Data r.aggregate)) fs r.start ≡ cond (not b) (shown fs r) (record { start = r.start; values = map (number_value n) fs })) [
+    elim (is_empty r.aggregate) as (λ b. content_row (cond b (Number n) (Data r.aggregate)) fs r.start ≡ cond (not b) (shown fs r) (record { start = r.start; values = map (number_value n) fs })) [
       | true ↦ refl
       | false ↦ refl
     ]
@@ -50,13 +50,13 @@ all_numbered : (fs : List Function) (n : ℤ) (e : Option Aggregate) (rows : Lis
 all_numbered fs n e [] = refl
 all_numbered fs n e (r ∷ rows) = ap₂ (λ (x : FilledRow) (more : List FilledRow). x ∷ more) (numbered_is fs n r) (all_numbered fs n (last_data e r) rows)
 
-pub rows-filled : (fill : Fill) (fs : List Function) (rows : List Row) → rows_behind fill fs None (shown_rows fill rows) ≡ filled_rows fill fs rows
+pub rows-filled : (fill : Fill) (fs : List Function) (rows : List Row) → rows_behind fill fs None (content_rows fill rows) ≡ filled_rows fill fs rows
 rows-filled NullFill fs rows = all_shown fs None rows
 rows-filled NoneFill fs rows = some_shown fs None (filter has_data rows)
 rows-filled PreviousFill fs rows = all_repeated fs None rows
 rows-filled (NumberFill n) fs rows = all_numbered fs n None rows
 
-pub all-shown : (fill : Fill) (rows : List Row) → (fill ≡ NoneFill → ⊥) → shown_rows fill rows ≡ rows
+pub all-shown : (fill : Fill) (rows : List Row) → (fill ≡ NoneFill → ⊥) → content_rows fill rows ≡ rows
 all-shown NullFill rows other = refl
 all-shown NoneFill rows other = absurd (other refl)
 all-shown PreviousFill rows other = refl

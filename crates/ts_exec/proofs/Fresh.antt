@@ -3,10 +3,10 @@ use Rattle.std.proofs.Common.{sym, subst}
 use Rattle.ts_core.specs.settings.Settings.{Settings}
 use Rattle.ts_core.specs.store.Marks.{Marks}
 use Rattle.ts_core.specs.plans.Pieces.{IsValid}
-use Rattle.ts_core.specs.store.Views.{Seen}
+use Rattle.ts_core.specs.store.Views.{ViewState}
 use Rattle.ts_check.specs.Checks.{Plan, IsValidPlan}
-use Rattle.ts_exec.specs.Executions.{IsFresh}
+use Rattle.ts_exec.specs.Executions.{IsCurrent}
 
-pub fresh-valid : (seen : Seen) (p : Plan) → IsFresh seen p → IsValidPlan p → IsValid seen.settings seen.marks p.select.query p.pieces
+pub fresh-valid : (seen : ViewState) (p : Plan) → IsCurrent seen p → IsValidPlan p → IsValid seen.settings seen.marks p.select.query p.pieces
 fresh-valid seen p fresh valid =
     subst (λ (s : Settings). IsValid s seen.marks p.select.query p.pieces) (sym fresh.settings) (subst (λ (m : Marks). IsValid p.settings m p.select.query p.pieces) (sym fresh.marks) valid)

@@ -12,10 +12,10 @@ use Rattle.ts_core.specs.store.History.{History, accepted}
 use Rattle.ts_core.specs.facts.Latest.{others, latest, latest_of}
 use Rattle.ts_core.specs.queries.Queries.{Query, IsQuery, matches}
 use Rattle.ts_core.specs.queries.Answers.{Group, same_group, numbers_from, bucket_in, buckets_in, all_groups, is_in_row, at_least_none, answer_of}
-use Rattle.ts_core.specs.plans.Pieces.{Source, Raw, Rollup, Piece, asked, SourceServes, IsValidPiece, Covers, IsValid, start_of}
+use Rattle.ts_core.specs.plans.Pieces.{Source, Raw, Rollup, Piece, query_context, SourceServes, IsValidPiece, Covers, IsValid, start_of}
 use Rattle.ts_core.specs.store.Cells.{Cell, is_in_cell, total_of}
 use Rattle.ts_core.specs.store.StoreStates.{facts_of}
-use Rattle.ts_core.specs.store.Views.{Seen, Shows, shown_total}
+use Rattle.ts_core.specs.store.Views.{ViewState, Shows, shown_total}
 use Rattle.ts_core.specs.plans.Assembly.{in_part, totals_given, aggregate_given, assembled, cell_groups, groups_given, assembled_groups, assembled_row, assembled_answer}
 use Rattle.ts_core.proofs.settings.Intervals.{IsWide, asked_wide, settings_faultless}
 use Rattle.ts_core.proofs.aggregates.Folds.{fold-count}
@@ -53,8 +53,8 @@ numbered q =
     count k zero = refl
     count k (suc n) = ap suc (count (k +ℤ pos 1) n)
 
-module _ (opening : Settings) (h : History) (seen : Seen) (q : Query) (shows : Shows opening h seen) (wide : IsWide (asked seen.settings seen.marks q)) where
-  piece_groups : (source : Source) (a b : ℤ) → SourceServes (asked seen.settings seen.marks q) source a b → q.from ≤ℤ a → b ≤ℤ q.to
+module _ (opening : Settings) (h : History) (seen : ViewState) (q : Query) (shows : Shows opening h seen) (wide : IsWide (query_context seen.settings seen.marks q)) where
+  piece_groups : (source : Source) (a b : ℤ) → SourceServes (query_context seen.settings seen.marks q) source a b → q.from ≤ℤ a → b ≤ℤ q.to
       → map group_in (source_shares seen q source a b) ≡ groups_given seen q source (in_part (matches q) a b)
   piece_groups Raw a b s l m = ap (map group_in) (raw-shares q a b l m seen.columns) ∙ mapped-groups (fact_share q) _
   piece_groups (Rollup name) a b s l m =
@@ -62,7 +62,7 @@ module _ (opening : Settings) (h : History) (seen : Seen) (q : Query) (shows : S
       let test = in_part (matches q) a b in
       subst (λ o. map group_in (rule_shares q a b o) ≡ cell_groups q o test) (sym v.is) (rule-groups q v.shown a b v.wide v.serves.starts v.serves.ends)
 
-  piece_total : (g : List Text) (j : ℕ) (source : Source) (a b : ℤ) → SourceServes (asked seen.settings seen.marks q) source a b → q.from ≤ℤ a → b ≤ℤ q.to
+  piece_total : (g : List Text) (j : ℕ) (source : Source) (a b : ℤ) → SourceServes (query_context seen.settings seen.marks q) source a b → q.from ≤ℤ a → b ≤ℤ q.to
       → total_at g j (source_shares seen q source a b) ≡ aggregate_given seen source (in_part (is_in_row q g (bucket_in q q.from +ℤ pos j)) a b)
   piece_total g j Raw a b s l m = ap (total_at g j) (raw-shares q a b l m seen.columns) ∙ raw-total q wide.query g j a b (facts_of seen.columns)
   piece_total g j (Rollup name) a b s l m =
@@ -73,7 +73,7 @@ module _ (opening : Settings) (h : History) (seen : Seen) (q : Query) (shows : S
       is ∙ none_of (filter (is_in_cell v.shown.rule k) (latest_of h)) (ap (λ (x : Aggregate). x.count == 0) (sym is) ∙ none) in
       subst (λ o. total_at g j (rule_shares q a b o) ≡ totals_given o test) (sym v.is) (rule-total q v.shown a b v.wide v.serves.starts v.serves.ends wide.query g j sound)
 
-  all_shares_groups : (a : ℤ) (ps : List Piece) → q.from ≤ℤ a → Covers a q.to ps → AllByRecursion (IsValidPiece (asked seen.settings seen.marks q)) ps → map group_in (pieces_shares seen q ps) ≡ assembled_groups seen q ps
+  all_shares_groups : (a : ℤ) (ps : List Piece) → q.from ≤ℤ a → Covers a q.to ps → AllByRecursion (IsValidPiece (query_context seen.settings seen.marks q)) ps → map group_in (pieces_shares seen q ps) ≡ assembled_groups seen q ps
   all_shares_groups a [] l c e = refl
   all_shares_groups a (p ∷ ps) l c e =
       let at : p.from ≡ a = c.0 in
@@ -87,7 +87,7 @@ module _ (opening : Settings) (h : History) (seen : Seen) (q : Query) (shows : S
       map_append [] ys = refl
       map_append (x ∷ xs) ys = ap (λ zs. x.group ∷ zs) (map_append xs ys)
 
-  pub all_shares_total : (g : List Text) (j : ℕ) (a : ℤ) (ps : List Piece) → q.from ≤ℤ a → Covers a q.to ps → AllByRecursion (IsValidPiece (asked seen.settings seen.marks q)) ps
+  pub all_shares_total : (g : List Text) (j : ℕ) (a : ℤ) (ps : List Piece) → q.from ≤ℤ a → Covers a q.to ps → AllByRecursion (IsValidPiece (query_context seen.settings seen.marks q)) ps
       → total_at g j (pieces_shares seen q ps) ≡ assembled seen q ps g (bucket_in q q.from +ℤ pos j)
   all_shares_total g j a [] l c e = refl
   all_shares_total g j a (p ∷ ps) l c e =
@@ -118,7 +118,7 @@ or_false : (b : Bool) → (b || false) ≡ b
 or_false true = refl
 or_false false = refl
 
-module _ (seen : Seen) (q : Query) (ps : List Piece) where
+module _ (seen : ViewState) (q : Query) (ps : List Piece) where
   abbrev shares : List Share
   shares = pieces_shares seen q ps
 
@@ -144,7 +144,7 @@ module _ (seen : Seen) (q : Query) (ps : List Piece) where
   pub given-rows : AllByRecursion (HasRows (width q)) (with_pieces seen q ps [])
   given-rows = subst (AllByRecursion (HasRows (width q))) (sym groups_put) (all_rows (all_groups (map group_in shares)))
 
-module _ (opening : Settings) (h : History) (seen : Seen) (q : Query) (shows : Shows opening h seen) (wide : IsWide (asked seen.settings seen.marks q)) (ps : List Piece) (valid : IsValid seen.settings seen.marks q ps) where
+module _ (opening : Settings) (h : History) (seen : ViewState) (q : Query) (shows : Shows opening h seen) (wide : IsWide (query_context seen.settings seen.marks q)) (ps : List Piece) (valid : IsValid seen.settings seen.marks q ps) where
   pub few : (g : List Text) (k : ℤ) → (assembled seen q ps g k).count ≤ 2 ^ 62
   few g k =
       let xs : List Fact = filter (is_in_row q g k) (latest_of h) in
@@ -194,7 +194,7 @@ module _ (opening : Settings) (h : History) (seen : Seen) (q : Query) (shows : S
       ∙ ap (λ gs. map (λ g. let z : Group = record { values = g; rows = map (assembled_row seen q ps g) (buckets_in q) } in z) (all_groups gs)) (all_shares_groups opening h seen q shows wide q.from ps first_le valid.covers valid.each)
 
 -- what is given of a view that shows a history is the answer over all points ever accepted
-pub given-answer : (opening : Settings) (h : History) (seen : Seen) (q : Query) (ps : List Piece) → Shows opening h seen → IsQuery q → IsValid seen.settings seen.marks q ps → given seen q ps ≡ answer_of (latest_of h) q
+pub given-answer : (opening : Settings) (h : History) (seen : ViewState) (q : Query) (ps : List Piece) → Shows opening h seen → IsQuery q → IsValid seen.settings seen.marks q ps → given seen q ps ≡ answer_of (latest_of h) q
 given-answer opening h seen q ps shows is valid =
     let faultless : settings_fault seen.settings ≡ None = subst (λ s. settings_fault s ≡ None) (sym shows.settings) (settings_faultless opening h shows.lawful) in
     given-assembled opening h seen q shows (asked_wide seen.settings seen.marks q faultless is) ps valid ∙ assembled-answer opening h seen q ps shows is valid

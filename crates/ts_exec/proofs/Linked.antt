@@ -22,7 +22,7 @@ use Rattle.ts_core.specs.queries.Answers.{same_group, bucket_in, is_in_row}
 use Rattle.ts_core.specs.plans.Pieces.{Source, Raw, Rollup, Piece, start_of, IsBoundary}
 use Rattle.ts_core.specs.store.Cells.{Cell}
 use Rattle.ts_core.specs.store.StoreStates.{ColumnPoints, facts_at, facts_of, RuleCells, total_in}
-use Rattle.ts_core.specs.store.Views.{Seen, shown_total}
+use Rattle.ts_core.specs.store.Views.{ViewState, shown_total}
 use Rattle.ts_core.specs.plans.Assembly.{stand_in, rule_shown, in_part, totals_given, cell_groups}
 use Rattle.ts_core.proofs.queries.AnswersLaws.{filter_both}
 use Rattle.ts_core.proofs.store.Cuts.{filter-agree}
@@ -32,29 +32,29 @@ use Rattle.ts_core.proofs.queries.BucketsInRange.{at_least_none-is}
 use Rattle.ts_core.proofs.lists.Comparisons.{le_true, lt_true, same_bool}
 use Rattle.ts_core.proofs.queries.GroupsInOrder.{same_group-eq, same_group-refl}
 use Rattle.ts_core.proofs.aggregates.Folds.{fold-append}
-use Rattle.ts_store.specs.read.Seats.{Seat, seats_from, seats_where, no_points, points_at, SeenCell, with_parts, cells_within}
+use Rattle.ts_store.specs.read.ViewResults.{ColumnRef, column_refs_from, column_refs_where, no_points, points_at, SeenCell, with_parts, cells_within}
 use Rattle.ts_exec.specs.RowParts.{bucket_grid, place_at}
-use Rattle.ts_exec.specs.GroupTables.{Table, IsGroupTable, width, with_column_parts, with_cell_part, with_seat, with_seats, is_cell_taken, with_cell_parts, with_rule, with_source, with_pieces}
-use Rattle.ts_exec.specs.Shares.{Share, group_in, with_shares, is_share, total_at, point_share, seat_shares, seats_shares, cell_share, rule_shares, source_shares, pieces_shares}
+use Rattle.ts_exec.specs.GroupTables.{Table, IsGroupTable, width, with_column_parts, with_cell_part, with_column_ref, with_column_refs, is_cell_taken, with_cell_parts, with_rule, with_source, with_pieces}
+use Rattle.ts_exec.specs.Shares.{Share, group_in, with_shares, is_share, total_at, point_share, column_ref_shares, column_refs_shares, cell_share, rule_shares, source_shares, pieces_shares}
 use Rattle.ts_exec.proofs.Shares.{shares-table, shares-append, column-shares}
 
 -- ---- pieces are put by their shares
 
 module _ (q : Query) (a b : ℤ) where
-  seat_put : (cs : List ColumnPoints) (s : Seat) (t : Table) → IsGroupTable t → with_seat q cs a b s t ≡ with_shares (width q) (seat_shares q cs a b s) t
-  seat_put cs s t h =
+  column_ref_put : (cs : List ColumnPoints) (s : ColumnRef) (t : Table) → IsGroupTable t → with_column_ref q cs a b s t ≡ with_shares (width q) (column_ref_shares q cs a b s) t
+  column_ref_put cs s t h =
       elim (list_all (meets s.series) q.conditions) as (λ c. cond c (with_column_parts (bucket_grid q) (width q) (tag_values q.group_tags s.series) (points_at cs s.number a b) t) t
       ≡ with_shares (width q) (cond c (map (point_share (bucket_grid q) (tag_values q.group_tags s.series)) (points_at cs s.number a b)) []) t) [
         | true ↦ column-shares (bucket_grid q) (width q) (tag_values q.group_tags s.series) (points_at cs s.number a b) t h
         | false ↦ refl
       ]
 
-  seats_put : (cs : List ColumnPoints) (ss : List Seat) (t : Table) → IsGroupTable t → with_seats q cs a b ss t ≡ with_shares (width q) (seats_shares q cs a b ss) t
-  seats_put cs [] t h = refl
-  seats_put cs (s ∷ ss) t h =
-      ap (with_seats q cs a b ss) (seat_put cs s t h)
-      ∙ seats_put cs ss (with_shares (width q) (seat_shares q cs a b s) t) (shares-table (width q) (seat_shares q cs a b s) t h)
-      ∙ sym (shares-append (width q) (seat_shares q cs a b s) (seats_shares q cs a b ss) t)
+  column_refs_put : (cs : List ColumnPoints) (ss : List ColumnRef) (t : Table) → IsGroupTable t → with_column_refs q cs a b ss t ≡ with_shares (width q) (column_refs_shares q cs a b ss) t
+  column_refs_put cs [] t h = refl
+  column_refs_put cs (s ∷ ss) t h =
+      ap (with_column_refs q cs a b ss) (column_ref_put cs s t h)
+      ∙ column_refs_put cs ss (with_shares (width q) (column_ref_shares q cs a b s) t) (shares-table (width q) (column_ref_shares q cs a b s) t h)
+      ∙ sym (shares-append (width q) (column_ref_shares q cs a b s) (column_refs_shares q cs a b ss) t)
 
   cells_put : (r : Rule) (cs : List SeenCell) (t : Table) → with_cell_parts q r a b cs t ≡ with_shares (width q) (map (cell_share q r) (filter (is_cell_taken q r a b) cs)) t
   cells_put r [] t = refl
@@ -69,11 +69,11 @@ module _ (q : Query) (a b : ℤ) where
   rule_put None t = refl
   rule_put (Some r) t = cells_put r.rule (cells_within r (index_of r.rule a) (index_of r.rule b)) t
 
-  source_put : (seen : Seen) (source : Source) (t : Table) → IsGroupTable t → with_source seen q source a b t ≡ with_shares (width q) (source_shares seen q source a b) t
-  source_put seen Raw t h = seats_put seen.columns (seats_where (is_of q.measurement q.field) seen.columns) t h
+  source_put : (seen : ViewState) (source : Source) (t : Table) → IsGroupTable t → with_source seen q source a b t ≡ with_shares (width q) (source_shares seen q source a b) t
+  source_put seen Raw t h = column_refs_put seen.columns (column_refs_where (is_of q.measurement q.field) seen.columns) t h
   source_put seen (Rollup name) t h = rule_put (rule_shown name seen.rules) t
 
-pub pieces-put : (seen : Seen) (q : Query) (ps : List Piece) (t : Table) → IsGroupTable t → with_pieces seen q ps t ≡ with_shares (width q) (pieces_shares seen q ps) t
+pub pieces-put : (seen : ViewState) (q : Query) (ps : List Piece) (t : Table) → IsGroupTable t → with_pieces seen q ps t ≡ with_shares (width q) (pieces_shares seen q ps) t
 pieces-put seen q [] t h = refl
 pieces-put seen q (p ∷ ps) t h =
     let xs : List Share = source_shares seen q p.source p.from p.to in
@@ -120,33 +120,33 @@ module _ (q : Query) (a b : ℤ) (from : q.from ≤ℤ a) (to : b ≤ℤ q.to) w
       next false false h = h
 
   -- of a column by its number
-  seat_is : (all : List ColumnPoints) (n : ℕ) (c : ColumnPoints) (z : Bool) → get_or all n no_points ≡ c → is_of q.measurement q.field c.column ≡ z
-      → cond z (seat_shares q all a b (record { number = n; series = c.column.series })) [] ≡ map (fact_share q) (filter test (facts_at c.column c.points))
-  seat_is all n c true at e =
+  column_ref_is : (all : List ColumnPoints) (n : ℕ) (c : ColumnPoints) (z : Bool) → get_or all n no_points ≡ c → is_of q.measurement q.field c.column ≡ z
+      → cond z (column_ref_shares q all a b (record { number = n; series = c.column.series })) [] ≡ map (fact_share q) (filter test (facts_at c.column c.points))
+  column_ref_is all n c true at e =
       ap (λ (x : ColumnPoints). cond (list_all (meets c.column.series) q.conditions) (map (point_share (bucket_grid q) (tag_values q.group_tags c.column.series)) (filter (λ (p : ℤ × ℤ). is_within a b p.0) x.points)) []) at
       ∙ sym (picked c.column c.points (list_all (meets c.column.series) q.conditions) (ap (λ x. x && list_all (meets c.column.series) q.conditions) e))
-  seat_is all n c false at e = sym (picked c.column c.points false (ap (λ x. x && list_all (meets c.column.series) q.conditions) e))
+  column_ref_is all n c false at e = sym (picked c.column c.points false (ap (λ x. x && list_all (meets c.column.series) q.conditions) e))
 
   columns_from : (all before cs : List ColumnPoints) → all ≡ before ++ cs
-      → seats_shares q all a b (seats_from (is_of q.measurement q.field) (length before) cs) ≡ map (fact_share q) (filter test (facts_of cs))
+      → column_refs_shares q all a b (column_refs_from (is_of q.measurement q.field) (length before) cs) ≡ map (fact_share q) (filter test (facts_of cs))
   columns_from all before [] e = refl
   columns_from all before (c ∷ cs) e =
       let n : ℕ = length before in
       let at : get_or all n no_points ≡ c = ap (λ xs. get_or xs n no_points) e ∙ in_middle before c cs in
       let more : all ≡ (before ++ c ∷ []) ++ cs = e ∙ sym (append_assoc before (c ∷ []) cs) in
       let count : length (before ++ c ∷ []) ≡ n + 1 = length-append before (c ∷ []) in
-      let tail : seats_shares q all a b (seats_from (is_of q.measurement q.field) (n + 1) cs) ≡ map (fact_share q) (filter test (facts_of cs)) =
-      ap (λ m. seats_shares q all a b (seats_from (is_of q.measurement q.field) m cs)) (sym count) ∙ columns_from all (before ++ c ∷ []) cs more in
-      shown (is_of q.measurement q.field c.column) n (seats_from (is_of q.measurement q.field) (n + 1) cs)
-      ∙ ap₂ (λ x y. x ++ y) (seat_is all n c (is_of q.measurement q.field c.column) at refl) tail
+      let tail : column_refs_shares q all a b (column_refs_from (is_of q.measurement q.field) (n + 1) cs) ≡ map (fact_share q) (filter test (facts_of cs)) =
+      ap (λ m. column_refs_shares q all a b (column_refs_from (is_of q.measurement q.field) m cs)) (sym count) ∙ columns_from all (before ++ c ∷ []) cs more in
+      shown (is_of q.measurement q.field c.column) n (column_refs_from (is_of q.measurement q.field) (n + 1) cs)
+      ∙ ap₂ (λ x y. x ++ y) (column_ref_is all n c (is_of q.measurement q.field c.column) at refl) tail
       ∙ sym (ap (map (fact_share q)) (filter-append test (facts_at c.column c.points) (facts_of cs)) ∙ map_append (filter test (facts_at c.column c.points)) (filter test (facts_of cs)))
     where
       in_middle : (xs : List ColumnPoints) (x : ColumnPoints) (ys : List ColumnPoints) → get_or (xs ++ x ∷ ys) (length xs) no_points ≡ x
       in_middle [] x ys = refl
       in_middle (z ∷ xs) x ys = in_middle xs x ys
 
-      shown : (z : Bool) (n : ℕ) (rest : List Seat) → seats_shares q all a b (cond z (record { number = n; series = c.column.series } ∷ rest) rest)
-          ≡ cond z (seat_shares q all a b (record { number = n; series = c.column.series })) [] ++ seats_shares q all a b rest
+      shown : (z : Bool) (n : ℕ) (rest : List ColumnRef) → column_refs_shares q all a b (cond z (record { number = n; series = c.column.series } ∷ rest) rest)
+          ≡ cond z (column_ref_shares q all a b (record { number = n; series = c.column.series })) [] ++ column_refs_shares q all a b rest
       shown true n rest = refl
       shown false n rest = refl
 
@@ -154,7 +154,7 @@ module _ (q : Query) (a b : ℤ) (from : q.from ≤ℤ a) (to : b ≤ℤ q.to) w
       map_append [] ys = refl
       map_append (x ∷ xs) ys = ap (λ zs. fact_share q x ∷ zs) (map_append xs ys)
 
-  pub raw-shares : (cs : List ColumnPoints) → seats_shares q cs a b (seats_where (is_of q.measurement q.field) cs) ≡ map (fact_share q) (filter test (facts_of cs))
+  pub raw-shares : (cs : List ColumnPoints) → column_refs_shares q cs a b (column_refs_where (is_of q.measurement q.field) cs) ≡ map (fact_share q) (filter test (facts_of cs))
   raw-shares cs = columns_from cs [] cs refl
 
 -- ---- what shares add up to, and their groups

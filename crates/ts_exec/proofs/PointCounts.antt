@@ -16,9 +16,9 @@ use Rattle.ts_core.specs.facts.Latest.{latest_of}
 use Rattle.ts_core.specs.facts.Tags.{tag_values}
 use Rattle.ts_core.specs.queries.Queries.{Query, IsQuery, Condition, meets, is_selected, matches}
 use Rattle.ts_core.specs.queries.Answers.{at_least_none, bucket_in, is_in_row}
-use Rattle.ts_core.specs.plans.Pieces.{Source, Raw, Rollup, Piece, asked, SourceServes, IsValidPiece, Covers, IsValid, start_of}
+use Rattle.ts_core.specs.plans.Pieces.{Source, Raw, Rollup, Piece, query_context, SourceServes, IsValidPiece, Covers, IsValid, start_of}
 use Rattle.ts_core.specs.store.StoreStates.{ColumnPoints, RuleCells, total_in}
-use Rattle.ts_core.specs.store.Views.{Seen, Shows}
+use Rattle.ts_core.specs.store.Views.{ViewState, Shows}
 use Rattle.ts_core.specs.plans.Assembly.{rule_shown, assembled}
 use Rattle.ts_core.proofs.settings.Intervals.{IsWide, asked_wide, settings_faultless}
 use Rattle.ts_core.proofs.aggregates.Folds.{fold-count}
@@ -26,10 +26,10 @@ use Rattle.ts_core.proofs.store.Cuts.{one_fact, filter-agree}
 use Rattle.ts_core.proofs.queries.Boundaries.{within_parts}
 use Rattle.ts_core.proofs.plans.AssembledRows.{assembled-row}
 use Rattle.ts_ql.proofs.CountingLemmas.{in_first}
-use Rattle.ts_store.specs.read.Seats.{Seat, seats_where, points_at, SeenCell, cells_within}
+use Rattle.ts_store.specs.read.ViewResults.{ColumnRef, column_refs_where, points_at, SeenCell, cells_within}
 use Rattle.ts_exec.specs.RowParts.{BucketGrid, bucket_grid, place_at}
 use Rattle.ts_exec.specs.GroupTables.{is_cell_taken}
-use Rattle.ts_exec.specs.Shares.{Share, is_share, total_at, points_of_shares, point_share, seat_shares, seats_shares, cell_share, rule_shares, source_shares, pieces_shares}
+use Rattle.ts_exec.specs.Shares.{Share, is_share, total_at, points_of_shares, point_share, column_ref_shares, column_refs_shares, cell_share, rule_shares, source_shares, pieces_shares}
 use Rattle.ts_exec.proofs.Walked.{taken-within}
 use Rattle.ts_exec.proofs.Given.{all_shares_total, few}
 
@@ -51,7 +51,7 @@ later P (x ∷ xs) ys a = later P xs ys a.1
 
 -- what serves a query, serves it in one bucket
 module _ (s : Settings) (m : Marks) (q : Query) where
-  serves_whole : (source : Source) (a b : ℤ) → q.from ≤ℤ a → a <ℤ b → b ≤ℤ q.to → SourceServes (asked s m q) source a b → SourceServes (asked s m (whole q)) source a b
+  serves_whole : (source : Source) (a b : ℤ) → q.from ≤ℤ a → a <ℤ b → b ≤ℤ q.to → SourceServes (query_context s m q) source a b → SourceServes (query_context s m (whole q)) source a b
   serves_whole Raw a b low up high is = is
   serves_whole (Rollup name) a b low up high is =
       let r = is.2 in
@@ -62,7 +62,7 @@ module _ (s : Settings) (m : Marks) (q : Query) where
         record { measurement = r.measurement; starts = r.starts; ends = r.ends; whole = r.whole; fits = inr (first ∙ sym last); tags = later _ q.group_tags (map (λ (c : Condition). c.tag) q.conditions) r.tags },
       )
 
-  all_serve_whole : (a : ℤ) (ps : List Piece) → q.from ≤ℤ a → Covers a q.to ps → AllByRecursion (IsValidPiece (asked s m q)) ps → AllByRecursion (IsValidPiece (asked s m (whole q))) ps
+  all_serve_whole : (a : ℤ) (ps : List Piece) → q.from ≤ℤ a → Covers a q.to ps → AllByRecursion (IsValidPiece (query_context s m q)) ps → AllByRecursion (IsValidPiece (query_context s m (whole q))) ps
   all_serve_whole a [] low c each = tt
   all_serve_whole a (p ∷ ps) low c each =
       let at : p.from ≡ a = c.0 in
@@ -81,8 +81,8 @@ shares_length g x [] = refl
 shares_length g x (p ∷ ps) = let rest = shares_length g x ps in omega arith
 
 -- the points of a column
-pub seat-points : (q : Query) (cs : List ColumnPoints) (a b : ℤ) (s : Seat) → points_of_shares (seat_shares q cs a b s) ≡ cond (list_all (meets s.series) q.conditions) (length (points_at cs s.number a b)) 0
-seat-points q cs a b s =
+pub column_ref-points : (q : Query) (cs : List ColumnPoints) (a b : ℤ) (s : ColumnRef) → points_of_shares (column_ref_shares q cs a b s) ≡ cond (list_all (meets s.series) q.conditions) (length (points_at cs s.number a b)) 0
+column_ref-points q cs a b s =
     let ps : List (ℤ × ℤ) = points_at cs s.number a b in
     elim (list_all (meets s.series) q.conditions) as (λ z. points_of_shares (cond z (map (point_share (bucket_grid q) (tag_values q.group_tags s.series)) ps) []) ≡ cond z (length ps) 0) [
       | true ↦ shares_length (bucket_grid q) (tag_values q.group_tags s.series) ps
@@ -94,12 +94,12 @@ points-append [] ys = omega arith
 points-append (x ∷ xs) ys = let rest = points-append xs ys in omega arith
 
 module _ (q : Query) (a b : ℤ) where
-  seats_same : (cs : List ColumnPoints) (ss : List Seat) → points_of_shares (seats_shares q cs a b ss) ≡ points_of_shares (seats_shares (whole q) cs a b ss)
-  seats_same cs [] = refl
-  seats_same cs (s ∷ ss) =
-      points-append (seat_shares q cs a b s) (seats_shares q cs a b ss)
-      ∙ ap₂ (λ (m n : ℕ). m + n) (seat-points q cs a b s ∙ sym (seat-points (whole q) cs a b s)) (seats_same cs ss)
-      ∙ sym (points-append (seat_shares (whole q) cs a b s) (seats_shares (whole q) cs a b ss))
+  column_refs_same : (cs : List ColumnPoints) (ss : List ColumnRef) → points_of_shares (column_refs_shares q cs a b ss) ≡ points_of_shares (column_refs_shares (whole q) cs a b ss)
+  column_refs_same cs [] = refl
+  column_refs_same cs (s ∷ ss) =
+      points-append (column_ref_shares q cs a b s) (column_refs_shares q cs a b ss)
+      ∙ ap₂ (λ (m n : ℕ). m + n) (column_ref-points q cs a b s ∙ sym (column_ref-points (whole q) cs a b s)) (column_refs_same cs ss)
+      ∙ sym (points-append (column_ref_shares (whole q) cs a b s) (column_refs_shares (whole q) cs a b ss))
 
   cells_same : (r : RuleCells) (cs : List SeenCell) → points_of_shares (map (cell_share q r.rule) cs) ≡ points_of_shares (map (cell_share (whole q) r.rule) cs)
   cells_same r [] = refl
@@ -109,11 +109,11 @@ module _ (q : Query) (a b : ℤ) where
   rule_same None = refl
   rule_same (Some r) = cells_same r (filter (is_cell_taken q r.rule a b) (cells_within r (index_of r.rule a) (index_of r.rule b)))
 
-  source_same : (seen : Seen) (source : Source) → points_of_shares (source_shares seen q source a b) ≡ points_of_shares (source_shares seen (whole q) source a b)
-  source_same seen Raw = seats_same seen.columns (seats_where (is_of q.measurement q.field) seen.columns)
+  source_same : (seen : ViewState) (source : Source) → points_of_shares (source_shares seen q source a b) ≡ points_of_shares (source_shares seen (whole q) source a b)
+  source_same seen Raw = column_refs_same seen.columns (column_refs_where (is_of q.measurement q.field) seen.columns)
   source_same seen (Rollup name) = rule_same (rule_shown name seen.rules)
 
-whole_same : (seen : Seen) (q : Query) (ps : List Piece) → points_of_shares (pieces_shares seen q ps) ≡ points_of_shares (pieces_shares seen (whole q) ps)
+whole_same : (seen : ViewState) (q : Query) (ps : List Piece) → points_of_shares (pieces_shares seen q ps) ≡ points_of_shares (pieces_shares seen (whole q) ps)
 whole_same seen q [] = refl
 whole_same seen q (p ∷ ps) =
     points-append (source_shares seen q p.source p.from p.to) (pieces_shares seen q ps)
@@ -152,16 +152,16 @@ module _ (q : Query) where
       ap₂ (λ (k f : ℤ). at_least_none (k -ℤ f) == 0) here from
 
   module _ (a b : ℤ) (low : q.from ≤ℤ a) (high : b ≤ℤ q.to) where
-    first_seat : (cs : List ColumnPoints) (s : Seat) → AllByRecursion IsFirst (seat_shares (whole q) cs a b s)
-    first_seat cs s =
+    first_column_ref : (cs : List ColumnPoints) (s : ColumnRef) → AllByRecursion IsFirst (column_ref_shares (whole q) cs a b s)
+    first_column_ref cs s =
         elim (list_all (meets s.series) q.conditions) as (λ z. AllByRecursion IsFirst (cond z (map (point_share (bucket_grid (whole q)) []) (points_at cs s.number a b)) [])) [
           | true ↦ first_passed (point_share (bucket_grid (whole q)) []) (λ (p : ℤ × ℤ). is_within a b p.0) (λ p e. let w = within_parts a b p.0 e in let l = w.0 in let h = w.1 in first_place p.0 (omega (arith, ints)) (omega (arith, ints))) _
           | false ↦ tt
         ]
 
-    first_seats : (cs : List ColumnPoints) (ss : List Seat) → AllByRecursion IsFirst (seats_shares (whole q) cs a b ss)
-    first_seats cs [] = tt
-    first_seats cs (s ∷ ss) = first_append (seat_shares (whole q) cs a b s) (seats_shares (whole q) cs a b ss) (first_seat cs s) (first_seats cs ss)
+    first_column_refs : (cs : List ColumnPoints) (ss : List ColumnRef) → AllByRecursion IsFirst (column_refs_shares (whole q) cs a b ss)
+    first_column_refs cs [] = tt
+    first_column_refs cs (s ∷ ss) = first_append (column_ref_shares (whole q) cs a b s) (column_refs_shares (whole q) cs a b ss) (first_column_ref cs s) (first_column_refs cs ss)
 
     first_rule : (o : Option RuleCells) → AllByRecursion IsFirst (rule_shares (whole q) a b o)
     first_rule None = tt
@@ -170,11 +170,11 @@ module _ (q : Query) where
         (λ c e. let w = within_parts q.from q.to (start_of r.rule c.cell.index) (taken-within (whole q) r.rule a b c e).0 in first_place (start_of r.rule c.cell.index) w.0 w.1)
         (cells_within r (index_of r.rule a) (index_of r.rule b))
 
-    first_source : (seen : Seen) (source : Source) → AllByRecursion IsFirst (source_shares seen (whole q) source a b)
-    first_source seen Raw = first_seats seen.columns (seats_where (is_of q.measurement q.field) seen.columns)
+    first_source : (seen : ViewState) (source : Source) → AllByRecursion IsFirst (source_shares seen (whole q) source a b)
+    first_source seen Raw = first_column_refs seen.columns (column_refs_where (is_of q.measurement q.field) seen.columns)
     first_source seen (Rollup name) = first_rule (rule_shown name seen.rules)
 
-  first_pieces : (seen : Seen) (a : ℤ) (ps : List Piece) → q.from ≤ℤ a → Covers a q.to ps → AllByRecursion IsFirst (pieces_shares seen (whole q) ps)
+  first_pieces : (seen : ViewState) (a : ℤ) (ps : List Piece) → q.from ≤ℤ a → Covers a q.to ps → AllByRecursion IsFirst (pieces_shares seen (whole q) ps)
   first_pieces seen a [] low c = tt
   first_pieces seen a (p ∷ ps) low c =
       let at : p.from ≡ a = c.0 in
@@ -197,8 +197,8 @@ module _ (q : Query) where
 
 -- ---- so its total is all that match
 
-module _ (opening : Settings) (h : History) (seen : Seen) (q : Query) (ps : List Piece) (shows : Shows opening h seen) (is : IsQuery q) (valid : IsValid seen.settings seen.marks q ps) where
-  wide : IsWide (asked seen.settings seen.marks (whole q))
+module _ (opening : Settings) (h : History) (seen : ViewState) (q : Query) (ps : List Piece) (shows : Shows opening h seen) (is : IsQuery q) (valid : IsValid seen.settings seen.marks q ps) where
+  wide : IsWide (query_context seen.settings seen.marks (whole q))
   wide = asked_wide seen.settings seen.marks (whole q) (subst (λ s. settings_fault s ≡ None) (sym shows.settings) (settings_faultless opening h shows.lawful)) (whole_is q is)
 
   again : IsValid seen.settings seen.marks (whole q) ps

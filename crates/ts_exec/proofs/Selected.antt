@@ -7,37 +7,37 @@ use Rattle.ts_core.specs.facts.Facts.{same_text}
 use Rattle.ts_core.specs.facts.Tags.{tag_value}
 use Rattle.ts_core.specs.queries.Queries.{Query, Condition, meets}
 use Rattle.ts_core.specs.store.StoreStates.{ColumnPoints}
-use Rattle.ts_store.specs.read.Seats.{Seat, seat_has}
-use Rattle.ts_exec.specs.GroupTables.{Table, with_seat, with_seats, selected_seats, IsNarrowing}
+use Rattle.ts_store.specs.read.ViewResults.{ColumnRef, column_ref_has}
+use Rattle.ts_exec.specs.GroupTables.{Table, with_column_ref, with_column_refs, selected_column_refs, IsNarrowing}
 
 -- ---- what the selected columns give
 
-abbrev is_met : List Condition → Seat → Bool
+abbrev is_met : List Condition → ColumnRef → Bool
 is_met conditions s = list_all (meets s.series) conditions
 
 -- a column that is there and meets the conditions
-abbrev pub IsSelected : ℕ → List Condition → Seat → Type 0
+abbrev pub IsSelected : ℕ → List Condition → ColumnRef → Type 0
 IsSelected m conditions s = (s.number < m) × (list_all (meets s.series) conditions ≡ true)
 
-pub all_selected : (m : ℕ) (conditions : List Condition) (ss : List Seat) → AllByRecursion (λ (s : Seat). s.number < m) ss → AllByRecursion (IsSelected m conditions) (selected_seats conditions ss)
+pub all_selected : (m : ℕ) (conditions : List Condition) (ss : List ColumnRef) → AllByRecursion (λ (s : ColumnRef). s.number < m) ss → AllByRecursion (IsSelected m conditions) (selected_column_refs conditions ss)
 all_selected m conditions [] h = tt
 all_selected m conditions (s ∷ ss) h =
     let rest = all_selected m conditions ss h.1 in
-    elim (is_met conditions s) as (λ v. is_met conditions s ≡ v → AllByRecursion (IsSelected m conditions) (cond v (s ∷ selected_seats conditions ss) (selected_seats conditions ss))) [
+    elim (is_met conditions s) as (λ v. is_met conditions s ≡ v → AllByRecursion (IsSelected m conditions) (cond v (s ∷ selected_column_refs conditions ss) (selected_column_refs conditions ss))) [
       | true ↦ λ e. ((h.0, e), rest)
       | false ↦ λ e. rest
     ] refl
 
-pub selected_give : (q : Query) (cs : List ColumnPoints) (a b : ℤ) (ss : List Seat) (t : Table) → with_seats q cs a b (selected_seats q.conditions ss) t ≡ with_seats q cs a b ss t
+pub selected_give : (q : Query) (cs : List ColumnPoints) (a b : ℤ) (ss : List ColumnRef) (t : Table) → with_column_refs q cs a b (selected_column_refs q.conditions ss) t ≡ with_column_refs q cs a b ss t
 selected_give q cs a b [] t = refl
 selected_give q cs a b (s ∷ ss) t =
-    let left : List Seat = selected_seats q.conditions ss in
-    elim (is_met q.conditions s) as (λ v. is_met q.conditions s ≡ v → with_seats q cs a b (cond v (s ∷ left) left) t ≡ with_seats q cs a b ss (with_seat q cs a b s t)) [
-      | true ↦ λ e. selected_give q cs a b ss (with_seat q cs a b s t)
-      | false ↦ λ e. selected_give q cs a b ss t ∙ ap (λ (u : Table). with_seats q cs a b ss u) (sym (unmet s t e))
+    let left : List ColumnRef = selected_column_refs q.conditions ss in
+    elim (is_met q.conditions s) as (λ v. is_met q.conditions s ≡ v → with_column_refs q cs a b (cond v (s ∷ left) left) t ≡ with_column_refs q cs a b ss (with_column_ref q cs a b s t)) [
+      | true ↦ λ e. selected_give q cs a b ss (with_column_ref q cs a b s t)
+      | false ↦ λ e. selected_give q cs a b ss t ∙ ap (λ (u : Table). with_column_refs q cs a b ss u) (sym (unmet s t e))
     ] refl
   where
-    unmet : (s : Seat) (t : Table) → is_met q.conditions s ≡ false → with_seat q cs a b s t ≡ t
+    unmet : (s : ColumnRef) (t : Table) → is_met q.conditions s ≡ false → with_column_ref q cs a b s t ≡ t
     unmet s t e = rw e refl
 
 -- ---- which columns are selected
@@ -61,10 +61,10 @@ filter_twice p r h (x ∷ xs) =
     absent true n = absurd (n refl)
     absent false n = refl
 
-pub selected_narrowed : (conditions : List Condition) (k : Condition) → IsNarrowing conditions k → (ss : List Seat) → selected_seats conditions (filter (seat_has k.tag k.value) ss) ≡ selected_seats conditions ss
-selected_narrowed conditions k is ss = filter_twice (is_met conditions) (seat_has k.tag k.value) has ss
+pub selected_narrowed : (conditions : List Condition) (k : Condition) → IsNarrowing conditions k → (ss : List ColumnRef) → selected_column_refs conditions (filter (column_ref_has k.tag k.value) ss) ≡ selected_column_refs conditions ss
+selected_narrowed conditions k is ss = filter_twice (is_met conditions) (column_ref_has k.tag k.value) has ss
   where
-    has : (s : Seat) → is_met conditions s ≡ true → seat_has k.tag k.value s ≡ true
+    has : (s : ColumnRef) → is_met conditions s ≡ true → column_ref_has k.tag k.value s ≡ true
     has s h =
         let same : Bool = same_text (tag_value s.series k.tag) k.value in
         subst (λ d. cond d (not same) same ≡ true) is.same (all_among (meets s.series) conditions k h is.among)

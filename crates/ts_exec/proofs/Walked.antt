@@ -13,7 +13,7 @@ use Rattle.ts_core.specs.store.Cells.{Cell}
 use Rattle.ts_core.specs.store.StoreStates.{CellParts, RuleCells, total_in}
 use Rattle.ts_core.proofs.queries.Boundaries.{within_parts}
 use Rattle.ts_core.proofs.aggregates.BucketsOrder.{bucket_is, one_more, times_le}
-use Rattle.ts_store.specs.read.Seats.{SeenCell, with_parts, cells_within}
+use Rattle.ts_store.specs.read.ViewResults.{SeenCell, with_parts, cells_within}
 use Rattle.ts_exec.specs.GroupTables.{is_cell_taken}
 
 all_within : (parts : Cell → CellParts) (a b : ℤ) (ks : List Cell) → AllByRecursion (λ (c : SeenCell). is_within a b c.cell.index ≡ true) (map (with_parts parts) (filter (λ (k : Cell). is_within a b k.index) ks))

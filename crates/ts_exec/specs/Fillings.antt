@@ -14,8 +14,8 @@ use Rattle.ts_core.specs.queries.Answers.{Row}
 use Rattle.ts_core.specs.queries.Fills.{FilledRow, FilledGroup, is_empty, has_data, last_data, value_of, number_value, filled_rows, filled}
 use Rattle.ts_ql.specs.Selects.{Projection, Select}
 use Rattle.ts_exec.specs.Answered.{Answered}
-use Rattle.ts_exec.specs.declared.filled.Shown.{Shown}
-use Rattle.ts_exec.specs.declared.filled.Shown.TheVariants.{Data, Number, Nothing}
+use Rattle.ts_exec.specs.declared.filled.RowContent.{RowContent}
+use Rattle.ts_exec.specs.declared.filled.RowContent.TheVariants.{Data, Number, Nothing}
 
 -- ---- answers
 
@@ -53,32 +53,32 @@ group_at fill fs interval start g = record { values = g.0; rows = filled_rows fi
 
 -- ---- values
 
-abbrev pub shown_value : Shown → Function → Value
-shown_value (Data a) f = value_of a f
-shown_value (Number n) f = number_value n f
-shown_value Nothing f = Null
+abbrev pub content_value : RowContent → Function → Value
+content_value (Data a) f = value_of a f
+content_value (Number n) f = number_value n f
+content_value Nothing f = Null
 
-abbrev pub shown_row : Shown → List Function → ℤ → FilledRow
-shown_row s fs start = record { start = start; values = map (shown_value s) fs }
+abbrev pub content_row : RowContent → List Function → ℤ → FilledRow
+content_row s fs start = record { start = start; values = map (content_value s) fs }
 
 -- content of a row with data `own`; `latest` is the last data up to this row
-abbrev pub shown_by : Fill → Option Aggregate → Aggregate → Shown
-shown_by NullFill latest own = Data own
-shown_by NoneFill latest own = Data own
-shown_by PreviousFill None own = Nothing
-shown_by PreviousFill (Some a) own = Data a
-shown_by (NumberFill n) latest own = if is_empty own then Number n else Data own
+abbrev pub row_content : Fill → Option Aggregate → Aggregate → RowContent
+row_content NullFill latest own = Data own
+row_content NoneFill latest own = Data own
+row_content PreviousFill None own = Nothing
+row_content PreviousFill (Some a) own = Data a
+row_content (NumberFill n) latest own = if is_empty own then Number n else Data own
 
 -- ---- iteration over rows
 
 -- the rows that the fill option shows
-abbrev pub shown_rows : Fill → List Row → List Row
-shown_rows NullFill rows = rows
-shown_rows NoneFill rows = filter has_data rows
-shown_rows PreviousFill rows = rows
-shown_rows (NumberFill n) rows = rows
+abbrev pub content_rows : Fill → List Row → List Row
+content_rows NullFill rows = rows
+content_rows NoneFill rows = filter has_data rows
+content_rows PreviousFill rows = rows
+content_rows (NumberFill n) rows = rows
 
 -- the rows, filled; `earlier` is the last data before the first
 abbrev pub rows_behind : Fill → List Function → Option Aggregate → List Row → List FilledRow
 rows_behind fill fs earlier [] = []
-rows_behind fill fs earlier (r ∷ rows) = shown_row (shown_by fill (last_data earlier r) r.aggregate) fs r.start ∷ rows_behind fill fs (last_data earlier r) rows
+rows_behind fill fs earlier (r ∷ rows) = content_row (row_content fill (last_data earlier r) r.aggregate) fs r.start ∷ rows_behind fill fs (last_data earlier r) rows

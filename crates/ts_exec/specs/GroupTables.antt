@@ -13,9 +13,9 @@ use Rattle.ts_core.specs.plans.Pieces.{Source, Raw, Rollup, Piece, start_of}
 use Rattle.ts_core.specs.store.Marks.{index_of}
 use Rattle.ts_core.specs.settings.Settings.{Rule}
 use Rattle.ts_core.specs.store.StoreStates.{ColumnPoints, RuleCells, total_in}
-use Rattle.ts_core.specs.store.Views.{Seen}
+use Rattle.ts_core.specs.store.Views.{ViewState}
 use Rattle.ts_core.specs.plans.Assembly.{stand_in, rule_shown}
-use Rattle.ts_store.specs.read.Seats.{Seat, seats_where, points_at, SeenCell, cells_within}
+use Rattle.ts_store.specs.read.ViewResults.{ColumnRef, column_refs_where, points_at, SeenCell, cells_within}
 use Rattle.ts_exec.specs.RowParts.{BucketGrid, bucket_grid, place_at, with_part, with_point_parts}
 
 -- groups with their rows
@@ -54,26 +54,26 @@ pub record AreBucketsOf (q : Query) (n : ℕ) (g : BucketGrid) : Type 0 where
   pub width : n ≡ width q
   pub grid : g ≡ bucket_grid q
 
-abbrev pub with_seat : Query → List ColumnPoints → ℤ → ℤ → Seat → Table → Table
-with_seat q cs a b s t =
+abbrev pub with_column_ref : Query → List ColumnPoints → ℤ → ℤ → ColumnRef → Table → Table
+with_column_ref q cs a b s t =
     if list_all (meets s.series) q.conditions
     then with_column_parts (bucket_grid q) (width q) (tag_values q.group_tags s.series) (points_at cs s.number a b) t
     else t
 
-abbrev pub with_seats : Query → List ColumnPoints → ℤ → ℤ → List Seat → Table → Table
-with_seats q cs a b [] t = t
-with_seats q cs a b (s ∷ ss) t = with_seats q cs a b ss (with_seat q cs a b s t)
+abbrev pub with_column_refs : Query → List ColumnPoints → ℤ → ℤ → List ColumnRef → Table → Table
+with_column_refs q cs a b [] t = t
+with_column_refs q cs a b (s ∷ ss) t = with_column_refs q cs a b ss (with_column_ref q cs a b s t)
 
 -- ---- the columns of a query
 
 -- the columns whose series meet the conditions
-abbrev pub selected_seats : List Condition → List Seat → List Seat
-selected_seats conditions = filter (λ s. list_all (meets s.series) conditions)
+abbrev pub selected_column_refs : List Condition → List ColumnRef → List ColumnRef
+selected_column_refs conditions = filter (λ s. list_all (meets s.series) conditions)
 
 -- one of the conditions wants a value of a tag
 pub record IsNarrowing (conditions : List Condition) (c : Condition) : Type 0 where
   pub among : Among c conditions
-  pub same : c.differs ≡ false
+  pub same : c.negated ≡ false
 
 -- ---- a piece of cells
 
@@ -97,11 +97,11 @@ with_rule q a b (Some r) t = with_cell_parts q r.rule a b (cells_within r (index
 
 -- ---- pieces
 
-abbrev pub with_source : Seen → Query → Source → ℤ → ℤ → Table → Table
-with_source seen q Raw a b t = with_seats q seen.columns a b (seats_where (is_of q.measurement q.field) seen.columns) t
+abbrev pub with_source : ViewState → Query → Source → ℤ → ℤ → Table → Table
+with_source seen q Raw a b t = with_column_refs q seen.columns a b (column_refs_where (is_of q.measurement q.field) seen.columns) t
 with_source seen q (Rollup name) a b t = with_rule q a b (rule_shown name seen.rules) t
 
-abbrev pub with_pieces : Seen → Query → List Piece → Table → Table
+abbrev pub with_pieces : ViewState → Query → List Piece → Table → Table
 with_pieces seen q [] t = t
 with_pieces seen q (p ∷ ps) t = with_pieces seen q ps (with_source seen q p.source p.from p.to t)
 
@@ -118,5 +118,5 @@ abbrev pub group_with : Query → List Text × List Aggregate → Group
 group_with q e = group_on (bucket_grid q) e
 
 -- the groups that a plan gives over a view
-abbrev pub given : Seen → Query → List Piece → List Group
+abbrev pub given : ViewState → Query → List Piece → List Group
 given seen q ps = map (group_with q) (with_pieces seen q ps [])

@@ -11,9 +11,9 @@ use Rattle.ts_core.specs.queries.Queries.{Query, meets, group_of}
 use Rattle.ts_core.specs.queries.Answers.{same_group}
 use Rattle.ts_core.specs.plans.Pieces.{Source, Raw, Rollup, Piece, start_of}
 use Rattle.ts_core.specs.store.StoreStates.{ColumnPoints, RuleCells, total_in}
-use Rattle.ts_core.specs.store.Views.{Seen}
+use Rattle.ts_core.specs.store.Views.{ViewState}
 use Rattle.ts_core.specs.plans.Assembly.{stand_in, rule_shown}
-use Rattle.ts_store.specs.read.Seats.{Seat, seats_where, points_at, SeenCell, cells_within}
+use Rattle.ts_store.specs.read.ViewResults.{ColumnRef, column_refs_where, points_at, SeenCell, cells_within}
 use Rattle.ts_exec.specs.RowParts.{BucketGrid, bucket_grid, place_at}
 use Rattle.ts_exec.specs.GroupTables.{Table, with_cell_part, is_cell_taken}
 
@@ -46,12 +46,12 @@ points_of_shares (s ∷ ss) = s.part.count + points_of_shares ss
 abbrev pub point_share : BucketGrid → List Text → ℤ × ℤ → Share
 point_share grid g p = record { group = g; place = place_at grid p.0; part = aggregate_of_one p.0 p.1 }
 
-abbrev pub seat_shares : Query → List ColumnPoints → ℤ → ℤ → Seat → List Share
-seat_shares q cs a b s = if list_all (meets s.series) q.conditions then map (point_share (bucket_grid q) (tag_values q.group_tags s.series)) (points_at cs s.number a b) else []
+abbrev pub column_ref_shares : Query → List ColumnPoints → ℤ → ℤ → ColumnRef → List Share
+column_ref_shares q cs a b s = if list_all (meets s.series) q.conditions then map (point_share (bucket_grid q) (tag_values q.group_tags s.series)) (points_at cs s.number a b) else []
 
-abbrev pub seats_shares : Query → List ColumnPoints → ℤ → ℤ → List Seat → List Share
-seats_shares q cs a b [] = []
-seats_shares q cs a b (s ∷ ss) = seat_shares q cs a b s ++ seats_shares q cs a b ss
+abbrev pub column_refs_shares : Query → List ColumnPoints → ℤ → ℤ → List ColumnRef → List Share
+column_refs_shares q cs a b [] = []
+column_refs_shares q cs a b (s ∷ ss) = column_ref_shares q cs a b s ++ column_refs_shares q cs a b ss
 
 abbrev pub cell_share : Query → Rule → SeenCell → Share
 cell_share q r c = record { group = group_of q (stand_in r c.cell); place = place_at (bucket_grid q) (start_of r c.cell.index); part = total_in c.parts }
@@ -60,10 +60,10 @@ abbrev pub rule_shares : Query → ℤ → ℤ → Option RuleCells → List Sha
 rule_shares q a b None = []
 rule_shares q a b (Some r) = map (cell_share q r.rule) (filter (is_cell_taken q r.rule a b) (cells_within r (index_of r.rule a) (index_of r.rule b)))
 
-abbrev pub source_shares : Seen → Query → Source → ℤ → ℤ → List Share
-source_shares seen q Raw a b = seats_shares q seen.columns a b (seats_where (is_of q.measurement q.field) seen.columns)
+abbrev pub source_shares : ViewState → Query → Source → ℤ → ℤ → List Share
+source_shares seen q Raw a b = column_refs_shares q seen.columns a b (column_refs_where (is_of q.measurement q.field) seen.columns)
 source_shares seen q (Rollup name) a b = rule_shares q a b (rule_shown name seen.rules)
 
-abbrev pub pieces_shares : Seen → Query → List Piece → List Share
+abbrev pub pieces_shares : ViewState → Query → List Piece → List Share
 pieces_shares seen q [] = []
 pieces_shares seen q (p ∷ ps) = source_shares seen q p.source p.from p.to ++ pieces_shares seen q ps

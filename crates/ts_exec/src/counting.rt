@@ -4,7 +4,7 @@ ghost use Rattle.ts_core.specs.facts.Facts.{is_within};
 ghost use Rattle.ts_core.specs.store.Marks.{index_of};
 ghost use Rattle.ts_core.specs.plans.Pieces.{Raw};
 ghost use Rattle.ts_core.specs.store.StoreStates.{total_in};
-ghost use Rattle.ts_store.specs.read.Seats.{cells_at};
+ghost use Rattle.ts_store.specs.read.ViewResults.{view_cells_at};
 ghost use Rattle.ts_exec.specs.Executions.{IsCountOf};
 ghost use Rattle.ts_exec.specs.GroupTables.{is_cell_taken};
 ghost use Rattle.ts_exec.specs.Shares.{points_of_shares, cell_share, source_shares, pieces_shares};
@@ -17,7 +17,7 @@ use std::alloc::Allocator;
 use ts_check::{Checked, Piece, PieceSource};
 use ts_core::{Partial, Rule, index_of};
 use ts_ql::Query;
-use ts_store::{CellSeen, View};
+use ts_store::{View, ViewCell};
 
 /// Returns the number of raw points that match a query from `from`, inclusive, to `to`, exclusive.
 fn raw_points<A: Allocator + Copy, V: View<A>>(
@@ -44,7 +44,7 @@ fn cell_points<A: Allocator + Copy>(
     query: &Query<A>,
     from: i64,
     to: i64,
-    cell: &CellSeen<'_, A>,
+    cell: &ViewCell<'_, A>,
 ) -> u64
     requires interval { pos 1 ≤ℤ rule.now.interval }
     requires within { is_within (index_of rule.now from) (index_of rule.now to) cell.now.cell.index ≡ true }
@@ -69,7 +69,7 @@ fn rollup_points<A: Allocator + Copy, V: View<A>>(
 ) -> u64
     requires number { number < length (V.seen view.now).rules }
     requires interval { pos 1 ≤ℤ rule.now.interval }
-    ensures { result ≡ min (points_of_shares (map (cell_share query.now.query rule.now) (filter (is_cell_taken query.now.query rule.now from to) (cells_at (V.seen view.now).rules number (index_of rule.now from) (index_of rule.now to))))) 18446744073709551615 }
+    ensures { result ≡ min (points_of_shares (map (cell_share query.now.query rule.now) (filter (is_cell_taken query.now.query rule.now from to) (view_cells_at (V.seen view.now).rules number (index_of rule.now from) (index_of rule.now to))))) 18446744073709551615 }
 {
     let first = index_of(rule, i128::from(from));
     let end = index_of(rule, i128::from(to));

@@ -3,7 +3,7 @@ ghost use Rattle.std.specs.Prelude.{◌≡◌, ◌↔◌, [], IsTrue, IsOk, IfOk
 ghost use Rattle.std.specs.List.{AllByRecursion};
 ghost use Rattle.ts_core.specs.queries.Queries.{IsQuery};
 ghost use Rattle.ts_exec.specs.Answered.{HasRows};
-ghost use Rattle.ts_exec.specs.Executions.{IsFresh, IsExecutionOf};
+ghost use Rattle.ts_exec.specs.Executions.{IsCurrent, IsExecutionOf};
 ghost use Rattle.ts_exec.specs.GroupTables.{with_pieces, width};
 
 use crate::fault::ExecFault;
@@ -34,7 +34,7 @@ fn groups_given<'a, A: Allocator + Copy + 'a, V: View<A> + 'a>(
 
 /// Returns true if the view has the settings and marks that the plan was checked under.
 pub(crate) fn is_fresh<A: Allocator, V: View<A>>(view: &V, checked: &Checked<A>) -> bool
-    ensures { IsTrue result ↔ IsFresh (V.seen view.now) checked.now }
+    ensures { IsTrue result ↔ IsCurrent (V.seen view.now) checked.now }
 {
     view.settings().is(checked.settings()) && view.marks().is(checked.marks())
 }

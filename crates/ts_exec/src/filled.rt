@@ -2,7 +2,7 @@
 ghost use Rattle.std.specs.Prelude.{◌≡◌, filter};
 ghost use Rattle.std.specs.Iterator.{YieldsFirst, item_count};
 ghost use Rattle.ts_core.specs.queries.Fills.{has_data, last_data, filled_rows};
-ghost use Rattle.ts_exec.specs.Fillings.{EndsFit, functions_of, rows_at, shown_by, shown_rows, shown_value};
+ghost use Rattle.ts_exec.specs.Fillings.{EndsFit, functions_of, rows_at, row_content, content_rows, content_value};
 
 use std::alloc::Allocator;
 use std::marker::Model;
@@ -11,7 +11,7 @@ use ts_ql::Projection;
 
 /// Content of a row.
 #[derive(Clone, Copy, Debug)]
-pub(crate) enum Shown {
+pub(crate) enum RowContent {
     /// Data of the row's bucket, or of an earlier one.
     Data(Agg),
     /// Fill number, instead of data.
@@ -20,22 +20,22 @@ pub(crate) enum Shown {
     Nothing,
 }
 
-impl Shown {
+impl RowContent {
     /// Returns the content of a row with data `own`. `latest` is the last data up to this row.
-    fn by(fill: Fill, latest: Option<Agg>, own: Agg) -> Shown
-        ensures { result ≡ shown_by fill latest own }
+    fn by(fill: Fill, latest: Option<Agg>, own: Agg) -> RowContent
+        ensures { result ≡ row_content fill latest own }
     {
         match fill {
-            Fill::Null | Fill::None => Shown::Data(own),
+            Fill::Null | Fill::None => RowContent::Data(own),
             Fill::Previous => match latest {
-                None => Shown::Nothing,
-                Some(data) => Shown::Data(data),
+                None => RowContent::Nothing,
+                Some(data) => RowContent::Data(data),
             },
             Fill::Number(number) => {
                 if own.count() == 0 {
-                    Shown::Number(number)
+                    RowContent::Number(number)
                 } else {
-                    Shown::Data(own)
+                    RowContent::Data(own)
                 }
             }
         }
@@ -43,12 +43,12 @@ impl Shown {
 
     /// Returns the value of a column with this function.
     fn value(&self, function: Function) -> Value
-        ensures { result ≡ shown_value self.now function }
+        ensures { result ≡ content_value self.now function }
     {
         match self {
-            Shown::Data(data) => function.value_of(data),
-            Shown::Number(number) => function.number_value(*number),
-            Shown::Nothing => Value::Null,
+            RowContent::Data(data) => function.value_of(data),
+            RowContent::Number(number) => function.number_value(*number),
+            RowContent::Nothing => Value::Null,
         }
     }
 }
@@ -56,18 +56,18 @@ impl Shown {
 /// Iterator over the values of a row, one per column. Its model is the list of those that remain.
 #[derive(Drop)]
 pub struct Values<'a, A: Allocator> {
-    shown: Shown,
+    shown: RowContent,
     left: &'a [Projection<A>],
 }
 
 impl<'a, A: Allocator> Model for Values<'a, A> {
     ghost use Rattle.std.specs.Prelude.{List, map};
     ghost use Rattle.ts_core.specs.declared.queries.value.Value.{Value as ColumnValue};
-    ghost use Rattle.ts_exec.specs.Fillings.{functions_of, shown_value};
+    ghost use Rattle.ts_exec.specs.Fillings.{functions_of, content_value};
 
     ghost Value = { List ColumnValue };
 
-    ghost view = { λ v. map (shown_value v.shown) (functions_of v.left.now) };
+    ghost view = { λ v. map (content_value v.shown) (functions_of v.left.now) };
 }
 
 impl<'a, A: Allocator> Iterator for Values<'a, A> {
@@ -88,17 +88,17 @@ impl<'a, A: Allocator> Iterator for Values<'a, A> {
 #[derive(Drop)]
 pub struct FilledRow<'a, A: Allocator> {
     start: i128,
-    shown: Shown,
+    shown: RowContent,
     columns: &'a [Projection<A>],
 }
 
 impl<'a, A: Allocator> Model for FilledRow<'a, A> {
     ghost use Rattle.ts_core.specs.queries.Fills.{FilledRow as RowValue};
-    ghost use Rattle.ts_exec.specs.Fillings.{functions_of, shown_row};
+    ghost use Rattle.ts_exec.specs.Fillings.{functions_of, content_row};
 
     ghost Value = { RowValue };
 
-    ghost view = { λ r. shown_row r.shown (functions_of r.columns.now) r.start };
+    ghost view = { λ r. content_row r.shown (functions_of r.columns.now) r.start };
 }
 
 impl<'a, A: Allocator> FilledRow<'a, A> {
@@ -210,7 +210,7 @@ fn next_with_data(rows: &mut BucketRows<'_>) -> Option<BucketRow>
 
 /// Returns the next row that the fill option shows.
 fn next_shown(rows: &mut BucketRows<'_>, fill: Fill) -> Option<BucketRow>
-    ensures { YieldsFirst (shown_rows fill) rows.old result rows.new }
+    ensures { YieldsFirst (content_rows fill) rows.old result rows.new }
 {
     match fill {
         Fill::None => next_with_data(rows),
@@ -241,11 +241,11 @@ pub struct FilledRows<'a, A: Allocator> {
 impl<'a, A: Allocator> Model for FilledRows<'a, A> {
     ghost use Rattle.std.specs.Prelude.{List};
     ghost use Rattle.ts_core.specs.queries.Fills.{FilledRow as RowValue};
-    ghost use Rattle.ts_exec.specs.Fillings.{functions_of, rows_behind, shown_rows};
+    ghost use Rattle.ts_exec.specs.Fillings.{functions_of, rows_behind, content_rows};
 
     ghost Value = { List RowValue };
 
-    ghost view = { λ r. rows_behind r.fill (functions_of r.columns.now) r.latest (shown_rows r.fill r.rows) };
+    ghost view = { λ r. rows_behind r.fill (functions_of r.columns.now) r.latest (content_rows r.fill r.rows) };
 }
 
 impl<'a, A: Allocator> FilledRows<'a, A> {
@@ -278,7 +278,7 @@ impl<'a, A: Allocator> Iterator for FilledRows<'a, A> {
         self.latest = last_data(self.latest, &row);
         Some(FilledRow {
             start: row.start,
-            shown: Shown::by(self.fill, self.latest, row.aggregate),
+            shown: RowContent::by(self.fill, self.latest, row.aggregate),
             columns: self.columns,
         })
     }

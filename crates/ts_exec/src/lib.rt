@@ -18,7 +18,7 @@
 //! ```
 //!
 //! To add an aggregate: touch nothing here; `Partial` merges rows, and ts_core's `Function` computes the values of
-//! columns. To add a fill option that ts_core's `Fill` has: touch filled.rt, and `shown_by` and `shown_rows` in
+//! columns. To add a fill option that ts_core's `Fill` has: touch filled.rt, and `row_content` and `content_rows` in
 //! specs/Fillings.antt.
 #![tactic(auto)]
 

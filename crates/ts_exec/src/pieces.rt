@@ -8,7 +8,7 @@ ghost use Rattle.ts_core.specs.plans.Pieces.{Raw, start_of};
 ghost use Rattle.ts_core.specs.queries.Queries.{IsQuery, meets, is_selected};
 ghost use Rattle.ts_core.specs.facts.Tags.{tag_values, value_among};
 ghost use Rattle.ts_ql.specs.Selects.{texts};
-ghost use Rattle.ts_store.specs.read.Seats.{cells_at};
+ghost use Rattle.ts_store.specs.read.ViewResults.{view_cells_at};
 ghost use Rattle.ts_exec.specs.FirstOf.{rule_from};
 ghost use Rattle.ts_exec.specs.Lent.{lent};
 ghost use Rattle.ts_exec.specs.GroupTables.{with_cell, with_cell_parts, with_source, with_pieces, is_cell_taken};
@@ -21,7 +21,7 @@ use std::marker::Model;
 use ts_check::{Piece, PieceSource};
 use ts_core::{Key, Partial, Rule, index_of};
 use ts_ql::{Condition, Query};
-use ts_store::{CellSeen, ColumnSeen, View};
+use ts_store::{View, ViewCell, ViewColumn};
 
 /// State shared by all pieces of a query: its buckets, and a scratch list for the tag values of a group. Its model is
 /// the query.
@@ -91,7 +91,7 @@ fn expect_groups<'a, A: Allocator + Copy>(
     groups: &mut Groups<'a, A>,
     alloc: A,
     query: &Query<A>,
-    columns: &[ColumnSeen<'a, A>],
+    columns: &[ViewColumn<'a, A>],
 ) -> Result<Vec<usize, A>, AllocError>
     ensures { groups.new ≡ groups.old }
 {
@@ -160,17 +160,17 @@ fn kept_value<'a, A: Allocator>(kept: &[String<A>], group: &'a [String<A>], tag:
 }
 
 /// Returns true if a cell meets a condition.
-fn is_met_by<A: Allocator>(rule: &Rule<A>, cell: &CellSeen<'_, A>, condition: &Condition<A>) -> bool
+fn is_met_by<A: Allocator>(rule: &Rule<A>, cell: &ViewCell<'_, A>, condition: &Condition<A>) -> bool
     ensures { result ≡ meets (stand_in rule.now cell.now.cell).column.series condition.now }
 {
     let same = kept_value(rule.kept_tags(), cell.group, condition.tag()) == condition.value();
-    if condition.differs() { !same } else { same }
+    if condition.negated() { !same } else { same }
 }
 
 /// Returns true if a cell meets all conditions.
 fn are_met_by<A: Allocator>(
     rule: &Rule<A>,
-    cell: &CellSeen<'_, A>,
+    cell: &ViewCell<'_, A>,
     conditions: &[Condition<A>],
 ) -> bool
     ensures { result ≡ list_all (meets (stand_in rule.now cell.now.cell).column.series) conditions.now }
@@ -188,7 +188,7 @@ fn is_within(from: i64, to: i64, moment: &i128) -> bool
 }
 
 /// Returns true if the query matches the series and field of a cell.
-fn is_selected<A: Allocator>(rule: &Rule<A>, query: &Query<A>, cell: &CellSeen<'_, A>) -> bool
+fn is_selected<A: Allocator>(rule: &Rule<A>, query: &Query<A>, cell: &ViewCell<'_, A>) -> bool
     ensures { result ≡ is_selected query.now.query (stand_in rule.now cell.now.cell).column }
 {
     rule.measurement() == query.measurement()
@@ -204,7 +204,7 @@ pub(crate) fn is_taken<A: Allocator>(
     from: i64,
     to: i64,
     start: &i128,
-    cell: &CellSeen<'_, A>,
+    cell: &ViewCell<'_, A>,
 ) -> bool
     requires { start.now ≡ start_of rule.now cell.now.cell.index }
     ensures { result ≡ is_cell_taken query.now.query rule.now from to cell.now }
@@ -254,7 +254,7 @@ fn add_cell<'a, A: Allocator + Copy>(
     rule: &Rule<A>,
     from: i64,
     to: i64,
-    cell: CellSeen<'a, A>,
+    cell: ViewCell<'a, A>,
 ) -> Result<(), AllocError>
     requires interval { pos 1 ≤ℤ rule.now.interval }
     requires within { is_within (index_of rule.now from) (index_of rule.now to) cell.cell.index ≡ true }
@@ -288,7 +288,7 @@ fn add_cells<'a, A: Allocator + Copy + 'a, V: View<A> + 'a>(
 ) -> Result<(), AllocError>
     requires number { number < length (V.seen view.now).rules }
     requires interval { pos 1 ≤ℤ rule.now.interval }
-    ensures value { OnOk result (groups.new ≡ with_cell_parts scan.old rule.now from to (cells_at (V.seen view.now).rules number (index_of rule.now from) (index_of rule.now to)) groups.old) }
+    ensures value { OnOk result (groups.new ≡ with_cell_parts scan.old rule.now from to (view_cells_at (V.seen view.now).rules number (index_of rule.now from) (index_of rule.now to)) groups.old) }
     ensures same { scan.new ≡ scan.old }
 {
     let first = index_of(rule, i128::from(from));

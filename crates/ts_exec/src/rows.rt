@@ -29,7 +29,7 @@ pub(crate) fn add_part(rows: &mut [Agg], place: usize, part: Agg)
 
 /// Cached row with its index, for runs of points in one bucket.
 #[derive(Clone, Copy, Debug)]
-struct Held {
+struct CachedRow {
     place: usize,
     row: Agg,
 }
@@ -54,15 +54,15 @@ fn put_row(rows: &mut [Agg], place: usize, row: Agg)
 }
 
 /// Caches the row with this index, after writing back the one cached before.
-fn hold(rows: &mut [Agg], held: &mut Held, place: usize)
-    ensures same { set rows.new held.new.place held.new.row ≡ set rows.old held.old.place held.old.row }
-    ensures place { held.new.place ≡ place }
+fn cache_row(rows: &mut [Agg], cached: &mut CachedRow, place: usize)
+    ensures same { set rows.new cached.new.place cached.new.row ≡ set rows.old cached.old.place cached.old.row }
+    ensures place { cached.new.place ≡ place }
     ensures length { length rows.new ≡ length rows.old }
 {
-    if held.place != place {
-        put_row(rows, held.place, held.row);
-        held.row = row_at(rows, place);
-        held.place = place;
+    if cached.place != place {
+        put_row(rows, cached.place, cached.row);
+        cached.row = row_at(rows, place);
+        cached.place = place;
     }
 }
 
@@ -72,15 +72,15 @@ pub(crate) fn add_points(rows: &mut [Agg], buckets: &mut Buckets, points: Points
     ensures same { buckets.new ≡ buckets.old }
 {
     let _width = rows.len();
-    let mut held = Held {
+    let mut cached = CachedRow {
         place: 0,
         row: row_at(rows, 0),
     };
     for (time, value) in points {
-        hold(rows, &mut held, buckets.place(time.nanos()));
-        held.row = added(held.row, Agg::single(time, value));
+        cache_row(rows, &mut cached, buckets.place(time.nanos()));
+        cached.row = added(cached.row, Agg::single(time, value));
     }
-    put_row(rows, held.place, held.row);
+    put_row(rows, cached.place, cached.row);
 }
 
 /// Adds the point `first` and then the others, each to the row of its bucket.

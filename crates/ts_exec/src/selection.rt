@@ -3,20 +3,20 @@ ghost use Rattle.std.specs.Prelude.{◌≡◌, IfOk, IfSome};
 ghost use Rattle.std.specs.List.{list_all};
 ghost use Rattle.ts_core.specs.facts.Facts.{is_of};
 ghost use Rattle.ts_core.specs.queries.Queries.{meets};
-ghost use Rattle.ts_store.specs.read.Seats.{seats_where};
-ghost use Rattle.ts_exec.specs.GroupTables.{selected_seats, IsNarrowing};
+ghost use Rattle.ts_store.specs.read.ViewResults.{column_refs_where};
+ghost use Rattle.ts_exec.specs.GroupTables.{selected_column_refs, IsNarrowing};
 
 use std::alloc::{AllocError, Allocator};
 use ts_core::Key;
 use ts_ql::{Condition, Query};
-use ts_store::{ColumnSeen, Columns, View};
+use ts_store::{Columns, View, ViewColumn};
 
 /// Returns true if a series meets a condition.
 fn is_met<A: Allocator + Copy>(key: &Key<A>, condition: &Condition<A>) -> bool
     ensures { result ≡ meets key.now condition.now }
 {
     let same = key.tag_value(condition.tag()) == condition.value();
-    if condition.differs() { !same } else { same }
+    if condition.negated() { !same } else { same }
 }
 
 /// Returns true if a series meets all conditions.
@@ -35,7 +35,7 @@ fn narrowing<'q, A: Allocator + Copy>(
     ensures { IfSome result (λ c. IsNarrowing conditions.now c.now) }
 {
     let (first, others) = conditions.split_first()?;
-    if first.differs() {
+    if first.negated() {
         return narrowing(columns, others, limit);
     }
     let count = columns.count_with_tag(first.tag(), first.value());
@@ -54,8 +54,8 @@ fn candidates<'a, A: Allocator + Copy + 'a, V: View<A> + 'a>(
     alloc: A,
     query: &Query<A>,
     view: &'a V,
-) -> Result<Vec<ColumnSeen<'a, A>, A>, AllocError>
-    ensures { IfOk result (λ v. selected_seats query.now.query.conditions v.items ≡ selected_seats query.now.query.conditions (seats_where (is_of query.now.query.measurement query.now.query.field) (V.seen view.now).columns)) }
+) -> Result<Vec<ViewColumn<'a, A>, A>, AllocError>
+    ensures { IfOk result (λ v. selected_column_refs query.now.query.conditions v.items ≡ selected_column_refs query.now.query.conditions (column_refs_where (is_of query.now.query.measurement query.now.query.field) (V.seen view.now).columns)) }
 {
     let columns = view.columns_of(query.measurement(), query.field());
     match narrowing(&columns, query.conditions(), columns.len() / 2) {
@@ -70,8 +70,8 @@ pub(crate) fn selected_columns<'a, A: Allocator + Copy + 'a, V: View<A> + 'a>(
     alloc: A,
     query: &Query<A>,
     view: &'a V,
-) -> Result<Vec<ColumnSeen<'a, A>, A>, AllocError>
-    ensures { IfOk result (λ v. v.items ≡ selected_seats query.now.query.conditions (seats_where (is_of query.now.query.measurement query.now.query.field) (V.seen view.now).columns)) }
+) -> Result<Vec<ViewColumn<'a, A>, A>, AllocError>
+    ensures { IfOk result (λ v. v.items ≡ selected_column_refs query.now.query.conditions (column_refs_where (is_of query.now.query.measurement query.now.query.field) (V.seen view.now).columns)) }
 {
     let mut found = candidates(alloc, query, view)?;
     let conditions = query.conditions();

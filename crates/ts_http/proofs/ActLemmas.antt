@@ -11,13 +11,13 @@ use Rattle.ts_reply.specs.Answering.{IsReply}
 use Rattle.ts_reply.specs.Explaining.{IsExplanation}
 use Rattle.ts_reply.specs.declared.answering.Reply.{Reply}
 use Rattle.ts_reply.specs.declared.epoch.Epoch.{Epoch}
-use Rattle.ts_http.specs.Acts.{Replied, refusing, batch_reply, precision_in, epoch_asked, explain_asked, value_in, Writes, Queries}
+use Rattle.ts_http.specs.Acts.{Replied, refusing, batch_reply, precision_in, epoch_parameter, explain_parameter, value_in, Writes, Queries}
 use Rattle.ts_store.specs.write.LineTexts.{State, IsIn, refusal_text}
 use Rattle.ts_store.specs.declared.write.write_text.LineOutcome.{LineOutcome}
 use Rattle.ts_http.specs.Batches.{refusals_of}
-use Rattle.ts_http.specs.Outcomes.{reply_of, WritesAs, QueriesAs, answered_reply}
+use Rattle.ts_http.specs.OutcomeReplies.{reply_of, WritesAs, QueriesAs, answered_reply}
 use Rattle.ts_http.specs.Parameters.{Parameters, first_named}
-use Rattle.ts_http.specs.Tallies.{TallyIs, DidLines}
+use Rattle.ts_http.specs.Tallies.{TallyIs, WritesLines}
 use Rattle.ts_http.specs.declared.batch.Tally.{Tally}
 use Rattle.ts_http.specs.declared.outcome.Outcome.{Outcome}
 use Rattle.ts_http.specs.declared.outcome.Outcome.TheVariants as outcomes
@@ -68,13 +68,13 @@ module _ (now : ℤ) (query body : Text) (k : StoreData) where
   pub write_no_text : (IsUtf8 body → ⊥) → WritesAs now query body k (outcomes.Refused refusals.BodyNotText) k
   write_no_text none = λ s i. (s, Writes.not_text none, i)
 
-  pub lines_written : (E : Type 0) (precision : TimeUnit) (new : StoreData) (tally : Tally) (o : Outcome) → IsUtf8 body → precision_in query ≡ Some precision → ((s : State) → IsIn s k → DidLines precision now s body {E = E} (Ok tally) new)
+  pub lines_written : (E : Type 0) (precision : TimeUnit) (new : StoreData) (tally : Tally) (o : Outcome) → IsUtf8 body → precision_in query ≡ Some precision → ((s : State) → IsIn s k → WritesLines precision now s body {E = E} (Ok tally) new)
       → ((os : List LineOutcome) → TallyIs (map refusal_text os) tally → reply_of false o ≡ batch_reply (refusals_of os)) → WritesAs now query body k o new
   lines_written E precision new tally o utf8 p did told = λ s i.
       let d = did s i in
       (d.1, subst (λ (r : Replied). Writes now s query body r d.1) (sym (told d.0 d.3)) (Writes.writes precision d.0 d.1 utf8 p d.2), d.4)
 
-  pub lines_stopped : (E : Type 0) (precision : TimeUnit) (new : StoreData) (e : E) → IsUtf8 body → precision_in query ≡ Some precision → ((s : State) → IsIn s k → DidLines precision now s body {E = E} (Err e) new) → WritesAs now query body k (outcomes.Refused refusals.OutOfMemory) new
+  pub lines_stopped : (E : Type 0) (precision : TimeUnit) (new : StoreData) (e : E) → IsUtf8 body → precision_in query ≡ Some precision → ((s : State) → IsIn s k → WritesLines precision now s body {E = E} (Err e) new) → WritesAs now query body k (outcomes.Refused refusals.OutOfMemory) new
   lines_stopped E precision new e utf8 p did = λ s i.
       let d = did s i in
       (d.0, Writes.stops precision d.0 utf8 p d.1, d.2)
@@ -85,24 +85,24 @@ module _ (now : ℤ) (query body : Text) (k : StoreData) (utf8 : IsUtf8 body) wh
   pub query_no_memory : QueriesAs now query body k (outcomes.Refused refusals.OutOfMemory)
   query_no_memory = λ s i. Queries.wants_memory utf8
 
-  pub epoch_refused : (r : Refusal) → (r ≡ refusals.OutOfMemory) ⊎ ((epoch_asked (value_in (codes "epoch") query body) ≡ None) × (r ≡ refusals.BadEpoch)) → QueriesAs now query body k (outcomes.Refused r)
+  pub epoch_refused : (r : Refusal) → (r ≡ refusals.OutOfMemory) ⊎ ((epoch_parameter (value_in (codes "epoch") query body) ≡ None) × (r ≡ refusals.BadEpoch)) → QueriesAs now query body k (outcomes.Refused r)
   epoch_refused r why = λ s i.
       ⊎_elim {C = Queries now s query body (refusing r)} (λ e. subst (λ q. Queries now s query body (refusing q)) (sym e) (Queries.wants_memory utf8)) (λ w. subst (λ q. Queries now s query body (refusing q)) (sym w.1) (Queries.bad_epoch utf8 w.0)) why
 
-  module _ (epoch : Epoch) (e : epoch_asked (value_in (codes "epoch") query body) ≡ Some epoch) where
-    pub explain_refused : (r : Refusal) → (r ≡ refusals.OutOfMemory) ⊎ ((explain_asked (value_in (codes "explain") query body) ≡ None) × (r ≡ refusals.BadExplain)) → QueriesAs now query body k (outcomes.Refused r)
+  module _ (epoch : Epoch) (e : epoch_parameter (value_in (codes "epoch") query body) ≡ Some epoch) where
+    pub explain_refused : (r : Refusal) → (r ≡ refusals.OutOfMemory) ⊎ ((explain_parameter (value_in (codes "explain") query body) ≡ None) × (r ≡ refusals.BadExplain)) → QueriesAs now query body k (outcomes.Refused r)
     explain_refused r why = λ s i.
         ⊎_elim {C = Queries now s query body (refusing r)} (λ m. subst (λ q. Queries now s query body (refusing q)) (sym m) (Queries.wants_memory utf8)) (λ w. subst (λ q. Queries now s query body (refusing q)) (sym w.1) (Queries.bad_explain epoch utf8 e w.0)) why
 
-    pub query_missing : (explain : Bool) → explain_asked (value_in (codes "explain") query body) ≡ Some explain → value_in (codes "q") query body ≡ None → QueriesAs now query body k (outcomes.Refused refusals.MissingQuery)
+    pub query_missing : (explain : Bool) → explain_parameter (value_in (codes "explain") query body) ≡ Some explain → value_in (codes "q") query body ≡ None → QueriesAs now query body k (outcomes.Refused refusals.MissingQuery)
     query_missing explain x none = λ s i. Queries.missing epoch explain utf8 e x none
 
-    pub answered_so : {E : Type 0} (text : Text) (r : Result Reply E) (o : Outcome) → explain_asked (value_in (codes "explain") query body) ≡ Some false → value_in (codes "q") query body ≡ Some text
+    pub answered_so : {E : Type 0} (text : Text) (r : Result Reply E) (o : Outcome) → explain_parameter (value_in (codes "explain") query body) ≡ Some false → value_in (codes "q") query body ≡ Some text
         → IfOk r (λ reply. OfEachHistory k (λ opening h. IsReply opening h now text (value_in (codes "cert") query body) epoch reply.good (string_bytes reply.body))) → reply_of false o ≡ answered_reply r → QueriesAs now query body k o
     answered_so text (Ok reply) o x q is told = λ s i. subst (Queries now s query body) (sym told) (Queries.answers epoch text reply.good (string_bytes reply.body) utf8 e x q (is s.opening s.history i.stands))
     answered_so text (Err f) o x q is told = λ s i. subst (Queries now s query body) (sym told) (Queries.wants_memory utf8)
 
-    pub explained_so : {E : Type 0} (text : Text) (r : Result Reply E) (o : Outcome) → explain_asked (value_in (codes "explain") query body) ≡ Some true → value_in (codes "q") query body ≡ Some text
+    pub explained_so : {E : Type 0} (text : Text) (r : Result Reply E) (o : Outcome) → explain_parameter (value_in (codes "explain") query body) ≡ Some true → value_in (codes "q") query body ≡ Some text
         → IfOk r (λ reply. OfEachHistory k (λ opening h. IsExplanation opening h now text reply.good (string_bytes reply.body))) → reply_of false o ≡ answered_reply r → QueriesAs now query body k o
     explained_so text (Ok reply) o x q is told = λ s i. subst (Queries now s query body) (sym told) (Queries.explains epoch text reply.good (string_bytes reply.body) utf8 e x q (is s.opening s.history i.stands))
     explained_so text (Err f) o x q is told = λ s i. subst (Queries now s query body) (sym told) (Queries.wants_memory utf8)

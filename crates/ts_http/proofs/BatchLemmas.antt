@@ -9,7 +9,7 @@ use Rattle.ts_store.specs.write.LineTexts.{State, IsIn, WritesText, WritesFrom, 
 use Rattle.ts_store.specs.declared.write.write_text.LineOutcome.{LineOutcome}
 use Rattle.ts_store.specs.declared.write.write_text.LineRefusal.{LineRefusal}
 use Rattle.ts_http.specs.Batches.{TakesLines, body_lines, onto_first, refusals_from}
-use Rattle.ts_http.specs.Tallies.{TallyIs, DidLines, numbered_text, first_of}
+use Rattle.ts_http.specs.Tallies.{TallyIs, WritesLines, numbered_refusal, first_of}
 use Rattle.ts_http.specs.declared.batch.Tally.{Tally}
 
 -- ---- tallies
@@ -39,16 +39,16 @@ first_comes : (xs : List (ℕ × Text)) (y : ℕ × Text) → None ≡ first_of 
 first_comes [] y e = refl
 first_comes (z ∷ xs) y e = absurd cc
 
-counted_first : (os : List (Option Text)) (lines : ℕ) (r : LineRefusal) (first : Option (ℕ × LineRefusal)) → first ≡ None → lines ≡ length os → option_map numbered_text first ≡ first_of (refusals_from 1 os)
-    → Some (numbered_text (lines + 1, r)) ≡ first_of (refusals_from 1 (os ++ Some (line_refusal_text r) ∷ []))
+counted_first : (os : List (Option Text)) (lines : ℕ) (r : LineRefusal) (first : Option (ℕ × LineRefusal)) → first ≡ None → lines ≡ length os → option_map numbered_refusal first ≡ first_of (refusals_from 1 os)
+    → Some (numbered_refusal (lines + 1, r)) ≡ first_of (refusals_from 1 (os ++ Some (line_refusal_text r) ∷ []))
 counted_first os lines r first none e is =
-    first_comes (refusals_from 1 os) (lines + 1, line_refusal_text r) (sym (ap (option_map numbered_text) none) ∙ is) ∙ sym (ap first_of (more_some 1 (lines + 1) (line_refusal_text r) os (omega (arith, e))))
+    first_comes (refusals_from 1 os) (lines + 1, line_refusal_text r) (sym (ap (option_map numbered_refusal) none) ∙ is) ∙ sym (ap first_of (more_some 1 (lines + 1) (line_refusal_text r) os (omega (arith, e))))
 
-counted_again : (os : List (Option Text)) (lines : ℕ) (text : Text) (first : Option (ℕ × LineRefusal)) → first ≢ None → lines ≡ length os → option_map numbered_text first ≡ first_of (refusals_from 1 os)
-    → option_map numbered_text first ≡ first_of (refusals_from 1 (os ++ Some text ∷ []))
+counted_again : (os : List (Option Text)) (lines : ℕ) (text : Text) (first : Option (ℕ × LineRefusal)) → first ≢ None → lines ≡ length os → option_map numbered_refusal first ≡ first_of (refusals_from 1 os)
+    → option_map numbered_refusal first ≡ first_of (refusals_from 1 (os ++ Some text ∷ []))
 counted_again os lines text None some e is = absurd (some refl)
 counted_again os lines text (Some x) some e is =
-    first_stays (refusals_from 1 os) (numbered_text x) (lines + 1, text) is ∙ sym (ap first_of (more_some 1 (lines + 1) text os (omega (arith, e))))
+    first_stays (refusals_from 1 os) (numbered_refusal x) (lines + 1, text) is ∙ sym (ap first_of (more_some 1 (lines + 1) text os (omega (arith, e))))
 
 one_dropped : (os : List (Option Text)) (text : Text) (dropped lines : ℕ) → lines ≡ length os → dropped ≡ length (refusals_from 1 os) → dropped + 1 ≡ length (refusals_from 1 (os ++ Some text ∷ []))
 one_dropped os text dropped lines l d =
@@ -131,12 +131,12 @@ module _ (E : Type 0) (precision : TimeUnit) (now : ℤ) (s : State) (lines : Li
         here = d.2;
       }
 
-pub all_done : (E : Type 0) (precision : TimeUnit) (now : ℤ) (s : State) (body : Text) (t : Tally) (k : StoreData) → SoFar precision now s (body_lines body) t [] k → DidLines precision now s body {E = E} (Ok t) k
+pub all_done : (E : Type 0) (precision : TimeUnit) (now : ℤ) (s : State) (body : Text) (t : Tally) (k : StoreData) → SoFar precision now s (body_lines body) t [] k → WritesLines precision now s body {E = E} (Ok t) k
 all_done E precision now s body t k so =
     (so.outcomes, so.mid, subst (λ (l : List Text). TakesLines precision now s l so.outcomes so.mid) (sym (so.lines_are ∙ append-nil so.done)) so.took, so.tally, so.here)
 
 pub stopped : (E : Type 0) (precision : TimeUnit) (now : ℤ) (s : State) (body : Text) (t : Tally) (text : Text) (left rest : List Text) (k k' : StoreData) (e : E) → SoFar precision now s (body_lines body) t left k → left ≡ text ∷ rest
-    → ((m : State) → IsIn m k → WritesFrom precision now m text {E = E} (Err e) k') → DidLines precision now s body {E = E} (Err e) k'
+    → ((m : State) → IsIn m k → WritesFrom precision now m text {E = E} (Err e) k') → WritesLines precision now s body {E = E} (Err e) k'
 stopped E precision now s body t text left rest k k' e so is did =
     let d = did so.mid so.here in
     (d.0, record { done = so.done; line = text; others = rest; lines_are = so.lines_are ∙ ap (λ (l : List Text). so.done ++ l) is; outcomes = so.outcomes; mid = so.mid; took = so.took; wanted = d.1 }, d.2)

@@ -11,11 +11,11 @@ use Rattle.httparse.specs.declared.spans.RequestSpans.{RequestSpans}
 use Rattle.httparse.proofs.GrammarLemmas.{ReadsRequest-append}
 use Rattle.ts_core.specs.facts.Facts.{Text}
 use Rattle.ts_core.specs.io.Devices.{Input}
-use Rattle.ts_http.specs.Heads.{head_limit, field_limit, IsUnfinished, ReadsHead, Fault}
+use Rattle.ts_http.specs.Heads.{head_limit, field_limit, IsUnfinishedHead, ReadsHead, Fault}
 use Rattle.ts_http.specs.declared.head.HeadFault.TheVariants.{EndsEarly, TooLarge, Malformed}
 use Rattle.ts_http.specs.declared.head.HeadRead.{HeadRead}
 use Rattle.ts_http.specs.declared.head.HeadRead.TheVariants as read
-use Rattle.ts_http.specs.Reading.{request_of, TellsHead, TellsFront}
+use Rattle.ts_http.specs.HeadsRead.{request_of, TellsHead, TellsFront}
 
 pub never-append : (came more : Text) → NeverHasRequest came → NeverHasRequest (came ++ more)
 never-append came more never others = subst HasNoRequest (sym (append_assoc came more others)) (never (more ++ others))
@@ -53,10 +53,10 @@ front_told came more spans (read.Fault EndsEarly) short few t = absurd t
 front_told came more spans (read.Fault TooLarge) short few t = ReadsHead.too_many (exceeds-append field_limit came more t.0) (overflows-append field_limit came more t.1)
 front_told came more spans (read.Fault Malformed) short few t = ReadsHead.malformed (never-append came more t)
 
-pub too_long_told : (came more : Text) (spans : List HeaderSpan) → length came ≡ head_limit → IsUnfinished came → TellsHead (came ++ more) came spans (read.Fault TooLarge)
+pub too_long_told : (came more : Text) (spans : List HeaderSpan) → length came ≡ head_limit → IsUnfinishedHead came → TellsHead (came ++ more) came spans (read.Fault TooLarge)
 too_long_told came more spans long unfinished =
     let front : take head_limit (came ++ more) ≡ came = ap (λ (n : ℕ). take n (came ++ more)) (sym long) ∙ take-append_seam came more in
-    ReadsHead.too_long (omega (arith, length-append came more, long)) (subst IsUnfinished (sym front) unfinished)
+    ReadsHead.too_long (omega (arith, length-append came more, long)) (subst IsUnfinishedHead (sym front) unfinished)
 
 -- no bytes are left after those that came
 all_came : (came : Text) (left : Option Text) → IsAtEnd left → came ++ unwrap_or left [] ≡ came
@@ -68,7 +68,7 @@ empty_is [] e = refl
 empty_is (b ∷ bs) e = absurd cc
 
 -- the input has ended after the bytes that came
-pub end_told : (came : Text) (count : ℕ) (new : Input) (spans : List HeaderSpan) (head : HeadRead) → length came ≡ count → count < head_limit → (0 < count → IsUnfinished came) → IsAtEnd new.remaining
+pub end_told : (came : Text) (count : ℕ) (new : Input) (spans : List HeaderSpan) (head : HeadRead) → length came ≡ count → count < head_limit → (0 < count → IsUnfinishedHead came) → IsAtEnd new.remaining
     → (count ≡ 0 → head ≡ read.Nothing) → (0 < count → head ≡ read.Fault EndsEarly) → TellsHead (request_of came new) came spans head
 end_told came zero new spans head size short unfinished end none some =
     subst (TellsHead (request_of came new) came spans) (sym (none refl)) (ReadsHead.nothing (all_came came new.remaining end ∙ empty_is came size))

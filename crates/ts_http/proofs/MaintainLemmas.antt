@@ -14,7 +14,7 @@ use Rattle.ts_http.specs.Acts.{Replied, refusing, answer_reply, Maintains}
 use Rattle.ts_store.specs.write.LineTexts.{State, IsIn}
 use Rattle.ts_http.specs.Maintaining.{steps_in, OpensRun, run_opened, left_in, stepped, with_steps, progress_text, run_text}
 use Rattle.ts_http.specs.MaintainSteps.{HasStepped}
-use Rattle.ts_http.specs.Outcomes.{reply_of, MaintainsAs}
+use Rattle.ts_http.specs.OutcomeReplies.{reply_of, MaintainsAs}
 use Rattle.ts_http.specs.declared.outcome.Outcome.{Outcome}
 use Rattle.ts_http.specs.declared.outcome.Outcome.TheVariants as outcomes
 use Rattle.ts_http.specs.declared.refusal.Refusal.{Refusal}

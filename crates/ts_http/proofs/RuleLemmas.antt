@@ -7,9 +7,9 @@ use Rattle.ts_core.specs.settings.Settings.{Settings}
 use Rattle.ts_core.specs.settings.SettingsFaults.{is_named, settings_fault_text, unknown_rule_text}
 use Rattle.ts_core.specs.declared.settings.settings_fault.SettingsFault.{SettingsFault}
 use Rattle.ts_core.specs.store.StoreData.{StoreData}
-use Rattle.ts_http.specs.Acts.{Replied, bad_reply, answer_reply, added_text, dropped_text, AddsRule, DropsRule, name_in}
-use Rattle.ts_http.specs.HttpReplies.{error_text}
-use Rattle.ts_http.specs.Outcomes.{AddsAs, DropsAs, DropsNamed, reply_of}
+use Rattle.ts_http.specs.Acts.{Replied, bad_reply, answer_reply, added_text, dropped_body, PostsRule, DeletesRule, name_in}
+use Rattle.ts_http.specs.HttpReplies.{error_json}
+use Rattle.ts_http.specs.OutcomeReplies.{AddsAs, DropsAs, DropsNamed, reply_of}
 use Rattle.ts_http.specs.declared.outcome.Outcome.{Outcome}
 use Rattle.ts_http.specs.declared.outcome.Outcome.TheVariants as outcomes
 use Rattle.ts_http.specs.declared.refusal.Refusal.TheVariants as refusals
@@ -23,15 +23,15 @@ use Rattle.ts_store.proofs.rules.RuleStates.{rule_came, rule_went}
 
 module _ (body : Text) (k : StoreData) where
   pub add_no_text : (IsUtf8 body → ⊥) → AddsAs body k (outcomes.Refused refusals.BodyNotText) k
-  add_no_text none = λ s i. (s, AddsRule.not_text none, i)
+  add_no_text none = λ s i. (s, PostsRule.not_text none, i)
 
   module _ (utf8 : IsUtf8 body) where
     pub add_no_memory : AddsAs body k (outcomes.Refused refusals.OutOfMemory) k
-    add_no_memory = λ s i. (s, AddsRule.wants_memory utf8, i)
+    add_no_memory = λ s i. (s, PostsRule.wants_memory utf8, i)
 
-    pub add_refused : (fault : SettingsFault) (o : Outcome) → rule_for k.settings body ≡ Err fault → (reply_of false o ≡ bad_reply (error_text (settings_fault_text fault))) ⊎ (o ≡ outcomes.Refused refusals.OutOfMemory) → AddsAs body k o k
+    pub add_refused : (fault : SettingsFault) (o : Outcome) → rule_for k.settings body ≡ Err fault → (reply_of false o ≡ bad_reply (error_json (settings_fault_text fault))) ⊎ (o ≡ outcomes.Refused refusals.OutOfMemory) → AddsAs body k o k
     add_refused fault o read told = ⊎_elim {C = AddsAs body k o k}
-        (λ is. λ s i. (s, subst (λ (r : Replied). AddsRule s body r s) (sym is) (AddsRule.refuses fault utf8 (subst (λ (z : Settings). rule_for z body ≡ Err fault) i.stands.settings read)), i))
+        (λ is. λ s i. (s, subst (λ (r : Replied). PostsRule s body r s) (sym is) (PostsRule.refuses fault utf8 (subst (λ (z : Settings). rule_for z body ≡ Err fault) i.stands.settings read)), i))
         (λ want. subst (λ (p : Outcome). AddsAs body k p k) (sym want) add_no_memory)
         told
 
@@ -40,25 +40,25 @@ module _ (body : Text) (k : StoreData) where
         let read : rule_for (settings_in s) body ≡ Ok t.rule = subst (λ (z : Settings). rule_for z body ≡ Ok t.rule) i.stands.settings t.read in
         let came = rule_came s k new t.rule added.low i t.comes in
         let reply : reply_of false o ≡ answer_reply true (added_text t.rule.name (low_in s t.rule)) = told ∙ (λ j. answer_reply true (added_text (t.name j) (came.0 j))) in
-        (with_rule_added t.rule s, subst (λ (r : Replied). AddsRule s body r (with_rule_added t.rule s)) (sym reply) (AddsRule.adds t.rule utf8 read), came.1)
+        (with_rule_added t.rule s, subst (λ (r : Replied). PostsRule s body r (with_rule_added t.rule s)) (sym reply) (PostsRule.adds t.rule utf8 read), came.1)
 
 -- ---- DELETE
 
 module _ (query : Text) (k : StoreData) where
   pub drop_no_memory : DropsAs query k (outcomes.Refused refusals.OutOfMemory) k
-  drop_no_memory = λ s i. (s, DropsRule.wants_memory, i)
+  drop_no_memory = λ s i. (s, DeletesRule.wants_memory, i)
 
   pub name_missing : name_in query ≡ None → DropsAs query k (outcomes.Refused refusals.MissingName) k
-  name_missing none = λ s i. (s, DropsRule.missing none, i)
+  name_missing none = λ s i. (s, DeletesRule.missing none, i)
 
 spelled : codes "fault 8" ≡ unknown_rule_text
 spelled = sym (ap (λ (t : Text). codes "fault " ++ (t ++ [])) (decimal_digit 8 (omega arith)))
 
-pub drop_refused : (name : Text) (k new : StoreData) (o : Outcome) → is_named k.settings.rules name ≡ false → new ≡ k → reply_of false o ≡ bad_reply (error_text (codes "fault 8")) → DropsNamed name k o new
+pub drop_refused : (name : Text) (k new : StoreData) (o : Outcome) → is_named k.settings.rules name ≡ false → new ≡ k → reply_of false o ≡ bad_reply (error_json (codes "fault 8")) → DropsNamed name k o new
 drop_refused name k new o none same told = λ query n. λ s i.
-    let reply : reply_of false o ≡ bad_reply (error_text unknown_rule_text) = told ∙ ap (λ (t : Text). bad_reply (error_text t)) spelled in
-    (s, subst (λ (r : Replied). DropsRule s query r s) (sym reply) (DropsRule.refuses name n (subst (λ (z : Settings). is_named z.rules name ≡ false) i.stands.settings none)), subst (IsIn s) (sym same) i)
+    let reply : reply_of false o ≡ bad_reply (error_json unknown_rule_text) = told ∙ ap (λ (t : Text). bad_reply (error_json t)) spelled in
+    (s, subst (λ (r : Replied). DeletesRule s query r s) (sym reply) (DeletesRule.refuses name n (subst (λ (z : Settings). is_named z.rules name ≡ false) i.stands.settings none)), subst (IsIn s) (sym same) i)
 
-pub was_dropped : (name : Text) (k new : StoreData) (o : Outcome) → IsTrue (is_named k.settings.rules name) → RuleGoes k new name → reply_of false o ≡ answer_reply true (dropped_text name) → DropsNamed name k o new
+pub was_dropped : (name : Text) (k new : StoreData) (o : Outcome) → IsTrue (is_named k.settings.rules name) → RuleGoes k new name → reply_of false o ≡ answer_reply true (dropped_body name) → DropsNamed name k o new
 was_dropped name k new o named goes told = λ query n. λ s i.
-    (with_rule_dropped name s, subst (λ (r : Replied). DropsRule s query r (with_rule_dropped name s)) (sym told) (DropsRule.drops name n (subst (λ (z : Settings). IsTrue (is_named z.rules name)) i.stands.settings named)), rule_went s k new name i goes)
+    (with_rule_dropped name s, subst (λ (r : Replied). DeletesRule s query r (with_rule_dropped name s)) (sym told) (DeletesRule.drops name n (subst (λ (z : Settings). IsTrue (is_named z.rules name)) i.stands.settings named)), rule_went s k new name i goes)

@@ -13,8 +13,8 @@ use Rattle.ts_core.specs.store.StoreData.{StoreData}
 use Rattle.httparse.proofs.GrammarLemmas.{ReadsRequest-append}
 use Rattle.ts_core.specs.io.Devices.{Output}
 use Rattle.ts_http.specs.Acts.{Acts}
-use Rattle.ts_http.specs.Heads.{IsWhole, ReadsHead, Nothing}
-use Rattle.ts_http.specs.Reading.{request_of}
+use Rattle.ts_http.specs.Heads.{IsWholeHead, ReadsHead, Nothing}
+use Rattle.ts_http.specs.HeadsRead.{request_of}
 use Rattle.ts_http.specs.Requests.{path_of, query_of, route_of, method_of, fields_of, refused, body_length}
 use Rattle.ts_http.specs.Requested.{Refuses, Wants, Asks, is_head, route_in, method_in, refused_in, is_taken}
 use Rattle.ts_http.specs.Served.{Serves, IsServed, request_turns}
@@ -29,7 +29,7 @@ use Rattle.ts_http.specs.declared.serve.Served.{Served}
 use Rattle.ts_http.specs.declared.serve.Served.TheVariants as served
 use Rattle.ts_store.specs.write.LineTexts.{State, IsIn}
 use Rattle.ts_http.specs.Maintaining.{left_in}
-use Rattle.ts_http.specs.Outcomes.{WritesAs, QueriesAs, MaintainsAs, AddsAs, DropsAs, ActsAs, reply_of}
+use Rattle.ts_http.specs.OutcomeReplies.{WritesAs, QueriesAs, MaintainsAs, AddsAs, DropsAs, ActsAs, reply_of}
 use Rattle.ts_http.specs.declared.outcome.Outcome.{Outcome}
 use Rattle.ts_http.specs.declared.outcome.Outcome.TheVariants as outcomes
 use Rattle.ts_http.specs.declared.route.Route.{Route}
@@ -80,7 +80,7 @@ refusal_served now s bytes route old new o r i oe ne asks = (s, subst (λ (p : O
 
 module _ (came : Text) (spans : List HeaderSpan) (found : RequestSpans) (head : RequestHead) (at : IsRequestAt came spans found head) where
   -- a head that is refused
-  pub asks_refused : (bytes rest : Text) (route : Route) (method : Method) (r : Refusal) → IsWhole bytes head rest
+  pub asks_refused : (bytes rest : Text) (route : Route) (method : Method) (r : Refusal) → IsWholeHead bytes head rest
       → route ≡ route_of (path_of (span_bytes came found.path)) → method ≡ method_of (span_bytes came found.method)
       → refused route method (map (header_bytes came) (take found.headers spans)) ≡ Some r → Asks bytes (Refuses r route (is_head method))
   asks_refused bytes rest route method r whole er em e =
@@ -90,7 +90,7 @@ module _ (came : Text) (spans : List HeaderSpan) (found : RequestSpans) (head : 
       subst (λ q. Asks bytes (Refuses r q (is_head method))) (sym route_is) (subst (λ m. Asks bytes (Refuses r (route_in head) (is_head m))) (sym method_is) (Asks.refuses head rest r whole why))
 
   -- a head that is accepted, and the outcome of the bytes after it
-  pub asks_taken : (bytes rest : Text) (now : ℤ) (route : Route) (method : Method) (query : Text) (len : ℕ) (old new : StoreData) (o : Outcome) (s : State) → IsWhole bytes head rest
+  pub asks_taken : (bytes rest : Text) (now : ℤ) (route : Route) (method : Method) (query : Text) (len : ℕ) (old new : StoreData) (o : Outcome) (s : State) → IsWholeHead bytes head rest
       → route ≡ route_of (path_of (span_bytes came found.path)) → method ≡ method_of (span_bytes came found.method) → query ≡ query_of (span_bytes came found.path)
       → refused route method (map (header_bytes came) (take found.headers spans)) ≡ None → len ≡ body_length method (map (header_bytes came) (take found.headers spans))
       → ActedOn now route method query rest len old o new → IsIn s old
@@ -119,7 +119,7 @@ module _ (came : Text) (spans : List HeaderSpan) (found : RequestSpans) (head : 
 
 -- ---- a head, whatever bytes follow
 
-pub whole_more : (came more bytes rest : Text) (spans : List HeaderSpan) (found : RequestSpans) (h : RequestHead) → IsRequestAt came spans found h → IsWhole bytes h rest → IsWhole (came ++ more) h (drop found.len came ++ more)
+pub whole_more : (came more bytes rest : Text) (spans : List HeaderSpan) (found : RequestSpans) (h : RequestHead) → IsRequestAt came spans found h → IsWholeHead bytes h rest → IsWholeHead (came ++ more) h (drop found.len came ++ more)
 whole_more came more bytes rest spans found h at w = record { reads = ReadsRequest-append came h (drop found.len came) more at.reads; short = w.short; few = w.few }
 
 -- ---- the promises of a call

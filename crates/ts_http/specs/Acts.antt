@@ -21,7 +21,7 @@ use Rattle.ts_store.specs.rules.RuleTexts.{rule_for, settings_in, low_in, with_r
 use Rattle.ts_store.specs.declared.write.write_text.LineOutcome.{LineOutcome}
 use Rattle.ts_http.specs.Batches.{TakesLines, StopsAtLine, body_lines, refusals_of, partial_text}
 use Rattle.ts_http.specs.Maintaining.{steps_in, OpensRun, with_steps, run_text}
-use Rattle.ts_http.specs.HttpReplies.{reply_text, error_text, refusal_status, refusal_reply}
+use Rattle.ts_http.specs.HttpReplies.{reply_text, error_json, refusal_status, refusal_reply}
 use Rattle.ts_http.specs.Parameters.{parameters, first_named}
 use Rattle.ts_http.specs.declared.refusal.Refusal.{Refusal}
 use Rattle.ts_http.specs.declared.refusal.Refusal.TheVariants.{BodyNotText, BadPrecision, BadEpoch, BadExplain, BadSteps, MissingQuery, MissingName, OutOfMemory}
@@ -54,29 +54,29 @@ answer_reply false body = bad_reply body
 -- ---- /write
 
 -- without one, timestamps are in nanoseconds
-abbrev pub precision_asked : Option Text → Option TimeUnit
-precision_asked None = Some Nanoseconds
-precision_asked (Some name) = precision_of name
+abbrev pub precision_parameter : Option Text → Option TimeUnit
+precision_parameter None = Some Nanoseconds
+precision_parameter (Some name) = precision_of name
 
 abbrev pub precision_in : Text → Option TimeUnit
-precision_in query = precision_asked (first_named (codes "precision") (parameters query))
+precision_in query = precision_parameter (first_named (codes "precision") (parameters query))
 
 -- the reply to lines of which these were refused, with their numbers and fault texts
 abbrev pub batch_reply : List (ℕ × Text) → Replied
 batch_reply [] = done_reply
-batch_reply (first ∷ others) = bad_reply (error_text (partial_text first (length (first ∷ others))))
+batch_reply (first ∷ others) = bad_reply (error_json (partial_text first (length (first ∷ others))))
 
 -- ---- /query
 
 -- without one, times are texts
-abbrev pub epoch_asked : Option Text → Option Epoch
-epoch_asked None = Some epochs.Text
-epoch_asked (Some name) = if same_text name (codes "text") then None else epoch_of name
+abbrev pub epoch_parameter : Option Text → Option Epoch
+epoch_parameter None = Some epochs.Text
+epoch_parameter (Some name) = if same_text name (codes "text") then None else epoch_of name
 
 -- whether the reply has plans
-abbrev pub explain_asked : Option Text → Option Bool
-explain_asked None = Some false
-explain_asked (Some value) =
+abbrev pub explain_parameter : Option Text → Option Bool
+explain_parameter None = Some false
+explain_parameter (Some value) =
     if same_text value (codes "0") then Some false
     else if same_text value (codes "1") then Some true
     else None
@@ -99,13 +99,13 @@ module _ (now : ℤ) (old : State) (query body : Text) where
 
   pub data Queries : Replied → Type 0 where
     not_text : (IsUtf8 body → ⊥) → Queries (refusing BodyNotText)
-    bad_epoch : IsUtf8 body → epoch_asked (value_in (codes "epoch") query body) ≡ None → Queries (refusing BadEpoch)
-    bad_explain : (epoch : Epoch) → IsUtf8 body → epoch_asked (value_in (codes "epoch") query body) ≡ Some epoch → explain_asked (value_in (codes "explain") query body) ≡ None → Queries (refusing BadExplain)
-    missing : (epoch : Epoch) (explain : Bool) → IsUtf8 body → epoch_asked (value_in (codes "epoch") query body) ≡ Some epoch → explain_asked (value_in (codes "explain") query body) ≡ Some explain → value_in (codes "q") query body ≡ None → Queries (refusing MissingQuery)
+    bad_epoch : IsUtf8 body → epoch_parameter (value_in (codes "epoch") query body) ≡ None → Queries (refusing BadEpoch)
+    bad_explain : (epoch : Epoch) → IsUtf8 body → epoch_parameter (value_in (codes "epoch") query body) ≡ Some epoch → explain_parameter (value_in (codes "explain") query body) ≡ None → Queries (refusing BadExplain)
+    missing : (epoch : Epoch) (explain : Bool) → IsUtf8 body → epoch_parameter (value_in (codes "epoch") query body) ≡ Some epoch → explain_parameter (value_in (codes "explain") query body) ≡ Some explain → value_in (codes "q") query body ≡ None → Queries (refusing MissingQuery)
     wants_memory : IsUtf8 body → Queries (refusing OutOfMemory)
-    answers : (epoch : Epoch) (text : Text) (good : Bool) (answer : Text) → IsUtf8 body → epoch_asked (value_in (codes "epoch") query body) ≡ Some epoch → explain_asked (value_in (codes "explain") query body) ≡ Some false → value_in (codes "q") query body ≡ Some text
+    answers : (epoch : Epoch) (text : Text) (good : Bool) (answer : Text) → IsUtf8 body → epoch_parameter (value_in (codes "epoch") query body) ≡ Some epoch → explain_parameter (value_in (codes "explain") query body) ≡ Some false → value_in (codes "q") query body ≡ Some text
         → IsReply old.opening old.history now text (value_in (codes "cert") query body) epoch good answer → Queries (answer_reply good answer)
-    explains : (epoch : Epoch) (text : Text) (good : Bool) (answer : Text) → IsUtf8 body → epoch_asked (value_in (codes "epoch") query body) ≡ Some epoch → explain_asked (value_in (codes "explain") query body) ≡ Some true → value_in (codes "q") query body ≡ Some text
+    explains : (epoch : Epoch) (text : Text) (good : Bool) (answer : Text) → IsUtf8 body → epoch_parameter (value_in (codes "epoch") query body) ≡ Some epoch → explain_parameter (value_in (codes "explain") query body) ≡ Some true → value_in (codes "q") query body ≡ Some text
         → IsExplanation old.opening old.history now text good answer → Queries (answer_reply good answer)
 
 -- ---- /maintain, where a run has this number of steps left once it is open
@@ -123,26 +123,26 @@ abbrev pub added_text : Text → ℤ → Text
 added_text name low = codes "{\"low\":" ++ (signed_decimal low ++ (codes ",\"name\":\"" ++ (name ++ codes "\"}")))
 
 -- JSON with the name of a rule that was dropped
-abbrev pub dropped_text : Text → Text
-dropped_text name = codes "{\"dropped\":\"" ++ (name ++ codes "\"}")
+abbrev pub dropped_body : Text → Text
+dropped_body name = codes "{\"dropped\":\"" ++ (name ++ codes "\"}")
 
 -- a POST: the body is a rule, which is added
-pub data AddsRule (old : State) (body : Text) : Replied → State → Type 0 where
-  not_text : (IsUtf8 body → ⊥) → AddsRule old body (refusing BodyNotText) old
-  wants_memory : IsUtf8 body → AddsRule old body (refusing OutOfMemory) old
-  refuses : (fault : SettingsFault) → IsUtf8 body → rule_for (settings_in old) body ≡ Err fault → AddsRule old body (bad_reply (error_text (settings_fault_text fault))) old
-  adds : (r : Rule) → IsUtf8 body → rule_for (settings_in old) body ≡ Ok r → AddsRule old body (answer_reply true (added_text r.name (low_in old r))) (with_rule_added r old)
+pub data PostsRule (old : State) (body : Text) : Replied → State → Type 0 where
+  not_text : (IsUtf8 body → ⊥) → PostsRule old body (refusing BodyNotText) old
+  wants_memory : IsUtf8 body → PostsRule old body (refusing OutOfMemory) old
+  refuses : (fault : SettingsFault) → IsUtf8 body → rule_for (settings_in old) body ≡ Err fault → PostsRule old body (bad_reply (error_json (settings_fault_text fault))) old
+  adds : (r : Rule) → IsUtf8 body → rule_for (settings_in old) body ≡ Ok r → PostsRule old body (answer_reply true (added_text r.name (low_in old r))) (with_rule_added r old)
 
 -- the name of a rule, as a parameter of the target
 abbrev pub name_in : Text → Option Text
 name_in query = first_named (codes "name") (parameters query)
 
 -- a DELETE: the rule with this name is dropped
-pub data DropsRule (old : State) (query : Text) : Replied → State → Type 0 where
-  missing : name_in query ≡ None → DropsRule old query (refusing MissingName) old
-  wants_memory : DropsRule old query (refusing OutOfMemory) old
-  refuses : (name : Text) → name_in query ≡ Some name → is_named (settings_in old).rules name ≡ false → DropsRule old query (bad_reply (error_text unknown_rule_text)) old
-  drops : (name : Text) → name_in query ≡ Some name → IsTrue (is_named (settings_in old).rules name) → DropsRule old query (answer_reply true (dropped_text name)) (with_rule_dropped name old)
+pub data DeletesRule (old : State) (query : Text) : Replied → State → Type 0 where
+  missing : name_in query ≡ None → DeletesRule old query (refusing MissingName) old
+  wants_memory : DeletesRule old query (refusing OutOfMemory) old
+  refuses : (name : Text) → name_in query ≡ Some name → is_named (settings_in old).rules name ≡ false → DeletesRule old query (bad_reply (error_json unknown_rule_text)) old
+  drops : (name : Text) → name_in query ≡ Some name → IsTrue (is_named (settings_in old).rules name) → DeletesRule old query (answer_reply true (dropped_body name)) (with_rule_dropped name old)
 
 -- The effect of a request that isn't refused by its head, after its body was read.
 pub data Acts (now : ℤ) (left : ℕ) (old : State) (query body : Text) : Route → Method → Replied → State → Type 0 where
@@ -150,5 +150,5 @@ pub data Acts (now : ℤ) (left : ℕ) (old : State) (query body : Text) : Route
   writes : (method : Method) (reply : Replied) (new : State) → Writes now old query body reply new → Acts now left old query body to.Write method reply new
   queries : (method : Method) (reply : Replied) → Queries now old query body reply → Acts now left old query body to.Query method reply old
   maintains : (method : Method) (reply : Replied) (new : State) → Maintains now left old query reply new → Acts now left old query body to.Maintain method reply new
-  adds : (reply : Replied) (new : State) → AddsRule old body reply new → Acts now left old query body to.Rules by.Post reply new
-  drops : (reply : Replied) (new : State) → DropsRule old query reply new → Acts now left old query body to.Rules by.Delete reply new
+  adds : (reply : Replied) (new : State) → PostsRule old body reply new → Acts now left old query body to.Rules by.Post reply new
+  drops : (reply : Replied) (new : State) → DeletesRule old query reply new → Acts now left old query body to.Rules by.Delete reply new

@@ -16,31 +16,31 @@ abbrev pub field_limit : ℕ
 field_limit = 64
 
 -- The outcome of reading a head.
-pub data Found : Type 0 where
+pub data HeadOutcome : Type 0 where
   -- the input is empty
-  Nothing : Found
+  Nothing : HeadOutcome
   -- a head, and the bytes after it
-  Whole : RequestHead → Text → Found
-  Fault : HeadFault → Found
+  Whole : RequestHead → Text → HeadOutcome
+  Fault : HeadFault → HeadOutcome
 
 -- The bytes begin with a head within the limits, and these bytes follow it.
-pub record IsWhole (bytes : Text) (head : RequestHead) (rest : Text) : Type 0 where
+pub record IsWholeHead (bytes : Text) (head : RequestHead) (rest : Text) : Type 0 where
   pub reads : ReadsRequest bytes head rest
   pub short : length (print_request head) ≤ head_limit
   pub few : length head.fields ≤ field_limit
 
 -- The bytes have no whole head, and may be the beginning of one.
-abbrev pub IsUnfinished : Text → Type 0
-IsUnfinished bytes = HasNoRequest bytes × MayBecomeRequest bytes
+abbrev pub IsUnfinishedHead : Text → Type 0
+IsUnfinishedHead bytes = HasNoRequest bytes × MayBecomeRequest bytes
 
 -- The possible outcomes of reading a head from the front of these bytes. A head within the limits is always found, and
 -- nothing else then. Otherwise these faults are possible; if more than one fits, either may be found.
-pub data ReadsHead (bytes : Text) : Found → Type 0 where
+pub data ReadsHead (bytes : Text) : HeadOutcome → Type 0 where
   nothing : bytes ≡ [] → ReadsHead bytes Nothing
-  whole : (head : RequestHead) (rest : Text) → IsWhole bytes head rest → ReadsHead bytes (Whole head rest)
+  whole : (head : RequestHead) (rest : Text) → IsWholeHead bytes head rest → ReadsHead bytes (Whole head rest)
   -- all of the bytes are the beginning of a head, or end inside its target
-  ends_early : bytes ≢ [] → length bytes < head_limit → IsUnfinished bytes → ReadsHead bytes (Fault EndsEarly)
-  too_long : head_limit ≤ length bytes → IsUnfinished (take head_limit bytes) → ReadsHead bytes (Fault TooLarge)
+  ends_early : bytes ≢ [] → length bytes < head_limit → IsUnfinishedHead bytes → ReadsHead bytes (Fault EndsEarly)
+  too_long : head_limit ≤ length bytes → IsUnfinishedHead (take head_limit bytes) → ReadsHead bytes (Fault TooLarge)
   -- the bytes begin with a start line and too many fields
   too_many : RequestExceeds field_limit bytes → RequestOverflows field_limit bytes → ReadsHead bytes (Fault TooLarge)
   -- whatever follows the bytes, there is no head

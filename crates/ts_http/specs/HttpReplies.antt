@@ -40,15 +40,15 @@ abbrev pub length_text : Option ℕ → Text
 length_text None = []
 length_text (Some n) = codes "Content-Type: application/json" ++ (line_end ++ (codes "Content-Length: " ++ (decimal n ++ line_end)))
 
-abbrev pub head_text : Status → Text → Option ℕ → Text
-head_text s allow n = codes "HTTP/1.1 " ++ (status_text s ++ (line_end ++ (allow_text allow ++ (length_text n ++ (codes "Connection: close" ++ (line_end ++ line_end))))))
+abbrev pub reply_head : Status → Text → Option ℕ → Text
+reply_head s allow n = codes "HTTP/1.1 " ++ (status_text s ++ (line_end ++ (allow_text allow ++ (length_text n ++ (codes "Connection: close" ++ (line_end ++ line_end))))))
 
 abbrev pub reply_text : Status → Text → Option Text → Text
-reply_text s allow body = head_text s allow (option_map length body) ++ unwrap_or body []
+reply_text s allow body = reply_head s allow (option_map length body) ++ unwrap_or body []
 
 -- JSON with an error; the text has no quotes, backslashes or control characters
-abbrev pub error_text : Text → Text
-error_text text = codes "{\"error\":\"" ++ (text ++ codes "\"}")
+abbrev pub error_json : Text → Text
+error_json text = codes "{\"error\":\"" ++ (text ++ codes "\"}")
 
 -- ---- refusals
 
@@ -102,4 +102,4 @@ unless_head to_head body = if to_head then None else Some body
 
 -- the reply to a refused request
 abbrev pub refusal_reply : Bool → Refusal → Text
-refusal_reply to_head r = reply_text (refusal_status r) (refusal_allow r) (unless_head to_head (error_text (refusal_words r)))
+refusal_reply to_head r = reply_text (refusal_status r) (refusal_allow r) (unless_head to_head (error_json (refusal_words r)))

@@ -17,12 +17,12 @@ use Rattle.ts_http.specs.Requests.{is_number}
 abbrev pub is_step_count : Text → Bool
 is_step_count value = is_number value && (nat_le (length value) 5 && nat_le (digits_value 10 value) 10000)
 
-abbrev pub steps_asked : Option Text → Option ℕ
-steps_asked None = None
-steps_asked (Some value) = if is_step_count value then Some (digits_value 10 value) else None
+abbrev pub steps_parameter : Option Text → Option ℕ
+steps_parameter None = None
+steps_parameter (Some value) = if is_step_count value then Some (digits_value 10 value) else None
 
 abbrev pub steps_in : Text → Option ℕ
-steps_in query = steps_asked (first_named (codes "steps") (parameters query))
+steps_in query = steps_parameter (first_named (codes "steps") (parameters query))
 
 -- ---- the run
 

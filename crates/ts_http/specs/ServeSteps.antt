@@ -4,7 +4,7 @@ use Rattle.std.specs.Io.KnownBytes.{Consumes, Appends}
 use Rattle.ts_core.specs.facts.Facts.{Text}
 use Rattle.ts_core.specs.io.Devices.{Input, Output, AppendsFront, one_if_err}
 use Rattle.ts_core.specs.store.StoreData.{StoreData}
-use Rattle.ts_http.specs.Outcomes.{ActsAs, reply_of}
+use Rattle.ts_http.specs.OutcomeReplies.{ActsAs, reply_of}
 use Rattle.ts_http.specs.Requests.{Fields, refused, body_length, body_limit}
 use Rattle.ts_http.specs.declared.outcome.Outcome.{Outcome}
 use Rattle.ts_http.specs.declared.outcome.Outcome.TheVariants.{Refused}

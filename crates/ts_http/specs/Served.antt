@@ -8,7 +8,7 @@ use Rattle.ts_http.specs.Acts.{Replied, Acts}
 use Rattle.ts_store.specs.write.LineTexts.{State, IsIn}
 use Rattle.ts_http.specs.HttpReplies.{refusal_status, refusal_reply}
 use Rattle.ts_http.specs.Maintaining.{left_in}
-use Rattle.ts_http.specs.Reading.{request_of}
+use Rattle.ts_http.specs.HeadsRead.{request_of}
 use Rattle.ts_http.specs.Requested.{NoRequest, Refuses, Wants, Asks}
 use Rattle.ts_http.specs.declared.refusal.Refusal.{Refusal}
 use Rattle.ts_http.specs.declared.route.Method.{Method}

@@ -13,16 +13,16 @@ abbrev pub first_of : List (ℕ × Text) → Option (ℕ × Text)
 first_of [] = None
 first_of (x ∷ xs) = Some x
 
-abbrev pub numbered_text : ℕ × LineRefusal → ℕ × Text
-numbered_text x = (x.0, line_refusal_text x.1)
+abbrev pub numbered_refusal : ℕ × LineRefusal → ℕ × Text
+numbered_refusal x = (x.0, line_refusal_text x.1)
 
 -- the number of lines so far, the number refused, and the first refused one
 pub record TallyIs (outcomes : List (Option Text)) (t : Tally) : Type 0 where
   pub lines : t.lines ≡ length outcomes
   pub dropped : t.dropped ≡ length (refusals_from 1 outcomes)
-  pub first : option_map numbered_text t.first ≡ first_of (refusals_from 1 outcomes)
+  pub first : option_map numbered_refusal t.first ≡ first_of (refusals_from 1 outcomes)
 
 -- the effect of the lines of a body on a store that was in this state
-abbrev pub DidLines : TimeUnit → ℤ → State → Text → {E : Type 0} → Result Tally E → StoreData → Type 0
-DidLines precision now s body (Ok tally) new = (outcomes : List LineOutcome) × (s' : State) × TakesLines precision now s (body_lines body) outcomes s' × TallyIs (map refusal_text outcomes) tally × IsIn s' new
-DidLines precision now s body (Err e) new = (s' : State) × StopsAtLine precision now s (body_lines body) s' × IsIn s' new
+abbrev pub WritesLines : TimeUnit → ℤ → State → Text → {E : Type 0} → Result Tally E → StoreData → Type 0
+WritesLines precision now s body (Ok tally) new = (outcomes : List LineOutcome) × (s' : State) × TakesLines precision now s (body_lines body) outcomes s' × TallyIs (map refusal_text outcomes) tally × IsIn s' new
+WritesLines precision now s body (Err e) new = (s' : State) × StopsAtLine precision now s (body_lines body) s' × IsIn s' new

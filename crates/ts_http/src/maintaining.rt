@@ -3,10 +3,10 @@ ghost use Rattle.std.specs.Prelude.{◌≡◌, OnOk, Option, true, false};
 ghost use Rattle.ts_core.specs.store.History.{Begin};
 ghost use Rattle.ts_core.specs.store.StoreData.{GoesOn};
 ghost use Rattle.ts_core.specs.moves.StoreMoves.{run_begun};
-ghost use Rattle.ts_http.specs.Maintaining.{steps_asked, steps_in, run_opened, progress_text};
+ghost use Rattle.ts_http.specs.Maintaining.{steps_parameter, steps_in, run_opened, progress_text};
 ghost use Rattle.ts_http.specs.MaintainSteps.{HasStepped};
-ghost use Rattle.ts_http.specs.Outcomes.{IsAsked, MaintainsAs};
-ghost use Rattle.ts_reply.specs.Told.{handed_in};
+ghost use Rattle.ts_http.specs.OutcomeReplies.{IsValueOr, MaintainsAs};
+ghost use Rattle.ts_reply.specs.OutcomeViews.{handed_in};
 
 use crate::fields::{is_number, number_of};
 use crate::outcome::Outcome;
@@ -31,7 +31,7 @@ struct Progress {
 
 /// Parses a number of steps: 1 to 5 digits, at most 10,000.
 fn step_count(value: &[u8]) -> Option<usize>
-    ensures { result ≡ steps_asked (Option.Some value.now) }
+    ensures { result ≡ steps_parameter (Option.Some value.now) }
 {
     if !is_number(value) || value.len() > 5 {
         return None;
@@ -42,7 +42,7 @@ fn step_count(value: &[u8]) -> Option<usize>
 
 /// Returns the number of steps that a request asks for.
 fn steps<A: Allocator + Copy>(alloc: A, query: &[u8]) -> Result<usize, Refusal>
-    ensures { IsAsked (steps_in query.now) Refusal.BadSteps result }
+    ensures { IsValueOr (steps_in query.now) Refusal.BadSteps result }
 {
     match first_named(alloc, query, "steps") {
         Ok(None) => Err(Refusal::BadSteps),

@@ -1,9 +1,9 @@
 //! `/rules`: adds a rollup rule, or drops one.
 ghost use Rattle.std.specs.Prelude.{◌≡◌, ◌⊎◌, ◌≤◌, IfOk, length, string_bytes, false};
 ghost use Rattle.ts_core.specs.settings.SettingsFaults.{settings_fault_text};
-ghost use Rattle.ts_http.specs.Acts.{bad_reply, added_text, dropped_text};
-ghost use Rattle.ts_http.specs.HttpReplies.{error_text};
-ghost use Rattle.ts_http.specs.Outcomes.{AddsAs, DropsAs, DropsNamed, reply_of};
+ghost use Rattle.ts_http.specs.Acts.{bad_reply, added_text, dropped_body};
+ghost use Rattle.ts_http.specs.HttpReplies.{error_json};
+ghost use Rattle.ts_http.specs.OutcomeReplies.{AddsAs, DropsAs, DropsNamed, reply_of};
 
 use crate::outcome::Outcome;
 use crate::parameters::first_named;
@@ -32,7 +32,7 @@ fn added_note(added: &AddedRule) -> Note
 /// Returns JSON with the name of a rule that was dropped.
 fn dropped_note(name: &str) -> Note
     requires { length name.now ≤ 32 }
-    ensures { result.bytes ≡ dropped_text name.now }
+    ensures { result.bytes ≡ dropped_body name.now }
 {
     let mut note = Note::new();
     note.push_str("{\"dropped\":\"");
@@ -43,7 +43,7 @@ fn dropped_note(name: &str) -> Note
 
 /// Returns JSON with the fault of a rule.
 fn fault_body(json: Global, fault: SettingsFault) -> Result<String, AllocError>
-    ensures { IfOk result (λ body. string_bytes body ≡ error_text (settings_fault_text fault)) }
+    ensures { IfOk result (λ body. string_bytes body ≡ error_json (settings_fault_text fault)) }
 {
     let mut body = String::new(json);
     body.push_str("{\"error\":\"")?;
@@ -54,7 +54,7 @@ fn fault_body(json: Global, fault: SettingsFault) -> Result<String, AllocError>
 
 /// Returns the outcome for a rule with a fault, or out of memory.
 fn refused(json: Global, fault: SettingsFault) -> Outcome
-    ensures { (reply_of false result ≡ bad_reply (error_text (settings_fault_text fault))) ⊎ (result ≡ Outcome.Refused Refusal.OutOfMemory) }
+    ensures { (reply_of false result ≡ bad_reply (error_json (settings_fault_text fault))) ⊎ (result ≡ Outcome.Refused Refusal.OutOfMemory) }
 {
     match fault_body(json, fault) {
         Ok(body) => Outcome::Answered(Status::BadRequest, body),

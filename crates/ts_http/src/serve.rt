@@ -5,7 +5,7 @@ ghost use Rattle.httparse.specs.Spans.{IsHeaderWithin, IsRequestWithin, header_b
 ghost use Rattle.ts_core.specs.io.Devices.{one_if_err};
 ghost use Rattle.ts_http.specs.Heads.{head_limit};
 ghost use Rattle.ts_http.specs.Requests.{path_of, query_of, route_of, method_of, is_allowed, body_limit, refused, body_length};
-ghost use Rattle.ts_http.specs.Outcomes.{ActsAs, reply_of};
+ghost use Rattle.ts_http.specs.OutcomeReplies.{ActsAs, reply_of};
 ghost use Rattle.ts_http.specs.ServeSteps.{IsLengthAnswer, IsActedOn, IsSent};
 ghost use Rattle.ts_http.specs.Served.{IsServed};
 
@@ -69,7 +69,7 @@ impl From<Refused> for IoFault {
 
 /// A head that is whole, with the bytes that came after it.
 #[derive(Clone, Copy, Drop)]
-struct Asked<'a> {
+struct HeadParts<'a> {
     route: Route,
     method: Method,
     query: &'a [u8],
@@ -88,7 +88,7 @@ fn split_target(target: &[u8]) -> (&[u8], &[u8])
 }
 
 /// Returns the parts of a head.
-fn asked_by<'a>(came: &'a [u8], found: &RequestSpans) -> Asked<'a>
+fn head_parts_of<'a>(came: &'a [u8], found: &RequestSpans) -> HeadParts<'a>
     requires method { (found.now.method.start ≤ found.now.method.end) × (found.now.method.end ≤ length came.now) }
     requires path { (found.now.path.start ≤ found.now.path.end) × (found.now.path.end ≤ length came.now) }
     requires len { found.now.len ≤ length came.now }
@@ -98,7 +98,7 @@ fn asked_by<'a>(came: &'a [u8], found: &RequestSpans) -> Asked<'a>
     ensures behind { result.behind.now ≡ drop found.now.len came.entry.now }
 {
     let (path, query) = split_target(found.path.of(came));
-    Asked {
+    HeadParts {
         route: Route::of(path),
         method: Method::of(found.method.of(came)),
         query,
@@ -134,29 +134,29 @@ fn act<A: Allocator + Copy>(
     json: Global,
     store: &mut Store<A>,
     now: Time,
-    asked: &Asked<'_>,
+    head: &HeadParts<'_>,
     body: &[u8],
 ) -> Outcome
-    requires allowed { is_allowed asked.now.route asked.now.method ≡ true }
+    requires allowed { is_allowed head.now.route head.now.method ≡ true }
     requires body { length body.now ≤ body_limit }
-    ensures { ActsAs now asked.now.route asked.now.method asked.now.query.now body.now store.old result store.new }
+    ensures { ActsAs now head.now.route head.now.method head.now.query.now body.now store.old result store.new }
 {
-    match asked.route {
-        Route::Write => write(alloc, store, now, asked.query, body),
+    match head.route {
+        Route::Write => write(alloc, store, now, head.query, body),
         Route::Query => query(
             alloc,
             json,
             store,
             now,
             &Form {
-                query: asked.query,
+                query: head.query,
                 body,
             },
         ),
-        Route::Maintain => maintain(alloc, store, now, asked.query),
-        Route::Rules => match asked.method {
+        Route::Maintain => maintain(alloc, store, now, head.query),
+        Route::Rules => match head.method {
             Method::Post => add_rule(alloc, json, store, body),
-            Method::Delete => drop_rule(alloc, store, asked.query),
+            Method::Delete => drop_rule(alloc, store, head.query),
             _ => unreachable!(),
         },
         Route::Ping => Outcome::Done,
@@ -170,16 +170,16 @@ fn act_on_body<R: Read, A: Allocator + Copy>(
     json: Global,
     store: &mut Store<A>,
     now: Time,
-    asked: &Asked<'_>,
+    head: &HeadParts<'_>,
     len: usize,
     source: &mut Source<R>,
 ) -> Result<Outcome, ReadFailed>
-    requires allowed { is_allowed asked.now.route asked.now.method ≡ true }
+    requires allowed { is_allowed head.now.route head.now.method ≡ true }
     requires len { len ≤ body_limit }
-    ensures { IsActedOn now asked.now.route asked.now.method asked.now.query.now asked.now.behind.now len store.old source.old result store.new source.new }
+    ensures { IsActedOn now head.now.route head.now.method head.now.query.now head.now.behind.now len store.old source.old result store.new source.new }
 {
-    match take_body(alloc, asked.behind, len, source)? {
-        Body::Whole(body) => Ok(act(alloc, json, store, now, asked, &body)),
+    match take_body(alloc, head.behind, len, source)? {
+        Body::Whole(body) => Ok(act(alloc, json, store, now, head, &body)),
         Body::Cut => Ok(Outcome::Refused(Refusal::BodyEndsEarly)),
         Body::NoMemory => Ok(Outcome::Refused(Refusal::OutOfMemory)),
     }
@@ -226,15 +226,15 @@ pub fn serve_one<R: Read, W: Write, A: Allocator + Copy>(
         }
         HeadRead::Whole(found) => {
             let came = &room[..count];
-            let asked = asked_by(came, &found);
-            match body_len(came, &spans[..found.headers], asked.route, asked.method) {
+            let head = head_parts_of(came, &found);
+            match body_len(came, &spans[..found.headers], head.route, head.method) {
                 Ok(len) => {
-                    let outcome = act_on_body(alloc, json, store, now, &asked, len, source)?;
-                    reply(&outcome, asked.route, false, sink)
+                    let outcome = act_on_body(alloc, json, store, now, &head, len, source)?;
+                    reply(&outcome, head.route, false, sink)
                 }
                 Err(refusal) => {
                     let refused = Outcome::Refused(refusal);
-                    reply(&refused, asked.route, asked.method.is_head(), sink)
+                    reply(&refused, head.route, head.method.is_head(), sink)
                 }
             }
         }

@@ -10,7 +10,7 @@ use Rattle.ts_core.specs.store.Cells.{Cell, cell_cmp}
 use Rattle.ts_core.specs.store.StoreStates.{CellParts}
 use Rattle.ts_core.specs.store.StoreData.{CellMap}
 use Rattle.ts_core.proofs.plans.PieceCells.{cells_total}
-use Rattle.ts_store.specs.image.Building.{Built, cells_at, with_cell}
+use Rattle.ts_store.specs.image.Building.{Built, cell_map_at, with_cell}
 use Rattle.ts_image.specs.Images.{ImageCell}
 use Rattle.ts_image.specs.ImageTests.{AreRising}
 use Rattle.ts_image.specs.Pictures.{part_of}
@@ -45,8 +45,8 @@ no_cells rule b i = record {
 
 pub cell_added : (rule : ℕ) (cs : List ImageCell) (c : ImageCell) (b : Built) → rule < length b.cells → with_cell rule c.cell (part_of c) (with_cells_at rule cs b) ≡ with_cells_at rule (cs ++ c ∷ []) b
 cell_added rule cs c b lt i =
-    let m : CellMap = with_image_cells cs (cells_at b.cells rule) in
-    let same : cells_at (set b.cells rule m) rule ≡ m = get_or-set_same b.cells rule m finmap.empty lt in
+    let m : CellMap = with_image_cells cs (cell_map_at b.cells rule) in
+    let same : cell_map_at (set b.cells rule m) rule ≡ m = get_or-set_same b.cells rule m finmap.empty lt in
     record {
       settings = b.settings;
       marks = b.marks;
@@ -56,9 +56,9 @@ cell_added rule cs c b lt i =
       columns = b.columns;
       waits = b.waits;
       cells = (
-          set_twice b.cells rule m (finmap.insert (cells_at (set b.cells rule m) rule) c.cell (parts_of c))
+          set_twice b.cells rule m (finmap.insert (cell_map_at (set b.cells rule m) rule) c.cell (parts_of c))
           ∙ ap (λ (n : CellMap). set b.cells rule (finmap.insert n c.cell (parts_of c))) same
-          ∙ ap (λ (n : CellMap). set b.cells rule n) (sym (cells_more cs c (cells_at b.cells rule)))
+          ∙ ap (λ (n : CellMap). set b.cells rule n) (sym (cells_more cs c (cell_map_at b.cells rule)))
           ) i;
     }
 
@@ -68,14 +68,14 @@ names_of {P} v (p ∷ ps) = ap (λ (ks : List Cell). (v p).cell ∷ ks) (names_o
 
 -- the next cell of a rule is new
 pub cell_absent : {P : Type 0} (v : P → ImageCell) (ps : List P) (i : ℕ) (p : P) (rule : ℕ) (b c : Built) → i < length ps → p ≡ get_or ps i p → rule < length b.cells
-    → AreRising cell_cmp (map cell_in (map v ps)) → cells_at b.cells rule ≡ finmap.empty → c ≡ with_cells_at rule (map v (take i ps)) b
-    → finmap.get (cells_at c.cells rule) (v p).cell ≡ None
+    → AreRising cell_cmp (map cell_in (map v ps)) → cell_map_at b.cells rule ≡ finmap.empty → c ≡ with_cells_at rule (map v (take i ps)) b
+    → finmap.get (cell_map_at c.cells rule) (v p).cell ≡ None
 cell_absent {P} v ps i p rule b c lt is inside rising none so_far =
     let cs : List ImageCell = map v (take i ps) in
     let never = rising_absent cells_total (λ (x : P). (v x).cell) ps i p lt is (subst (AreRising cell_cmp) (sym (names_of v ps)) rising) in
-    ap (λ (z : Built). finmap.get (cells_at z.cells rule) (v p).cell) so_far
-    ∙ ap (λ (m : CellMap). finmap.get m (v p).cell) (get_or-set_same b.cells rule (with_image_cells cs (cells_at b.cells rule)) finmap.empty inside)
-    ∙ elsewhere cs (cells_at b.cells rule) (v p).cell (λ a. never (subst (Among (v p).cell) (sym (names_of v (take i ps))) a))
+    ap (λ (z : Built). finmap.get (cell_map_at z.cells rule) (v p).cell) so_far
+    ∙ ap (λ (m : CellMap). finmap.get m (v p).cell) (get_or-set_same b.cells rule (with_image_cells cs (cell_map_at b.cells rule)) finmap.empty inside)
+    ∙ elsewhere cs (cell_map_at b.cells rule) (v p).cell (λ a. never (subst (Among (v p).cell) (sym (names_of v (take i ps))) a))
     ∙ ap (λ (m : CellMap). finmap.get m (v p).cell) none
     ∙ get-empty cell_cmp (v p).cell
 
@@ -122,8 +122,8 @@ empties (r ∷ rs) zero = refl
 empties (r ∷ rs) (suc i) = empties rs i
 
 -- no cell of the next rule is there yet
-pub none_yet : {P : Type 0} (v : P → List ImageCell) (ps : List P) (i : ℕ) (b c : Built) (rs : List Rule) → b.cells ≡ map (λ (r : Rule). finmap.empty) rs → c ≡ with_all_cells (map v (take i ps)) b → cells_at c.cells i ≡ finmap.empty
-none_yet v ps i b c rs none so_far = ap (λ (z : Built). cells_at z.cells i) so_far ∙ each_at v ps i b.cells ∙ ap (λ (ms : List CellMap). get_or ms i finmap.empty) none ∙ empties rs i
+pub none_yet : {P : Type 0} (v : P → List ImageCell) (ps : List P) (i : ℕ) (b c : Built) (rs : List Rule) → b.cells ≡ map (λ (r : Rule). finmap.empty) rs → c ≡ with_all_cells (map v (take i ps)) b → cell_map_at c.cells i ≡ finmap.empty
+none_yet v ps i b c rs none so_far = ap (λ (z : Built). cell_map_at z.cells i) so_far ∙ each_at v ps i b.cells ∙ ap (λ (ms : List CellMap). get_or ms i finmap.empty) none ∙ empties rs i
 
 pub each_length : (cs : List (List ImageCell)) (ms : List CellMap) → length cs ≤ length ms → length (with_each cs ms) ≡ length ms
 each_length [] ms le = refl

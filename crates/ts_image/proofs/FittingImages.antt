@@ -31,8 +31,8 @@ use Rattle.ts_line.specs.Names.{IsNamed}
 use Rattle.ts_image.specs.Images.{ImageCell}
 use Rattle.ts_image.specs.Pictures.{part_at}
 use Rattle.ts_image.specs.SavedImages.{IsWellFormed}
-use Rattle.ts_store.specs.image.Saving.{SavedSeries, saved_key, FrozenCell, frozen_from}
-use Rattle.ts_image.specs.Saving.{image_of, image_cell_of, cells_at, FitsCell, FitCells, FitCellsFrom, FitsImage, IsOrder}
+use Rattle.ts_store.specs.image.SavedContent.{SavedSeries, saved_key, FrozenCell, frozen_from}
+use Rattle.ts_image.specs.Saving.{image_of, image_cell_of, frozen_cells_at, FitsCell, FitCells, FitCellsFrom, FitsImage, IsOrder}
 use Rattle.ts_image.specs.WrittenImages.{WrittenImagesAreAcceptable}
 use Rattle.ts_image.proofs.CellSums.{rule_counted}
 use Rattle.ts_image.proofs.FrozenPictures.{latest_valid, IsFrozenFact, frozen_some}
@@ -133,7 +133,7 @@ module _ (opening : Settings) (h : History) (k : StoreData) (st : StandsFor open
   cells_fit n (r ∷ rs) (l ∷ lows) (m ∷ ms) e f i j has second possible =
       let low = first_of k.marks.lows n (pos 0) l lows e in
       let cells = first_of k.cells n finmap.empty m ms f in
-      let here : frozen_from l m ≡ cells_at k n = sym (λ x. frozen_from (low.0 x) (cells.0 x)) in (
+      let here : frozen_from l m ≡ frozen_cells_at k n = sym (λ x. frozen_from (low.0 x) (cells.0 x)) in (
         subst (FitCells r) here (rule_fits r l m has.0 second.0 possible.0.offset),
         cells_fit (n + 1) rs lows ms low.1 cells.1 (omega (arith, i)) (omega (arith, j)) has.1 second.1 possible.1,
       )

@@ -21,7 +21,7 @@ use Rattle.ts_core.proofs.lists.MembersLemmas.{Among-filter_was, Among-filter_pa
 use Rattle.ts_core.proofs.plans.PieceCells.{same_cell-eq}
 use Rattle.ts_core.proofs.store.StateLemmas.{earlier_mark-le, le_trans}
 use Rattle.ts_image.specs.Images.{ImageRule, ImageCell}
-use Rattle.ts_image.specs.ImageTests.{IsName, IsFrozenTime, IsImageCell, rule_in}
+use Rattle.ts_image.specs.ImageTests.{IsKeyName, IsFrozenTime, IsImageCell, rule_in}
 use Rattle.ts_image.specs.Pictures.{part_of}
 
 -- ---- accepted facts have valid times
@@ -104,7 +104,7 @@ frozen_some opening h waiting r c e =
     let s = map_back (λ (f : Fact). (f.time, f.value)) fs c.extremes.first is.extremes.reached.first in
     (s.0, frozen_fact opening h waiting r c.cell s.0 s.1)
 
-pub frozen_cell : (opening : Settings) (h : History) (waiting : List Column) (r : ImageRule) (low : ℤ) (c : ImageCell) → IsLawful opening h → low ≤ℤ c.cell.index → IsName c.cell.field
+pub frozen_cell : (opening : Settings) (h : History) (waiting : List Column) (r : ImageRule) (low : ℤ) (c : ImageCell) → IsLawful opening h → low ≤ℤ c.cell.index → IsKeyName c.cell.field
     → part_of c ≡ frozen_of (kept_from opening h waiting) (rule_in r) c.cell (latest_of h) → IsImageCell (raw_mark opening h) r low c
 frozen_cell opening h waiting r low c lawful kept name e =
     let fs : List Fact = frozen_facts (kept_from opening h waiting) (rule_in r) c.cell (latest_of h) in

@@ -4,7 +4,7 @@ use Rattle.std.specs.List.{AllByRecursion}
 use Rattle.std.proofs.lemmas.Cmp.{nat_list_cmp_total}
 use Rattle.ts_core.specs.facts.Facts.{Text, Series, text_cmp}
 use Rattle.ts_line.specs.Names.{IsName as IsStated, IsKey, IsNamed}
-use Rattle.ts_image.specs.ImageTests.{IsName, IsImageSeriesKey}
+use Rattle.ts_image.specs.ImageTests.{IsKeyName, IsImageSeriesKey}
 use Rattle.ts_image.proofs.Orders.{rising_keys, keys_rising}
 
 -- ---- a line's names pass the tests
@@ -12,10 +12,10 @@ use Rattle.ts_image.proofs.Orders.{rising_keys, keys_rising}
 some_text : (t : Text) → IsStated t → t ≢ []
 some_text t n e = let z : length t ≡ 0 = ap length e in absurd (omega (arith, n, z))
 
-pub name_of : (t : Text) → IsKey t → IsName t
+pub name_of : (t : Text) → IsKey t → IsKeyName t
 name_of t n = (some_text t n.0, n.1)
 
-pub tags_of : (ts : List (Text × Text)) → AllByRecursion (λ (t : Text × Text). IsKey t.0 × IsStated t.1) ts → AllByRecursion (λ (t : Text × Text). IsName t.0 × (t.1 ≢ [])) ts
+pub tags_of : (ts : List (Text × Text)) → AllByRecursion (λ (t : Text × Text). IsKey t.0 × IsStated t.1) ts → AllByRecursion (λ (t : Text × Text). IsKeyName t.0 × (t.1 ≢ [])) ts
 tags_of [] h = tt
 tags_of (t ∷ ts) h = ((name_of t.0 h.0.0, some_text t.1 h.0.1), tags_of ts h.1)
 
@@ -28,10 +28,10 @@ stated : (t : Text) → t ≢ [] → IsStated t
 stated [] n = absurd (n refl)
 stated (b ∷ t) n = omega arith
 
-pub named_of : (t : Text) → IsName t → IsKey t
+pub named_of : (t : Text) → IsKeyName t → IsKey t
 named_of t n = (stated t n.0, n.1)
 
-tag_texts : (ts : List (Text × Text)) → AllByRecursion (λ (t : Text × Text). IsName t.0 × (t.1 ≢ [])) ts → AllByRecursion (λ (t : Text × Text). IsKey t.0 × IsStated t.1) ts
+tag_texts : (ts : List (Text × Text)) → AllByRecursion (λ (t : Text × Text). IsKeyName t.0 × (t.1 ≢ [])) ts → AllByRecursion (λ (t : Text × Text). IsKey t.0 × IsStated t.1) ts
 tag_texts [] h = tt
 tag_texts (t ∷ ts) h = ((named_of t.0 h.0.0, stated t.1 h.0.1), tag_texts ts h.1)
 

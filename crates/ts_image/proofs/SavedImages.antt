@@ -33,7 +33,7 @@ use Rattle.ts_line.specs.Names.{IsKey}
 use Rattle.ts_image.specs.declared.version.Version.{Version}
 use Rattle.ts_image.specs.declared.version.Version.TheVariants.{V2}
 use Rattle.ts_image.specs.Images.{ImageRule, ImageColumn, ImageSeries, ImageCell, ImageData}
-use Rattle.ts_image.specs.ImageTests.{AreRising, IsName, rule_in, settings_in, IsImageRule, AreImageSettings, AreLows, IsImagePoint, IsImageColumn, IsImageSeries, IsImageCell, AreImageCells, points_in_all, points_of_measurement, frozen_in, AreCounted, CellsAre, IsPossible}
+use Rattle.ts_image.specs.ImageTests.{AreRising, IsKeyName, rule_in, settings_in, IsImageRule, AreImageSettings, AreLows, IsImagePoint, IsImageColumn, IsImageSeries, IsImageCell, AreImageCells, points_in_all, points_of_measurement, frozen_in, AreCounted, CellsAre, IsPossible}
 use Rattle.ts_image.specs.Pictures.{column_in, points_in, columns_in, part_of, part_at, PicturesCells, PictureCells, IsPictureOf}
 use Rattle.ts_image.specs.SavedImages.{IsOrderlyColumn, IsOrderlySeries, AreOrderlyCells, IsOrderly, IsWellFormed, SavedImagesArePossible}
 use Rattle.ts_image.proofs.CellSums.{number_of, AreFrom, latest-few, rule_counted}
@@ -243,11 +243,11 @@ module _ (opening : Settings) (h : History) (k : StoreData) (d : ImageData) (st 
 
   -- ---- cells
 
-  cell_name : (r : Rule) (c : ImageCell) → part_of c ≡ frozen_of cut r c.cell (latest_of h) → IsName c.cell.field
+  cell_name : (r : Rule) (c : ImageCell) → part_of c ≡ frozen_of cut r c.cell (latest_of h) → IsKeyName c.cell.field
   cell_name r c e =
       let some = frozen_some opening h k.waiting r c e in
       let name : IsKey some.0.column.field = well.sized.keys some.0.column (st.columns_there some.0 some.1.there) in
-      subst IsName (ap (λ (x : Cell). x.field) some.1.cell) (name_of some.0.column.field name)
+      subst IsKeyName (ap (λ (x : Cell). x.field) some.1.cell) (name_of some.0.column.field name)
 
   rule_cells_possible : (r : ImageRule) (low : ℤ) (m : CellMap) (cs : List ImageCell) → ((q : Cell) → low ≤ℤ q.index → part_at m q ≡ frozen_of cut (rule_in r) q (latest_of h)) → PicturesCells low m cs
       → AllByRecursion (λ (c : ImageCell). low ≤ℤ c.cell.index) cs → AreRising cell_cmp (map (λ (c : ImageCell). c.cell) cs) → AreImageCells (raw_mark opening h) r low cs

@@ -14,7 +14,7 @@ use Rattle.ts_core.specs.store.Cells.{Cell}
 use Rattle.ts_core.specs.store.StoreStates.{CellParts}
 use Rattle.ts_core.specs.store.StoreData.{CellMap}
 use Rattle.ts_core.proofs.store.StateLemmas.{is_waiting-there, is_waiting-not}
-use Rattle.ts_store.specs.image.Saving.{FrozenCell, frozen_from}
+use Rattle.ts_store.specs.image.SavedContent.{FrozenCell, frozen_from}
 use Rattle.ts_image.specs.declared.version.Version.{Version}
 use Rattle.ts_image.specs.Formats.{Format, number, also, along, list_of}
 use Rattle.ts_image.specs.Images.{ImageRule, ImageSettings, ImageColumn, ImageSeries, ImageCell, flag, image_marks, image_series, image_cell}

@@ -16,7 +16,7 @@ use Rattle.ts_image.specs.declared.save_fault.SaveFault.{SaveFault}
 use Rattle.ts_image.specs.declared.save_fault.SaveFault.TheVariants.{Device, OutOfMemory, Unfit}
 use Rattle.ts_image.specs.declared.version.Version.TheVariants.{V2}
 use Rattle.ts_image.specs.Images.{image, image_text}
-use Rattle.ts_store.specs.image.Saving.{SavedColumn, SavedSeries, SavesColumns}
+use Rattle.ts_store.specs.image.SavedContent.{SavedColumn, SavedSeries, SavesColumns}
 use Rattle.ts_image.specs.Saving.{image_of, HasItsColumns, FitsImage, IsOrder, IsSaved}
 use Rattle.ts_image.proofs.Putting.{Answer}
 

@@ -38,11 +38,11 @@ use Rattle.ts_image.specs.Images.{ImageRule, ImageColumn, ImageSeries, ImageCell
 use Rattle.ts_image.specs.ImageTests.{AreRising, rule_in, settings_in}
 use Rattle.ts_image.specs.Pictures.{column_in, points_in, columns_in, waiting_in, part_of, part_at, PicturesCells, PictureCells, IsPictureOf}
 use Rattle.ts_image.specs.SavedImages.{IsOrderlyColumn, IsOrderlySeries, AreOrderlyCells, IsOrderly, IsWellFormed}
-use Rattle.ts_store.specs.image.Saving.{SavedColumn, SavedSeries, saved_field, saved_key, SavesColumns, SavesSeries, FrozenCell, frozen_from}
-use Rattle.ts_store.specs.read.Seats.{no_points}
+use Rattle.ts_store.specs.image.SavedContent.{SavedColumn, SavedSeries, saved_field, saved_key, SavesColumns, SavesSeries, FrozenCell, frozen_from}
+use Rattle.ts_store.specs.read.ViewResults.{no_points}
 use Rattle.ts_store.specs.store.SizedStores.{IsSized}
 use Rattle.ts_image.specs.SavedParts.{image_rule_of, image_settings_of, extremes_in}
-use Rattle.ts_image.specs.Saving.{image_cell_of, cells_at, image_cells_from, column_at, image_column_of, image_series_of, image_of}
+use Rattle.ts_image.specs.Saving.{image_cell_of, frozen_cells_at, image_cells_from, column_at, image_column_of, image_series_of, image_of}
 use Rattle.ts_image.proofs.Orders.{all_among, among_all, rising_keys, of_both}
 use Rattle.ts_image.proofs.RawPictures.{series_of, field_of, column_here, column_from, waiting_here, waiting_from}
 use Rattle.ts_image.proofs.ReloadLemmas.{is_waiting-among}
@@ -288,7 +288,7 @@ all_written k cut fs n (r ∷ rs) (l ∷ lows) (m ∷ ms) e f i j h =
     let low = first_of k.marks.lows n (pos 0) l lows e in
     let map_ = first_of k.cells n finmap.empty m ms f in
     let rest = all_written k cut fs (n + 1) rs lows ms low.1 map_.1 (omega (arith, i)) (omega (arith, j)) h.1 in
-    let here : written l m ≡ map image_cell_of (cells_at k n) = sym (λ x. written (low.0 x) (map_.0 x)) in (
+    let here : written l m ≡ map image_cell_of (frozen_cells_at k n) = sym (λ x. written (low.0 x) (map_.0 x)) in (
       (subst (PicturesCells l m) here (written_pictures cut fs r l m h.0), rest.0),
       (subst (AllByRecursion (λ (c : ImageCell). l ≤ℤ c.cell.index)) here (written_kept l m), subst (λ (cs : List ImageCell). AreRising cell_cmp (map (λ (c : ImageCell). c.cell) cs)) here (written_rising l m), rest.1),
     )

@@ -25,8 +25,8 @@ AreRising cmp (x ∷ y ∷ ys) = (is_lt (cmp x y) ≡ true) × AreRising cmp (y 
 abbrev pub time_word : Text
 time_word = 116 ∷ 105 ∷ 109 ∷ 101 ∷ []
 
-abbrev pub IsName : Text → Type 0
-IsName t = (t ≢ []) × (t ≢ time_word)
+abbrev pub IsKeyName : Text → Type 0
+IsKeyName t = (t ≢ []) × (t ≢ time_word)
 
 -- ---- settings and marks
 
@@ -65,7 +65,7 @@ AreLows v mark (r ∷ rs) (low ∷ lows) = IsLow v mark r low × AreLows v mark 
 pub record IsImageSeriesKey (s : Series) : Type 0 where
   pub measured : s.measurement ≢ []
   pub few : length s.tags ≤ 64
-  pub tags : AllByRecursion (λ (t : Text × Text). IsName t.0 × (t.1 ≢ [])) s.tags
+  pub tags : AllByRecursion (λ (t : Text × Text). IsKeyName t.0 × (t.1 ≢ [])) s.tags
   pub rising : AreRising text_cmp (map (λ (t : Text × Text). t.0) s.tags)
 
 -- a column that doesn't wait has no point below the raw mark
@@ -73,7 +73,7 @@ abbrev pub IsImagePoint : ℤ → ℕ → ℤ × ℤ → Type 0
 IsImagePoint mark waits p = IsTime p.0 × ((waits ≡ 1) ⊎ (mark ≤ℤ p.0))
 
 pub record IsImageColumn (mark : ℤ) (runs : ℕ) (c : ImageColumn) : Type 0 where
-  pub field : IsName c.field
+  pub field : IsKeyName c.field
   pub waits : c.waits ≤ runs
   pub points : AllByRecursion (IsImagePoint mark c.waits) c.points
   pub rising : AreRising int_cmp (map (λ (p : ℤ × ℤ). p.0) c.points)
@@ -96,7 +96,7 @@ IsBetween low high x = (low ≤ℤ x) × (x ≤ℤ high)
 
 pub record IsImageCell (mark : ℤ) (r : ImageRule) (low : ℤ) (c : ImageCell) : Type 0 where
   pub kept : low ≤ℤ c.cell.index
-  pub field : IsName c.cell.field
+  pub field : IsKeyName c.cell.field
   pub spread : IsSpread c.count c.sum c.extremes
   pub values : c.extremes.min ≤ℤ c.extremes.max
   pub first : IsFrozenTime mark r c.cell.index c.extremes.first.0

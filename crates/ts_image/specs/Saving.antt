@@ -10,8 +10,8 @@ use Rattle.ts_core.specs.store.StoreStates.{ColumnPoints, column_of}
 use Rattle.ts_core.specs.store.StoreData.{StoreData}
 use Rattle.ts_core.specs.io.ReadingAhead.{bit}
 use Rattle.ts_core.specs.io.Devices.{Output, AppendsFront}
-use Rattle.ts_store.specs.image.Saving.{SavedColumn, SavedSeries, SavesSeries, FrozenCell, frozen_from}
-use Rattle.ts_store.specs.read.Seats.{no_points}
+use Rattle.ts_store.specs.image.SavedContent.{SavedColumn, SavedSeries, SavesSeries, FrozenCell, frozen_from}
+use Rattle.ts_store.specs.read.ViewResults.{no_points}
 use Rattle.ts_image.specs.declared.save_fault.SaveFault.{SaveFault}
 use Rattle.ts_image.specs.declared.save_fault.SaveFault.TheVariants.{Device, OutOfMemory, Unfit}
 use Rattle.ts_image.specs.declared.version.Version.TheVariants.{V2}
@@ -24,13 +24,13 @@ abbrev pub image_cell_of : FrozenCell → ImageCell
 image_cell_of c = image_cell_with c.cell c.frozen
 
 -- the saved cells of the rule with this number
-abbrev pub cells_at : StoreData → ℕ → List FrozenCell
-cells_at k n = frozen_from (slice_index_or k.marks.lows n (pos 0)) (slice_index_or k.cells n finmap.empty)
+abbrev pub frozen_cells_at : StoreData → ℕ → List FrozenCell
+frozen_cells_at k n = frozen_from (slice_index_or k.marks.lows n (pos 0)) (slice_index_or k.cells n finmap.empty)
 
 -- those of each of the rules from a number on
 abbrev pub image_cells_from : StoreData → ℕ → List Rule → List (List ImageCell)
 image_cells_from k n [] = []
-image_cells_from k n (r ∷ rs) = map image_cell_of (cells_at k n) ∷ image_cells_from k (n + 1) rs
+image_cells_from k n (r ∷ rs) = map image_cell_of (frozen_cells_at k n) ∷ image_cells_from k (n + 1) rs
 
 abbrev pub column_at : StoreData → SavedColumn → ColumnPoints
 column_at k c = slice_index_or k.columns c.number no_points
@@ -70,7 +70,7 @@ pub record FitCells (r : Rule) (cells : List FrozenCell) : Type 0 where
 -- the cells of each of the rules from a number on
 abbrev pub FitCellsFrom : StoreData → ℕ → List Rule → Type 0
 FitCellsFrom k n [] = Unit {0}
-FitCellsFrom k n (r ∷ rs) = FitCells r (cells_at k n) × FitCellsFrom k (n + 1) rs
+FitCellsFrom k n (r ∷ rs) = FitCells r (frozen_cells_at k n) × FitCellsFrom k (n + 1) rs
 
 -- each series has few tags, and there are few series
 pub record FitSeries (all : List SavedSeries) : Type 0 where

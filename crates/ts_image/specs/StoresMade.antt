@@ -9,17 +9,17 @@ use Rattle.ts_core.specs.store.Cells.{Cell, cell_cmp}
 use Rattle.ts_core.specs.store.StoreStates.{CellParts, facts_of}
 use Rattle.ts_core.specs.store.StoreData.{CellMap, StoreData}
 use Rattle.ts_raw.specs.Columns.{AreTimed}
-use Rattle.ts_store.specs.image.Building.{Built, cells_at}
+use Rattle.ts_store.specs.image.Building.{Built, cell_map_at}
 use Rattle.ts_store.specs.write.LinesPut.{OfEachRule, PutsCells}
 use Rattle.ts_image.specs.Images.{ImageColumn, ImageSeries, ImageCell, ImageData}
-use Rattle.ts_image.specs.ImageTests.{IsName, IsImageSeriesKey, AreRising, settings_in}
+use Rattle.ts_image.specs.ImageTests.{IsKeyName, IsImageSeriesKey, AreRising, settings_in}
 use Rattle.ts_image.specs.PartsMade.{HasPart}
 use Rattle.ts_image.specs.Pictures.{points_in, columns_in, waiting_in, part_of, IsMadeOf}
 
 -- ---- what can be added to a store
 
 pub record IsAddedColumn (c : ImageColumn) : Type 0 where
-  pub field : IsName c.field
+  pub field : IsKeyName c.field
   pub timed : AreTimed c.points
   pub rising : AreRising int_cmp (map (λ (p : ℤ × ℤ). p.0) c.points)
 
@@ -96,7 +96,7 @@ with_cells_at rule cs b = record {
   series = b.series;
   columns = b.columns;
   waits = b.waits;
-  cells = set b.cells rule (with_image_cells cs (cells_at b.cells rule));
+  cells = set b.cells rule (with_image_cells cs (cell_map_at b.cells rule));
 }
 
 -- each map with the cells of an image

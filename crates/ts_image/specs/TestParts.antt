@@ -8,7 +8,7 @@ use Rattle.ts_image.specs.declared.series_reading.SeriesParts.{SeriesParts}
 use Rattle.ts_image.specs.declared.cell_reading.CellParts.{CellParts}
 use Rattle.ts_image.specs.SeriesParts.{key_of}
 use Rattle.ts_image.specs.CellParts.{cell_key_of}
-use Rattle.ts_image.specs.ImageTests.{IsName, IsBetween, points_of_series, points_in_all, AreRising, IsImageSeries, AreLows, CellsAre, frozen_in, points_of_measurement}
+use Rattle.ts_image.specs.ImageTests.{IsKeyName, IsBetween, points_of_series, points_in_all, AreRising, IsImageSeries, AreLows, CellsAre, frozen_in, points_of_measurement}
 use Rattle.ts_image.specs.declared.rule_reading.RuleParts.{RuleParts}
 use Rattle.ts_image.specs.Images.{ImageRule, ImageSeries, ImageCell, ImageData}
 use Rattle.ts_image.specs.declared.version.Version.{Version}
@@ -16,7 +16,7 @@ use Rattle.std.specs.List.{AllByRecursion}
 use Rattle.ts_core.specs.facts.Times.{IsTime}
 
 abbrev pub IsTag : Text × Text → Type 0
-IsTag t = IsName t.0 × (t.1 ≢ [])
+IsTag t = IsKeyName t.0 × (t.1 ≢ [])
 
 abbrev pub key_of_tag : {A : Type 0} → String A × String A → Text
 key_of_tag t = string_bytes t.0

@@ -8,7 +8,7 @@ use Rattle.ts_image.specs.declared.version.Version.TheVariants.{V2}
 use Rattle.ts_image.specs.ImageTests.{IsPossible}
 use Rattle.ts_image.specs.Pictures.{IsPictureOf}
 use Rattle.ts_image.specs.SavedImages.{IsWellFormed}
-use Rattle.ts_store.specs.image.Saving.{SavedSeries}
+use Rattle.ts_store.specs.image.SavedContent.{SavedSeries}
 use Rattle.ts_image.specs.Saving.{image_of, FitsImage, IsOrder}
 
 -- it fits the form of images, is a picture of the store, and has no contradiction

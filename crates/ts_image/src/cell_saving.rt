@@ -6,7 +6,7 @@ ghost use Rattle.ts_image.specs.Formats.{along, list_of};
 ghost use Rattle.ts_image.specs.Images.{image_cell};
 ghost use Rattle.ts_image.specs.FieldWriting.{Puts, PutsAll};
 ghost use Rattle.ts_image.specs.SavedParts.{image_rule_of};
-ghost use Rattle.ts_image.specs.Saving.{image_cell_of, cells_at, image_cells_from, FitsCell, FitCells, FitCellsFrom};
+ghost use Rattle.ts_image.specs.Saving.{image_cell_of, frozen_cells_at, image_cells_from, FitsCell, FitCells, FitCellsFrom};
 
 use crate::cell_writing::put_cell;
 use crate::field_writing::put_u64;
@@ -67,8 +67,8 @@ fn put_rule_cells<W: Write, A: Allocator + Copy>(
     sink: &mut Sink<W>,
 ) -> Result<(), Refused>
     requires number { number < length store.now.settings.rules }
-    requires fit { FitCells rule.now (cells_at store.now number) }
-    ensures { Puts (list_of w64 (image_cell (image_rule_of rule.now))) (map image_cell_of (cells_at store.now number)) sink.old out.old result sink.new out.new }
+    requires fit { FitCells rule.now (frozen_cells_at store.now number) }
+    ensures { Puts (list_of w64 (image_cell (image_rule_of rule.now))) (map image_cell_of (frozen_cells_at store.now number)) sink.old out.old result sink.new out.new }
 {
     put_u64(count_cells(store.frozen_cells(number)), out, sink)?;
     put_frozen_cells(rule, store.frozen_cells(number), out, sink)

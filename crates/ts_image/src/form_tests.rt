@@ -2,7 +2,7 @@
 ghost use Rattle.std.specs.Prelude.{◌≡◌, ◌↔◌, ◌+◌, ◌<◌, ◌≤◌, ◌^◌, FitsSigned, length, IsTrue};
 ghost use Rattle.std.specs.Int.{w64};
 ghost use Rattle.std.specs.List.{AllByRecursion};
-ghost use Rattle.ts_image.specs.Saving.{cells_at, FitsCell, FitCells, FitCellsFrom, FitSeries, FitsImage};
+ghost use Rattle.ts_image.specs.Saving.{frozen_cells_at, FitsCell, FitCells, FitCellsFrom, FitSeries, FitsImage};
 
 use std::alloc::Allocator;
 use ts_core::Rule;

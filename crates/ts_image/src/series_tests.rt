@@ -5,7 +5,7 @@ ghost use Rattle.std.specs.List.{AllByRecursion};
 ghost use Rattle.ts_core.specs.facts.Facts.{Text, Series, text_cmp, series_cmp};
 ghost use Rattle.ts_core.specs.facts.Times.{IsTime};
 ghost use Rattle.ts_image.specs.Images.{ImageColumn, ImageSeries};
-ghost use Rattle.ts_image.specs.ImageTests.{AreRising, IsName, IsImagePoint, IsImageColumn, IsImageSeriesKey, IsImageSeries};
+ghost use Rattle.ts_image.specs.ImageTests.{AreRising, IsKeyName, IsImagePoint, IsImageColumn, IsImageSeriesKey, IsImageSeries};
 ghost use Rattle.ts_image.specs.PointParts.{point_of};
 ghost use Rattle.ts_image.specs.SeriesParts.{tag_of, key_of, column_of_parts, series_of_parts};
 ghost use Rattle.ts_image.specs.TestParts.{IsTag, key_of_tag, field_of, time_of, series_key_of};
@@ -16,7 +16,7 @@ use std::cmp::Ordering;
 
 /// Returns whether a text may be the key of a tag or a field.
 pub(crate) fn is_name(text: &str) -> bool
-    ensures { IsTrue result ↔ IsName text.now }
+    ensures { IsTrue result ↔ IsKeyName text.now }
 {
     !text.is_empty() && text != "time"
 }

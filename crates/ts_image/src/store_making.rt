@@ -9,7 +9,7 @@ ghost use Rattle.ts_core.specs.store.StoreStates.{column_of};
 ghost use Rattle.ts_core.specs.text.Texts.{lent_series};
 ghost use Rattle.ts_core.specs.facts.Times.{IsTime};
 ghost use Rattle.ts_line.specs.Names.{IsNamed};
-ghost use Rattle.ts_store.specs.image.Building.{new_built, with_series, with_column, with_cell, cells_at};
+ghost use Rattle.ts_store.specs.image.Building.{new_built, with_series, with_column, with_cell, cell_map_at};
 ghost use Rattle.ts_image.specs.CellParts.{cell_key_of, cell_of_parts, cells_of};
 ghost use Rattle.ts_image.specs.ImageReading.{image_of};
 ghost use Rattle.ts_image.specs.ImageTests.{AreRising, IsImageSeriesKey, IsPossible, settings_in};
@@ -140,7 +140,7 @@ fn add_cell<A: Allocator + Copy>(
     parts: &CellParts<A>,
 ) -> Result<(), AllocError>
     requires rule { rule < length builder.old.settings.rules }
-    requires absent { finmap.get (cells_at builder.old.cells rule) (cell_key_of parts.now.key) ≡ None }
+    requires absent { finmap.get (cell_map_at builder.old.cells rule) (cell_key_of parts.now.key) ≡ None }
     requires part { HasPart (cell_of_parts parts.now) }
     ensures { OnOk result (builder.new ≡ with_cell rule (cell_key_of parts.now.key) (part_of (cell_of_parts parts.now)) builder.old) }
 {
@@ -164,7 +164,7 @@ fn add_cells<A: Allocator + Copy>(
 ) -> Result<(), AllocError>
     requires rule { rule < length builder.old.settings.rules }
     requires inside { rule < length builder.old.cells }
-    requires none { cells_at builder.old.cells rule ≡ finmap.empty }
+    requires none { cell_map_at builder.old.cells rule ≡ finmap.empty }
     requires cells { AreAddedCells (map cell_of_parts cells.now) }
     ensures { OnOk result (builder.new ≡ with_cells_at rule (map cell_of_parts cells.now) builder.old) }
 {

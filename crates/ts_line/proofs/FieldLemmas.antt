@@ -12,7 +12,7 @@ use Rattle.ts_line.specs.Parts.{LinePart, AreFields, field_text}
 use Rattle.ts_line.specs.declared.fault.ReadLineError.{ReadLineError}
 use Rattle.ts_line.specs.declared.fault.ReadLineError.TheVariants as errors
 use Rattle.ts_line.specs.ReadSteps.{FailsIfRoom}
-use Rattle.ts_line.specs.Fields.{next_field, place_from, with_field, fields_at}
+use Rattle.ts_line.specs.Fields.{next_field, offset_from, with_field, fields_at}
 
 pub field_taken : (n : ℕ) (before : List (LinePart × ℤ)) (line : Text) (at : ℕ) (f : LinePart × ℤ) (end : ℕ) (total : Result (List (LinePart × ℤ) × ℕ) LineFault) → n < 256 → slice_index line end ≡ 44
     → next_field line at ≡ Ok (f, end) → fields_at (256 - n) before line at ≡ total → fields_at (256 - (n + 1)) (with_field before f) line (end + 1) ≡ total
@@ -54,43 +54,43 @@ field_fails n before line at (errors.Fault f) total lt read so_far = field_faile
 -- ---- one field put among others
 
 set_by : (b : Bool) (g f : LinePart × ℤ) (gs : List (LinePart × ℤ)) (at i : ℕ) (d : LinePart × ℤ) → bytes_eq g.0.text f.0.text ≡ b
-    → (place_from (at + 1) f.0.text gs ≡ Some i → (j : ℕ) × (i ≡ (at + 1) + j) × (set gs j ((get_or gs j d).0, f.1) ≡ with_field gs f))
-    → place_from at f.0.text (g ∷ gs) ≡ Some i → (j : ℕ) × (i ≡ at + j) × (set (g ∷ gs) j ((get_or (g ∷ gs) j d).0, f.1) ≡ with_field (g ∷ gs) f)
+    → (offset_from (at + 1) f.0.text gs ≡ Some i → (j : ℕ) × (i ≡ (at + 1) + j) × (set gs j ((get_or gs j d).0, f.1) ≡ with_field gs f))
+    → offset_from at f.0.text (g ∷ gs) ≡ Some i → (j : ℕ) × (i ≡ at + j) × (set (g ∷ gs) j ((get_or (g ∷ gs) j d).0, f.1) ≡ with_field (g ∷ gs) f)
 set_by true g f gs at i d e ih found =
     let here : Some at ≡ Some i = rw e at found in
     let is : at ≡ i = cc in
     (0, omega arith, rw e refl)
 set_by false g f gs at i d e ih found =
-    let later : place_from (at + 1) f.0.text gs ≡ Some i = rw e at found in
+    let later : offset_from (at + 1) f.0.text gs ≡ Some i = rw e at found in
     let h = ih later in
     (suc h.0, omega (arith, h.1), rw e (ap (λ (xs : List (LinePart × ℤ)). g ∷ xs) h.2))
 
 set_in : (f : LinePart × ℤ) (fields : List (LinePart × ℤ)) (at i : ℕ) (d : LinePart × ℤ)
-    → place_from at f.0.text fields ≡ Some i → (j : ℕ) × (i ≡ at + j) × (set fields j ((get_or fields j d).0, f.1) ≡ with_field fields f)
+    → offset_from at f.0.text fields ≡ Some i → (j : ℕ) × (i ≡ at + j) × (set fields j ((get_or fields j d).0, f.1) ≡ with_field fields f)
 set_in f [] at i d found = absurd cc
 set_in f (g ∷ gs) at i d found = set_by (bytes_eq g.0.text f.0.text) g f gs at i d refl (set_in f gs (at + 1) i d) found
 
 -- a name that is there gets the value
-pub field_set : (f : LinePart × ℤ) (fields : List (LinePart × ℤ)) (i : ℕ) (d : LinePart × ℤ) → Some i ≡ place_from 0 f.0.text fields → set fields i ((get_or fields i d).0, f.1) ≡ with_field fields f
+pub field_set : (f : LinePart × ℤ) (fields : List (LinePart × ℤ)) (i : ℕ) (d : LinePart × ℤ) → Some i ≡ offset_from 0 f.0.text fields → set fields i ((get_or fields i d).0, f.1) ≡ with_field fields f
 field_set f fields i d found =
     let p = set_in f fields 0 i d (sym found) in
     let same : i ≡ p.0 = omega (arith, p.1) in
     rw same p.2
 
 push_by : (b : Bool) (f g : LinePart × ℤ) (gs : List (LinePart × ℤ)) (at : ℕ) → bytes_eq g.0.text f.0.text ≡ b
-    → (place_from (at + 1) f.0.text gs ≡ None → gs ++ f ∷ [] ≡ with_field gs f)
-    → place_from at f.0.text (g ∷ gs) ≡ None → (g ∷ gs) ++ f ∷ [] ≡ with_field (g ∷ gs) f
+    → (offset_from (at + 1) f.0.text gs ≡ None → gs ++ f ∷ [] ≡ with_field gs f)
+    → offset_from at f.0.text (g ∷ gs) ≡ None → (g ∷ gs) ++ f ∷ [] ≡ with_field (g ∷ gs) f
 push_by true f g gs at e ih found = let no : Some at ≡ None = rw e at found in absurd cc
 push_by false f g gs at e ih found =
-    let later : place_from (at + 1) f.0.text gs ≡ None = rw e at found in
+    let later : offset_from (at + 1) f.0.text gs ≡ None = rw e at found in
     rw e (ap (λ (xs : List (LinePart × ℤ)). g ∷ xs) (ih later))
 
-push_in : (f : LinePart × ℤ) (fields : List (LinePart × ℤ)) (at : ℕ) → place_from at f.0.text fields ≡ None → fields ++ f ∷ [] ≡ with_field fields f
+push_in : (f : LinePart × ℤ) (fields : List (LinePart × ℤ)) (at : ℕ) → offset_from at f.0.text fields ≡ None → fields ++ f ∷ [] ≡ with_field fields f
 push_in f [] at found = refl
 push_in f (g ∷ gs) at found = push_by (bytes_eq g.0.text f.0.text) f g gs at refl (push_in f gs (at + 1)) found
 
 -- a new name comes last
-pub field_pushed : (f : LinePart × ℤ) (fields : List (LinePart × ℤ)) → None ≡ place_from 0 f.0.text fields → fields ++ f ∷ [] ≡ with_field fields f
+pub field_pushed : (f : LinePart × ℤ) (fields : List (LinePart × ℤ)) → None ≡ offset_from 0 f.0.text fields → fields ++ f ∷ [] ≡ with_field fields f
 field_pushed f fields found = push_in f fields 0 (sym found)
 
 -- ---- the fields that are read are some, few and of different names

@@ -13,7 +13,7 @@ use Rattle.ts_core.specs.text.Numbers.{is_number, without_minus, is_from_to, who
 use Rattle.ts_line.specs.Parts.{LinePart}
 use Rattle.ts_line.specs.Scan.{end_of}
 use Rattle.ts_line.specs.PartTexts.{unescaped}
-use Rattle.ts_line.specs.Values.{value_said, value_begun_at, integer_by}
+use Rattle.ts_line.specs.Values.{integer_value, value_begun_at, integer_by}
 use Rattle.ts_line.specs.Fields.{next_field, with_field, fields_at}
 use Rattle.ts_line.specs.Spelling.{is_closed, field_spelling, more_fields_text, IsWrittenField, field_from, with_fields}
 use Rattle.ts_core.proofs.text.NumberLemmas.{fits_within}
@@ -65,15 +65,15 @@ no_quote b e = grind (arith, nat_tests)
 
 -- ---- a value
 
-value_is_read : (start : ℕ) (number : Text) → is_number number ≡ true → FitsSigned w64 (signed_digits_value 10 number) → value_said start (number ++ 105 ∷ []) ≡ Ok (signed_digits_value 10 number)
-unfolding value_said
+value_is_read : (start : ℕ) (number : Text) → is_number number ≡ true → FitsSigned w64 (signed_digits_value 10 number) → integer_value start (number ++ 105 ∷ []) ≡ Ok (signed_digits_value 10 number)
+unfolding integer_value
 value_is_read start number number_is fits =
     let text = number ++ 105 ∷ [] in
     let len : length text ≡ length number + 1 = length_push number 105 in
     let some : eqb (length text) 0 ≡ false = grind (arith, nat_tests) in
-    let place : length number ≡ length text - 1 = omega arith in
-    let last : get_or text (length text - 1) 0 ≡ 105 = get_or_push number 105 0 (length text - 1) place in
-    let front : take (length text - 1) text ≡ number = take_at number (105 ∷ []) (length text - 1) place in
+    let offset : length number ≡ length text - 1 = omega arith in
+    let last : get_or text (length text - 1) 0 ≡ 105 = get_or_push number 105 0 (length text - 1) offset in
+    let front : take (length text - 1) text ≡ number = take_at number (105 ∷ []) (length text - 1) offset in
     let within : whole_of number ≡ Some (signed_digits_value 10 number) =
     cond-true (is_from_to (neg_ℤ (pos 9223372036854775808)) (pos 9223372036854775807) (signed_digits_value 10 number)) (Some (signed_digits_value 10 number)) None (fits_within (signed_digits_value 10 number) fits) in
     rw (some, last, front, number_is) (ap (integer_by start) within)

@@ -8,7 +8,7 @@ use Rattle.ts_line.specs.ReadSteps.{GivesIfRoom}
 use Rattle.ts_line.specs.Lines.{line_of}
 use Rattle.ts_line.specs.Spelling.{IsSpelling}
 use Rattle.ts_line.proofs.SpellingRead.{spelling_read}
-use Rattle.ts_line.proofs.SpellingTold.{spelling_told}
+use Rattle.ts_line.proofs.SpellingFacts.{spelling_told}
 
 -- the parts that were read spell the line
 pub told_of : (unit now : ℤ) (source : Text) (r : Result (Option Parts) ReadLineError) → GivesIfRoom (λ o. o) r (line_of unit now source) → IfOk r (λ o. IfSome o (IsSpelling unit now source))

@@ -4,16 +4,16 @@ pub mod SpellingRead
 pub mod LineSpelled
 pub mod FieldsSpelled
 pub mod TagsSpelled
-pub mod SpellingTold
-pub mod LineTold
-pub mod FieldsTold
-pub mod TagsTold
-pub mod PartsTold
+pub mod SpellingFacts
+pub mod LineFacts
+pub mod FieldFacts
+pub mod TagFacts
+pub mod PartFacts
 pub mod Suffixes
 -- Spans: the parts are in the line
 pub mod SpansLemmas
 -- Names: the names in a line that was read
-pub mod NamesTold
+pub mod NameFacts
 -- Lines: its parts in turn
 pub mod LineLemmas
 -- TagParts, Fields, NameMarks: tag by tag, field by field

@@ -24,7 +24,7 @@ use Rattle.ts_line.specs.Readings.{NeedsMemory, IfOutOfMemory}
 use Rattle.ts_line.specs.declared.fault.ReadLineError.{ReadLineError}
 use Rattle.ts_line.specs.declared.fault.ReadLineError.TheVariants as errors
 use Rattle.std.proofs.lemmas.Bool.Decides.{nat_tests}
-use Rattle.ts_line.proofs.PartsTold.{end_within}
+use Rattle.ts_line.proofs.PartFacts.{end_within}
 
 pub trimmed_step : (line : Text) (n : ℕ) → 0 < n → trimmed line n ≡ cond (is_bare_space line (n - 1)) (trimmed line (n - 1)) n
 trimmed_step line zero h = absurd (omega arith)

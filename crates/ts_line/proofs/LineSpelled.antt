@@ -87,8 +87,8 @@ return_by front after return b e p (inr is) =
     let source = tail_of front b after (13 ∷ []) in
     let whole : source ≡ (front ++ (b ∷ after)) ++ 13 ∷ [] = sym (append_assoc front (b ∷ after) (13 ∷ [])) in
     let len : length source ≡ length front + 1 + length after + 1 = omega (arith, tail_len front after (13 ∷ []) b) in
-    let place : length (front ++ (b ∷ after)) ≡ length source - 1 = omega (arith, len, length-append front (b ∷ after)) in
-    let last : get_or source (length source - 1) 0 ≡ 13 = ap (λ l. get_or l (length source - 1) 0) whole ∙ get_or_push (front ++ (b ∷ after)) 13 0 (length source - 1) place in
+    let offset : length (front ++ (b ∷ after)) ≡ length source - 1 = omega (arith, len, length-append front (b ∷ after)) in
+    let last : get_or source (length source - 1) 0 ≡ 13 = ap (λ l. get_or l (length source - 1) 0) whole ∙ get_or_push (front ++ (b ∷ after)) 13 0 (length source - 1) offset in
     let some : eqb (length source) 0 ≡ false = not_eqb (length source) 0 (λ x. omega (arith, x, len)) in
     rw (is, last, some) (omega (arith, len))
 

@@ -4,7 +4,7 @@ use Rattle.std.proofs.lemmas.List.{get_or-set_same}
 use Rattle.std.proofs.lemmas.Slice.Eq.{bytes_eq-Decides}
 use Rattle.ts_core.specs.facts.Facts.{Text}
 use Rattle.ts_line.specs.Parts.{LinePart}
-use Rattle.ts_line.specs.Fields.{place_from, with_field}
+use Rattle.ts_line.specs.Fields.{offset_from, with_field}
 use Rattle.ts_line.specs.NameMarks.{slot_of, AreMarked, AreKeysMarked}
 use Rattle.ts_line.specs.TagParts.{has_key}
 use Rattle.ts_line.proofs.FieldLemmas.{field_pushed}
@@ -14,14 +14,14 @@ Mark marks name = slice_index_or marks (slot_of name) false ≡ true
 
 -- a name without a mark is new
 new_by : (marks : List Bool) (name : Text) (g : LinePart × ℤ) (gs : List (LinePart × ℤ)) (at : ℕ) (b : Bool) → bytes_eq g.0.text name ≡ b → slice_index_or marks (slot_of name) false ≡ false
-    → Mark marks g.0.text → place_from (at + 1) name gs ≡ None → place_from at name (g ∷ gs) ≡ None
+    → Mark marks g.0.text → offset_from (at + 1) name gs ≡ None → offset_from at name (g ∷ gs) ≡ None
 new_by marks name g gs at true e bare mark rest =
     let same : g.0.text ≡ name = (bytes_eq-Decides g.0.text name).0 e in
     let here : slice_index_or marks (slot_of name) false ≡ true = ap (λ (t : Text). slice_index_or marks (slot_of t) false) (sym same) ∙ mark in
     absurd cc
 new_by marks name g gs at false e bare mark rest = rw e rest
 
-new_in : (marks : List Bool) (name : Text) (fields : List (LinePart × ℤ)) (at : ℕ) → slice_index_or marks (slot_of name) false ≡ false → AreMarked marks fields → place_from at name fields ≡ None
+new_in : (marks : List Bool) (name : Text) (fields : List (LinePart × ℤ)) (at : ℕ) → slice_index_or marks (slot_of name) false ≡ false → AreMarked marks fields → offset_from at name fields ≡ None
 new_in marks name [] at bare all = refl
 new_in marks name (g ∷ gs) at bare all = new_by marks name g gs at (bytes_eq g.0.text name) refl bare all.0 (new_in marks name gs (at + 1) bare all.1)
 

@@ -121,9 +121,9 @@ minus_value line start at end minus some within digits short last ends =
     let len : at + 1 + length ds ≡ end = slice_len_is line (at + 1) end le (omega arith) in
     let behind : At line (at + 1) (ds ++ (105 ∷ rest)) = stands line (at + 1) end le within ∙ ap (λ b. ds ++ (b ∷ rest)) last in
     let here : At line at ((45 ∷ ds) ++ (105 ∷ rest)) = drop_more line at 0 lt ∙ ap (λ b. b ∷ drop (at + 1) line) minus ∙ ap (λ (l : Text). 45 ∷ l) behind in
-    let place : at + length (45 ∷ ds) ≡ end = omega (arith, len) in
+    let offset : at + length (45 ∷ ds) ≡ end = omega (arith, len) in
     value_read line (45 ∷ ds) rest start at here (minus_number ds (omega (arith, len)) digits) (fits_minus (digits_value 10 ds) short) (value_ends rest ends)
-    ∙ ap (λ k. Ok (neg_ℤ (pos (digits_value 10 ds)), k + 1)) place
+    ∙ ap (λ k. Ok (neg_ℤ (pos (digits_value 10 ds)), k + 1)) offset
 
 pub as_integer : (n : ℕ) (x : ℤ) → x ≡ pos n → n < 9223372036854775808 → to_z w64 (of_z w64 x) ≡ pos n
 as_integer n x e short = ap (λ y. to_z w64 (of_z w64 y)) e ∙ to_z-of_z w64 (pos n) (fits_plain n short)

@@ -8,7 +8,7 @@ use Rattle.std.specs.declared.cmp.Ordering.TheVariants.{Less, Equal, Greater}
 use Rattle.ts_core.specs.facts.Facts.{Text, text_cmp}
 use Rattle.ts_core.specs.text.Texts.{lent_pairs, IsTagSet}
 use Rattle.ts_line.specs.Parts.{LinePart, tag_texts}
-use Rattle.ts_line.specs.Sorting.{key_place_from, rise}
+use Rattle.ts_line.specs.Sorting.{key_offset_from, rise}
 use Rattle.std.specs.Ordering.{is_lt}
 use Rattle.std.proofs.lemmas.Bool.{and_parts}
 use Rattle.std.proofs.lemmas.List.{take_more, take_all, map_push}
@@ -25,23 +25,23 @@ abbrev IsPutAt : Bor Text → Bor Text → Lent → ℕ → Type 0
 IsPutAt k v xs j = lent_pairs (set xs j (k, v)) ≡ put text_cmp k.now v.now (lent_pairs xs)
 
 old_by : (k v : Bor Text) (x : Bor Text × Bor Text) (xs : Lent) (at i : ℕ) (r : Ordering) → text_cmp k.now x.0.now ≡ r
-    → (key_place_from (at + 1) k.now (lent_pairs xs) ≡ Ok i → (j : ℕ) × (i ≡ (at + 1) + j) × IsPutAt k v xs j)
-    → key_place_from at k.now (lent_pairs (x ∷ xs)) ≡ Ok i → (j : ℕ) × (i ≡ at + j) × IsPutAt k v (x ∷ xs) j
+    → (key_offset_from (at + 1) k.now (lent_pairs xs) ≡ Ok i → (j : ℕ) × (i ≡ (at + 1) + j) × IsPutAt k v xs j)
+    → key_offset_from at k.now (lent_pairs (x ∷ xs)) ≡ Ok i → (j : ℕ) × (i ≡ at + j) × IsPutAt k v (x ∷ xs) j
 old_by k v x xs at i Less e ih found = let no : Err at ≡ Ok i = rw e at found in absurd cc
 old_by k v x xs at i Equal e ih found =
     let here : Ok at ≡ Ok i = rw e at found in
     let is : at ≡ i = cc in
     (0, omega arith, rw e (ap (λ (t : Text). (t, v.now) ∷ lent_pairs xs) (same_text k.now x.0.now e)))
 old_by k v x xs at i Greater e ih found =
-    let later : key_place_from (at + 1) k.now (lent_pairs xs) ≡ Ok i = rw e at found in
+    let later : key_offset_from (at + 1) k.now (lent_pairs xs) ≡ Ok i = rw e at found in
     let h = ih later in
     (suc h.0, omega (arith, h.1), rw e (ap (λ (zs : List (Text × Text)). (x.0.now, x.1.now) ∷ zs) h.2))
 
-pub put_old : (k v : Bor Text) (xs : Lent) (at i : ℕ) → key_place_from at k.now (lent_pairs xs) ≡ Ok i → (j : ℕ) × (i ≡ at + j) × IsPutAt k v xs j
+pub put_old : (k v : Bor Text) (xs : Lent) (at i : ℕ) → key_offset_from at k.now (lent_pairs xs) ≡ Ok i → (j : ℕ) × (i ≡ at + j) × IsPutAt k v xs j
 put_old k v [] at i found = absurd cc
 put_old k v (x ∷ xs) at i found = old_by k v x xs at i (text_cmp k.now x.0.now) refl (put_old k v xs (at + 1) i) found
 
-pub put_found : (k v : Bor Text) (xs : Lent) (i : ℕ) → Ok i ≡ key_place_from 0 k.now (lent_pairs xs) → lent_pairs (set xs i (k, v)) ≡ put text_cmp k.now v.now (lent_pairs xs)
+pub put_found : (k v : Bor Text) (xs : Lent) (i : ℕ) → Ok i ≡ key_offset_from 0 k.now (lent_pairs xs) → lent_pairs (set xs i (k, v)) ≡ put text_cmp k.now v.now (lent_pairs xs)
 put_found k v xs i found =
     let p = put_old k v xs 0 i (sym found) in
     let same : i ≡ p.0 = omega (arith, p.1) in
@@ -53,23 +53,23 @@ abbrev IsNewAt : Bor Text → Bor Text → Lent → ℕ → Type 0
 IsNewAt k v xs j = lent_pairs (take j xs ++ (k, v) ∷ drop j xs) ≡ put text_cmp k.now v.now (lent_pairs xs)
 
 new_by : (k v : Bor Text) (x : Bor Text × Bor Text) (xs : Lent) (at i : ℕ) (r : Ordering) → text_cmp k.now x.0.now ≡ r
-    → (key_place_from (at + 1) k.now (lent_pairs xs) ≡ Err i → (j : ℕ) × (i ≡ (at + 1) + j) × IsNewAt k v xs j)
-    → key_place_from at k.now (lent_pairs (x ∷ xs)) ≡ Err i → (j : ℕ) × (i ≡ at + j) × IsNewAt k v (x ∷ xs) j
+    → (key_offset_from (at + 1) k.now (lent_pairs xs) ≡ Err i → (j : ℕ) × (i ≡ (at + 1) + j) × IsNewAt k v xs j)
+    → key_offset_from at k.now (lent_pairs (x ∷ xs)) ≡ Err i → (j : ℕ) × (i ≡ at + j) × IsNewAt k v (x ∷ xs) j
 new_by k v x xs at i Less e ih found =
     let here : Err at ≡ Err i = rw e at found in
     let is : at ≡ i = cc in
     (0, omega arith, rw e refl)
 new_by k v x xs at i Equal e ih found = let no : Ok at ≡ Err i = rw e at found in absurd cc
 new_by k v x xs at i Greater e ih found =
-    let later : key_place_from (at + 1) k.now (lent_pairs xs) ≡ Err i = rw e at found in
+    let later : key_offset_from (at + 1) k.now (lent_pairs xs) ≡ Err i = rw e at found in
     let h = ih later in
     (suc h.0, omega (arith, h.1), rw e (ap (λ (zs : List (Text × Text)). (x.0.now, x.1.now) ∷ zs) h.2))
 
-new_in : (k v : Bor Text) (xs : Lent) (at i : ℕ) → key_place_from at k.now (lent_pairs xs) ≡ Err i → (j : ℕ) × (i ≡ at + j) × IsNewAt k v xs j
+new_in : (k v : Bor Text) (xs : Lent) (at i : ℕ) → key_offset_from at k.now (lent_pairs xs) ≡ Err i → (j : ℕ) × (i ≡ at + j) × IsNewAt k v xs j
 new_in k v [] at i found = let is : at ≡ i = cc in (0, omega arith, refl)
 new_in k v (x ∷ xs) at i found = new_by k v x xs at i (text_cmp k.now x.0.now) refl (new_in k v xs (at + 1) i) found
 
-pub put_new : (k v : Bor Text) (xs : Lent) (i : ℕ) → Err i ≡ key_place_from 0 k.now (lent_pairs xs) → lent_pairs (take i xs ++ (k, v) ∷ drop i xs) ≡ put text_cmp k.now v.now (lent_pairs xs)
+pub put_new : (k v : Bor Text) (xs : Lent) (i : ℕ) → Err i ≡ key_offset_from 0 k.now (lent_pairs xs) → lent_pairs (take i xs ++ (k, v) ∷ drop i xs) ≡ put text_cmp k.now v.now (lent_pairs xs)
 put_new k v xs i found =
     let p = new_in k v xs 0 i (sym found) in
     let same : i ≡ p.0 = omega (arith, p.1) in

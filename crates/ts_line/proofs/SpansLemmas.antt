@@ -12,18 +12,18 @@ use Rattle.ts_line.proofs.TagsSpelled.{flat}
 use Rattle.ts_line.proofs.Suffixes.{At, at_next, at_after, at_slice}
 
 -- where the last of the parts ends
-abbrev place_end : ℕ → List LinePart → ℕ
-place_end n [] = n
-place_end n (p ∷ ps) = place_end (p.start + length p.raw) ps
+abbrev offset_end : ℕ → List LinePart → ℕ
+offset_end n [] = n
+offset_end n (p ∷ ps) = offset_end (p.start + length p.raw) ps
 
-placed_both : (line : Text) (n m : ℕ) (xs ys : List LinePart) → ArePlaced line n xs → place_end n xs ≤ m → ArePlaced line m ys → ArePlaced line n (xs ++ ys)
+placed_both : (line : Text) (n m : ℕ) (xs ys : List LinePart) → ArePlaced line n xs → offset_end n xs ≤ m → ArePlaced line m ys → ArePlaced line n (xs ++ ys)
 placed_both line n m [] [] a le b = tt
 placed_both line n m [] (y ∷ ys) a le b = (omega (arith, le, b.0), b.1, b.2)
 placed_both line n m (x ∷ xs) ys a le b = (a.0, a.1, placed_both line (x.start + length x.raw) m xs ys a.2 le b)
 
 -- ---- tags
 
-tags_placed : (ts : List (Text × Text)) (line rest : Text) (at : ℕ) → At line at (tags_text ts ++ rest) → ArePlaced line at (tag_pieces (tags_from at ts)) × (place_end at (tag_pieces (tags_from at ts)) ≤ at + length (tags_text ts))
+tags_placed : (ts : List (Text × Text)) (line rest : Text) (at : ℕ) → At line at (tags_text ts ++ rest) → ArePlaced line at (tag_pieces (tags_from at ts)) × (offset_end at (tag_pieces (tags_from at ts)) ≤ at + length (tags_text ts))
 tags_placed [] line rest at h = (tt, omega arith)
 tags_placed (t ∷ ts) line rest at h =
     let k = t.0 in
@@ -51,12 +51,12 @@ names_with : (fields : List (LinePart × ℤ)) (f : LinePart × ℤ) → (map fi
 names_with [] f = inr refl
 names_with (g ∷ gs) f = names_by (bytes_eq g.0.text f.0.text) g f gs refl (names_with gs f)
 
-end_push : (n : ℕ) (ps : List LinePart) (p : LinePart) → place_end n (ps ++ p ∷ []) ≡ p.start + length p.raw
+end_push : (n : ℕ) (ps : List LinePart) (p : LinePart) → offset_end n (ps ++ p ∷ []) ≡ p.start + length p.raw
 end_push n [] p = refl
 end_push n (q ∷ ps) p = end_push (q.start + length q.raw) ps p
 
 abbrev ArePlacedTo : Text → ℕ → List LinePart → ℕ → Type 0
-ArePlacedTo line n ps end = ArePlaced line n ps × (place_end n ps ≤ end)
+ArePlacedTo line n ps end = ArePlaced line n ps × (offset_end n ps ≤ end)
 
 with_placed : (line : Text) (n at : ℕ) (before : List (LinePart × ℤ)) (f : LinePart × ℤ) → ArePlacedTo line n (map field_piece before) at → at ≤ f.0.start → IsPartOf line f.0
     → ArePlacedTo line n (map field_piece (with_field before f)) (f.0.start + length f.0.raw)

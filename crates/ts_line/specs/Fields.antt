@@ -21,9 +21,9 @@ next_field line start =
     (value_begun_at start line (key_end + 1) >>= λ v. Ok ((key, v.0), v.1)))
 
 -- index of the first field with this name; `at` is the index of the list's head
-abbrev pub place_from : ℕ → Text → List (LinePart × ℤ) → Option ℕ
-place_from at name [] = None
-place_from at name (f ∷ fs) = if bytes_eq f.0.text name then Some at else place_from (at + 1) name fs
+abbrev pub offset_from : ℕ → Text → List (LinePart × ℤ) → Option ℕ
+offset_from at name [] = None
+offset_from at name (f ∷ fs) = if bytes_eq f.0.text name then Some at else offset_from (at + 1) name fs
 
 -- the fields with one more: a new name is appended, and a known name keeps its index and takes the new value
 abbrev pub with_field : List (LinePart × ℤ) → LinePart × ℤ → List (LinePart × ℤ)

@@ -6,9 +6,9 @@ use Rattle.ts_core.specs.facts.Facts.{Text, text_cmp}
 
 -- index of the first pair whose key isn't less: `Ok` if it has this key, else `Err`; `at` is the index of the list's
 -- head
-abbrev pub key_place_from : ℕ → Text → List (Text × Text) → Result ℕ ℕ
-key_place_from at key [] = Err at
-key_place_from at key (e ∷ es) = by_order (text_cmp key e.0) (Err at) (Ok at) (key_place_from (at + 1) key es)
+abbrev pub key_offset_from : ℕ → Text → List (Text × Text) → Result ℕ ℕ
+key_offset_from at key [] = Err at
+key_offset_from at key (e ∷ es) = by_order (text_cmp key e.0) (Err at) (Ok at) (key_offset_from (at + 1) key es)
 
 -- keys strictly ascend
 abbrev pub rise : List (Text × Text) → Bool

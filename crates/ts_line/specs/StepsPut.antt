@@ -1,7 +1,7 @@
 -- One step of the parser: it inserts the next field or tag into those before it. (Own rule.)
 use Rattle.std.specs.Prelude.{◌≤◌, ℕ, ℤ, ◌+◌, List, [], ◌∷◌, ◌++◌, length, Bool, Result, Ok, Err, IfOk}
 use Rattle.std.specs.Str.{IsCharBoundary}
-use Rattle.ts_core.specs.text.Cursors.{IsPlaceFrom}
+use Rattle.ts_core.specs.text.Cursors.{IsOffsetFrom}
 use Rattle.ts_core.specs.facts.Facts.{Text}
 use Rattle.ts_line.specs.declared.fault.LineFault.{LineFault}
 use Rattle.ts_line.specs.declared.fault.ReadLineError.{ReadLineError}
@@ -27,4 +27,4 @@ pub record PushesNextTag (before after : List (LinePart × LinePart)) (marks : L
   pub value : GivesIfRoom (λ end. (after, end)) result (put_by (λ tag. before ++ tag ∷ []) (next_tag before line start))
   pub marked : IfOk result (λ _. AreKeysMarked marks after)
   pub few : IfOk result (λ _. length after ≤ 64)
-  pub place : IfOk result (λ end. IsPlaceFrom line (start + 1) end)
+  pub offset : IfOk result (λ end. IsOffsetFrom line (start + 1) end)

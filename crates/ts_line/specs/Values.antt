@@ -73,8 +73,8 @@ integer_by start None = Err (fault_at IntegerRange start)
 integer_by start (Some n) = Ok n
 
 -- the value of the field at `start`: an integer, or an error
-unfoldable pub value_said : ℕ → Text → Result ℤ LineFault
-value_said start text =
+unfoldable pub integer_value : ℕ → Text → Result ℤ LineFault
+integer_value start text =
     if is_integer text then integer_by start (whole_of (take (length text - 1) text)) else
     (if is_unsigned text || is_boolean text || is_float text then Err (fault_at FieldType start) else Err (fault_at BadField start))
 
@@ -83,4 +83,4 @@ unfoldable pub value_begun_at : ℕ → Text → ℕ → Result (ℤ × ℕ) Lin
 value_begun_at start line at =
     if slice_index line at == 34
     then (if then_is (behind_quotes false (drop (at + 1) line)) is_value_end then Err (fault_at FieldType start) else Err (fault_at BadField start))
-    else (value_said start (slice_range line at (end_of Plain line at)) >>= λ n. Ok (n, end_of Plain line at))
+    else (integer_value start (slice_range line at (end_of Plain line at)) >>= λ n. Ok (n, end_of Plain line at))

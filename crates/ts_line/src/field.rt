@@ -3,7 +3,7 @@ ghost use Rattle.std.specs.Prelude.{◌≡◌, ◌<◌, length, [], Ok, IfOk, If
 ghost use Rattle.std.specs.Str.{IsCharBoundary};
 ghost use Rattle.ts_line.specs.ReadSteps.{GivesIfRoom};
 ghost use Rattle.ts_line.specs.NameMarks.{AreMarked};
-ghost use Rattle.ts_line.specs.Fields.{next_field, place_from, with_field, fields_at};
+ghost use Rattle.ts_line.specs.Fields.{next_field, offset_from, with_field, fields_at};
 ghost use Rattle.ts_line.specs.StepsPut.{PutsNextField};
 
 use crate::fault::{LineFaultKind, ReadLineError};
@@ -66,8 +66,8 @@ fn next<'a, A: Allocator + Copy>(
 }
 
 /// Returns the index of the field with this name (linear search).
-fn place_of<A: Allocator>(fields: &[Field<'_, A>], name: &str) -> Option<usize>
-    ensures value { result ≡ place_from 0 name.now fields.now }
+fn offset_of<A: Allocator>(fields: &[Field<'_, A>], name: &str) -> Option<usize>
+    ensures value { result ≡ offset_from 0 name.now fields.now }
     ensures bound { IfSome result (λ at. at < length fields.now) }
 {
     for (at, field) in fields.iter().enumerate() {
@@ -85,7 +85,7 @@ fn put<'a, A: Allocator>(
 ) -> Result<(), AllocError>
     ensures { OnOk result (fields.new.items ≡ with_field fields.old.items field.entry) }
 {
-    match place_of(fields, field.name().text()) {
+    match offset_of(fields, field.name().text()) {
         Some(at) => {
             let older = &mut fields[at];
             older.take_value(&field);

@@ -8,7 +8,7 @@ ghost use Rattle.ts_core.specs.lists.Members.{AllDistinct};
 ghost use Rattle.ts_core.specs.text.Texts.{lent_pairs, IsTagSet};
 ghost use Rattle.ts_line.specs.Names.{AreKeys, AreTagTexts, IsNamed};
 ghost use Rattle.ts_line.specs.Parts.{field_text, series_of, tag_texts};
-ghost use Rattle.ts_line.specs.Sorting.{key_place_from, rise};
+ghost use Rattle.ts_line.specs.Sorting.{key_offset_from, rise};
 
 use arrayvec::ArrayVec;
 use std::alloc::Allocator;
@@ -293,8 +293,8 @@ fn push_all<'a, A: Allocator, const N: usize>(
 
 /// Searches pairs sorted by key (linear search). Returns `Ok` with the key's index, or `Err` with the index to insert
 /// it at.
-fn place_of(pairs: &[(&str, &str)], key: &str) -> Result<usize, usize>
-    ensures value { result ≡ key_place_from 0 key.now (lent_pairs pairs.now) }
+fn offset_of(pairs: &[(&str, &str)], key: &str) -> Result<usize, usize>
+    ensures value { result ≡ key_offset_from 0 key.now (lent_pairs pairs.now) }
     ensures bound { MatchResult result (λ at. at < length pairs.now) (λ at. at ≤ length pairs.now) }
 {
     for (at, (other, _)) in pairs.iter().enumerate() {
@@ -317,7 +317,7 @@ fn put<'a, const N: usize>(
     ensures pairs { lent_pairs pairs.new.items ≡ put text_cmp key.now value.now (lent_pairs pairs.old.items) }
     ensures few { array_vec_len pairs.new ≤ array_vec_len pairs.old + 1 }
 {
-    match place_of(pairs, key) {
+    match offset_of(pairs, key) {
         Ok(at) => pairs[at] = (key, value),
         Err(at) => pairs.insert(at, (key, value)),
     }

@@ -3,7 +3,7 @@ ghost use Rattle.std.specs.Prelude.{◌≡◌, ◌<◌, ◌+◌, ◌&&◌, lengt
 ghost use Rattle.std.specs.Cow.{cow_str_bytes};
 ghost use Rattle.std.specs.List.{list_any};
 ghost use Rattle.std.specs.Str.{IsCharBoundary};
-ghost use Rattle.ts_core.specs.text.Cursors.{IsPlaceFrom};
+ghost use Rattle.ts_core.specs.text.Cursors.{IsOffsetFrom};
 ghost use Rattle.ts_line.specs.Scan.{is_backslash, is_stop};
 ghost use Rattle.ts_line.specs.PartTexts.{begins_escapable, unescaped, piece_at};
 
@@ -22,7 +22,7 @@ pub fn part_at<'a, A: Allocator>(
     stops: Stops,
 ) -> Result<Part<'a, A>, AllocError>
     requires start { IsCharBoundary line.now start }
-    requires end { IsPlaceFrom line.now start end.at }
+    requires end { IsOffsetFrom line.now start end.at }
     requires escape { end.has_escape ≡ list_any (is_stop stops) (slice_range line.now start end.at) }
     ensures { IfOk result (λ p. p ≡ piece_at stops line.now start end.at) }
 {

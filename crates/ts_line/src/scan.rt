@@ -2,7 +2,7 @@
 ghost use Rattle.std.specs.Prelude.{◌≡◌, ◌≤◌, ◌||◌, false, length, slice_range};
 ghost use Rattle.std.specs.List.{list_any};
 ghost use Rattle.std.specs.Str.{IsCharBoundary};
-ghost use Rattle.ts_core.specs.text.Cursors.{IsPlaceFrom};
+ghost use Rattle.ts_core.specs.text.Cursors.{IsOffsetFrom};
 ghost use Rattle.ts_line.specs.Scan.{is_backslash, is_stop, ends, end_of, spaces_end};
 
 use ts_core::after;
@@ -71,7 +71,7 @@ fn is_end(stops: Stops, before: u8, byte: u8) -> bool
 fn escaped_end_at(line: &str, from: usize, stops: Stops) -> End
     requires { from ≤ length line.now }
     ensures value { result.at ≡ end_of stops line.now from }
-    ensures place { IsPlaceFrom line.now from result.at }
+    ensures offset { IsOffsetFrom line.now from result.at }
     ensures escape { result.has_escape ≡ list_any (is_stop stops) (slice_range line.now from result.at) }
 {
     let bytes = line.as_bytes();
@@ -95,7 +95,7 @@ fn escaped_end_at(line: &str, from: usize, stops: Stops) -> End
 pub fn end_at(line: &str, from: usize, stops: Stops) -> End
     requires { from ≤ length line.now }
     ensures value { result.at ≡ end_of stops line.now from }
-    ensures place { IsPlaceFrom line.now from result.at }
+    ensures offset { IsOffsetFrom line.now from result.at }
     ensures escape { result.has_escape ≡ list_any (is_stop stops) (slice_range line.now from result.at) }
 {
     let bytes = line.as_bytes();
@@ -121,7 +121,7 @@ pub fn end_at(line: &str, from: usize, stops: Stops) -> End
 pub fn after_spaces(line: &str, from: usize) -> usize
     requires { IsCharBoundary line.now from }
     ensures value { result ≡ spaces_end line.now from }
-    ensures place { IsPlaceFrom line.now from result }
+    ensures offset { IsOffsetFrom line.now from result }
 {
     let bytes = line.as_bytes();
     let mut at = from;

@@ -1,6 +1,6 @@
 //! One-pass parsers for short numbers.
 ghost use Rattle.std.specs.Prelude.{◌≡◌, ◌≤◌, ◌<◌, length, slice_range, true, Ok, Some, IfSome, ℕ};
-ghost use Rattle.ts_core.specs.text.Cursors.{IsPlaceFrom};
+ghost use Rattle.ts_core.specs.text.Cursors.{IsOffsetFrom};
 ghost use Rattle.ts_line.specs.Digits.{AreDigits, IsShortInteger};
 ghost use Rattle.ts_core.specs.text.Numbers.{is_number, whole_of};
 ghost use Rattle.ts_line.specs.Values.{value_begun_at};
@@ -53,7 +53,7 @@ fn unsigned_integer(line: &str, first: usize) -> Option<(i64, usize)>
 pub(crate) fn short_integer(line: &str, at: usize) -> Option<(i64, usize)>
     requires { at ≤ length line.now }
     ensures value { IfSome result (λ x. (start : ℕ) → value_begun_at start line.now at ≡ Ok x) }
-    ensures place { IfSome result (λ x. IsPlaceFrom line.now at x.1) }
+    ensures offset { IfSome result (λ x. IsOffsetFrom line.now at x.1) }
 {
     if byte_at(line, at) == b'-' {
         let (number, end) = unsigned_integer(line, at + 1)?;

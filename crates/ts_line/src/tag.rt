@@ -1,7 +1,7 @@
 //! Parses the tags of a line: at most 64, with distinct keys.
 ghost use Rattle.std.specs.Prelude.{◌≡◌, ◌<◌, ◌≤◌, ◌+◌, length, [], Ok, IfOk, IfSome, bytes_eq, codes, false};
 ghost use Rattle.std.specs.Str.{IsCharBoundary};
-ghost use Rattle.ts_core.specs.text.Cursors.{IsPlaceFrom};
+ghost use Rattle.ts_core.specs.text.Cursors.{IsOffsetFrom};
 ghost use Rattle.ts_line.specs.ReadSteps.{GivesIfRoom};
 ghost use Rattle.ts_line.specs.NameMarks.{AreKeysMarked};
 ghost use Rattle.ts_line.specs.TagParts.{pair_at, has_key, next_tag, tags_at};
@@ -32,7 +32,7 @@ fn plain<'a, A: Allocator>(line: &'a str, start: usize) -> Option<(Tag<'a, A>, u
     requires { IsCharBoundary line.now start }
     ensures value { IfSome result (λ x. pair_at line.now start ≡ Ok x) }
     ensures key { IfSome result (λ x. bytes_eq x.0.0.text (codes "time") ≡ false) }
-    ensures place { IfSome result (λ x. IsPlaceFrom line.now (start + 1) x.1) }
+    ensures offset { IfSome result (λ x. IsOffsetFrom line.now (start + 1) x.1) }
 {
     let key_end = end_at(line, start, Stops::Equals);
     if key_end.has_escape || key_end.at == start || byte_at(line, key_end.at) != b'=' {
@@ -63,7 +63,7 @@ fn next<'a, A: Allocator + Copy>(
 ) -> Result<(Tag<'a, A>, usize), ReadLineError>
     requires { IsCharBoundary line.now start }
     ensures value { GivesIfRoom (λ x. x) result (next_tag before.now line.now start) }
-    ensures place { IfOk result (λ x. IsPlaceFrom line.now (start + 1) x.1) }
+    ensures offset { IfOk result (λ x. IsOffsetFrom line.now (start + 1) x.1) }
     ensures room { IfOk result (λ _. length before.now < 64) }
 {
     let key_end = end_at(line, start, Stops::Equals);

@@ -1,10 +1,10 @@
 //! Parses field values and classifies those of other types.
 ghost use Rattle.std.specs.Prelude.{◌≡◌, IfOk, option_map, if◌then◌else◌, false};
 ghost use Rattle.std.specs.Str.{IsCharBoundary};
-ghost use Rattle.ts_core.specs.text.Cursors.{IsPlaceFrom};
+ghost use Rattle.ts_core.specs.text.Cursors.{IsOffsetFrom};
 ghost use Rattle.ts_line.specs.FaultText.{fault_at};
 ghost use Rattle.ts_core.specs.text.Numbers.{are_digits};
-ghost use Rattle.ts_line.specs.Values.{is_unsigned, is_boolean, is_float, behind_digits, behind_fraction, is_exponent, without_sign, behind_quotes, is_value_end, then_is, value_said, value_begun_at};
+ghost use Rattle.ts_line.specs.Values.{is_unsigned, is_boolean, is_float, behind_digits, behind_fraction, is_exponent, without_sign, behind_quotes, is_value_end, then_is, integer_value, value_begun_at};
 
 use crate::fault::{LineFault, LineFaultKind};
 use crate::scan::{Stops, end_at};
@@ -115,9 +115,9 @@ pub(crate) fn is_value_end(text: &[u8]) -> bool
 
 /// Parses the whole text as the value of the field at offset `start`. Fails at `start` with `IntegerRange`, `FieldType`
 /// or `BadField`.
-#[tactic(auto, unfolding(crate::specs::Values::value_said))]
-fn value_said(start: usize, text: &str) -> Result<i64, LineFault>
-    ensures { result ≡ value_said start text.now }
+#[tactic(auto, unfolding(crate::specs::Values::integer_value))]
+fn integer_value(start: usize, text: &str) -> Result<i64, LineFault>
+    ensures { result ≡ integer_value start text.now }
 {
     let bytes = text.as_bytes();
     if let [.., b'i'] = bytes {
@@ -148,11 +148,11 @@ fn quoted(start: usize, text: &[u8]) -> LineFault
 pub fn value_begun_at(start: usize, line: &str, at: usize) -> Result<(i64, usize), LineFault>
     requires { IsCharBoundary line.now at }
     ensures value { result ≡ value_begun_at start line.now at }
-    ensures place { IfOk result (λ x. IsPlaceFrom line.now at x.1) }
+    ensures offset { IfOk result (λ x. IsOffsetFrom line.now at x.1) }
 {
     if byte_at(line, at) == b'"' {
         return Err(quoted(start, &line.as_bytes()[at + 1..]));
     }
     let end = end_at(line, at, Stops::Plain).at;
-    Ok((value_said(start, &line[at..end])?, end))
+    Ok((integer_value(start, &line[at..end])?, end))
 }

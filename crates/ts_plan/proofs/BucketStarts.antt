@@ -33,15 +33,15 @@ pub record FirstFrom (r : Rule) (a b : ℤ) : Type 0 where
   pub after : a ≤ℤ b
   pub first : (x : ℤ) → IsBoundary r x → a ≤ℤ x → b ≤ℤ x
 
-pub first_here : (r : Rule) (a past b : ℤ) → pos 1 ≤ℤ r.interval → past ≡ int_rem_euclid (a -ℤ r.offset) r.interval → past ≡ pos 0 → b ≡ a +ℤ past → FirstFrom r a b
-first_here r a past b h e z q =
+pub first_here : (r : Rule) (a offset_in_bucket b : ℤ) → pos 1 ≤ℤ r.interval → offset_in_bucket ≡ int_rem_euclid (a -ℤ r.offset) r.interval → offset_in_bucket ≡ pos 0 → b ≡ a +ℤ offset_in_bucket → FirstFrom r a b
+first_here r a offset_in_bucket b h e z q =
     let k = past_is r a h in
     let s : start_of r (index_of r a) ≡ a = omega (arith, ints) in
     let t : b ≡ a = omega (arith, ints) in
     subst (FirstFrom r a) (sym t) (record { here = s; after = ≤ℤ_refl a; first = λ x _ l. l })
 
-pub first_ahead : (r : Rule) (a past b : ℤ) → pos 1 ≤ℤ r.interval → past ≡ int_rem_euclid (a -ℤ r.offset) r.interval → pos 1 ≤ℤ past → b ≡ a +ℤ (r.interval -ℤ past) → FirstFrom r a b
-first_ahead r a past b h e z q =
+pub first_ahead : (r : Rule) (a offset_in_bucket b : ℤ) → pos 1 ≤ℤ r.interval → offset_in_bucket ≡ int_rem_euclid (a -ℤ r.offset) r.interval → pos 1 ≤ℤ offset_in_bucket → b ≡ a +ℤ (r.interval -ℤ offset_in_bucket) → FirstFrom r a b
+first_ahead r a offset_in_bucket b h e z q =
     let k = past_is r a h in
     let s : ℤ = start_of r (index_of r a) in
     let at : IsBoundary r s = ap (start_of r) (index_of-start r (index_of r a) h) in

@@ -8,7 +8,7 @@ pub mod RuleNumbers
 pub mod StepPlans
 pub mod StepWalks
 pub mod WalkSteps
-pub mod Sweeps
+pub mod Pruning
 pub mod StepMoves
 pub mod Searches
 -- Steps: which steps there are
@@ -16,4 +16,4 @@ pub mod Scans
 pub mod BucketStarts
 pub mod ListLemmas
 -- Joins: steps are joined to pieces
-pub mod BucketsAsked
+pub mod BucketJoins

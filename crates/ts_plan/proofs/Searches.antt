@@ -4,7 +4,7 @@ use Rattle.std.specs.Ordering.{ordering_index, int_cmp, int_eq}
 use Rattle.std.specs.List.{AllByRecursion}
 use Rattle.std.specs.List.Sorted.{IsNonDecreasingBy, IsBinarySearchResult, IsSearchInRange}
 use Rattle.std.specs.Result.{is_ok}
-use Rattle.ts_core.specs.plans.Pieces.{Asked}
+use Rattle.ts_core.specs.plans.Pieces.{QueryContext}
 use Rattle.std.proofs.lemmas.Int.{ints, by_lt_z}
 use Rattle.std.proofs.lemmas.Bool.Decides.{Decides-int_eq}
 use Rattle.ts_plan.specs.declared.steps.Step.{Step}
@@ -63,18 +63,18 @@ drop_ascends zero ss a = a
 drop_ascends (suc n) [] a = tt
 drop_ascends (suc n) (s ∷ ss) a = drop_ascends n ss a.1
 
-upto_kept : (t : Asked) (s x : Step) (b : Bool) (gs : List Step) → Upto s x → AllByRecursion (λ (y : Step). Upto s y) gs → AllByRecursion (λ (y : Step). Upto s y) (kept_if b x gs)
+upto_kept : (t : QueryContext) (s x : Step) (b : Bool) (gs : List Step) → Upto s x → AllByRecursion (λ (y : Step). Upto s y) gs → AllByRecursion (λ (y : Step). Upto s y) (kept_if b x gs)
 upto_kept t s x true gs u a = (u, a)
 upto_kept t s x false gs u a = a
 
-uptos_kept : (t : Asked) (s : Step) (ss : List Step) → AllByRecursion (λ (y : Step). Upto s y) ss → AllByRecursion (λ (y : Step). Upto s y) (kept_steps t ss)
+uptos_kept : (t : QueryContext) (s : Step) (ss : List Step) → AllByRecursion (λ (y : Step). Upto s y) ss → AllByRecursion (λ (y : Step). Upto s y) (kept_steps t ss)
 uptos_kept t s [] a = tt
 uptos_kept t s (x ∷ ss) a = upto_kept t s x _ _ a.0 (uptos_kept t s ss a.1)
 
-ascends_if : (t : Asked) (s : Step) (b : Bool) (gs : List Step) → AllByRecursion (λ (y : Step). Upto s y) gs → Ascends gs → Ascends (kept_if b s gs)
+ascends_if : (t : QueryContext) (s : Step) (b : Bool) (gs : List Step) → AllByRecursion (λ (y : Step). Upto s y) gs → Ascends gs → Ascends (kept_if b s gs)
 ascends_if t s true gs u a = (u, a)
 ascends_if t s false gs u a = a
 
-pub kept_ascends : (t : Asked) (ss : List Step) → Ascends ss → Ascends (kept_steps t ss)
+pub kept_ascends : (t : QueryContext) (ss : List Step) → Ascends ss → Ascends (kept_steps t ss)
 kept_ascends t [] a = tt
 kept_ascends t (s ∷ ss) a = ascends_if t s _ _ (uptos_kept t s ss a.0) (kept_ascends t ss a.1)

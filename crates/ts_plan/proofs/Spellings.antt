@@ -8,7 +8,7 @@ use Rattle.ts_core.specs.settings.Settings.{Rule, Settings}
 use Rattle.ts_core.specs.settings.SettingsFaults.{is_rule_name, fault_of_rule, rules_fault, settings_fault}
 use Rattle.ts_core.specs.store.Marks.{Marks}
 use Rattle.ts_core.specs.queries.Queries.{Query}
-use Rattle.ts_core.specs.plans.Pieces.{Source, Raw, Rollup, Piece, MarkedRule, marked_rules, Asked, asked, SourceServes, IsValidPiece, Covers, IsValid}
+use Rattle.ts_core.specs.plans.Pieces.{Source, Raw, Rollup, Piece, MarkedRule, marked_rules, QueryContext, query_context, SourceServes, IsValidPiece, Covers, IsValid}
 use Rattle.ts_core.proofs.plans.GoodPlaces.{number_of}
 use Rattle.ts_core.proofs.settings.SettingsLaws.{well, or_none, few}
 use Rattle.ts_check.specs.CertificateTexts.{HasRuleName, EachHasSpelling}
@@ -25,7 +25,7 @@ marked_named [] lows h = tt
 marked_named (r ∷ rs) [] h = tt
 marked_named (r ∷ rs) (low ∷ lows) h = (h.0, marked_named rs lows h.1)
 
-pub settings_named : (s : Settings) (m : Marks) (q : Query) → settings_fault s ≡ None → AreNamed (asked s m q).rules
+pub settings_named : (s : Settings) (m : Marks) (q : Query) → settings_fault s ≡ None → AreNamed (query_context s m q).rules
 settings_named s m q h = marked_named s.rules m.lows (rules_named s.raw_duration [] s.rules (few s h))
 
 pub rule_spelled : (rs : List MarkedRule) (n : ℕ) (r : MarkedRule) → AreNamed rs → slice_get rs n ≡ Some r → is_rule_name r.rule.name ≡ true
@@ -33,13 +33,13 @@ rule_spelled [] n r a e = absurd (let q : None ≡ Some r = e in cc)
 rule_spelled (x ∷ rs) zero r a e = let q : Some x ≡ Some r = e in let k : x ≡ r = cc in subst (λ (y : MarkedRule). is_rule_name y.rule.name ≡ true) k a.0
 rule_spelled (x ∷ rs) (suc n) r a e = rule_spelled rs n r a.1 e
 
-source_spelled : (t : Asked) (s : Source) (a b : ℤ) → AreNamed t.rules → SourceServes t s a b → HasRuleName s
+source_spelled : (t : QueryContext) (s : Source) (a b : ℤ) → AreNamed t.rules → SourceServes t s a b → HasRuleName s
 source_spelled t Raw a b names v = tt
 source_spelled t (Rollup name) a b names v =
     let found = number_of t.rules name v.0 v.1 in
     subst (λ (text : Text). is_rule_name text ≡ true) found.named (rule_spelled t.rules found.n v.0 names found.there)
 
-spelled_from : (t : Asked) (a : ℤ) (ps : List Piece) → AreNamed t.rules → FitsSigned w64 a → FitsSigned w64 t.query.to → Covers a t.query.to ps → AllByRecursion (IsValidPiece t) ps → EachHasSpelling ps
+spelled_from : (t : QueryContext) (a : ℤ) (ps : List Piece) → AreNamed t.rules → FitsSigned w64 a → FitsSigned w64 t.query.to → Covers a t.query.to ps → AllByRecursion (IsValidPiece t) ps → EachHasSpelling ps
 spelled_from t a [] names low high covers valid = tt
 spelled_from t a (p ∷ ps) names low high covers valid =
     let start : p.from ≡ a = covers.0 in
@@ -51,4 +51,4 @@ spelled_from t a (p ∷ ps) names low high covers valid =
 
 -- the pieces of a valid plan have a spelling
 pub plan_spelled : (s : Settings) (m : Marks) (q : Query) (ps : List Piece) → settings_fault s ≡ None → FitsSigned w64 q.from → FitsSigned w64 q.to → IsValid s m q ps → EachHasSpelling ps
-plan_spelled s m q ps h low high v = spelled_from (asked s m q) q.from ps (settings_named s m q h) low high v.covers v.each
+plan_spelled s m q ps h low high v = spelled_from (query_context s m q) q.from ps (settings_named s m q h) low high v.covers v.each

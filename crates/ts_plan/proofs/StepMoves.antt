@@ -1,11 +1,11 @@
 -- Pruning in place: the remaining steps are at the back.
 use Rattle.std.proofs.Common.{◌≡◌, ℕ, ◌≤◌, List, length, take, drop}
 use Rattle.ts_plan.specs.declared.steps.Step.{Step}
-use Rattle.ts_core.specs.plans.Pieces.{Asked}
+use Rattle.ts_core.specs.plans.Pieces.{QueryContext}
 use Rattle.ts_plan.specs.Steps.{kept_steps}
 
 -- from begin on there are the steps that remain of those from index on; below index nothing has moved
-pub record Moved (t : Asked) (index begin : ℕ) (now old : List Step) : Type 0 where
+pub record Moved (t : QueryContext) (index begin : ℕ) (now old : List Step) : Type 0 where
   pub before : index ≤ begin
   pub within : begin ≤ length now
   pub same : length now ≡ length old

@@ -7,22 +7,22 @@ use Rattle.std.proofs.lemmas.Int.{ints, by_lt_z}
 use Rattle.std.proofs.lemmas.Bool.Decides.{Decides-int_eq}
 use Rattle.std.specs.List.{AllByRecursion}
 use Rattle.ts_core.specs.lists.Members.{Among}
-use Rattle.ts_core.specs.plans.Pieces.{Asked}
-use Rattle.ts_core.specs.plans.Plans.{IsGood, raw_piece, LeadsOn, NoneBefore, IsFirstToLead, IsWalk}
+use Rattle.ts_core.specs.plans.Pieces.{QueryContext}
+use Rattle.ts_core.specs.plans.Plans.{ReachesEnd, raw_piece, LeadsOn, NoneBefore, IsFirstToLead, IsWalk}
 use Rattle.ts_plan.specs.declared.steps.Step.{Step}
 use Rattle.ts_plan.specs.Steps.{IsPlannable, Upto, Ascends, name_or_none, bucket_piece, walked}
 use Rattle.ts_plan.proofs.ListLemmas.{pick}
 use Rattle.ts_plan.proofs.Searches.{apart}
-use Rattle.ts_plan.proofs.Sweeps.{IsGoodStep, step_on, on_step, step_up, step_at}
+use Rattle.ts_plan.proofs.Pruning.{IsGoodStep, step_on, on_step, step_up, step_at}
 
 not_eq : (x y : ℤ) → int_eq x y ≡ false → x ≡ y → ⊥
 not_eq x y h e = true≢false (sym ((Decides-int_eq x y).1 e) ∙ h)
 
 -- every step that leads on from p on is among these
-abbrev pub HasAll : Asked → ℤ → List Step → Type 0
+abbrev pub HasAll : QueryContext → ℤ → List Step → Type 0
 HasAll t p gs = (x : Step) → IsGoodStep t x → p ≤ℤ x.from → Among x gs
 
-pub walks : (t : Asked) (p : ℤ) (gs : List Step) → IsPlannable t → Ascends gs → AllByRecursion (IsGoodStep t) gs → t.query.from ≤ℤ p → p ≤ℤ t.query.to → IsGood t p → HasAll t p gs → IsWalk t p (walked t p gs)
+pub walks : (t : QueryContext) (p : ℤ) (gs : List Step) → IsPlannable t → Ascends gs → AllByRecursion (IsGoodStep t) gs → t.query.from ≤ℤ p → p ≤ℤ t.query.to → ReachesEnd t p → HasAll t p gs → IsWalk t p (walked t p gs)
 walks t p [] k a g f l good all =
     by_lt_z p t.query.to
     (λ m. by_lt_z p t.mark

@@ -4,9 +4,9 @@ use Rattle.std.specs.Prelude.{slice_get}
 use Rattle.std.proofs.lemmas.Int.{ints, by_lt_z}
 use Rattle.ts_core.specs.declared.plans.fault.Fault.{Fault}
 use Rattle.ts_core.specs.plans.Faults.{piece_fault}
-use Rattle.ts_core.specs.plans.Pieces.{Piece, MarkedRule, Asked, IsValidPiece}
+use Rattle.ts_core.specs.plans.Pieces.{Piece, MarkedRule, QueryContext, IsValidPiece}
 use Rattle.ts_core.proofs.settings.Intervals.{IsWide}
-use Rattle.ts_core.specs.plans.Plans.{IsGood, rollup_piece, LeadsOn, NoneBefore, IsWalk}
+use Rattle.ts_core.specs.plans.Plans.{ReachesEnd, rollup_piece, LeadsOn, NoneBefore, IsWalk}
 use Rattle.ts_core.proofs.lists.Comparisons.{lt_not}
 use Rattle.ts_core.proofs.plans.Validity.{source_from, source_none}
 use Rattle.ts_core.proofs.plans.GoodPlaces.{good_leads}
@@ -18,10 +18,10 @@ in_range (y ∷ xs) zero x e = omega arith
 in_range (y ∷ xs) (suc n) x e = let ih = in_range xs n x e in omega arith
 
 -- a piece without a fault is valid, and one with a fault isn't
-pub no_fault-valid : (t : Asked) (p : Piece) → piece_fault t p ≡ None → IsValidPiece t p
+pub no_fault-valid : (t : QueryContext) (p : Piece) → piece_fault t p ≡ None → IsValidPiece t p
 no_fault-valid t p e = source_from t p.source p.from p.to e
 
-pub fault-not_valid : (t : Asked) (p : Piece) (f : Fault) → piece_fault t p ≡ Some f → IsValidPiece t p → ⊥
+pub fault-not_valid : (t : QueryContext) (p : Piece) (f : Fault) → piece_fault t p ≡ Some f → IsValidPiece t p → ⊥
 fault-not_valid t p f e v = let q : Some f ≡ None = sym e ∙ source_none t p.source p.from p.to v in cc
 
 pub le_not : (x y : ℤ) → int_le x y ≡ false → y <ℤ x
@@ -36,7 +36,7 @@ pub falls_on : (to p e i : ℤ) → e ≡ p +ℤ i → pos 1 ≤ℤ i → e ≤�
 falls_on to p e i h k l = omega (arith, ints)
 
 -- below it the first rule that leads on gives its bucket
-pub bucket_walk : (t : Asked) (p : ℤ) (n : ℕ) (r : MarkedRule) (bs : List Piece) → IsWide t → p <ℤ t.mark → p <ℤ t.query.to → slice_get t.rules n ≡ Some r
+pub bucket_walk : (t : QueryContext) (p : ℤ) (n : ℕ) (r : MarkedRule) (bs : List Piece) → IsWide t → p <ℤ t.mark → p <ℤ t.query.to → slice_get t.rules n ≡ Some r
     → IsValidPiece t (rollup_piece r.rule.name p (p +ℤ r.rule.interval)) → IsWalk t (p +ℤ r.rule.interval) bs → NoneBefore t p n → IsWalk t p (rollup_piece r.rule.name p (p +ℤ r.rule.interval) ∷ bs)
 bucket_walk t p n r bs s a l at v w b =
     let e : ℤ = p +ℤ r.rule.interval in
@@ -44,7 +44,7 @@ bucket_walk t p n r bs s a l at v w b =
     (l, refl, (a, record { n = n; leads = leads; named = refl; first = b }, w))
 
 -- where no rule leads on, the place isn't good
-pub no_lead : (t : Asked) (p : ℤ) (n : ℕ) → IsWide t → p <ℤ t.mark → p <ℤ t.query.to → length t.rules ≤ n → NoneBefore t p n → IsGood t p → ⊥
+pub no_lead : (t : QueryContext) (p : ℤ) (n : ℕ) → IsWide t → p <ℤ t.mark → p <ℤ t.query.to → length t.rules ≤ n → NoneBefore t p n → ReachesEnd t p → ⊥
 no_lead t p n s a l h b g =
     let k = good_leads t p s a l g in
     let m = in_range t.rules k.n k.leads.rule k.leads.there in

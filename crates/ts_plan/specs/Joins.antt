@@ -1,35 +1,35 @@
 -- Pieces that the next bucket may extend. (Own rules.)
 use Rattle.std.specs.Prelude.{◌≡◌, Bool, true, ◌&&◌, List, [], ◌∷◌, Option, Some, None, slice_get}
 use Rattle.ts_core.specs.settings.SettingsFaults.{is_rule_name}
-use Rattle.ts_core.specs.plans.Pieces.{Piece, MarkedRule, Asked, RuleServes}
+use Rattle.ts_core.specs.plans.Pieces.{Piece, MarkedRule, QueryContext, RuleServes}
 use Rattle.ts_core.specs.plans.Faults.{piece_fault, divides}
-use Rattle.ts_core.specs.plans.Plans.{rollup_piece, is_same_rule, is_faultless, drawn, joined_onto, joined}
+use Rattle.ts_core.specs.plans.Plans.{rollup_piece, is_same_rule, is_faultless, extended, joined_onto, joined}
 use Rattle.ts_plan.specs.Steps.{name_or_none}
-use Rattle.ts_plan.specs.declared.walk.Held.{Held}
+use Rattle.ts_plan.specs.declared.walk.PendingPiece.{PendingPiece}
 
-abbrev pub held_piece : Asked → Held → Piece
-held_piece t h = rollup_piece (name_or_none (slice_get t.rules h.rule)) h.from h.to
+abbrev pub pending_piece : QueryContext → PendingPiece → Piece
+pending_piece t h = rollup_piece (name_or_none (slice_get t.rules h.rule)) h.from h.to
 
-abbrev pub held_pieces : Asked → Option Held → List Piece
-held_pieces t None = []
-held_pieces t (Some h) = held_piece t h ∷ []
+abbrev pub pending_pieces : QueryContext → Option PendingPiece → List Piece
+pending_pieces t None = []
+pending_pieces t (Some h) = pending_piece t h ∷ []
 
 -- the bucket extends the piece: both are of one rule, and the merged piece is valid
-abbrev pub joins : Asked → Piece → Piece → Bool
-joins t p b = is_same_rule p.source b.source && is_faultless (piece_fault t (drawn p b))
+abbrev pub joins : QueryContext → Piece → Piece → Bool
+joins t p b = is_same_rule p.source b.source && is_faultless (piece_fault t (extended p b))
 
-abbrev pub joined_after : Asked → Option Held → List Piece → List Piece
+abbrev pub joined_after : QueryContext → Option PendingPiece → List Piece → List Piece
 joined_after t None bs = joined t bs
-joined_after t (Some h) bs = joined_onto t (held_piece t h) bs
+joined_after t (Some h) bs = joined_onto t (pending_piece t h) bs
 
 -- a valid piece of a rule
-pub record IsHeldPiece (t : Asked) (h : Held) : Type 0 where
+pub record IsPendingPiece (t : QueryContext) (h : PendingPiece) : Type 0 where
   pub rule : MarkedRule
   pub there : slice_get t.rules h.rule ≡ Some rule
   pub spelled : is_rule_name rule.rule.name ≡ true
   pub nests : h.nests ≡ divides rule.rule t.query
   pub serves : RuleServes t.query rule h.from h.to
 
-abbrev pub AreHeld : Asked → Option Held → Type 0
-AreHeld t None = Unit {0}
-AreHeld t (Some h) = IsHeldPiece t h
+abbrev pub ArePending : QueryContext → Option PendingPiece → Type 0
+ArePending t None = Unit {0}
+ArePending t (Some h) = IsPendingPiece t h

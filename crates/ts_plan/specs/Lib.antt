@@ -2,6 +2,6 @@
 pub mod Planning
 pub mod PlanTexts
 -- used only by models and proofs of the code
-pub mod Places
+pub mod Instants
 pub mod Steps
 pub mod Joins

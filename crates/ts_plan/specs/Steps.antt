@@ -8,7 +8,7 @@ use Rattle.ts_core.specs.settings.Settings.{Rule}
 use Rattle.ts_core.specs.settings.SettingsFaults.{is_rule_name}
 use Rattle.ts_core.specs.store.Marks.{index_of}
 use Rattle.ts_core.specs.queries.Queries.{Query}
-use Rattle.ts_core.specs.plans.Pieces.{Piece, MarkedRule, Asked, IsBoundary, tags_of, RuleServes, IsValidPiece}
+use Rattle.ts_core.specs.plans.Pieces.{Piece, MarkedRule, QueryContext, IsBoundary, tags_of, RuleServes, IsValidPiece}
 use Rattle.ts_core.specs.plans.Faults.{divides, is_in_one_bucket, keeps}
 use Rattle.ts_core.specs.plans.Plans.{rollup_piece, raw_piece}
 use Rattle.ts_core.proofs.settings.Intervals.{IsWide}
@@ -19,7 +19,7 @@ abbrev pub AreNamed : List MarkedRule → Type 0
 AreNamed rules = AllByRecursion (λ (r : MarkedRule). is_rule_name r.rule.name ≡ true) rules
 
 -- intervals are at least 1 nanosecond, and rule names are distinct and have the form of names
-pub record IsPlannable (t : Asked) : Type 0 where
+pub record IsPlannable (t : QueryContext) : Type 0 where
   pub wide : IsWide t
   pub named : AllDistinct (map (λ (r : MarkedRule). r.rule.name) t.rules)
   pub spelled : AreNamed t.rules
@@ -27,7 +27,7 @@ pub record IsPlannable (t : Asked) : Type 0 where
 -- ---- steps
 
 -- the bucket of a rule that starts at p: a valid piece that ends within the range
-pub record IsBucketAt (t : Asked) (r : MarkedRule) (p : ℤ) (bucket : Piece) : Type 0 where
+pub record IsBucketAt (t : QueryContext) (r : MarkedRule) (p : ℤ) (bucket : Piece) : Type 0 where
   pub piece : bucket ≡ rollup_piece r.rule.name p (p +ℤ r.rule.interval)
   pub valid : IsValidPiece t bucket
   pub inside : bucket.to ≤ℤ t.query.to
@@ -41,7 +41,7 @@ abbrev pub bucket_serves : Query → MarkedRule → ℤ → ℤ → Bool
 bucket_serves q r a b = int_le r.low (index_of r.rule a) && (divides r.rule q || is_in_one_bucket q a b)
 
 -- one bucket of a rule that is a valid piece, within the range, and starts below the raw mark
-pub record IsStep (t : Asked) (s : Step) : Type 0 where
+pub record IsStep (t : QueryContext) (s : Step) : Type 0 where
   pub from : t.query.from ≤ℤ s.from
   pub below : s.from <ℤ t.mark
   pub inside : s.to ≤ℤ t.query.to
@@ -66,19 +66,19 @@ abbrev pub IsFirstStart : Rule → ℤ → ℤ → Option ℤ → Type 0
 IsFirstStart r a b start = MatchOption start ((x : ℤ) → IsBoundary r x → a ≤ℤ x → b <ℤ x) (λ p. IsBoundary r p × (a ≤ℤ p) × (p ≤ℤ b) × ((x : ℤ) → IsBoundary r x → a ≤ℤ x → p ≤ℤ x))
 
 -- end of the bucket at p, if it is within the range
-abbrev pub IsNextPlace : Asked → MarkedRule → ℤ → Option ℤ → Type 0
-IsNextPlace t r p q = MatchOption q (t.query.to <ℤ (p +ℤ r.rule.interval)) (λ e. (e ≡ p +ℤ r.rule.interval) × (e ≤ℤ t.query.to))
+abbrev pub IsNextInstant : QueryContext → MarkedRule → ℤ → Option ℤ → Type 0
+IsNextInstant t r p q = MatchOption q (t.query.to <ℤ (p +ℤ r.rule.interval)) (λ e. (e ≡ p +ℤ r.rule.interval) × (e ≤ℤ t.query.to))
 
 abbrev pub step_of : ℤ → ℕ → ℤ → Step
 step_of p n e = record { from = p; rule = n; to = e }
 
 -- appends the step of rule n from p to e, if it is a valid piece
-abbrev pub with_step : Asked → MarkedRule → ℕ → ℤ → Option ℤ → List Step → List Step
+abbrev pub with_step : QueryContext → MarkedRule → ℕ → ℤ → Option ℤ → List Step → List Step
 with_step t r n p None ss = ss
 with_step t r n p (Some e) ss = if bucket_serves t.query r p e then (ss ++ step_of p n e ∷ []) else ss
 
 -- adds all steps of rule n, and nothing else
-pub record Adds (t : Asked) (n : ℕ) (old new : List Step) : Type 0 where
+pub record Adds (t : QueryContext) (n : ℕ) (old new : List Step) : Type 0 where
   pub sound : AllByRecursion (IsStep t) old → AllByRecursion (IsStep t) new
   pub complete : (x : Step) → IsStep t x → x.rule ≡ n → Among x new
   pub before : (x : Step) → Among x old → Among x new
@@ -94,14 +94,14 @@ starts_first e [] = false
 starts_first e (s ∷ ss) = int_eq s.from e
 
 -- the end can be reached from e: the end itself, a time at or above the raw mark, or the start of a step
-abbrev pub leads_on : Asked → List Step → ℤ → Bool
+abbrev pub leads_on : QueryContext → List Step → ℤ → Bool
 leads_on t gs e = int_eq e t.query.to || (int_le t.mark e || starts_at e gs)
 
 abbrev pub kept_if : Bool → Step → List Step → List Step
 kept_if b s gs = if b then (s ∷ gs) else gs
 
 -- the steps, sorted, from which the end can be reached
-abbrev pub kept_steps : Asked → List Step → List Step
+abbrev pub kept_steps : QueryContext → List Step → List Step
 kept_steps t [] = []
 kept_steps t (s ∷ ss) = kept_if (leads_on t (kept_steps t ss) s.to) s (kept_steps t ss)
 
@@ -111,9 +111,9 @@ abbrev pub name_or_none : Option MarkedRule → Text
 name_or_none None = []
 name_or_none (Some r) = r.rule.name
 
-abbrev pub bucket_piece : Asked → Step → Piece
+abbrev pub bucket_piece : QueryContext → Step → Piece
 bucket_piece t s = rollup_piece (name_or_none (slice_get t.rules s.rule)) s.from s.to
 
-abbrev pub walked : Asked → ℤ → List Step → List Piece
+abbrev pub walked : QueryContext → ℤ → List Step → List Piece
 walked t p [] = if int_eq p t.query.to then [] else (raw_piece p t.query.to ∷ [])
 walked t p (g ∷ gs) = if int_eq g.from p then (bucket_piece t g ∷ walked t g.to gs) else walked t p gs

@@ -17,13 +17,13 @@
 //! and merges neighbours.
 #![tactic(auto)]
 
+mod context;
 mod fault;
-mod place;
+mod instant;
 mod planner;
+mod prune;
 mod serving;
 mod steps;
-mod sweep;
-mod task;
 mod too_many;
 mod walk;
 

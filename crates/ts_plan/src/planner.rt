@@ -2,15 +2,15 @@
 ghost use Rattle.std.specs.Prelude.{◌≡◌, length, IfOk, MatchOption};
 ghost use Rattle.std.specs.List.{AllByRecursion};
 ghost use Rattle.ts_core.specs.lists.Members.{Among};
-ghost use Rattle.ts_core.specs.plans.Plans.{IsGood, IsPlanOf};
+ghost use Rattle.ts_core.specs.plans.Plans.{ReachesEnd, IsPlanOf};
 ghost use Rattle.ts_plan.specs.declared.steps.Step.{Step};
 ghost use Rattle.ts_plan.specs.Planning.{IsPlanFor};
 ghost use Rattle.ts_plan.specs.Steps.{IsPlannable, IsStep, Ascends};
 
+use crate::context::PlanContext;
 use crate::fault::{PlanError, PlanFault};
+use crate::prune::{keep_steps, leads_on, steps_from};
 use crate::steps::{Step, all_steps};
-use crate::sweep::{keep_steps, leads_on, steps_from};
-use crate::task::Task;
 use crate::too_many::is_too_many;
 use crate::walk::walk;
 use std::alloc::{AllocError, Allocator};
@@ -22,21 +22,21 @@ use ts_ql::Query;
 /// the end at the back of the slice.
 fn plan_over<A: Allocator + Copy>(
     alloc: A,
-    task: &Task<'_, A>,
+    context: &PlanContext<'_, A>,
     steps: &mut [Step],
 ) -> Result<Option<Vec<Piece, A>>, AllocError>
-    requires plannable { IsPlannable task.now }
-    requires sound { AllByRecursion (IsStep task.now) steps.old }
-    requires complete { (x : Step) → IsStep task.now x → Among x steps.old }
+    requires plannable { IsPlannable context.now }
+    requires sound { AllByRecursion (IsStep context.now) steps.old }
+    requires complete { (x : Step) → IsStep context.now x → Among x steps.old }
     requires order { Ascends steps.old }
-    ensures { IfOk result (λ plan. MatchOption plan (IsGood task.now task.now.query.from → ⊥) (λ pieces. IsPlanOf task.now pieces.items)) }
+    ensures { IfOk result (λ plan. MatchOption plan (ReachesEnd context.now context.now.query.from → ⊥) (λ pieces. IsPlanOf context.now pieces.items)) }
 {
-    let begin = keep_steps(task, steps);
+    let begin = keep_steps(context, steps);
     let kept = steps_from(steps, begin);
-    if !leads_on(task, kept, task.start()) {
+    if !leads_on(context, kept, context.start()) {
         return Ok(None);
     }
-    Ok(Some(walk(alloc, task, kept)?))
+    Ok(Some(walk(alloc, context, kept)?))
 }
 
 /// Returns the plan of a query under these settings and marks. It owns the names of its rules.
@@ -58,9 +58,9 @@ pub fn plan<A: Allocator + Copy>(
     let _rules = settings.rules();
     let _from = query.from();
     let _to = query.to();
-    let task = Task::new(settings, marks, query);
-    let mut steps = all_steps(alloc, &task)?;
-    match plan_over(alloc, &task, steps.as_mut_slice())? {
+    let context = PlanContext::new(settings, marks, query);
+    let mut steps = all_steps(alloc, &context)?;
+    match plan_over(alloc, &context, steps.as_mut_slice())? {
         None => Err(PlanError::Fault(PlanFault::NoPlan)),
         Some(pieces) => Ok(Certificate::new(pieces)),
     }

@@ -5,7 +5,7 @@ use Rattle.std.proofs.lemmas.Bool.{leb-true, ltb-true}
 use Rattle.std.proofs.lemmas.Int.{ints, unsigned_abs-mul}
 use Rattle.jiff_core.specs.Calendar.{is_leap_year, days_in_month, days_of_years, days_of_months, day_count, days_from_civil}
 use Rattle.ts_core.specs.facts.Facts.{Text}
-use Rattle.ts_ql.specs.Dates.{digits, midnight, date_of, fraction, place_value, clock_nanos, time_of_day, without_zone, later, moment_told}
+use Rattle.ts_ql.specs.Dates.{digits, midnight, date_of, fraction, place_value, clock_nanos, time_of_day, without_zone, later, timestamp_of}
 use Rattle.ts_ql.specs.Literals.{within, magnitude, literal}
 
 -- what holds of a value, if there is one
@@ -157,8 +157,8 @@ told_by_length text true parted = day_near (date_of text) (date_near text)
 told_by_length text false true = later_near (date_of (take 10 text)) (time_of_day (without_zone (drop 11 text))) (date_near (take 10 text)) (time_of_day_short (without_zone (drop 11 text)))
 told_by_length text false false = tt
 
-pub moment_told_near : (text : Text) → Holds IsNear (moment_told text)
-unfolding moment_told
+pub moment_told_near : (text : Text) → Holds IsNear (timestamp_of text)
+unfolding timestamp_of
 moment_told_near text = told_by_length text (nat_le (length text) 10) (slice_index text 10 == 84 || slice_index text 10 == 32)
 
 -- ---- literals

@@ -1,16 +1,16 @@
 -- The machine reads what the grammar spells, and nothing else; and where it stops is the first fault.
 use Rattle.std.proofs.Common.{◌≡◌, ◌⊎◌, inl, inr, ℤ, List, [], ◌∷◌, ◌++◌, map, Bool, true, false, Some, None, Result, Ok, Err, refl, sym, ap, ◌∙◌, subst, append_assoc, arith}
 use Rattle.std.proofs.lemmas.List.{append-nil}
-use Rattle.ts_ql.specs.declared.place.Place.{Place}
-use Rattle.ts_ql.specs.declared.place.Place.TheVariants as places
+use Rattle.ts_ql.specs.declared.state.State.{State}
+use Rattle.ts_ql.specs.declared.state.State.TheVariants as states
 use Rattle.ts_ql.specs.declared.token.Kind.{Kind}
 use Rattle.ts_ql.specs.declared.token.Kind.TheVariants as kinds
 use Rattle.ts_ql.specs.QueryFaults.{Fault, unexpected}
 use Rattle.ts_ql.specs.Grammar.{Script}
 use Rattle.ts_ql.specs.Laws.{Reach, Within, Whole, At, Reads, Says, MayBecome, HasFault, IsFirstFault}
-use Rattle.ts_ql.specs.Meanings.{sayings}
-use Rattle.ts_ql.specs.MomentSteps.{settled, bounded_by, moment_time, moment_step, moment_at}
-use Rattle.ts_ql.specs.Reading.{Progress, Advance, start_progress, settle_at, settle_step, settled_in, step, is_done, after_settling, draft_step, next_clause}
+use Rattle.ts_ql.specs.Meanings.{script_queries}
+use Rattle.ts_ql.specs.MomentSteps.{narrowed, bounded_by, moment_time, moment_step, moment_at}
+use Rattle.ts_ql.specs.Reading.{Progress, Advance, start_progress, finish_time_at, finish_time_step, narrowed_in, step, is_done, after_finishing_time, builder_step, next_clause}
 use Rattle.ts_ql.specs.Selects.{Select}
 use Rattle.ts_ql.specs.Productions.{spell}
 use Rattle.ts_ql.specs.Tokens.{Lexeme}
@@ -29,9 +29,9 @@ use Rattle.ts_ql.proofs.Steps.{at, Answer, Faulty, Leads, IsPending, IsPendingAt
 -- where the tokens end, the machine is at a rest, or at the fault
 abbrev Met : ℤ → Reach → List (Result Select Fault) → Advance → Type 0
 Met now reach said r =
-    ((n : Progress) × (q : Rest n.place) × (r ≡ Ok n) × Stands reach n × (said ≡ all_said now n q)) ⊎ ((f : Fault) × (reach ≡ At f) × (r ≡ Err f))
+    ((n : Progress) × (q : Rest n.state) × (r ≡ Ok n) × Stands reach n × (said ≡ all_said now n q)) ⊎ ((f : Fault) × (reach ≡ At f) × (r ≡ Err f))
 
-run_meets : (ts : List Lexeme) (now : ℤ) (s : Progress) (q : Rest s.place) (reach : Reach) → Sound s → Suits s q → CountedAt s.place s.count
+run_meets : (ts : List Lexeme) (now : ℤ) (s : Progress) (q : Rest s.state) (reach : Reach) → Sound s → Suits s q → CountedAt s.state s.count
     → Reads (left now s q) ts reach → Met now reach (all_said now s q) (run now s ts)
 run_meets [] now s q reach sound suits some v = inl (s, q, refl, stands now s q reach v, refl)
 run_meets (t ∷ ts) now s q reach sound suits some v =
@@ -44,7 +44,7 @@ run_meets (t ∷ ts) now s q reach sound suits some v =
     refl (answers now s t sound) (leads now s q t ts reach sound suits some v) (counts now t s some)
 
 -- a tree from the beginning on
-tree_meets : (now : ℤ) (script : Script) (ts : List Lexeme) (reach : Reach) → Reads (spell now script) ts reach → Met now reach (sayings now script) (run now start_progress ts)
+tree_meets : (now : ℤ) (script : Script) (ts : List Lexeme) (reach : Reach) → Reads (spell now script) ts reach → Met now reach (script_queries now script) (run now start_progress ts)
 tree_meets now script ts reach v = run_meets ts now start_progress (Some (script.first, script.rest)) reach refl tt tt v
 
 -- ---- from the machine to trees
@@ -52,11 +52,11 @@ tree_meets now script ts reach v = run_meets ts now start_progress (Some (script
 -- whatever may follow the state may follow the tokens, in some tree
 record Viable (now : ℤ) (s : Progress) (read : List Lexeme) : Type 0 where
   sound : Sound s
-  grows : (q : Rest s.place) → Suits s q → (script : Script)
-      × ((ts : List Lexeme) (reach : Reach) → Reads (left now s q) ts reach → Reads (spell now script) (read ++ ts) reach) × (sayings now script ≡ all_said now s q)
+  grows : (q : Rest s.state) → Suits s q → (script : Script)
+      × ((ts : List Lexeme) (reach : Reach) → Reads (left now s q) ts reach → Reads (spell now script) (read ++ ts) reach) × (script_queries now script ≡ all_said now s q)
 
-start_grows : (now : ℤ) (q : Rest places.Statement) → Suits start_progress q → (script : Script)
-    × ((ts : List Lexeme) (reach : Reach) → Reads (left now start_progress q) ts reach → Reads (spell now script) ts reach) × (sayings now script ≡ all_said now start_progress q)
+start_grows : (now : ℤ) (q : Rest states.Statement) → Suits start_progress q → (script : Script)
+    × ((ts : List Lexeme) (reach : Reach) → Reads (left now start_progress q) ts reach → Reads (spell now script) ts reach) × (script_queries now script ≡ all_said now start_progress q)
 start_grows now None suits = absurd (omega (arith, suits))
 start_grows now (Some p) suits = (record { first = p.0; rest = p.1 }, (λ ts reach v. v), refl)
 
@@ -93,14 +93,14 @@ viable now n ts e = run_viable ts now start_progress n [] (start_viable now) e
 
 -- ---- queries
 
-says_at : (p : Place) (now : ℤ) (s : Progress) (ts : List Lexeme) → is_done p ≡ true → Viable now (at p s) ts → Says now ts s.queries
-says_at places.Done now s ts done w =
+says_at : (p : State) (now : ℤ) (s : Progress) (ts : List Lexeme) → is_done p ≡ true → Viable now (at p s) ts → Says now ts s.queries
+says_at states.Done now s ts done w =
     let tree = w.grows tt tt in
     (tree.0, subst (λ (xs : List Lexeme). Reads (spell now tree.0) xs Whole) (append-nil ts) (tree.1 [] Whole refl), tree.2 ∙ append-nil (map Ok s.queries))
 says_at p now s ts done w = absurd cc
 
-pub says : (now : ℤ) (s : Progress) (ts : List Lexeme) → run now start_progress ts ≡ Ok s → is_done s.place ≡ true → Says now ts s.queries
-says now s ts e done = says_at s.place now s ts done (viable now s ts e)
+pub says : (now : ℤ) (s : Progress) (ts : List Lexeme) → run now start_progress ts ≡ Ok s → is_done s.state ≡ true → Says now ts s.queries
+says now s ts e done = says_at s.state now s ts done (viable now s ts e)
 
 oks_same : (xs ys : List Select) → map {B = Result Select Fault} Ok xs ≡ map Ok ys → xs ≡ ys
 oks_same [] [] e = refl
@@ -108,13 +108,13 @@ oks_same [] (y ∷ ys) e = absurd cc
 oks_same (x ∷ xs) [] e = absurd cc
 oks_same (x ∷ xs) (y ∷ ys) e = let heads : x ≡ y = cc in let tails : map {B = Result Select Fault} Ok xs ≡ map Ok ys = cc in rw (heads, oks_same xs ys tails) refl
 
-done_said : (p : Place) (now : ℤ) (s : Progress) (q : Rest p) → is_done p ≡ true → all_said now (at p s) q ≡ map Ok s.queries
-done_said places.Done now s q done = append-nil (map Ok s.queries)
+done_said : (p : State) (now : ℤ) (s : Progress) (q : Rest p) → is_done p ≡ true → all_said now (at p s) q ≡ map Ok s.queries
+done_said states.Done now s q done = append-nil (map Ok s.queries)
 done_said p now s q done = absurd cc
 
-says_by : (now : ℤ) (ts : List Lexeme) (queries : List Select) (w : Says now ts queries) → Met now Whole (sayings now w.0) (run now start_progress ts)
+says_by : (now : ℤ) (ts : List Lexeme) (queries : List Select) (w : Says now ts queries) → Met now Whole (script_queries now w.0) (run now start_progress ts)
     → (s : Progress) × (run now start_progress ts ≡ Ok s) × (s.queries ≡ queries)
-says_by now ts queries w (inl m) = (m.0, m.2, oks_same m.0.queries queries (sym (done_said m.0.place now m.0 m.1 m.3) ∙ sym m.4 ∙ w.2))
+says_by now ts queries w (inl m) = (m.0, m.2, oks_same m.0.queries queries (sym (done_said m.0.state now m.0 m.1 m.3) ∙ sym m.4 ∙ w.2))
 says_by now ts queries w (inr m) = let other : Whole ≡ At m.0 = m.1 in absurd cc
 
 -- who says queries is read as them
@@ -123,8 +123,8 @@ says_only now ts queries w = says_by now ts queries w (tree_meets now w.0 ts Who
 
 -- ---- the first fault
 
-begins_if : (now : ℤ) (s : Progress) (ts : List Lexeme) → Viable now s ts → (b : Bool) → is_done s.place ≡ b → MayBecome now ts
-begins_if now s ts w true done = let said = says_at s.place now s ts done w in (said.0, inr said.1)
+begins_if : (now : ℤ) (s : Progress) (ts : List Lexeme) → Viable now s ts → (b : Bool) → is_done s.state ≡ b → MayBecome now ts
+begins_if now s ts w true done = let said = says_at s.state now s ts done w in (said.0, inr said.1)
 begins_if now s ts w false live =
     let rest = completes now s live in
     let tree = w.grows rest.0 rest.1 in
@@ -132,7 +132,7 @@ begins_if now s ts w false live =
 
 -- tokens that the machine takes may go on to be a text
 begins : (now : ℤ) (s : Progress) (ts : List Lexeme) → run now start_progress ts ≡ Ok s → MayBecome now ts
-begins now s ts e = begins_if now s ts (viable now s ts e) (is_done s.place) refl
+begins now s ts e = begins_if now s ts (viable now s ts e) (is_done s.state) refl
 
 -- tokens that may go on to be a text are taken
 taken_by : (now : ℤ) (said : List (Result Select Fault)) (reach : Reach) (r : Advance) → ((f : Fault) → reach ≡ At f → ⊥) → Met now reach said r → (s : Progress) × (r ≡ Ok s)
@@ -146,49 +146,49 @@ whole_fine : (f : Fault) → Whole ≡ At f → ⊥
 whole_fine f e = cc
 
 taken : (now : ℤ) (ts : List Lexeme) → MayBecome now ts → (s : Progress) × (run now start_progress ts ≡ Ok s)
-taken now ts (script, inl v) = taken_by now (sayings now script) Within (run now start_progress ts) within_fine (tree_meets now script ts Within v)
-taken now ts (script, inr v) = taken_by now (sayings now script) Whole (run now start_progress ts) whole_fine (tree_meets now script ts Whole v)
+taken now ts (script, inl v) = taken_by now (script_queries now script) Within (run now start_progress ts) within_fine (tree_meets now script ts Within v)
+taken now ts (script, inr v) = taken_by now (script_queries now script) Whole (run now start_progress ts) whole_fine (tree_meets now script ts Whole v)
 
 -- a moment goes on with plus and minus
-plus_taken : (now : ℤ) (s : Progress) (t : Lexeme) → t.kind ≡ kinds.Plus → timing s places.AfterMoment (moment_at now places.AfterMoment t.kind t s.draft.moment) ≡ Ok (at places.MomentPlus s)
+plus_taken : (now : ℤ) (s : Progress) (t : Lexeme) → t.kind ≡ kinds.Plus → timing s states.AfterMoment (moment_at now states.AfterMoment t.kind t s.builder.moment) ≡ Ok (at states.MomentPlus s)
 plus_taken now s t e =
-    subst (λ (k : Kind). timing s places.AfterMoment (moment_at now places.AfterMoment k t s.draft.moment) ≡ Ok (at places.MomentPlus s)) (sym e) refl
+    subst (λ (k : Kind). timing s states.AfterMoment (moment_at now states.AfterMoment k t s.builder.moment) ≡ Ok (at states.MomentPlus s)) (sym e) refl
 
-minus_taken : (now : ℤ) (s : Progress) (t : Lexeme) → t.kind ≡ kinds.Minus → timing s places.AfterMoment (moment_at now places.AfterMoment t.kind t s.draft.moment) ≡ Ok (at places.MomentLess s)
+minus_taken : (now : ℤ) (s : Progress) (t : Lexeme) → t.kind ≡ kinds.Minus → timing s states.AfterMoment (moment_at now states.AfterMoment t.kind t s.builder.moment) ≡ Ok (at states.MomentLess s)
 minus_taken now s t e =
-    subst (λ (k : Kind). timing s places.AfterMoment (moment_at now places.AfterMoment k t s.draft.moment) ≡ Ok (at places.MomentLess s)) (sym e) refl
+    subst (λ (k : Kind). timing s states.AfterMoment (moment_at now states.AfterMoment k t s.builder.moment) ≡ Ok (at states.MomentLess s)) (sym e) refl
 
 not_refused : (r : Advance) (n : Progress) (f g : Fault) → r ≡ Ok n → r ≡ Err f → f ≡ g
 not_refused r n f g fine refused = cc
 
 -- a moment that isn't a valid time is reported before the token that ends it
-late_told : (now : ℤ) (s : Progress) (t : Lexeme) (f g : Fault) → moment_time s.draft.moment ≡ Err g
-    → after_settling now t (at places.AfterMoment s) (settled_in s.draft (settled s.draft.moment s.draft.range)) ≡ Err f → f ≡ g
-unfolding settled
+late_told : (now : ℤ) (s : Progress) (t : Lexeme) (f g : Fault) → moment_time s.builder.moment ≡ Err g
+    → after_finishing_time now t (at states.AfterMoment s) (narrowed_in s.builder (narrowed s.builder.moment s.builder.range)) ≡ Err f → f ≡ g
+unfolding narrowed
 late_told now s t f g late refused =
-    let told : after_settling now t (at places.AfterMoment s) (settled_in s.draft (settled s.draft.moment s.draft.range)) ≡ Err g =
-    ap (λ (r : Result ℤ Fault). after_settling now t (at places.AfterMoment s) (settled_in s.draft (bounded_by s.draft.moment.comparison s.draft.range r))) late in
+    let told : after_finishing_time now t (at states.AfterMoment s) (narrowed_in s.builder (narrowed s.builder.moment s.builder.range)) ≡ Err g =
+    ap (λ (r : Result ℤ Fault). after_finishing_time now t (at states.AfterMoment s) (narrowed_in s.builder (bounded_by s.builder.moment.comparison s.builder.range r))) late in
     cc
 
-pending_kind : (now : ℤ) (s : Progress) (k : Kind) (t : Lexeme) (f g : Fault) → t.kind ≡ k → moment_time s.draft.moment ≡ Err g
-    → after_settling now t (at places.AfterMoment s) (settle_at places.AfterMoment k s.draft) ≡ Err f → f ≡ g
-unfolding draft_step next_clause moment_step
+pending_kind : (now : ℤ) (s : Progress) (k : Kind) (t : Lexeme) (f g : Fault) → t.kind ≡ k → moment_time s.builder.moment ≡ Err g
+    → after_finishing_time now t (at states.AfterMoment s) (finish_time_at states.AfterMoment k s.builder) ≡ Err f → f ≡ g
+unfolding builder_step next_clause moment_step
 pending_kind now s kinds.Plus t f g e late refused =
-    not_refused (timing s places.AfterMoment (moment_at now places.AfterMoment t.kind t s.draft.moment)) (at places.MomentPlus s) f g (plus_taken now s t e) refused
+    not_refused (timing s states.AfterMoment (moment_at now states.AfterMoment t.kind t s.builder.moment)) (at states.MomentPlus s) f g (plus_taken now s t e) refused
 pending_kind now s kinds.Minus t f g e late refused =
-    not_refused (timing s places.AfterMoment (moment_at now places.AfterMoment t.kind t s.draft.moment)) (at places.MomentLess s) f g (minus_taken now s t e) refused
+    not_refused (timing s states.AfterMoment (moment_at now states.AfterMoment t.kind t s.builder.moment)) (at states.MomentLess s) f g (minus_taken now s t e) refused
 pending_kind now s k t f g e late refused = late_told now s t f g late refused
 
-pending_at : (p : Place) (now : ℤ) (s : Progress) (t : Lexeme) (f g : Fault) → IsPendingAt p (at p s) g → step now t (at p s) ≡ Err f → f ≡ g
-unfolding step settle_step
-pending_at places.AfterMoment now s t f g late refused = pending_kind now s t.kind t f g refl late refused
+pending_at : (p : State) (now : ℤ) (s : Progress) (t : Lexeme) (f g : Fault) → IsPendingAt p (at p s) g → step now t (at p s) ≡ Err f → f ≡ g
+unfolding step finish_time_step
+pending_at states.AfterMoment now s t f g late refused = pending_kind now s t.kind t f g refl late refused
 pending_at p now s t f g late refused = absurd late
 
 -- the check that fails at a token that the machine refuses is the fault that it reports
 examined_by : (now : ℤ) (said : List (Result Select Fault)) (s : Progress) (t : Lexeme) (f other : Fault) (r : Advance) → r ≡ Ok s → step now t s ≡ Err f → Met now (At other) said r → f ≡ other
 examined_by now said s t f other r runs refused (inl m) =
     let same : m.0 ≡ s = cc in
-    pending_at s.place now s t f other (subst (λ (n : Progress). IsPending n other) same m.3) refused
+    pending_at s.state now s t f other (subst (λ (n : Progress). IsPending n other) same m.3) refused
 examined_by now said s t f other r runs refused (inr m) = absurd cc
 
 examined_with : (now : ℤ) (said : List (Result Select Fault)) (f other : Fault) (r : Advance) → r ≡ Err f → Met now (At other) said r → f ≡ other
@@ -202,9 +202,9 @@ run_refused now s front t f runs refused = run-append_ok now start_progress s fr
 examined : (now : ℤ) (s : Progress) (front : List Lexeme) (t : Lexeme) (f other : Fault) → run now start_progress front ≡ Ok s → step now t s ≡ Err f
     → HasFault now front t other → f ≡ other
 examined now s front t f other runs refused (script, inl v) =
-    examined_by now (sayings now script) s t f other (run now start_progress front) runs refused (tree_meets now script front (At other) v)
+    examined_by now (script_queries now script) s t f other (run now start_progress front) runs refused (tree_meets now script front (At other) v)
 examined now s front t f other runs refused (script, inr v) =
-    examined_with now (sayings now script) f other (run now start_progress (front ++ t ∷ [])) (run_refused now s front t f runs refused) (tree_meets now script (front ++ t ∷ []) (At other) v)
+    examined_with now (script_queries now script) f other (run now start_progress (front ++ t ∷ [])) (run_refused now s front t f runs refused) (tree_meets now script (front ++ t ∷ []) (At other) v)
 
 -- a fault of what has been read is one of some tree
 faulty : (now : ℤ) (s : Progress) (front : List Lexeme) (t : Lexeme) (f : Fault) → Viable now s front → Faulty now s t f → HasFault now front t f

@@ -4,8 +4,8 @@ use Rattle.std.proofs.lemmas.Bool.{le-ltb, lt-ltb, ne_eqb}
 use Rattle.ts_core.specs.facts.Facts.{Text}
 use Rattle.ts_ql.specs.declared.fault.ParseError.{ParseError}
 use Rattle.ts_ql.specs.declared.fault.ParseError.TheVariants as errors
-use Rattle.ts_ql.specs.declared.place.Place.{Place}
-use Rattle.ts_ql.specs.declared.place.Place.TheVariants as places
+use Rattle.ts_ql.specs.declared.state.State.{State}
+use Rattle.ts_ql.specs.declared.state.State.TheVariants as states
 use Rattle.ts_ql.specs.declared.token.Kind.{Kind}
 use Rattle.ts_ql.specs.declared.token.Kind.TheVariants as kinds
 use Rattle.ts_ql.specs.QueryFaults.{Fault, Syntax, unexpected, IsFailure}
@@ -21,7 +21,7 @@ begun_other kinds.Keyword t s h e = absurd (h refl)
 begun_other kinds.End t s h e = absurd (e refl)
 begun_other k t s h e = refl
 
-pub begun_last : (k : Kind) (t : Lexeme) (s : Progress) → k ≡ kinds.End → (s.count ≡ 0 → ⊥) → begun_at k t s ≡ Ok (record s { place = places.Done })
+pub begun_last : (k : Kind) (t : Lexeme) (s : Progress) → k ≡ kinds.End → (s.count ≡ 0 → ⊥) → begun_at k t s ≡ Ok (record s { state = states.Done })
 begun_last k t s e some = rw (e, ne_eqb s.count 0 some) refl
 
 -- ---- token by token
@@ -39,20 +39,20 @@ read_failed most i now text s at errors.OutOfMemory said lt reads fails = tt
 read_failed most i now text s at (errors.Fault f) said lt reads fails = sym reads ∙ (read_on_step most i now text s at lt ∙ ap (with_rest most i now text at) fails)
 
 pub read_done : (most i : ℕ) (now : ℤ) (text : Text) (s : Progress) (at : ℕ) (after : Progress) (said : Result (List Select) Fault) → i < most
-    → read_on (most - i) now text s at ≡ said → step now (token_at text at) s ≡ Ok after → after.place ≡ places.Done → said ≡ Ok after.queries
+    → read_on (most - i) now text s at ≡ said → step now (token_at text at) s ≡ Ok after → after.state ≡ states.Done → said ≡ Ok after.queries
 read_done most i now text s at after said lt reads stepped done =
     let ends : with_rest most i now text at (Ok after) ≡ Ok after.queries = rw done refl in
     sym reads ∙ (read_on_step most i now text s at lt ∙ (ap (with_rest most i now text at) stepped ∙ ends))
 
-not_done : (p : Place) → (p ≡ places.Done → ⊥) → is_done p ≡ false
-not_done places.Done h = absurd (h refl)
+not_done : (p : State) → (p ≡ states.Done → ⊥) → is_done p ≡ false
+not_done states.Done h = absurd (h refl)
 not_done p h = refl
 
 pub read_more : (most i : ℕ) (now : ℤ) (text : Text) (s : Progress) (at : ℕ) (after : Progress) (said : Result (List Select) Fault) → i < most
-    → read_on (most - i) now text s at ≡ said → step now (token_at text at) s ≡ Ok after → (after.place ≡ places.Done → ⊥)
+    → read_on (most - i) now text s at ≡ said → step now (token_at text at) s ≡ Ok after → (after.state ≡ states.Done → ⊥)
     → read_on (most - (i + 1)) now text after (token_at text at).end ≡ said
 read_more most i now text s at after said lt reads stepped more =
-    let goes : with_rest most i now text at (Ok after) ≡ read_on (most - (i + 1)) now text after (token_at text at).end = rw (not_done after.place more) refl in
+    let goes : with_rest most i now text at (Ok after) ≡ read_on (most - (i + 1)) now text after (token_at text at).end = rw (not_done after.state more) refl in
     sym goes ∙ (sym (ap (with_rest most i now text at) stepped) ∙ (sym (read_on_step most i now text s at lt) ∙ reads))
 
 pub read_out : (most i : ℕ) (now : ℤ) (text : Text) (s : Progress) (at : ℕ) (said : Result (List Select) Fault) → most ≤ i

@@ -87,7 +87,7 @@ finished (Err fault) = Err fault
 
 -- what runs through has read the text
 abbrev Finishes : Advance → Type 0
-Finishes (Ok s) = is_done s.place ≡ true
+Finishes (Ok s) = is_done s.state ≡ true
 Finishes (Err fault) = Unit {0}
 
 -- what is read and what runs are the same, and have read the text
@@ -95,7 +95,7 @@ abbrev Agrees : Result (List Select) Fault → Advance → Type 0
 Agrees said after = (said ≡ finished after) × Finishes after
 
 agrees_after : (rest : Progress → ℕ → Result (List Select) Fault) (more : ℕ → List Lexeme) (now : ℤ) (t : Lexeme) (last : Bool) (after : Advance)
-    → ((m : Progress) → after ≡ Ok m → is_done m.place ≡ last)
+    → ((m : Progress) → after ≡ Ok m → is_done m.state ≡ last)
     → (last ≡ false → (m : Progress) → Agrees (rest m t.end) (run now m (more t.end)))
     → Agrees (goes_on rest t after) (run_then (λ (m : Progress). run now m (tokens_after last more t.end)) after)
 agrees_after rest more now t last (Err fault) moves next = (refl, tt)
@@ -120,7 +120,7 @@ agrees now text = agrees_on (length text + 1) now text start_progress 0 (omega a
 pub reads_tokens : (now : ℤ) (text : Text) → length text ≤ 65536 → queries_of now text ≡ finished (run now start_progress (tokens_of text))
 reads_tokens now text le = short_text now text le ∙ (agrees now text).0
 
-finished_ok : (after : Advance) (qs : List Select) → finished after ≡ Ok qs → Finishes after → (s : Progress) × (after ≡ Ok s) × (s.queries ≡ qs) × (is_done s.place ≡ true)
+finished_ok : (after : Advance) (qs : List Select) → finished after ≡ Ok qs → Finishes after → (s : Progress) × (after ≡ Ok s) × (s.queries ≡ qs) × (is_done s.state ≡ true)
 finished_ok (Ok s) qs e done = (s, refl, cc, done)
 finished_ok (Err fault) qs e done = absurd (cc)
 
@@ -129,7 +129,7 @@ finished_err (Ok s) f e = absurd (cc)
 finished_err (Err fault) f e = cc
 
 pub reads_ok : (now : ℤ) (text : Text) (qs : List Select) → length text ≤ 65536 → queries_of now text ≡ Ok qs
-    → (s : Progress) × (run now start_progress (tokens_of text) ≡ Ok s) × (s.queries ≡ qs) × (is_done s.place ≡ true)
+    → (s : Progress) × (run now start_progress (tokens_of text) ≡ Ok s) × (s.queries ≡ qs) × (is_done s.state ≡ true)
 reads_ok now text qs le e = finished_ok (run now start_progress (tokens_of text)) qs (sym (reads_tokens now text le) ∙ e) (agrees now text).1
 
 pub reads_err : (now : ℤ) (text : Text) (f : Fault) → length text ≤ 65536 → queries_of now text ≡ Err f → run now start_progress (tokens_of text) ≡ Err f

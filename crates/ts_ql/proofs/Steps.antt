@@ -3,8 +3,8 @@
 use Rattle.std.proofs.Common.{◌≡◌, ◌⊎◌, ℤ, List, [], ◌∷◌, true, Option, Some, None, Ok, Err, refl, ap, ◌∙◌, subst}
 use Rattle.std.specs.Prelude.{⊤}
 use Rattle.ts_ql.specs.Grammar.{Item, Examine}
-use Rattle.ts_ql.specs.declared.place.Place.{Place}
-use Rattle.ts_ql.specs.declared.place.Place.TheVariants as places
+use Rattle.ts_ql.specs.declared.state.State.{State}
+use Rattle.ts_ql.specs.declared.state.State.TheVariants as states
 use Rattle.ts_ql.specs.QueryFaults.{Fault, unexpected}
 use Rattle.ts_ql.specs.Laws.{Reach, Within, Whole, At, Reads}
 use Rattle.ts_ql.specs.MomentSteps.{moment_time}
@@ -13,22 +13,22 @@ use Rattle.ts_ql.specs.Tokens.{Lexeme}
 use Rattle.ts_ql.proofs.Rests.{Rest, left, all_said, Sound, Suits}
 
 -- the state at a place
-abbrev pub at : Place → Progress → Progress
-at p s = record s { place = p }
+abbrev pub at : State → Progress → Progress
+at p s = record s { state = p }
 
 -- ---- from the machine to trees
 
 -- each rest after the token is a rest here
 abbrev pub Back : ℤ → Progress → Progress → Lexeme → Type 0
 Back now s n t =
-    (r : Rest n.place) → Suits n r → (q : Rest s.place) × Suits s q
+    (r : Rest n.state) → Suits n r → (q : Rest s.state) × Suits s q
     × ((ts : List Lexeme) (reach : Reach) → Reads (left now n r) ts reach → Reads (left now s q) (t ∷ ts) reach)
     × (all_said now s q ≡ all_said now n r)
 
 -- with some rest, what has been read is at fault, without the token or with it
 abbrev pub Faulty : ℤ → Progress → Lexeme → Fault → Type 0
 Faulty now s t f =
-    (q : Rest s.place) × Suits s q × (Reads (left now s q) [] (At f) ⊎ Reads (left now s q) (t ∷ []) (At f))
+    (q : Rest s.state) × Suits s q × (Reads (left now s q) [] (At f) ⊎ Reads (left now s q) (t ∷ []) (At f))
 
 abbrev pub Answer : ℤ → Progress → Lexeme → Advance → Type 0
 Answer now s t (Ok n) = Sound n × Back now s n t
@@ -37,23 +37,23 @@ Answer now s t (Err f) = Faulty now s t f ⊎ (f ≡ unexpected t)
 -- ---- from trees to the machine
 
 -- the rest here leads to one after the token, or to a fault of the last token
-abbrev pub Leads : ℤ → (s : Progress) → Rest s.place → List Lexeme → Reach → Advance → Type 0
+abbrev pub Leads : ℤ → (s : Progress) → Rest s.state → List Lexeme → Reach → Advance → Type 0
 Leads now s q ts reach (Ok n) =
-    (r : Rest n.place) × Suits n r × Reads (left now n r) ts reach × (all_said now s q ≡ all_said now n r)
+    (r : Rest n.state) × Suits n r × Reads (left now n r) ts reach × (all_said now s q ≡ all_said now n r)
 Leads now s q ts reach (Err f) = (ts ≡ []) × (reach ≡ At f)
 
 -- a moment that waits for its end isn't a valid time
-abbrev pub IsPendingAt : Place → Progress → Fault → Type 0
-IsPendingAt places.AfterMoment s f = moment_time s.draft.moment ≡ Err f
-IsPendingAt place s f = ⊥
+abbrev pub IsPendingAt : State → Progress → Fault → Type 0
+IsPendingAt states.AfterMoment s f = moment_time s.builder.moment ≡ Err f
+IsPendingAt state s f = ⊥
 
 abbrev pub IsPending : Progress → Fault → Type 0
-IsPending s f = IsPendingAt s.place s f
+IsPending s f = IsPendingAt s.state s f
 
 -- where the tokens end
 abbrev pub Stands : Reach → Progress → Type 0
 Stands Within s = ⊤
-Stands Whole s = is_done s.place ≡ true
+Stands Whole s = is_done s.state ≡ true
 Stands (At f) s = IsPending s f
 
 -- ---- reading past what is examined

@@ -171,7 +171,7 @@ closed_ends : (text : Text) (quote start : ℕ) (o : Option ℕ) → start < len
 closed_ends text quote start None lt closes = past_end text start lt
 closed_ends text quote start (Some close) lt closes =
     let closed : (kind : Kind) → Ends text start (kind, close + 1) = λ (kind : Kind). record { within = omega arith; after = λ u. omega arith } in
-    if_ends text start (eqb quote 39) (kinds.Literal, close + 1) (if eqb close (start + 1) then (kinds.Bad, length text) else (kinds.QuotedName, close + 1)) (λ e. closed kinds.Literal)
+    if_ends text start (eqb quote 39) (kinds.StringLiteral, close + 1) (if eqb close (start + 1) then (kinds.Bad, length text) else (kinds.QuotedName, close + 1)) (λ e. closed kinds.StringLiteral)
     (λ e. if_ends text start (eqb close (start + 1)) (kinds.Bad, length text) (kinds.QuotedName, close + 1) (λ empty. past_end text start lt) (λ some. closed kinds.QuotedName))
 
 quoted_ends : (text : Text) (start : ℕ) → start < length text → Ends text start (quoted_at text start)

@@ -7,9 +7,9 @@ use Rattle.ts_ql.specs.Literals.{is_word}
 
 pub another_word : (word other text : Text) → is_word word text ≡ true
     → bytes_eq (str_to_ascii_lowercase word) (str_to_ascii_lowercase other) ≡ false → is_word other text ≡ false
-another_word word other text is differs =
+another_word word other text is negated =
     let same : str_to_ascii_lowercase text ≡ str_to_ascii_lowercase word = (bytes_eq-Decides (str_to_ascii_lowercase text) (str_to_ascii_lowercase word)).0 is in
-    ap (λ (x : List ℕ). bytes_eq x (str_to_ascii_lowercase other)) same ∙ differs
+    ap (λ (x : List ℕ). bytes_eq x (str_to_ascii_lowercase other)) same ∙ negated
 
 pub not_null_none : (text : Text) → is_word (codes "none") text ≡ true → is_word (codes "null") text ≡ false
 not_null_none text is = another_word (codes "none") (codes "null") text is refl

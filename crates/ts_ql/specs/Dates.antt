@@ -75,8 +75,8 @@ abbrev pub later : Option ℤ → Option ℕ → Option ℤ
 later date clock = option_and_then (λ day. option_map (λ nanos. day +ℤ pos nanos) clock) date
 
 -- a date alone; or a date, `T` or a space, and a time of day with or without `Z`
-unfoldable pub moment_told : Text → Option ℤ
-moment_told text =
+unfoldable pub timestamp_of : Text → Option ℤ
+timestamp_of text =
     if nat_le (length text) 10 then date_of text
     else if slice_index text 10 == 84 || slice_index text 10 == 32
     then later (date_of (take 10 text)) (time_of_day (without_zone (drop 11 text)))

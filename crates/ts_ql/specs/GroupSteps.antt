@@ -7,8 +7,8 @@ use Rattle.ts_core.specs.declared.queries.fill.Fill.TheVariants as fills
 use Rattle.ts_ql.specs.Selects.{texts, Buckets, with_text, of_interval, moved}
 use Rattle.ts_ql.specs.declared.groups.Groups.{Groups}
 use Rattle.ts_ql.specs.declared.filling.Filling.{Filling}
-use Rattle.ts_ql.specs.declared.place.Place.{Place}
-use Rattle.ts_ql.specs.declared.place.Place.TheVariants as places
+use Rattle.ts_ql.specs.declared.state.State.{State}
+use Rattle.ts_ql.specs.declared.state.State.TheVariants as states
 use Rattle.ts_ql.specs.declared.token.Kind.{Kind}
 use Rattle.ts_ql.specs.declared.token.Kind.TheVariants as kinds
 use Rattle.ts_ql.specs.QueryFaults.{Fault, OutOfRange, unexpected}
@@ -29,77 +29,77 @@ abbrev pub empty_groups : Grouped
 empty_groups = record { buckets = None; first = 0; tags = [] }
 
 abbrev pub Grouping : Type 0
-Grouping = Result (Place × Grouped) Fault
+Grouping = Result (State × Grouped) Fault
 
 -- a `time` that begins an item; there can't be a second time(..)
 abbrev pub time_item : Lexeme → Grouped → Option Buckets → Grouping
-time_item t g None = Ok (places.TimeOpen, g)
+time_item t g None = Ok (states.TimeOpen, g)
 time_item t g (Some buckets) = Err (unexpected t)
 
 abbrev pub item_at : Lexeme → Grouped → Grouping
 item_at t g =
     if is_time t.kind t.text then time_item t g g.buckets
-    else Ok (places.AfterTag, record g { tags = with_text (text_spelled t.text) g.tags })
+    else Ok (states.AfterTag, record g { tags = with_text (text_spelled t.text) g.tags })
 
 abbrev pub with_interval : Lexeme → Grouped → Option ℤ → Grouping
 with_interval t g None = Err (OutOfRange t.start)
 with_interval t g (Some interval) =
-    if int_le (pos 1) interval then Ok (places.IntervalEnd, record g { buckets = of_interval interval }) else Err (OutOfRange t.start)
+    if int_le (pos 1) interval then Ok (states.IntervalEnd, record g { buckets = of_interval interval }) else Err (OutOfRange t.start)
 
 -- a bucket offset whose first token is at `first`
 abbrev pub with_offset : ℕ → Grouped → Option ℤ → Grouping
 with_offset first g None = Err (OutOfRange first)
-with_offset first g (Some offset) = Ok (places.OffsetEnd, record g { buckets = moved offset g.buckets })
+with_offset first g (Some offset) = Ok (states.OffsetEnd, record g { buckets = moved offset g.buckets })
 
-abbrev pub grouping_at : Place → Kind → Lexeme → Grouped → Grouping
-grouping_at places.GroupBy kinds.Keyword t g = if is_word (codes "by") t.text then Ok (places.Item, g) else Err (unexpected t)
-grouping_at places.Item kinds.Word t g = item_at t g
-grouping_at places.Item kinds.QuotedName t g = item_at t g
-grouping_at places.TimeOpen kinds.Open t g = Ok (places.Interval, g)
-grouping_at places.Interval kinds.Duration t g = with_interval t g (literal false t.text)
-grouping_at places.IntervalEnd kinds.Comma t g = Ok (places.Offset, g)
-grouping_at places.IntervalEnd kinds.Close t g = Ok (places.AfterItem, g)
-grouping_at places.Offset kinds.Minus t g = Ok (places.OffsetMinus, record g { first = t.start })
-grouping_at places.Offset kinds.Duration t g = with_offset t.start g (literal false t.text)
-grouping_at places.OffsetMinus kinds.Duration t g = with_offset g.first g (literal true t.text)
-grouping_at places.OffsetEnd kinds.Close t g = Ok (places.AfterItem, g)
-grouping_at places.AfterTag kinds.Cast t g = Ok (places.GroupTagType, g)
-grouping_at places.AfterTag kinds.Comma t g = Ok (places.Item, g)
-grouping_at places.GroupTagType kinds.Word t g = if is_word (codes "tag") t.text then Ok (places.AfterItem, g) else Err (unexpected t)
-grouping_at places.AfterItem kinds.Comma t g = Ok (places.Item, g)
-grouping_at place kind t g = Err (unexpected t)
+abbrev pub grouping_at : State → Kind → Lexeme → Grouped → Grouping
+grouping_at states.GroupBy kinds.Keyword t g = if is_word (codes "by") t.text then Ok (states.Item, g) else Err (unexpected t)
+grouping_at states.Item kinds.Word t g = item_at t g
+grouping_at states.Item kinds.QuotedName t g = item_at t g
+grouping_at states.TimeOpen kinds.Open t g = Ok (states.Interval, g)
+grouping_at states.Interval kinds.Duration t g = with_interval t g (literal false t.text)
+grouping_at states.IntervalEnd kinds.Comma t g = Ok (states.Offset, g)
+grouping_at states.IntervalEnd kinds.Close t g = Ok (states.AfterItem, g)
+grouping_at states.Offset kinds.Minus t g = Ok (states.OffsetMinus, record g { first = t.start })
+grouping_at states.Offset kinds.Duration t g = with_offset t.start g (literal false t.text)
+grouping_at states.OffsetMinus kinds.Duration t g = with_offset g.first g (literal true t.text)
+grouping_at states.OffsetEnd kinds.Close t g = Ok (states.AfterItem, g)
+grouping_at states.AfterTag kinds.Cast t g = Ok (states.GroupTagType, g)
+grouping_at states.AfterTag kinds.Comma t g = Ok (states.Item, g)
+grouping_at states.GroupTagType kinds.Word t g = if is_word (codes "tag") t.text then Ok (states.AfterItem, g) else Err (unexpected t)
+grouping_at states.AfterItem kinds.Comma t g = Ok (states.Item, g)
+grouping_at state kind t g = Err (unexpected t)
 
-unfoldable pub group_step : Place → Lexeme → Grouped → Grouping
-group_step place t g = grouping_at place t.kind t g
+unfoldable pub group_step : State → Lexeme → Grouped → Grouping
+group_step state t g = grouping_at state t.kind t g
 
 -- ---- fill
 
 abbrev pub FillStep : Type 0
-FillStep = Result (Place × Filling) Fault
+FillStep = Result (State × Filling) Fault
 
 -- fill with a number whose first token is at `first`
 abbrev pub with_number : ℕ → Filling → Option ℤ → FillStep
 with_number first f None = Err (OutOfRange first)
-with_number first f (Some n) = Ok (places.FillClose, record f { fill = fills.Number n })
+with_number first f (Some n) = Ok (states.FillClose, record f { fill = fills.Number n })
 
 abbrev pub chosen : Fill → Filling → FillStep
-chosen fill f = Ok (places.FillClose, record f { fill = fill })
+chosen fill f = Ok (states.FillClose, record f { fill = fill })
 
-abbrev pub fill_at : Place → Kind → Lexeme → Filling → FillStep
-fill_at places.FillOpen kinds.Open t f = Ok (places.FillOption, f)
-fill_at places.FillOption kinds.Word t f =
+abbrev pub fill_at : State → Kind → Lexeme → Filling → FillStep
+fill_at states.FillOpen kinds.Open t f = Ok (states.FillOption, f)
+fill_at states.FillOption kinds.Word t f =
     if is_word (codes "null") t.text then chosen fills.Null f
     else if is_word (codes "none") t.text then chosen fills.None f
     else if is_word (codes "previous") t.text then chosen fills.Previous f
     else Err (unexpected t)
-fill_at places.FillOption kinds.Minus t f = Ok (places.FillMinus, record f { first = t.start })
-fill_at places.FillOption kinds.Integer t f = with_number t.start f (literal false t.text)
-fill_at places.FillMinus kinds.Integer t f = with_number f.first f (literal true t.text)
-fill_at places.FillClose kinds.Close t f = Ok (places.AfterFill, f)
-fill_at place kind t f = Err (unexpected t)
+fill_at states.FillOption kinds.Minus t f = Ok (states.FillMinus, record f { first = t.start })
+fill_at states.FillOption kinds.Integer t f = with_number t.start f (literal false t.text)
+fill_at states.FillMinus kinds.Integer t f = with_number f.first f (literal true t.text)
+fill_at states.FillClose kinds.Close t f = Ok (states.AfterFill, f)
+fill_at state kind t f = Err (unexpected t)
 
-unfoldable pub fill_step : Place → Lexeme → Filling → FillStep
-fill_step place t f = fill_at place t.kind t f
+unfoldable pub fill_step : State → Lexeme → Filling → FillStep
+fill_step state t f = fill_at state t.kind t f
 
 -- the default: null
 abbrev pub no_fill : Filling

@@ -9,7 +9,7 @@ use Rattle.ts_ql.specs.declared.fault.ParseError.TheVariants as errors
 use Rattle.ts_ql.specs.QueryFaults.{Fault, Syntax, as_fault, unexpected, Gives}
 use Rattle.ts_ql.specs.Grammar.{Item, Any, This, Examine, Is, Script}
 use Rattle.ts_ql.specs.Literals.{magnitude}
-use Rattle.ts_ql.specs.Meanings.{sayings}
+use Rattle.ts_ql.specs.Meanings.{script_queries}
 use Rattle.ts_ql.specs.Selects.{Select}
 use Rattle.ts_ql.specs.Productions.{spell}
 use Rattle.ts_ql.specs.Tokenizing.{tokens_of}
@@ -45,7 +45,7 @@ Reads (Examine (Some fault) ∷ rest) (t ∷ ts) reach = ⊥
 
 -- some tree spells the tokens, and its statements mean these queries
 abbrev pub Says : ℤ → List Lexeme → List Select → Type 0
-Says now ts queries = (script : Script) × Reads (spell now script) ts Whole × (sayings now script ≡ map Ok queries)
+Says now ts queries = (script : Script) × Reads (spell now script) ts Whole × (script_queries now script ≡ map Ok queries)
 
 -- the tokens begin some text without an error
 abbrev pub MayBecome : ℤ → List Lexeme → Type 0

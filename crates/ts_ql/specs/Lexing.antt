@@ -66,10 +66,10 @@ shape kind end = (kind, end)
 -- an operator of two bytes
 unfoldable pub double : ℕ → ℕ → Option Kind
 double first second =
-    if first == 61 && second == 126 then Some kinds.Foreign
-    else if first == 33 && second == 126 then Some kinds.Foreign
-    else if first == 33 && second == 61 then Some kinds.Differs
-    else if first == 60 && second == 62 then Some kinds.Differs
+    if first == 61 && second == 126 then Some kinds.Unsupported
+    else if first == 33 && second == 126 then Some kinds.Unsupported
+    else if first == 33 && second == 61 then Some kinds.NotEqual
+    else if first == 60 && second == 62 then Some kinds.NotEqual
     else if first == 60 && second == 61 then Some kinds.LessOrEqual
     else if first == 62 && second == 61 then Some kinds.GreaterOrEqual
     else if first == 58 && second == 58 then Some kinds.Cast else None
@@ -86,7 +86,7 @@ single byte =
     else if byte == 62 then Some kinds.Greater
     else if byte == 43 then Some kinds.Plus
     else if byte == 45 then Some kinds.Minus
-    else if byte == 42 || byte == 47 || byte == 37 || byte == 46 then Some kinds.Foreign else None
+    else if byte == 42 || byte == 47 || byte == 37 || byte == 46 then Some kinds.Unsupported else None
 
 abbrev pub single_at : Text → ℕ → Option Kind → Kind × ℕ
 single_at text start None = (kinds.Bad, length text)
@@ -111,7 +111,7 @@ number_at text start =
 abbrev pub closed_at : Text → ℕ → ℕ → Option ℕ → Kind × ℕ
 closed_at text quote start None = (kinds.Bad, length text)
 closed_at text quote start (Some close) =
-    if quote == 39 then (kinds.Literal, close + 1) else if close == start + 1 then (kinds.Bad, length text) else (kinds.QuotedName, close + 1)
+    if quote == 39 then (kinds.StringLiteral, close + 1) else if close == start + 1 then (kinds.Bad, length text) else (kinds.QuotedName, close + 1)
 
 unfoldable pub quoted_at : Text → ℕ → Kind × ℕ
 quoted_at text start = closed_at text (slice_index text start) start (closing_quote (slice_index text start) text (start + 1))
@@ -128,7 +128,7 @@ shape_at text start =
 -- a token of this kind is in quotes
 abbrev pub is_quoted : Kind → Bool
 is_quoted kinds.QuotedName = true
-is_quoted kinds.Literal = true
+is_quoted kinds.StringLiteral = true
 is_quoted kind = false
 
 -- the token's bytes without quotes

@@ -25,5 +25,5 @@ pub mod SelectSteps
 pub mod MomentSteps
 pub mod WhereSteps
 pub mod GroupSteps
-pub mod Drafts
+pub mod Builders
 pub mod Reading

@@ -10,13 +10,13 @@ use Rattle.ts_core.specs.declared.queries.fill.Fill.TheVariants as fills
 use Rattle.ts_core.specs.declared.queries.value.Function.{Function}
 use Rattle.ts_core.specs.declared.queries.value.Function.TheVariants as functions
 use Rattle.ts_ql.specs.declared.moment.Range.{Range}
-use Rattle.ts_ql.specs.Dates.{moment_told}
+use Rattle.ts_ql.specs.Dates.{timestamp_of}
 use Rattle.ts_ql.specs.QueryFaults.{Fault}
 use Rattle.ts_ql.specs.Grammar.{Call, FromClause, Measurement, Subquery, Base, Number, Negative, Quoted, Now, Change, Instant, Cond, Compare, Match, Group, And, Signed, Dimension, Every, ByTag, GroupBy, FillOption, NullOption, NoneOption, PreviousOption, NumberOption, Statement, Ending, Stop, Close, Next, Script}
 use Rattle.ts_ql.specs.Ranges.{bounded, unbounded}
 use Rattle.ts_ql.specs.Literals.{literal}
 use Rattle.ts_ql.specs.Selects.{Projection, Select, Buckets, function_name, with_text, of_interval, moved}
-use Rattle.ts_ql.specs.Statements.{Meaning, statement_said}
+use Rattle.ts_ql.specs.Statements.{Meaning, statement_query}
 use Rattle.ts_ql.specs.Tokens.{Lexeme}
 use Rattle.ts_ql.specs.Words.{function_called, named}
 
@@ -65,7 +65,7 @@ base_start (Now l) = l.start
 abbrev pub base_value : ℤ → Base → Option ℤ
 base_value now (Number m l) = literal false l.text
 base_value now (Negative minus m l) = literal true l.text
-base_value now (Quoted l) = moment_told l.text
+base_value now (Quoted l) = timestamp_of l.text
 base_value now (Now l) = Some now
 
 abbrev pub changed_by : Bool → ℤ → ℤ → ℤ
@@ -80,21 +80,21 @@ changed_all total [] = total
 changed_all total (c ∷ cs) = changed_all (total_after total c) cs
 
 -- value of a time expression, in nanoseconds of the Unix epoch
-abbrev pub told_by : ℤ → Instant → ℤ
-told_by now i = changed_all (unwrap_or (base_value now i.base) (pos 0)) i.changes
+abbrev pub instant_value : ℤ → Instant → ℤ
+instant_value now i = changed_all (unwrap_or (base_value now i.base) (pos 0)) i.changes
 
 -- ---- WHERE: all conditions must hold, so parentheses mean nothing
 
 abbrev pub conditions_after : List Condition → Cond → List Condition
 conditions_after before (Compare l c i) = before
-conditions_after before (Match tag cast differs value) = before ++ record { tag = named tag; value = named value; differs = differs } ∷ []
+conditions_after before (Match tag cast negated value) = before ++ record { tag = named tag; value = named value; negated = negated } ∷ []
 conditions_after before (Group opener c) = conditions_after before c
 conditions_after before (And a b) = conditions_after (conditions_after before a) b
 
 -- the greatest lower bound and the least upper bound
 abbrev pub range_after : ℤ → Range → Cond → Range
-range_after now r (Compare l c i) = bounded c (told_by now i) r
-range_after now r (Match tag cast differs value) = r
+range_after now r (Compare l c i) = bounded c (instant_value now i) r
+range_after now r (Match tag cast negated value) = r
 range_after now r (Group opener c) = range_after now r c
 range_after now r (And a b) = range_after now (range_after now r a) b
 
@@ -159,10 +159,10 @@ statement_meaning now s =
     after_fill (after_group (after_filter now (after_from (after_calls (after_call no_meaning s.first) s.more) s.source) s.filter) s.group) s.fill
 
 -- results of a statement with this meaning and of those after it
-abbrev pub said_all : ℤ → ℕ → Meaning → Ending → List (Result Select Fault)
-said_all now start p Stop = statement_said start now p ∷ []
-said_all now start p Close = statement_said start now p ∷ []
-said_all now start p (Next s rest) = statement_said start now p ∷ said_all now s.select.start (statement_meaning now s) rest
+abbrev pub ending_queries : ℤ → ℕ → Meaning → Ending → List (Result Select Fault)
+ending_queries now start p Stop = statement_query start now p ∷ []
+ending_queries now start p Close = statement_query start now p ∷ []
+ending_queries now start p (Next s rest) = statement_query start now p ∷ ending_queries now s.select.start (statement_meaning now s) rest
 
-abbrev pub sayings : ℤ → Script → List (Result Select Fault)
-sayings now script = said_all now script.first.select.start (statement_meaning now script.first) script.rest
+abbrev pub script_queries : ℤ → Script → List (Result Select Fault)
+script_queries now script = ending_queries now script.first.select.start (statement_meaning now script.first) script.rest

@@ -6,23 +6,23 @@ use Rattle.ts_ql.specs.declared.moment.Comparison.{Comparison}
 use Rattle.ts_ql.specs.declared.moment.Comparison.TheVariants as comparisons
 use Rattle.ts_ql.specs.declared.moment.Moment.{Moment}
 use Rattle.ts_ql.specs.declared.moment.Range.{Range}
-use Rattle.ts_ql.specs.declared.place.Place.{Place}
-use Rattle.ts_ql.specs.declared.place.Place.TheVariants as places
+use Rattle.ts_ql.specs.declared.state.State.{State}
+use Rattle.ts_ql.specs.declared.state.State.TheVariants as states
 use Rattle.ts_ql.specs.declared.token.Kind.{Kind}
 use Rattle.ts_ql.specs.declared.token.Kind.TheVariants as kinds
-use Rattle.ts_ql.specs.Dates.{moment_told}
+use Rattle.ts_ql.specs.Dates.{timestamp_of}
 use Rattle.ts_ql.specs.QueryFaults.{Fault, OutOfRange, unexpected}
 use Rattle.ts_ql.specs.Literals.{is_word, literal}
 use Rattle.ts_ql.specs.Ranges.{bounded}
 use Rattle.ts_ql.specs.Tokens.{Lexeme}
 
 abbrev pub Timing : Type 0
-Timing = Result (Place × Moment) Fault
+Timing = Result (State × Moment) Fault
 
 -- a time expression at offset `first` with this value
 abbrev pub based : ℕ → Moment → Option ℤ → Timing
 based first m None = Err (OutOfRange first)
-based first m (Some value) = Ok (places.AfterMoment, record m { first = first; total = value })
+based first m (Some value) = Ok (states.AfterMoment, record m { first = first; total = value })
 
 -- one more duration can be added to the sum without overflow of 128 bits
 abbrev pub HasRoomForMore : ℤ → Moment → Type 0
@@ -31,40 +31,40 @@ HasRoomForMore now m = unsigned_abs m.total ≤ 2 ^ 126 + unsigned_abs now
 -- adds a duration
 abbrev pub later_by : Lexeme → Moment → Option ℤ → Timing
 later_by t m None = Err (OutOfRange t.start)
-later_by t m (Some value) = Ok (places.AfterMoment, record m { total = m.total +ℤ value })
+later_by t m (Some value) = Ok (states.AfterMoment, record m { total = m.total +ℤ value })
 
 -- subtracts a duration
 abbrev pub earlier_by : Lexeme → Moment → Option ℤ → Timing
 earlier_by t m None = Err (OutOfRange t.start)
-earlier_by t m (Some value) = Ok (places.AfterMoment, record m { total = m.total -ℤ value })
+earlier_by t m (Some value) = Ok (states.AfterMoment, record m { total = m.total -ℤ value })
 
 abbrev pub compared : Comparison → Moment → Timing
-compared c m = Ok (places.Moment, record m { comparison = c })
+compared c m = Ok (states.Moment, record m { comparison = c })
 
-abbrev pub moment_at : ℤ → Place → Kind → Lexeme → Moment → Timing
-moment_at now places.TimeSign kinds.Equals t m = compared comparisons.Equal m
-moment_at now places.TimeSign kinds.Less t m = compared comparisons.Less m
-moment_at now places.TimeSign kinds.LessOrEqual t m = compared comparisons.LessOrEqual m
-moment_at now places.TimeSign kinds.Greater t m = compared comparisons.Greater m
-moment_at now places.TimeSign kinds.GreaterOrEqual t m = compared comparisons.GreaterOrEqual m
-moment_at now places.Moment kinds.Minus t m = Ok (places.MomentMinus, record m { first = t.start })
-moment_at now places.Moment kinds.Integer t m = based t.start m (literal false t.text)
-moment_at now places.Moment kinds.Duration t m = based t.start m (literal false t.text)
-moment_at now places.Moment kinds.Literal t m = based t.start m (moment_told t.text)
-moment_at now places.Moment kinds.Word t m =
-    if is_word (codes "now") t.text then Ok (places.NowOpen, record m { first = t.start }) else Err (unexpected t)
-moment_at now places.MomentMinus kinds.Integer t m = based m.first m (literal true t.text)
-moment_at now places.MomentMinus kinds.Duration t m = based m.first m (literal true t.text)
-moment_at now places.NowOpen kinds.Open t m = Ok (places.NowClose, m)
-moment_at now places.NowClose kinds.Close t m = Ok (places.AfterMoment, record m { total = now })
-moment_at now places.AfterMoment kinds.Plus t m = Ok (places.MomentPlus, m)
-moment_at now places.AfterMoment kinds.Minus t m = Ok (places.MomentLess, m)
-moment_at now places.MomentPlus kinds.Duration t m = later_by t m (literal false t.text)
-moment_at now places.MomentLess kinds.Duration t m = earlier_by t m (literal false t.text)
-moment_at now place kind t m = Err (unexpected t)
+abbrev pub moment_at : ℤ → State → Kind → Lexeme → Moment → Timing
+moment_at now states.TimeSign kinds.Equals t m = compared comparisons.Equal m
+moment_at now states.TimeSign kinds.Less t m = compared comparisons.Less m
+moment_at now states.TimeSign kinds.LessOrEqual t m = compared comparisons.LessOrEqual m
+moment_at now states.TimeSign kinds.Greater t m = compared comparisons.Greater m
+moment_at now states.TimeSign kinds.GreaterOrEqual t m = compared comparisons.GreaterOrEqual m
+moment_at now states.Moment kinds.Minus t m = Ok (states.MomentMinus, record m { first = t.start })
+moment_at now states.Moment kinds.Integer t m = based t.start m (literal false t.text)
+moment_at now states.Moment kinds.Duration t m = based t.start m (literal false t.text)
+moment_at now states.Moment kinds.StringLiteral t m = based t.start m (timestamp_of t.text)
+moment_at now states.Moment kinds.Word t m =
+    if is_word (codes "now") t.text then Ok (states.NowOpen, record m { first = t.start }) else Err (unexpected t)
+moment_at now states.MomentMinus kinds.Integer t m = based m.first m (literal true t.text)
+moment_at now states.MomentMinus kinds.Duration t m = based m.first m (literal true t.text)
+moment_at now states.NowOpen kinds.Open t m = Ok (states.NowClose, m)
+moment_at now states.NowClose kinds.Close t m = Ok (states.AfterMoment, record m { total = now })
+moment_at now states.AfterMoment kinds.Plus t m = Ok (states.MomentPlus, m)
+moment_at now states.AfterMoment kinds.Minus t m = Ok (states.MomentLess, m)
+moment_at now states.MomentPlus kinds.Duration t m = later_by t m (literal false t.text)
+moment_at now states.MomentLess kinds.Duration t m = earlier_by t m (literal false t.text)
+moment_at now state kind t m = Err (unexpected t)
 
-unfoldable pub moment_step : ℤ → Place → Lexeme → Moment → Timing
-moment_step now place t m = moment_at now place t.kind t m
+unfoldable pub moment_step : ℤ → State → Lexeme → Moment → Timing
+moment_step now state t m = moment_at now state t.kind t m
 
 -- ---- the end of a time expression
 
@@ -80,5 +80,5 @@ bounded_by c r (Ok time) = Ok (bounded c time r)
 bounded_by c r (Err fault) = Err fault
 
 -- the range after a complete time expression
-unfoldable pub settled : Moment → Range → Result Range Fault
-settled m r = bounded_by m.comparison r (moment_time m)
+unfoldable pub narrowed : Moment → Range → Result Range Fault
+narrowed m r = bounded_by m.comparison r (moment_time m)

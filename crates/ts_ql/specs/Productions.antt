@@ -9,12 +9,12 @@ use Rattle.ts_ql.specs.declared.moment.Comparison.{Comparison}
 use Rattle.ts_ql.specs.declared.moment.Comparison.TheVariants as comparisons
 use Rattle.ts_ql.specs.declared.token.Kind.{Kind}
 use Rattle.ts_ql.specs.declared.token.Kind.TheVariants as kinds
-use Rattle.ts_ql.specs.QueryFaults.{Fault, OutOfRange, TooManyStatements, left_out, unexpected}
+use Rattle.ts_ql.specs.QueryFaults.{Fault, OutOfRange, TooManyStatements, unsupported, unexpected}
 use Rattle.ts_ql.specs.Grammar.{Keyword, Word, Name, Tag, Time, Of, Item, Any, This, Examine, FieldType, Field, Integer, Call, FromClause, Measurement, Subquery, Measure, Count, Duration, Base, Number, Negative, Quoted, Now, Change, Instant, Cond, Compare, Match, Group, And, Signed, Dimension, Every, ByTag, GroupBy, FillOption, NullOption, NoneOption, PreviousOption, NumberOption, Statement, Ending, Stop, Close, Next, Script}
 use Rattle.ts_ql.specs.Literals.{literal}
 use Rattle.ts_ql.specs.Meanings.{no_meaning, base_start, base_value, total_after, after_call, after_calls, after_from, after_filter, after_dimension, statement_meaning, signed_start, signed_value}
 use Rattle.ts_ql.specs.Selects.{Select, Buckets}
-use Rattle.ts_ql.specs.Statements.{Meaning, statement_said}
+use Rattle.ts_ql.specs.Statements.{Meaning, statement_query}
 use Rattle.ts_ql.specs.Tokens.{Lexeme}
 use Rattle.ts_ql.specs.Words.{function_called, named}
 
@@ -22,12 +22,12 @@ use Rattle.ts_ql.specs.Words.{function_called, named}
 
 -- a function is one of seven, unquoted
 abbrev pub known_function : Lexeme → Option Function → Option Fault
-known_function l None = Some (left_out l)
+known_function l None = Some (unsupported l)
 known_function l (Some f) = None
 
 abbrev pub function_fault_at : Kind → Lexeme → Option Fault
 function_fault_at kinds.Word l = known_function l (function_called l.text)
-function_fault_at kind l = Some (left_out l)
+function_fault_at kind l = Some (unsupported l)
 
 abbrev pub function_fault : Lexeme → Option Fault
 function_fault l = function_fault_at l.kind l
@@ -35,7 +35,7 @@ function_fault l = function_fault_at l.kind l
 -- all functions are applied to one field
 abbrev pub field_fault : Option Text → Lexeme → Option Fault
 field_fault None l = None
-field_fault (Some field) l = if bytes_eq field (named l) then None else Some (left_out l)
+field_fault (Some field) l = if bytes_eq field (named l) then None else Some (unsupported l)
 
 -- a literal whose first token is at `first` fits in 64 bits
 abbrev pub literal_fault : ℕ → Option ℤ → Option Fault
@@ -52,7 +52,7 @@ time_fault first total = if int_le least_time total && int_le total greatest_tim
 
 -- at most 32 parentheses are open
 abbrev pub depth_fault : ℕ → Lexeme → Option Fault
-depth_fault depth opener = if nat_lt depth 32 then None else Some (left_out opener)
+depth_fault depth opener = if nat_lt depth 32 then None else Some (unsupported opener)
 
 -- there is at most one time(..)
 abbrev pub again_fault : Option Buckets → Lexeme → Option Fault
@@ -101,7 +101,7 @@ spell_calls p (a ∷ more) rest = Any (Of kinds.Comma) ∷ spell_call p.field a 
 
 abbrev pub spell_from : FromClause → List Item → List Item
 spell_from (Measurement l) rest = This Name l ∷ rest
-spell_from (Subquery opener) rest = This (Of kinds.Open) opener ∷ Examine (Some (left_out opener)) ∷ rest
+spell_from (Subquery opener) rest = This (Of kinds.Open) opener ∷ Examine (Some (unsupported opener)) ∷ rest
 
 -- ---- WHERE
 
@@ -113,7 +113,7 @@ abbrev pub spell_base : ℤ → Base → List Item → List Item
 spell_base now (Number m l) rest = This (Of (kind_of_measure m)) l ∷ Examine (literal_fault l.start (literal false l.text)) ∷ rest
 spell_base now (Negative minus m l) rest =
     This (Of kinds.Minus) minus ∷ This (Of (kind_of_measure m)) l ∷ Examine (literal_fault minus.start (literal true l.text)) ∷ rest
-spell_base now (Quoted l) rest = This (Of kinds.Literal) l ∷ Examine (literal_fault l.start (base_value now (Quoted l))) ∷ rest
+spell_base now (Quoted l) rest = This (Of kinds.StringLiteral) l ∷ Examine (literal_fault l.start (base_value now (Quoted l))) ∷ rest
 spell_base now (Now l) rest = This (Word (codes "now")) l ∷ Any (Of kinds.Open) ∷ Any (Of kinds.Close) ∷ rest
 
 abbrev pub sign_of : Bool → Kind
@@ -142,13 +142,13 @@ spell_tag_type true rest = Any (Of kinds.Cast) ∷ Any (Word (codes "tag")) ∷ 
 
 abbrev pub equality : Bool → Kind
 equality false = kinds.Equals
-equality true = kinds.Differs
+equality true = kinds.NotEqual
 
 -- a condition inside `depth` open parentheses
 abbrev pub spell_cond : ℤ → ℕ → Cond → List Item → List Item
 spell_cond now depth (Compare l c i) rest = This Time l ∷ Any (Of (kind_of_comparison c)) ∷ spell_instant now i rest
-spell_cond now depth (Match tag cast differs value) rest =
-    This Tag tag ∷ spell_tag_type cast (Any (Of (equality differs)) ∷ This (Of kinds.Literal) value ∷ rest)
+spell_cond now depth (Match tag cast negated value) rest =
+    This Tag tag ∷ spell_tag_type cast (Any (Of (equality negated)) ∷ This (Of kinds.StringLiteral) value ∷ rest)
 spell_cond now depth (Group opener c) rest =
     This (Of kinds.Open) opener ∷ Examine (depth_fault depth opener) ∷ spell_cond now (depth + 1) c (Any (Of kinds.Close) ∷ rest)
 spell_cond now depth (And a b) rest = spell_cond now depth a (Any (Keyword (codes "and")) ∷ spell_cond now depth b rest)
@@ -210,11 +210,11 @@ spell_statement now before s rest =
 
 -- the end of a statement with this meaning, which is checked there as a whole
 abbrev pub spell_ending : ℤ → ℕ → ℕ → Meaning → Ending → List Item
-spell_ending now before start p Stop = Any (Of kinds.End) ∷ Examine (fault_in (statement_said start now p)) ∷ []
+spell_ending now before start p Stop = Any (Of kinds.End) ∷ Examine (fault_in (statement_query start now p)) ∷ []
 spell_ending now before start p Close =
-    Any (Of kinds.Semicolon) ∷ Examine (fault_in (statement_said start now p)) ∷ Any (Of kinds.End) ∷ []
+    Any (Of kinds.Semicolon) ∷ Examine (fault_in (statement_query start now p)) ∷ Any (Of kinds.End) ∷ []
 spell_ending now before start p (Next s rest) =
-    Any (Of kinds.Semicolon) ∷ Examine (fault_in (statement_said start now p))
+    Any (Of kinds.Semicolon) ∷ Examine (fault_in (statement_query start now p))
     ∷ spell_statement now before s (spell_ending now (before + 1) s.select.start (statement_meaning now s) rest)
 
 abbrev pub spell : ℤ → Script → List Item

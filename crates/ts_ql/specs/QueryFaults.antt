@@ -8,7 +8,7 @@ use Rattle.ts_ql.specs.declared.fault.QlFaultKind.TheVariants as faults
 use Rattle.ts_ql.specs.declared.fault.ParseError.{ParseError}
 use Rattle.ts_ql.specs.declared.fault.ParseError.TheVariants as errors
 use Rattle.ts_ql.specs.Tokens.{Lexeme}
-use Rattle.ts_ql.specs.Words.{is_foreign}
+use Rattle.ts_ql.specs.Words.{is_unsupported}
 
 pub data Fault : Type 0 where
   -- no supported text continues with this token
@@ -46,12 +46,12 @@ option_as_fault None = None
 option_as_fault (Some fault) = Some (as_fault fault)
 
 -- the token, as written, is unsupported
-abbrev pub left_out : Lexeme → Fault
-left_out t = OutOfProfile t.start t.raw
+abbrev pub unsupported : Lexeme → Fault
+unsupported t = OutOfProfile t.start t.raw
 
 -- no supported text continues with the token
 abbrev pub unexpected : Lexeme → Fault
-unexpected t = if is_foreign t.kind t.text then left_out t else Syntax t.start
+unexpected t = if is_unsupported t.kind t.text then unsupported t else Syntax t.start
 
 abbrev pub IsFailure : {Y : Type 0} → ParseError → Result Y Fault → Type 0
 IsFailure errors.OutOfMemory said = Unit {0}

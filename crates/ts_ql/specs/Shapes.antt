@@ -2,7 +2,7 @@
 -- (Own rule.)
 use Rattle.std.specs.Prelude.{◌≡◌, ℕ, ◌+◌, ◌-◌, ◌≤◌, true}
 use Rattle.std.specs.Str.{IsCharBoundary}
-use Rattle.ts_core.specs.text.Cursors.{IsPlaceFrom}
+use Rattle.ts_core.specs.text.Cursors.{IsOffsetFrom}
 use Rattle.ts_core.specs.facts.Facts.{Text}
 use Rattle.ts_ql.specs.declared.token.Kind.{Kind}
 use Rattle.ts_ql.specs.Lexing.{is_quoted}
@@ -15,5 +15,5 @@ pub record HasInnerText (text : Text) (start end : ℕ) : Type 0 where
 
 -- a token isn't empty, and a quoted one has a text between its quotes
 pub record IsTokenFrom (text : Text) (start : ℕ) (shape : Kind × ℕ) : Type 0 where
-  pub end : IsPlaceFrom text (start + 1) shape.1
+  pub end : IsOffsetFrom text (start + 1) shape.1
   pub inner : is_quoted shape.0 ≡ true → HasInnerText text start shape.1

@@ -74,18 +74,18 @@ span_fault start b span =
     else if int_lt (first_start span.from b) least_time then Some (BucketBeforeLeastTime start)
     else if int_le (pos 10000) (buckets_between span.from span.to b) then Some (TooManyBuckets start) else None
 
-abbrev pub said_unless : Select → Option Fault → Result Select Fault
-said_unless q None = Ok q
-said_unless q (Some fault) = Err fault
+abbrev pub query_unless : Select → Option Fault → Result Select Fault
+query_unless q None = Ok q
+query_unless q (Some fault) = Err fault
 
 abbrev pub with_span : ℕ → Meaning → Buckets → Option Span → Result Select Fault
 with_span start p b None = Err (NoLowerBound start)
-with_span start p b (Some span) = said_unless (query_of p b span) (span_fault start b span)
+with_span start p b (Some span) = query_unless (query_of p b span) (span_fault start b span)
 
 abbrev pub with_time : ℕ → ℤ → Meaning → Option Buckets → Result Select Fault
 with_time start now p None = Err (OutOfProfile start (codes "GROUP BY time"))
 with_time start now p (Some b) = with_span start p b (span_from now p.range p.range.lower)
 
 -- the query of the statement at offset `start`
-unfoldable pub statement_said : ℕ → ℤ → Meaning → Result Select Fault
-statement_said start now p = if repeats p.columns then Err (RepeatedColumn start) else with_time start now p p.buckets
+unfoldable pub statement_query : ℕ → ℤ → Meaning → Result Select Fault
+statement_query start now p = if repeats p.columns then Err (RepeatedColumn start) else with_time start now p p.buckets

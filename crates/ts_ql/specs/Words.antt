@@ -20,18 +20,18 @@ is_clause_word text =
     || is_word (codes "by") text || is_word (codes "and") text || is_word (codes "as") text
 
 -- unsupported keywords
-unfoldable pub is_foreign_keyword : Text → Bool
-is_foreign_keyword text =
+unfoldable pub is_unsupported_keyword : Text → Bool
+is_unsupported_keyword text =
     is_word (codes "or") text || is_word (codes "into") text || is_word (codes "order") text || is_word (codes "limit") text
     || is_word (codes "offset") text || is_word (codes "slimit") text || is_word (codes "soffset") text
 
 -- keywords can't be unquoted names
 abbrev pub is_keyword : Text → Bool
-is_keyword text = is_clause_word text || is_foreign_keyword text
+is_keyword text = is_clause_word text || is_unsupported_keyword text
 
 -- other words of unsupported InfluxQL
-unfoldable pub is_foreign_word : Text → Bool
-is_foreign_word text =
+unfoldable pub is_unsupported_word : Text → Bool
+is_unsupported_word text =
     is_word (codes "show") text || is_word (codes "create") text || is_word (codes "alter") text || is_word (codes "drop") text
     || is_word (codes "delete") text || is_word (codes "explain") text || is_word (codes "grant") text || is_word (codes "revoke") text
     || is_word (codes "kill") text || is_word (codes "set") text || is_word (codes "tz") text || is_word (codes "linear") text
@@ -53,14 +53,14 @@ is_time kinds.QuotedName text = bytes_eq text (codes "time")
 is_time kind text = false
 
 -- unsupported: such a word or operator
-unfoldable pub is_foreign : Kind → Text → Bool
-is_foreign kinds.Word text = is_foreign_word text
-is_foreign kinds.Keyword text = is_foreign_keyword text
-is_foreign kinds.Foreign text = true
-is_foreign kinds.Less text = true
-is_foreign kinds.LessOrEqual text = true
-is_foreign kinds.Greater text = true
-is_foreign kinds.GreaterOrEqual text = true
-is_foreign kinds.Plus text = true
-is_foreign kinds.Minus text = true
-is_foreign kind text = false
+unfoldable pub is_unsupported : Kind → Text → Bool
+is_unsupported kinds.Word text = is_unsupported_word text
+is_unsupported kinds.Keyword text = is_unsupported_keyword text
+is_unsupported kinds.Unsupported text = true
+is_unsupported kinds.Less text = true
+is_unsupported kinds.LessOrEqual text = true
+is_unsupported kinds.Greater text = true
+is_unsupported kinds.GreaterOrEqual text = true
+is_unsupported kinds.Plus text = true
+is_unsupported kinds.Minus text = true
+is_unsupported kind text = false

@@ -1,7 +1,7 @@
 //! Runs of bytes, and strings up to their closing quote.
 ghost use Rattle.std.specs.Prelude.{◌≡◌, ◌<◌, ◌≤◌, IfSome, true, length, slice_index};
 ghost use Rattle.std.specs.Str.{IsCharBoundary};
-ghost use Rattle.ts_core.specs.text.Cursors.{IsPlaceFrom};
+ghost use Rattle.ts_core.specs.text.Cursors.{IsOffsetFrom};
 ghost use Rattle.ts_ql.specs.Lexing.{is_in, end_of_run, is_escape_byte, closing_quote};
 
 use ts_core::after;
@@ -31,7 +31,7 @@ pub(crate) fn is_in(class: Class, byte: u8) -> bool
 pub(crate) fn end_of_run(text: &str, from: usize, class: Class) -> usize
     requires { IsCharBoundary text.now from }
     ensures value { result ≡ end_of_run class text.now from }
-    ensures place { IsPlaceFrom text.now from result }
+    ensures offset { IsOffsetFrom text.now from result }
     ensures past { from < length text.now → is_in class (slice_index text.now from) ≡ true → from < result }
 {
     let bytes = text.as_bytes();

@@ -1,6 +1,6 @@
 //! Parses timestamps in quotes. The syntax is InfluxQL's, the calendar jiff's.
 ghost use Rattle.std.specs.Prelude.{◌≡◌, ◌≤ℤ◌, pos, neg_ℤ, IfSome, unsigned_abs, ◌≤◌, ◌^◌};
-ghost use Rattle.ts_ql.specs.Dates.{digits, midnight, date_of, place_value, fraction, clock_nanos, time_of_day, without_zone, moment_told};
+ghost use Rattle.ts_ql.specs.Dates.{digits, midnight, date_of, place_value, fraction, clock_nanos, time_of_day, without_zone, timestamp_of};
 
 use jiff::civil::{Date, date};
 use ts_core::with_digit;
@@ -125,9 +125,9 @@ fn without_zone(text: &[u8]) -> &[u8]
 }
 
 /// Parses a timestamp; returns its nanoseconds of the Unix epoch, or `None` if it isn't one.
-#[tactic(auto, unfolding(crate::specs::Dates::moment_told))]
-pub(crate) fn moment_told(text: &str) -> Option<i128>
-    ensures { result ≡ moment_told text.now }
+#[tactic(auto, unfolding(crate::specs::Dates::timestamp_of))]
+pub(crate) fn timestamp_of(text: &str) -> Option<i128>
+    ensures { result ≡ timestamp_of text.now }
 {
     let bytes = text.as_bytes();
     if bytes.len() <= 10 {

@@ -7,7 +7,7 @@ ghost use Rattle.ts_ql.specs.Tokens.{lexeme};
 
 use crate::fault::{ParseError, QlFaultKind};
 use crate::literal::{is_word, literal};
-use crate::place::Place;
+use crate::state::State;
 use crate::token::{Kind, Token};
 use ts_core::Fill;
 
@@ -31,11 +31,11 @@ impl Filling {
     }
 
     /// Sets the fill option; returns the next state.
-    fn choose<'a>(&mut self, fill: Fill) -> Result<Place, ParseError<'a>>
+    fn choose<'a>(&mut self, fill: Fill) -> Result<State, ParseError<'a>>
         ensures { GivesWith result self.new (chosen fill self.old) }
     {
         self.fill = fill;
-        Ok(Place::FillClose)
+        Ok(State::FillClose)
     }
 
     /// Sets a number whose first token is at offset `first`; returns the next state. Fails with `OutOfRange` at
@@ -45,45 +45,45 @@ impl Filling {
         first: usize,
         negative: bool,
         token: &Token<'a>,
-    ) -> Result<Place, ParseError<'a>>
+    ) -> Result<State, ParseError<'a>>
         ensures { GivesWith result self.new (with_number first self.old (literal negative token.now.text.now)) }
     {
         match literal(negative, token.text) {
             Some(number) => {
                 self.fill = Fill::Number(number);
-                Ok(Place::FillClose)
+                Ok(State::FillClose)
             }
             None => Err(ParseError::Fault(QlFaultKind::OutOfRange.at(first))),
         }
     }
 
-    /// Consumes the next token in state `place`; returns the next state.
+    /// Consumes the next token in state `state`; returns the next state.
     #[tactic(auto, unfolding(crate::specs::GroupSteps::fill_step))]
     pub(crate) fn take<'a>(
         &mut self,
-        place: Place,
+        state: State,
         token: &Token<'a>,
-    ) -> Result<Place, ParseError<'a>>
-        ensures { GivesWith result self.new (fill_step place (lexeme token.now) self.old) }
+    ) -> Result<State, ParseError<'a>>
+        ensures { GivesWith result self.new (fill_step state (lexeme token.now) self.old) }
     {
-        match (place, token.kind) {
-            (Place::FillOpen, Kind::Open) => Ok(Place::FillOption),
-            (Place::FillOption, Kind::Word) if is_word(token.text, "null") => self.choose(
+        match (state, token.kind) {
+            (State::FillOpen, Kind::Open) => Ok(State::FillOption),
+            (State::FillOption, Kind::Word) if is_word(token.text, "null") => self.choose(
                 Fill::Null,
             ),
-            (Place::FillOption, Kind::Word) if is_word(token.text, "none") => self.choose(
+            (State::FillOption, Kind::Word) if is_word(token.text, "none") => self.choose(
                 Fill::None,
             ),
-            (Place::FillOption, Kind::Word) if is_word(token.text, "previous") => {
+            (State::FillOption, Kind::Word) if is_word(token.text, "previous") => {
                 self.choose(Fill::Previous)
             }
-            (Place::FillOption, Kind::Minus) => {
+            (State::FillOption, Kind::Minus) => {
                 self.first = token.start;
-                Ok(Place::FillMinus)
+                Ok(State::FillMinus)
             }
-            (Place::FillOption, Kind::Integer) => self.take_number(token.start, false, token),
-            (Place::FillMinus, Kind::Integer) => self.take_number(self.first, true, token),
-            (Place::FillClose, Kind::Close) => Ok(Place::AfterFill),
+            (State::FillOption, Kind::Integer) => self.take_number(token.start, false, token),
+            (State::FillMinus, Kind::Integer) => self.take_number(self.first, true, token),
+            (State::FillClose, Kind::Close) => Ok(State::AfterFill),
             _ => Err(ParseError::Fault(token.unexpected())),
         }
     }

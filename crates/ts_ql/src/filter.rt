@@ -6,8 +6,8 @@ ghost use Rattle.ts_ql.specs.WhereSteps.{filtered, empty_filter, after_term, wit
 
 use crate::fault::ParseError;
 use crate::literal::{is_word, text_spelled};
-use crate::place::Place;
 use crate::query::Condition;
+use crate::state::State;
 use crate::token::{Kind, Token};
 use std::alloc::{AllocError, Allocator};
 use std::mem;
@@ -19,19 +19,19 @@ pub(crate) struct Filter<A: Allocator> {
     /// Tag of the current condition.
     pub tag: String<A>,
     /// True if the current condition is `!=` or `<>`.
-    pub differs: bool,
+    pub negated: bool,
     /// Number of open parentheses.
     pub depth: u8,
 }
 
 /// Returns the state after a term inside `depth` parentheses.
-pub(crate) fn after_term(depth: u8) -> Place
+pub(crate) fn after_term(depth: u8) -> State
     ensures { result ≡ after_term depth }
 {
     if depth == 0 {
-        Place::AfterTerm
+        State::AfterTerm
     } else {
-        Place::NestedTerm
+        State::NestedTerm
     }
 }
 
@@ -43,7 +43,7 @@ impl<A: Allocator + Copy> Filter<A> {
         Filter {
             conditions: Vec::new(alloc),
             tag: String::new(alloc),
-            differs: false,
+            negated: false,
             depth: 0,
         }
     }
@@ -54,58 +54,58 @@ impl<A: Allocator + Copy> Filter<A> {
     {
         let tag = mem::replace(&mut self.tag, String::new(alloc));
         self.conditions
-            .push(Condition::new(tag, value, self.differs))?;
+            .push(Condition::new(tag, value, self.negated))?;
         Ok(())
     }
 
     /// Consumes the column that a term begins with; returns the next state.
-    fn take_column<'a>(&mut self, alloc: A, token: &Token<'a>) -> Result<Place, ParseError<'a>>
+    fn take_column<'a>(&mut self, alloc: A, token: &Token<'a>) -> Result<State, ParseError<'a>>
         ensures { GivesWith result (filtered self.new) (term_at (lexeme token.now) (filtered self.old)) }
     {
         if token.is_time() {
-            return Ok(Place::TimeSign);
+            return Ok(State::TimeSign);
         }
         self.tag = text_spelled(alloc, token.text)?;
-        Ok(Place::TagEnd)
+        Ok(State::TagEnd)
     }
 
-    /// Consumes the next token in state `place`; returns the next state.
+    /// Consumes the next token in state `state`; returns the next state.
     #[tactic(auto, unfolding(crate::specs::WhereSteps::where_step))]
     pub(crate) fn take<'a>(
         &mut self,
         alloc: A,
-        place: Place,
+        state: State,
         token: &Token<'a>,
-    ) -> Result<Place, ParseError<'a>>
-        ensures { GivesWith result (filtered self.new) (where_step place (lexeme token.now) (filtered self.old)) }
+    ) -> Result<State, ParseError<'a>>
+        ensures { GivesWith result (filtered self.new) (where_step state (lexeme token.now) (filtered self.old)) }
     {
-        match (place, token.kind) {
-            (Place::Term, Kind::Open) => {
+        match (state, token.kind) {
+            (State::Term, Kind::Open) => {
                 if self.depth >= 32 {
-                    return Err(ParseError::Fault(token.left_out()));
+                    return Err(ParseError::Fault(token.unsupported()));
                 }
                 self.depth += 1;
-                Ok(Place::Term)
+                Ok(State::Term)
             }
-            (Place::Term, Kind::Word | Kind::QuotedName) => self.take_column(alloc, token),
-            (Place::TagEnd, Kind::Cast) => Ok(Place::TagType),
-            (Place::TagType, Kind::Word) if is_word(token.text, "tag") => Ok(Place::TagSign),
-            (Place::TagEnd | Place::TagSign, Kind::Equals) => {
-                self.differs = false;
-                Ok(Place::TagValue)
+            (State::Term, Kind::Word | Kind::QuotedName) => self.take_column(alloc, token),
+            (State::TagEnd, Kind::Cast) => Ok(State::TagType),
+            (State::TagType, Kind::Word) if is_word(token.text, "tag") => Ok(State::TagSign),
+            (State::TagEnd | State::TagSign, Kind::Equals) => {
+                self.negated = false;
+                Ok(State::TagValue)
             }
-            (Place::TagEnd | Place::TagSign, Kind::Differs) => {
-                self.differs = true;
-                Ok(Place::TagValue)
+            (State::TagEnd | State::TagSign, Kind::NotEqual) => {
+                self.negated = true;
+                Ok(State::TagValue)
             }
-            (Place::TagValue, Kind::Literal) => {
+            (State::TagValue, Kind::StringLiteral) => {
                 self.push(alloc, text_spelled(alloc, token.text)?)?;
                 Ok(after_term(self.depth))
             }
-            (Place::AfterTerm | Place::NestedTerm, Kind::Keyword) if is_word(token.text, "and") => {
-                Ok(Place::Term)
+            (State::AfterTerm | State::NestedTerm, Kind::Keyword) if is_word(token.text, "and") => {
+                Ok(State::Term)
             }
-            (Place::NestedTerm, Kind::Close) if self.depth > 0 => {
+            (State::NestedTerm, Kind::Close) if self.depth > 0 => {
                 self.depth -= 1;
                 Ok(after_term(self.depth))
             }

@@ -7,7 +7,7 @@ ghost use Rattle.ts_ql.specs.Tokens.{lexeme};
 
 use crate::fault::{ParseError, QlFaultKind};
 use crate::literal::{is_word, literal, text_spelled};
-use crate::place::Place;
+use crate::state::State;
 use crate::token::{Kind, Token};
 use std::alloc::{AllocError, Allocator};
 use std::collections::BTreeSet;
@@ -100,28 +100,28 @@ impl<A: Allocator + Copy> Groups<A> {
     }
 
     /// Consumes the column that an item begins with; returns the next state. Fails at a second `time`.
-    fn take_column<'a>(&mut self, alloc: A, token: &Token<'a>) -> Result<Place, ParseError<'a>>
+    fn take_column<'a>(&mut self, alloc: A, token: &Token<'a>) -> Result<State, ParseError<'a>>
         ensures { GivesWith result (grouped self.new) (item_at (lexeme token.now) (grouped self.old)) }
     {
         if token.is_time() {
             return match self.buckets {
-                None => Ok(Place::TimeOpen),
+                None => Ok(State::TimeOpen),
                 Some(_) => Err(ParseError::Fault(token.unexpected())),
             };
         }
         let name = text_spelled(alloc, token.text)?;
         self.tags.insert(name)?;
-        Ok(Place::AfterTag)
+        Ok(State::AfterTag)
     }
 
     /// Consumes the interval; returns the next state. Fails with `OutOfRange`.
-    fn take_interval<'a>(&mut self, token: &Token<'a>) -> Result<Place, ParseError<'a>>
+    fn take_interval<'a>(&mut self, token: &Token<'a>) -> Result<State, ParseError<'a>>
         ensures { GivesWith result (grouped self.new) (with_interval (lexeme token.now) (grouped self.old) (literal false token.now.text.now)) }
     {
         if let Some(interval) = literal(false, token.text) {
             if let Some(buckets) = Buckets::new(interval) {
                 self.buckets = Some(buckets);
-                return Ok(Place::IntervalEnd);
+                return Ok(State::IntervalEnd);
             }
         }
         Err(ParseError::Fault(QlFaultKind::OutOfRange.at(token.start)))
@@ -134,7 +134,7 @@ impl<A: Allocator + Copy> Groups<A> {
         first: usize,
         negative: bool,
         token: &Token<'a>,
-    ) -> Result<Place, ParseError<'a>>
+    ) -> Result<State, ParseError<'a>>
         ensures { GivesWith result (grouped self.new) (with_offset first (grouped self.old) (literal negative token.now.text.now)) }
     {
         match literal(negative, token.text) {
@@ -143,38 +143,38 @@ impl<A: Allocator + Copy> Groups<A> {
                     Some(buckets) => Some(buckets.with_offset(offset)),
                     None => None,
                 };
-                Ok(Place::OffsetEnd)
+                Ok(State::OffsetEnd)
             }
             None => Err(ParseError::Fault(QlFaultKind::OutOfRange.at(first))),
         }
     }
 
-    /// Consumes the next token in state `place`; returns the next state.
+    /// Consumes the next token in state `state`; returns the next state.
     #[tactic(auto, unfolding(crate::specs::GroupSteps::group_step))]
     pub(crate) fn take<'a>(
         &mut self,
         alloc: A,
-        place: Place,
+        state: State,
         token: &Token<'a>,
-    ) -> Result<Place, ParseError<'a>>
-        ensures { GivesWith result (grouped self.new) (group_step place (lexeme token.now) (grouped self.old)) }
+    ) -> Result<State, ParseError<'a>>
+        ensures { GivesWith result (grouped self.new) (group_step state (lexeme token.now) (grouped self.old)) }
     {
-        match (place, token.kind) {
-            (Place::GroupBy, Kind::Keyword) if is_word(token.text, "by") => Ok(Place::Item),
-            (Place::Item, Kind::Word | Kind::QuotedName) => self.take_column(alloc, token),
-            (Place::TimeOpen, Kind::Open) => Ok(Place::Interval),
-            (Place::Interval, Kind::Duration) => self.take_interval(token),
-            (Place::IntervalEnd, Kind::Comma) => Ok(Place::Offset),
-            (Place::Offset, Kind::Minus) => {
+        match (state, token.kind) {
+            (State::GroupBy, Kind::Keyword) if is_word(token.text, "by") => Ok(State::Item),
+            (State::Item, Kind::Word | Kind::QuotedName) => self.take_column(alloc, token),
+            (State::TimeOpen, Kind::Open) => Ok(State::Interval),
+            (State::Interval, Kind::Duration) => self.take_interval(token),
+            (State::IntervalEnd, Kind::Comma) => Ok(State::Offset),
+            (State::Offset, Kind::Minus) => {
                 self.first = token.start;
-                Ok(Place::OffsetMinus)
+                Ok(State::OffsetMinus)
             }
-            (Place::Offset, Kind::Duration) => self.take_offset(token.start, false, token),
-            (Place::OffsetMinus, Kind::Duration) => self.take_offset(self.first, true, token),
-            (Place::IntervalEnd | Place::OffsetEnd, Kind::Close) => Ok(Place::AfterItem),
-            (Place::AfterTag, Kind::Cast) => Ok(Place::GroupTagType),
-            (Place::GroupTagType, Kind::Word) if is_word(token.text, "tag") => Ok(Place::AfterItem),
-            (Place::AfterTag | Place::AfterItem, Kind::Comma) => Ok(Place::Item),
+            (State::Offset, Kind::Duration) => self.take_offset(token.start, false, token),
+            (State::OffsetMinus, Kind::Duration) => self.take_offset(self.first, true, token),
+            (State::IntervalEnd | State::OffsetEnd, Kind::Close) => Ok(State::AfterItem),
+            (State::AfterTag, Kind::Cast) => Ok(State::GroupTagType),
+            (State::GroupTagType, Kind::Word) if is_word(token.text, "tag") => Ok(State::AfterItem),
+            (State::AfterTag | State::AfterItem, Kind::Comma) => Ok(State::Item),
             _ => Err(ParseError::Fault(token.unexpected())),
         }
     }

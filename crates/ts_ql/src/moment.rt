@@ -2,14 +2,14 @@
 ghost use Rattle.std.specs.Prelude.{◌≡◌, ◌+◌, ◌≤◌, ◌^◌, false, unsigned_abs};
 ghost use Rattle.ts_ql.specs.QueryFaults.{Gives, GivesWith};
 ghost use Rattle.ts_ql.specs.Literals.{literal};
-ghost use Rattle.ts_ql.specs.MomentSteps.{HasRoomForMore, based, later_by, earlier_by, compared, moment_step, moment_time, no_moment, settled};
+ghost use Rattle.ts_ql.specs.MomentSteps.{HasRoomForMore, based, later_by, earlier_by, compared, moment_step, moment_time, no_moment, narrowed};
 ghost use Rattle.ts_ql.specs.Ranges.{unbounded, from_on, before, bounded};
 ghost use Rattle.ts_ql.specs.Tokens.{lexeme};
 
-use crate::date::moment_told;
+use crate::date::timestamp_of;
 use crate::fault::{ParseError, QlFaultKind};
 use crate::literal::{is_word, literal};
-use crate::place::Place;
+use crate::state::State;
 use crate::token::{Kind, Token};
 use ts_core::Time;
 
@@ -54,21 +54,21 @@ impl Moment {
 
     /// Starts the expression at offset `first` with its first value; returns the next state. Fails with `OutOfRange` at
     /// `first` if there is no value.
-    fn begin<'a>(&mut self, first: usize, value: Option<i128>) -> Result<Place, ParseError<'a>>
+    fn begin<'a>(&mut self, first: usize, value: Option<i128>) -> Result<State, ParseError<'a>>
         ensures { GivesWith result self.new (based first self.old value) }
     {
         match value {
             Some(value) => {
                 self.first = first;
                 self.total = value;
-                Ok(Place::AfterMoment)
+                Ok(State::AfterMoment)
             }
             None => Err(ParseError::Fault(QlFaultKind::OutOfRange.at(first))),
         }
     }
 
     /// Adds a duration; returns the next state. Fails with `OutOfRange` at the token.
-    fn add<'a>(&mut self, token: &Token<'a>) -> Result<Place, ParseError<'a>>
+    fn add<'a>(&mut self, token: &Token<'a>) -> Result<State, ParseError<'a>>
         requires { unsigned_abs self.old.total ≤ 2 ^ 126 + 2 ^ 64 }
         ensures { GivesWith result self.new (later_by (lexeme token.now) self.old (literal false token.now.text.now)) }
     {
@@ -76,11 +76,11 @@ impl Moment {
             return Err(ParseError::Fault(QlFaultKind::OutOfRange.at(token.start)));
         };
         self.total += i128::from(value);
-        Ok(Place::AfterMoment)
+        Ok(State::AfterMoment)
     }
 
     /// Subtracts a duration; returns the next state. Fails with `OutOfRange` at the token.
-    fn subtract<'a>(&mut self, token: &Token<'a>) -> Result<Place, ParseError<'a>>
+    fn subtract<'a>(&mut self, token: &Token<'a>) -> Result<State, ParseError<'a>>
         requires { unsigned_abs self.old.total ≤ 2 ^ 126 + 2 ^ 64 }
         ensures { GivesWith result self.new (earlier_by (lexeme token.now) self.old (literal false token.now.text.now)) }
     {
@@ -88,59 +88,62 @@ impl Moment {
             return Err(ParseError::Fault(QlFaultKind::OutOfRange.at(token.start)));
         };
         self.total -= i128::from(value);
-        Ok(Place::AfterMoment)
+        Ok(State::AfterMoment)
     }
 
     /// Sets the comparison operator; returns the next state.
-    fn compare<'a>(&mut self, comparison: Comparison) -> Result<Place, ParseError<'a>>
+    fn compare<'a>(&mut self, comparison: Comparison) -> Result<State, ParseError<'a>>
         ensures { GivesWith result self.new (compared comparison self.old) }
     {
         self.comparison = comparison;
-        Ok(Place::Moment)
+        Ok(State::Moment)
     }
 
-    /// Consumes the next token in state `place`; returns the next state.
+    /// Consumes the next token in state `state`; returns the next state.
     #[tactic(auto, unfolding(crate::specs::MomentSteps::moment_step))]
     pub(crate) fn take<'a>(
         &mut self,
         now: Time,
-        place: Place,
+        state: State,
         token: &Token<'a>,
-    ) -> Result<Place, ParseError<'a>>
+    ) -> Result<State, ParseError<'a>>
         requires { HasRoomForMore now self.old }
-        ensures { GivesWith result self.new (moment_step now place (lexeme token.now) self.old) }
+        ensures { GivesWith result self.new (moment_step now state (lexeme token.now) self.old) }
     {
         let now = i128::from(now.nanos());
-        match (place, token.kind) {
-            (Place::TimeSign, Kind::Equals) => self.compare(Comparison::Equal),
-            (Place::TimeSign, Kind::Less) => self.compare(Comparison::Less),
-            (Place::TimeSign, Kind::LessOrEqual) => self.compare(Comparison::LessOrEqual),
-            (Place::TimeSign, Kind::Greater) => self.compare(Comparison::Greater),
-            (Place::TimeSign, Kind::GreaterOrEqual) => self.compare(Comparison::GreaterOrEqual),
-            (Place::Moment, Kind::Minus) => {
+        match (state, token.kind) {
+            (State::TimeSign, Kind::Equals) => self.compare(Comparison::Equal),
+            (State::TimeSign, Kind::Less) => self.compare(Comparison::Less),
+            (State::TimeSign, Kind::LessOrEqual) => self.compare(Comparison::LessOrEqual),
+            (State::TimeSign, Kind::Greater) => self.compare(Comparison::Greater),
+            (State::TimeSign, Kind::GreaterOrEqual) => self.compare(Comparison::GreaterOrEqual),
+            (State::Moment, Kind::Minus) => {
                 self.first = token.start;
-                Ok(Place::MomentMinus)
+                Ok(State::MomentMinus)
             }
-            (Place::Moment, Kind::Integer | Kind::Duration) => {
+            (State::Moment, Kind::Integer | Kind::Duration) => {
                 self.begin(token.start, wide(literal(false, token.text)))
             }
-            (Place::Moment, Kind::Literal) => self.begin(token.start, moment_told(token.text)),
-            (Place::Moment, Kind::Word) if is_word(token.text, "now") => {
+            (State::Moment, Kind::StringLiteral) => self.begin(
+                token.start,
+                timestamp_of(token.text),
+            ),
+            (State::Moment, Kind::Word) if is_word(token.text, "now") => {
                 self.first = token.start;
-                Ok(Place::NowOpen)
+                Ok(State::NowOpen)
             }
-            (Place::MomentMinus, Kind::Integer | Kind::Duration) => {
+            (State::MomentMinus, Kind::Integer | Kind::Duration) => {
                 self.begin(self.first, wide(literal(true, token.text)))
             }
-            (Place::NowOpen, Kind::Open) => Ok(Place::NowClose),
-            (Place::NowClose, Kind::Close) => {
+            (State::NowOpen, Kind::Open) => Ok(State::NowClose),
+            (State::NowClose, Kind::Close) => {
                 self.total = now;
-                Ok(Place::AfterMoment)
+                Ok(State::AfterMoment)
             }
-            (Place::AfterMoment, Kind::Plus) => Ok(Place::MomentPlus),
-            (Place::AfterMoment, Kind::Minus) => Ok(Place::MomentLess),
-            (Place::MomentPlus, Kind::Duration) => self.add(token),
-            (Place::MomentLess, Kind::Duration) => self.subtract(token),
+            (State::AfterMoment, Kind::Plus) => Ok(State::MomentPlus),
+            (State::AfterMoment, Kind::Minus) => Ok(State::MomentLess),
+            (State::MomentPlus, Kind::Duration) => self.add(token),
+            (State::MomentLess, Kind::Duration) => self.subtract(token),
             _ => Err(ParseError::Fault(token.unexpected())),
         }
     }
@@ -222,9 +225,9 @@ impl Range {
     }
 
     /// Narrows the range by a complete time expression. Fails with `OutOfRange` if that isn't a valid time.
-    #[tactic(auto, unfolding(crate::specs::MomentSteps::settled))]
-    pub(crate) fn settled<'a>(self, moment: &Moment) -> Result<Range, ParseError<'a>>
-        ensures { Gives (λ r. r) result (settled moment.now self) }
+    #[tactic(auto, unfolding(crate::specs::MomentSteps::narrowed))]
+    pub(crate) fn narrowed<'a>(self, moment: &Moment) -> Result<Range, ParseError<'a>>
+        ensures { Gives (λ r. r) result (narrowed moment.now self) }
     {
         let time = moment.time()?;
         Ok(self.bounded(moment.comparison, time))

@@ -1,7 +1,7 @@
 //! Finds the end of a duration literal.
 ghost use Rattle.std.specs.Prelude.{◌≡◌, ◌+◌, ◌<◌, length, slice_index};
 ghost use Rattle.std.specs.Str.{IsCharBoundary};
-ghost use Rattle.ts_core.specs.text.Cursors.{IsPlaceFrom};
+ghost use Rattle.ts_core.specs.text.Cursors.{IsOffsetFrom};
 ghost use Rattle.ts_ql.specs.Lexing.{duration_end};
 ghost use Rattle.ts_ql.specs.DurationUnits.{unit_len};
 
@@ -22,7 +22,7 @@ fn unit_end(text: &str, at: usize) -> usize
 pub(crate) fn duration_end(text: &str, from: usize) -> usize
     requires { IsCharBoundary text.now from }
     ensures value { result ≡ duration_end text.now from }
-    ensures place { IsPlaceFrom text.now from result }
+    ensures offset { IsOffsetFrom text.now from result }
 {
     let bytes = text.as_bytes();
     let mut last = from;

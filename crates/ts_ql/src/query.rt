@@ -54,7 +54,7 @@ impl<A: Allocator> Projection<A> {
 pub struct Condition<A: Allocator> {
     tag: String<A>,
     value: String<A>,
-    differs: bool,
+    negated: bool,
 }
 
 impl<A: Allocator> Model for Condition<A> {
@@ -63,18 +63,18 @@ impl<A: Allocator> Model for Condition<A> {
 
     ghost Value = { ConditionValue };
 
-    ghost view = { λ c. record { tag = string_bytes c.tag; value = string_bytes c.value; differs = c.differs } };
+    ghost view = { λ c. record { tag = string_bytes c.tag; value = string_bytes c.value; negated = c.negated } };
 }
 
 impl<A: Allocator> Condition<A> {
     /// Creates a condition.
-    pub fn new(tag: String<A>, value: String<A>, differs: bool) -> Condition<A>
-        ensures { result ≡ record { tag = string_bytes tag; value = string_bytes value; differs = differs } }
+    pub fn new(tag: String<A>, value: String<A>, negated: bool) -> Condition<A>
+        ensures { result ≡ record { tag = string_bytes tag; value = string_bytes value; negated = negated } }
     {
         Condition {
             tag,
             value,
-            differs,
+            negated,
         }
     }
 
@@ -93,10 +93,10 @@ impl<A: Allocator> Condition<A> {
     }
 
     /// Returns true if the tag must differ from the value.
-    pub fn differs(&self) -> bool
-        ensures { result ≡ self.now.differs }
+    pub fn negated(&self) -> bool
+        ensures { result ≡ self.now.negated }
     {
-        self.differs
+        self.negated
     }
 }
 

@@ -8,9 +8,9 @@ ghost use Rattle.ts_ql.specs.Tokens.{lexeme};
 
 use crate::fault::{ParseError, QlFaultKind};
 use crate::literal::is_word;
-use crate::place::Place;
 use crate::query::Query;
-use crate::statement::Draft;
+use crate::state::State;
+use crate::statement::StatementBuilder;
 use crate::token::{Kind, Token};
 use std::alloc::Allocator;
 use std::mem;
@@ -19,46 +19,46 @@ use ts_core::Time;
 /// Parser of a text.
 #[derive(Drop)]
 pub(crate) struct Reader<A: Allocator> {
-    pub place: Place,
+    pub state: State,
     /// Number of statements begun.
     pub count: u8,
     /// Offset of the current statement.
     pub start: usize,
-    pub draft: Draft<A>,
+    pub builder: StatementBuilder<A>,
     /// Queries of the statements before it.
     pub queries: Vec<Query<A>, A>,
 }
 
 /// Returns the first state of the clause that the token opens, if it opens one.
 #[tactic(auto, unfolding(crate::specs::Reading::next_clause))]
-fn next_clause(place: Place, token: &Token<'_>) -> Option<Place>
-    ensures { result ≡ next_clause place (lexeme token.now) }
+fn next_clause(state: State, token: &Token<'_>) -> Option<State>
+    ensures { result ≡ next_clause state (lexeme token.now) }
 {
-    match (place, token.kind) {
-        (Place::AfterMeasurement, Kind::Keyword) if is_word(token.text, "where") => Some(
-            Place::Term,
+    match (state, token.kind) {
+        (State::AfterMeasurement, Kind::Keyword) if is_word(token.text, "where") => Some(
+            State::Term,
         ),
-        (Place::AfterMeasurement | Place::AfterTerm, Kind::Keyword)
-            if is_word(token.text, "group") => { Some(Place::GroupBy) }
+        (State::AfterMeasurement | State::AfterTerm, Kind::Keyword)
+            if is_word(token.text, "group") => { Some(State::GroupBy) }
         (
-            Place::AfterMeasurement | Place::AfterTerm | Place::AfterTag | Place::AfterItem,
+            State::AfterMeasurement | State::AfterTerm | State::AfterTag | State::AfterItem,
             Kind::Word,
-        ) if is_word(token.text, "fill") => Some(Place::FillOpen),
+        ) if is_word(token.text, "fill") => Some(State::FillOpen),
         _ => None,
     }
 }
 
 /// Returns true if the token ends a statement in this state.
-fn ends(place: Place, kind: Kind) -> bool
-    ensures { result ≡ (may_end place && is_end kind) }
+fn ends(state: State, kind: Kind) -> bool
+    ensures { result ≡ (may_end state && is_end kind) }
 {
-    match (place, kind) {
+    match (state, kind) {
         (
-            Place::AfterMeasurement
-            | Place::AfterTerm
-            | Place::AfterTag
-            | Place::AfterItem
-            | Place::AfterFill,
+            State::AfterMeasurement
+            | State::AfterTerm
+            | State::AfterTag
+            | State::AfterItem
+            | State::AfterFill,
             Kind::Semicolon | Kind::End,
         ) => true,
         _ => false,
@@ -66,12 +66,12 @@ fn ends(place: Place, kind: Kind) -> bool
 }
 
 /// Returns the state after a statement that this token ends.
-fn after_end(kind: Kind) -> Place
+fn after_end(kind: Kind) -> State
     ensures { result ≡ after_end kind }
 {
     match kind {
-        Kind::Semicolon => Place::Statement,
-        _ => Place::Done,
+        Kind::Semicolon => State::Statement,
+        _ => State::Done,
     }
 }
 
@@ -81,10 +81,10 @@ impl<A: Allocator + Copy> Reader<A> {
         ensures { progress result ≡ start_progress }
     {
         Reader {
-            place: Place::Statement,
+            state: State::Statement,
             count: 0,
             start: 0,
-            draft: Draft::new(alloc),
+            builder: StatementBuilder::new(alloc),
             queries: Vec::new(alloc),
         }
     }
@@ -102,7 +102,7 @@ impl<A: Allocator + Copy> Reader<A> {
                 if self.count >= 16 {
                     return Err(ParseError::Fault(QlFaultKind::TooManyStatements.at(token.start)));
                 }
-                self.place = Place::Function;
+                self.state = State::Function;
                 self.count += 1;
                 self.start = token.start;
                 Ok(())
@@ -111,7 +111,7 @@ impl<A: Allocator + Copy> Reader<A> {
                 if self.count == 0 {
                     return Err(ParseError::Fault(token.unexpected()));
                 }
-                self.place = Place::Done;
+                self.state = State::Done;
                 Ok(())
             }
             _ => Err(ParseError::Fault(token.unexpected())),
@@ -122,30 +122,30 @@ impl<A: Allocator + Copy> Reader<A> {
     fn end<'a>(&mut self, alloc: A, now: Time, kind: Kind) -> Result<(), ParseError<'a>>
         ensures { StepsTo result (progress self.new) (ended now kind (progress self.old)) }
     {
-        let draft = mem::replace(&mut self.draft, Draft::new(alloc));
-        let query = draft.query(alloc, self.start, now)?;
+        let builder = mem::replace(&mut self.builder, StatementBuilder::new(alloc));
+        let query = builder.query(alloc, self.start, now)?;
         self.queries.push(query)?;
-        let place = after_end(kind);
-        self.place = place;
+        let state = after_end(kind);
+        self.state = state;
         Ok(())
     }
 
     /// Consumes the next token.
     #[tactic(auto, unfolding(crate::specs::Reading::step))]
     fn take<'a>(&mut self, alloc: A, now: Time, token: &Token<'a>) -> Result<(), ParseError<'a>>
-        requires { HasRoomForMore now self.old.draft.moment }
+        requires { HasRoomForMore now self.old.builder.moment }
         ensures { StepsTo result (progress self.new) (step now (lexeme token.now) (progress self.old)) }
     {
-        self.place = self.draft.settle(self.place, token.kind)?;
-        if let Place::Statement = self.place {
+        self.state = self.builder.finish_time(self.state, token.kind)?;
+        if let State::Statement = self.state {
             return self.begin(token);
         }
-        if ends(self.place, token.kind) {
+        if ends(self.state, token.kind) {
             return self.end(alloc, now, token.kind);
         }
-        self.place = match next_clause(self.place, token) {
+        self.state = match next_clause(self.state, token) {
             Some(next) => next,
-            None => self.draft.take(alloc, now, self.place, token)?,
+            None => self.builder.take(alloc, now, self.state, token)?,
         };
         Ok(())
     }
@@ -165,7 +165,7 @@ fn read<A: Allocator + Copy>(
     for _turn in 0..text.len() + 1 {
         let token = Token::at(text, at);
         reader.take(alloc, now, &token)?;
-        if let Place::Done = reader.place {
+        if let State::Done = reader.state {
             return Ok(reader.queries);
         }
         at = token.end;

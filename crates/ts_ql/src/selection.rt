@@ -7,8 +7,8 @@ ghost use Rattle.ts_ql.specs.Tokens.{lexeme};
 
 use crate::fault::ParseError;
 use crate::literal::{is_word, text_spelled};
-use crate::place::Place;
 use crate::query::Projection;
+use crate::state::State;
 use crate::token::{Kind, Token};
 use crate::words::{function_called, function_name};
 use std::alloc::{AllocError, Allocator};
@@ -55,35 +55,35 @@ impl<A: Allocator + Copy> Selection<A> {
 
     /// Consumes the field of a function; returns the next state. Fails with `OutOfProfile` if another function has
     /// another field.
-    fn take_field<'a>(&mut self, alloc: A, token: &Token<'a>) -> Result<Place, ParseError<'a>>
+    fn take_field<'a>(&mut self, alloc: A, token: &Token<'a>) -> Result<State, ParseError<'a>>
         ensures { GivesWith result (selected self.new) (with_call_field (lexeme token.now) (selected self.old) (selected self.old).field) }
     {
         let name = text_spelled(alloc, token.text)?;
         match &self.field {
             None => {
                 self.field = Some(name);
-                Ok(Place::FieldEnd)
+                Ok(State::FieldEnd)
             }
-            Some(field) if field.as_str() == name.as_str() => Ok(Place::FieldEnd),
-            Some(_) => Err(ParseError::Fault(token.left_out())),
+            Some(field) if field.as_str() == name.as_str() => Ok(State::FieldEnd),
+            Some(_) => Err(ParseError::Fault(token.unsupported())),
         }
     }
 
     /// Consumes the name of a function; returns the next state. Fails with `OutOfProfile` if it is no supported
     /// function.
     #[tactic(auto, unfolding(crate::specs::SelectSteps::select_step))]
-    fn take_function<'a>(&mut self, token: &Token<'a>) -> Result<Place, ParseError<'a>>
-        ensures { GivesWith result (selected self.new) (select_step Place.Function (lexeme token.now) (selected self.old)) }
+    fn take_function<'a>(&mut self, token: &Token<'a>) -> Result<State, ParseError<'a>>
+        ensures { GivesWith result (selected self.new) (select_step State.Function (lexeme token.now) (selected self.old)) }
     {
         match token.kind {
             Kind::Word => match function_called(token.text) {
                 Some(function) => {
                     self.function = function;
-                    Ok(Place::FunctionOpen)
+                    Ok(State::FunctionOpen)
                 }
-                None => Err(ParseError::Fault(token.left_out())),
+                None => Err(ParseError::Fault(token.unsupported())),
             },
-            Kind::QuotedName => Err(ParseError::Fault(token.left_out())),
+            Kind::QuotedName => Err(ParseError::Fault(token.unsupported())),
             _ => Err(ParseError::Fault(token.unexpected())),
         }
     }
@@ -94,68 +94,68 @@ impl<A: Allocator + Copy> Selection<A> {
         &mut self,
         alloc: A,
         token: &Token<'a>,
-    ) -> Result<Place, ParseError<'a>>
-        ensures { GivesWith result (selected self.new) (select_step Place.AfterColumn (lexeme token.now) (selected self.old)) }
+    ) -> Result<State, ParseError<'a>>
+        ensures { GivesWith result (selected self.new) (select_step State.AfterColumn (lexeme token.now) (selected self.old)) }
     {
         match token.kind {
             Kind::Comma => {
                 self.push_default(alloc)?;
-                Ok(Place::Function)
+                Ok(State::Function)
             }
             Kind::Keyword if is_word(token.text, "from") => {
                 self.push_default(alloc)?;
-                Ok(Place::Measurement)
+                Ok(State::Measurement)
             }
-            Kind::Keyword if is_word(token.text, "as") => Ok(Place::Alias),
+            Kind::Keyword if is_word(token.text, "as") => Ok(State::Alias),
             _ => Err(ParseError::Fault(token.unexpected())),
         }
     }
 
     /// Consumes the measurement; returns the next state.
     #[tactic(auto, unfolding(crate::specs::SelectSteps::select_step))]
-    fn take_measurement<'a>(&mut self, alloc: A, token: &Token<'a>) -> Result<Place, ParseError<'a>>
-        ensures { GivesWith result (selected self.new) (select_step Place.Measurement (lexeme token.now) (selected self.old)) }
+    fn take_measurement<'a>(&mut self, alloc: A, token: &Token<'a>) -> Result<State, ParseError<'a>>
+        ensures { GivesWith result (selected self.new) (select_step State.Measurement (lexeme token.now) (selected self.old)) }
     {
         match token.kind {
             Kind::Word | Kind::QuotedName => {
                 self.measurement = text_spelled(alloc, token.text)?;
-                Ok(Place::AfterMeasurement)
+                Ok(State::AfterMeasurement)
             }
-            Kind::Open => Err(ParseError::Fault(token.left_out())),
+            Kind::Open => Err(ParseError::Fault(token.unsupported())),
             _ => Err(ParseError::Fault(token.unexpected())),
         }
     }
 
-    /// Consumes the next token in state `place`; returns the next state.
+    /// Consumes the next token in state `state`; returns the next state.
     #[tactic(auto, unfolding(crate::specs::SelectSteps::select_step))]
     pub(crate) fn take<'a>(
         &mut self,
         alloc: A,
-        place: Place,
+        state: State,
         token: &Token<'a>,
-    ) -> Result<Place, ParseError<'a>>
-        ensures { GivesWith result (selected self.new) (select_step place (lexeme token.now) (selected self.old)) }
+    ) -> Result<State, ParseError<'a>>
+        ensures { GivesWith result (selected self.new) (select_step state (lexeme token.now) (selected self.old)) }
     {
-        match (place, token.kind) {
-            (Place::Function, _) => self.take_function(token),
-            (Place::FunctionOpen, Kind::Open) => Ok(Place::Field),
-            (Place::Field, Kind::Word | Kind::QuotedName) => self.take_field(alloc, token),
-            (Place::FieldEnd | Place::FieldClose, Kind::Close) => Ok(Place::AfterColumn),
-            (Place::FieldEnd, Kind::Cast) => Ok(Place::FieldType),
-            (Place::FieldType, Kind::Word)
+        match (state, token.kind) {
+            (State::Function, _) => self.take_function(token),
+            (State::FunctionOpen, Kind::Open) => Ok(State::Field),
+            (State::Field, Kind::Word | Kind::QuotedName) => self.take_field(alloc, token),
+            (State::FieldEnd | State::FieldClose, Kind::Close) => Ok(State::AfterColumn),
+            (State::FieldEnd, Kind::Cast) => Ok(State::FieldType),
+            (State::FieldType, Kind::Word)
                 if is_word(token.text, "field") || is_word(token.text, "integer") => {
-                Ok(Place::FieldClose)
+                Ok(State::FieldClose)
             }
-            (Place::AfterColumn, _) => self.take_after_column(alloc, token),
-            (Place::Alias, Kind::Word | Kind::QuotedName) => {
+            (State::AfterColumn, _) => self.take_after_column(alloc, token),
+            (State::Alias, Kind::Word | Kind::QuotedName) => {
                 self.push(text_spelled(alloc, token.text)?)?;
-                Ok(Place::AfterAlias)
+                Ok(State::AfterAlias)
             }
-            (Place::AfterAlias, Kind::Comma) => Ok(Place::Function),
-            (Place::AfterAlias, Kind::Keyword) if is_word(token.text, "from") => Ok(
-                Place::Measurement,
+            (State::AfterAlias, Kind::Comma) => Ok(State::Function),
+            (State::AfterAlias, Kind::Keyword) if is_word(token.text, "from") => Ok(
+                State::Measurement,
             ),
-            (Place::Measurement, _) => self.take_measurement(alloc, token),
+            (State::Measurement, _) => self.take_measurement(alloc, token),
             _ => Err(ParseError::Fault(token.unexpected())),
         }
     }

@@ -1,7 +1,7 @@
 //! Determines the kind of a token and where it ends.
 ghost use Rattle.std.specs.Prelude.{◌≡◌, ◌≢◌, ◌<◌, IsSome, IfSome, true, false, length, slice_index};
 ghost use Rattle.std.specs.Str.{IsCharBoundary};
-ghost use Rattle.ts_core.specs.text.Cursors.{IsPlaceFrom};
+ghost use Rattle.ts_core.specs.text.Cursors.{IsOffsetFrom};
 ghost use Rattle.ts_ql.specs.Lexing.{double, single, operator_at, number_at, quoted_at, shape_at, is_quoted, is_in};
 ghost use Rattle.ts_ql.specs.Shapes.{IsTokenFrom};
 ghost use Rattle.ts_ql.specs.declared.bytes.Class.TheVariants as classes;
@@ -19,8 +19,8 @@ fn double(first: u8, second: u8) -> Option<Kind>
     ensures ascii { IsSome result → (first < 128) × (second < 128) × (0 < second) }
 {
     match (first, second) {
-        (b'=' | b'!', b'~') => Some(Kind::Foreign),
-        (b'!', b'=') | (b'<', b'>') => Some(Kind::Differs),
+        (b'=' | b'!', b'~') => Some(Kind::Unsupported),
+        (b'!', b'=') | (b'<', b'>') => Some(Kind::NotEqual),
         (b'<', b'=') => Some(Kind::LessOrEqual),
         (b'>', b'=') => Some(Kind::GreaterOrEqual),
         (b':', b':') => Some(Kind::Cast),
@@ -45,7 +45,7 @@ fn single(byte: u8) -> Option<Kind>
         b'>' => Some(Kind::Greater),
         b'+' => Some(Kind::Plus),
         b'-' => Some(Kind::Minus),
-        b'*' | b'/' | b'%' | b'.' => Some(Kind::Foreign),
+        b'*' | b'/' | b'%' | b'.' => Some(Kind::Unsupported),
         _ => None,
     }
 }
@@ -100,7 +100,7 @@ fn quoted_at(text: &str, start: usize) -> (Kind, usize)
     let inner = after(text, start);
     match closing_quote(text, inner, quote) {
         None => (Kind::Bad, text.len()),
-        Some(close) if quote == b'\'' => (Kind::Literal, after(text, close)),
+        Some(close) if quote == b'\'' => (Kind::StringLiteral, after(text, close)),
         Some(close) if close == inner => (Kind::Bad, text.len()),
         Some(close) => (Kind::QuotedName, after(text, close)),
     }
@@ -111,7 +111,7 @@ fn quoted_at(text: &str, start: usize) -> (Kind, usize)
 pub(crate) fn shape_at(text: &str, start: usize) -> (Kind, usize)
     requires { IsCharBoundary text.now start }
     ensures value { result ≡ shape_at text.now start }
-    ensures place { IsPlaceFrom text.now start result.1 }
+    ensures offset { IsOffsetFrom text.now start result.1 }
     ensures token { result.0 ≢ Kind.End → IsTokenFrom text.now start result }
 {
     if text.len() == start {

@@ -6,19 +6,19 @@ ghost use Rattle.ts_core.specs.facts.Times.{least_time};
 ghost use Rattle.ts_ql.specs.BucketLimits.{IsLimited};
 ghost use Rattle.ts_ql.specs.QueryFaults.{Gives, GivesWith, option_as_fault};
 ghost use Rattle.ts_ql.specs.MomentSteps.{HasRoomForMore};
-ghost use Rattle.ts_ql.specs.Reading.{settle_step, draft_step};
+ghost use Rattle.ts_ql.specs.Reading.{finish_time_step, builder_step};
 ghost use Rattle.ts_ql.specs.Tokens.{lexeme};
-ghost use Rattle.ts_ql.specs.Statements.{repeats, first_start, buckets_between, span_from, span_fault, query_of, statement_said};
-ghost use Rattle.ts_ql.specs.Drafts.{drafted, empty_draft, meaning};
+ghost use Rattle.ts_ql.specs.Statements.{repeats, first_start, buckets_between, span_from, span_fault, query_of, statement_query};
+ghost use Rattle.ts_ql.specs.Builders.{builder_state, empty_builder, meaning};
 
 use crate::fault::{ParseError, QlFault, QlFaultKind};
 use crate::filling::Filling;
 use crate::filter::{Filter, after_term};
 use crate::groups::{Buckets, Groups};
 use crate::moment::{Moment, Range};
-use crate::place::{Clause, Place};
 use crate::query::{Projection, Query, QueryParts, Span};
 use crate::selection::Selection;
+use crate::state::{Clause, State};
 use crate::token::{Kind, Token};
 use std::alloc::{AllocError, Allocator};
 use std::collections::BTreeSet;
@@ -26,7 +26,7 @@ use ts_core::{Bucket, Time};
 
 /// Builder of a statement.
 #[derive(Drop)]
-pub(crate) struct Draft<A: Allocator> {
+pub(crate) struct StatementBuilder<A: Allocator> {
     pub selection: Selection<A>,
     pub filter: Filter<A>,
     pub moment: Moment,
@@ -124,12 +124,12 @@ fn or_empty<A: Allocator>(alloc: A, text: Option<String<A>>) -> String<A>
     }
 }
 
-impl<A: Allocator + Copy> Draft<A> {
+impl<A: Allocator + Copy> StatementBuilder<A> {
     /// Creates the builder in its initial state.
-    pub(crate) fn new(alloc: A) -> Draft<A>
-        ensures { drafted result ≡ empty_draft }
+    pub(crate) fn new(alloc: A) -> StatementBuilder<A>
+        ensures { builder_state result ≡ empty_builder }
     {
-        Draft {
+        StatementBuilder {
             selection: Selection::new(alloc),
             filter: Filter::new(alloc),
             moment: Moment::new(),
@@ -141,14 +141,14 @@ impl<A: Allocator + Copy> Draft<A> {
 
     /// Finishes the statement, which begins at offset `start`. Fails at `start` with `RepeatedColumn`, `OutOfProfile`
     /// without GROUP BY time, `NoLowerBound`, or an error of the buckets.
-    #[tactic(auto, unfolding(crate::specs::Statements::statement_said))]
+    #[tactic(auto, unfolding(crate::specs::Statements::statement_query))]
     pub(crate) fn query<'a>(
         self,
         alloc: A,
         start: usize,
         now: Time,
     ) -> Result<Query<A>, ParseError<'a>>
-        ensures { Gives (λ q. q) result (statement_said start now (meaning (drafted self))) }
+        ensures { Gives (λ q. q) result (statement_query start now (meaning (builder_state self))) }
     {
         if repeats(alloc, self.selection.columns.as_slice())? {
             return Err(ParseError::Fault(QlFaultKind::RepeatedColumn.at(start)));
@@ -169,8 +169,8 @@ impl<A: Allocator + Copy> Draft<A> {
     /// Creates the query over a time range.
     fn over(self, alloc: A, buckets: Buckets, span: Span) -> Result<Query<A>, AllocError>
         requires columns { repeats self.selection.columns.items ≡ false }
-        requires limits { IsLimited (query_of (meaning (drafted self)) buckets span).query }
-        ensures { IfOk result (λ query. query ≡ query_of (meaning (drafted self)) buckets span) }
+        requires limits { IsLimited (query_of (meaning (builder_state self)) buckets span).query }
+        ensures { IfOk result (λ query. query ≡ query_of (meaning (builder_state self)) buckets span) }
     {
         let mut selection = self.selection;
         let filter = self.filter;
@@ -194,39 +194,43 @@ impl<A: Allocator + Copy> Draft<A> {
 
     /// Finishes a time comparison if the token doesn't continue it; returns the next state. Fails with `OutOfRange` if
     /// the time expression isn't a valid time.
-    #[tactic(auto, unfolding(crate::specs::Reading::settle_step))]
-    pub(crate) fn settle<'a>(&mut self, place: Place, kind: Kind) -> Result<Place, ParseError<'a>>
-        ensures value { GivesWith result (drafted self.new) (settle_step place kind (drafted self.old)) }
+    #[tactic(auto, unfolding(crate::specs::Reading::finish_time_step))]
+    pub(crate) fn finish_time<'a>(
+        &mut self,
+        state: State,
+        kind: Kind,
+    ) -> Result<State, ParseError<'a>>
+        ensures value { GivesWith result (builder_state self.new) (finish_time_step state kind (builder_state self.old)) }
         ensures moment { self.new.moment ≡ self.old.moment }
     {
-        match (place, kind) {
-            (Place::AfterMoment, Kind::Plus | Kind::Minus) => Ok(place),
-            (Place::AfterMoment, _) => {
-                self.range = self.range.settled(&self.moment)?;
+        match (state, kind) {
+            (State::AfterMoment, Kind::Plus | Kind::Minus) => Ok(state),
+            (State::AfterMoment, _) => {
+                self.range = self.range.narrowed(&self.moment)?;
                 Ok(after_term(self.filter.depth))
             }
-            _ => Ok(place),
+            _ => Ok(state),
         }
     }
 
     /// Passes the next token to the builder of its clause; returns the next state.
-    #[tactic(auto, unfolding(crate::specs::Reading::draft_step))]
+    #[tactic(auto, unfolding(crate::specs::Reading::builder_step))]
     pub(crate) fn take<'a>(
         &mut self,
         alloc: A,
         now: Time,
-        place: Place,
+        state: State,
         token: &Token<'a>,
-    ) -> Result<Place, ParseError<'a>>
+    ) -> Result<State, ParseError<'a>>
         requires { HasRoomForMore now self.old.moment }
-        ensures { GivesWith result (drafted self.new) (draft_step now place (lexeme token.now) (drafted self.old)) }
+        ensures { GivesWith result (builder_state self.new) (builder_step now state (lexeme token.now) (builder_state self.old)) }
     {
-        match place.clause() {
-            Clause::Select => self.selection.take(alloc, place, token),
-            Clause::Where => self.filter.take(alloc, place, token),
-            Clause::Moment => self.moment.take(now, place, token),
-            Clause::Group => self.groups.take(alloc, place, token),
-            Clause::Fill => self.filling.take(place, token),
+        match state.clause() {
+            Clause::Select => self.selection.take(alloc, state, token),
+            Clause::Where => self.filter.take(alloc, state, token),
+            Clause::Moment => self.moment.take(now, state, token),
+            Clause::Group => self.groups.take(alloc, state, token),
+            Clause::Fill => self.filling.take(state, token),
             Clause::None => Err(ParseError::Fault(token.unexpected())),
         }
     }

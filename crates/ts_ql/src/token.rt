@@ -3,14 +3,14 @@ ghost use Rattle.std.specs.Prelude.{◌≡◌, ◌≢◌, ◌<◌};
 ghost use Rattle.std.specs.Str.{IsCharBoundary};
 ghost use Rattle.ts_ql.specs.Lexing.{token_at};
 ghost use Rattle.ts_ql.specs.Tokens.{lexeme};
-ghost use Rattle.ts_ql.specs.Words.{is_time, is_foreign};
-ghost use Rattle.ts_ql.specs.QueryFaults.{as_fault, left_out, unexpected};
+ghost use Rattle.ts_ql.specs.Words.{is_time, is_unsupported};
+ghost use Rattle.ts_ql.specs.QueryFaults.{as_fault, unsupported, unexpected};
 
 use crate::bytes::{Class, end_of_run};
 use crate::fault::{QlFault, QlFaultKind};
 use crate::literal::is_word;
 use crate::shape::shape_at;
-use crate::words::{is_foreign_keyword, is_foreign_word, is_keyword};
+use crate::words::{is_keyword, is_unsupported_keyword, is_unsupported_word};
 
 /// Kind of a token.
 #[derive(Clone, Copy, Debug, PartialEq, Eq)]
@@ -22,7 +22,7 @@ pub(crate) enum Kind {
     /// Name in double quotes.
     QuotedName,
     /// String in single quotes.
-    Literal,
+    StringLiteral,
     Integer,
     Duration,
     Comma,
@@ -33,7 +33,7 @@ pub(crate) enum Kind {
     Cast,
     Equals,
     /// `!=` or `<>`
-    Differs,
+    NotEqual,
     Less,
     LessOrEqual,
     Greater,
@@ -41,7 +41,7 @@ pub(crate) enum Kind {
     Plus,
     Minus,
     /// Operator of unsupported InfluxQL.
-    Foreign,
+    Unsupported,
     /// Bytes that aren't a token.
     Bad,
     /// End of the text.
@@ -73,7 +73,7 @@ impl<'a> Token<'a> {
         let (kind, end) = shape_at(text, start);
         let raw = &text[start..end];
         let text = match kind {
-            Kind::QuotedName | Kind::Literal => &text[start + 1..end - 1],
+            Kind::QuotedName | Kind::StringLiteral => &text[start + 1..end - 1],
             _ => raw,
         };
         let kind = match kind {
@@ -102,14 +102,14 @@ impl<'a> Token<'a> {
     }
 
     /// Returns true if the token belongs to unsupported InfluxQL. If unexpected, it is `OutOfProfile`.
-    #[tactic(auto, unfolding(crate::specs::Words::is_foreign))]
-    fn is_foreign(&self) -> bool
-        ensures { result ≡ is_foreign self.now.kind self.now.text.now }
+    #[tactic(auto, unfolding(crate::specs::Words::is_unsupported))]
+    fn is_unsupported(&self) -> bool
+        ensures { result ≡ is_unsupported self.now.kind self.now.text.now }
     {
         match self.kind {
-            Kind::Word => is_foreign_word(self.text),
-            Kind::Keyword => is_foreign_keyword(self.text),
-            Kind::Foreign
+            Kind::Word => is_unsupported_word(self.text),
+            Kind::Keyword => is_unsupported_keyword(self.text),
+            Kind::Unsupported
             | Kind::Less
             | Kind::LessOrEqual
             | Kind::Greater
@@ -121,8 +121,8 @@ impl<'a> Token<'a> {
     }
 
     /// Returns `OutOfProfile` at this token.
-    pub(crate) fn left_out(&self) -> QlFault<'a>
-        ensures { as_fault result ≡ left_out (lexeme self.now) }
+    pub(crate) fn unsupported(&self) -> QlFault<'a>
+        ensures { as_fault result ≡ unsupported (lexeme self.now) }
     {
         QlFaultKind::OutOfProfile(self.raw).at(self.start)
     }
@@ -131,8 +131,8 @@ impl<'a> Token<'a> {
     pub(crate) fn unexpected(&self) -> QlFault<'a>
         ensures { as_fault result ≡ unexpected (lexeme self.now) }
     {
-        if self.is_foreign() {
-            self.left_out()
+        if self.is_unsupported() {
+            self.unsupported()
         } else {
             QlFaultKind::Syntax.at(self.start)
         }

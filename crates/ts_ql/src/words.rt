@@ -1,7 +1,7 @@
 //! Keywords, function names and unsupported words, in any case.
 ghost use Rattle.std.specs.Prelude.{◌≡◌};
 ghost use Rattle.ts_ql.specs.Selects.{function_name};
-ghost use Rattle.ts_ql.specs.Words.{is_clause_word, is_foreign_keyword, is_keyword, is_foreign_word, function_called};
+ghost use Rattle.ts_ql.specs.Words.{is_clause_word, is_unsupported_keyword, is_keyword, is_unsupported_word, function_called};
 
 use crate::literal::is_word;
 use ts_core::Function;
@@ -20,9 +20,9 @@ fn is_clause_word(text: &str) -> bool
 }
 
 /// Returns true if the text is a keyword of unsupported InfluxQL.
-#[tactic(auto, unfolding(crate::specs::Words::is_foreign_keyword))]
-pub(crate) fn is_foreign_keyword(text: &str) -> bool
-    ensures { result ≡ is_foreign_keyword text.now }
+#[tactic(auto, unfolding(crate::specs::Words::is_unsupported_keyword))]
+pub(crate) fn is_unsupported_keyword(text: &str) -> bool
+    ensures { result ≡ is_unsupported_keyword text.now }
 {
     is_word(text, "or")
         || is_word(text, "into")
@@ -37,13 +37,13 @@ pub(crate) fn is_foreign_keyword(text: &str) -> bool
 pub(crate) fn is_keyword(text: &str) -> bool
     ensures { result ≡ is_keyword text.now }
 {
-    is_clause_word(text) || is_foreign_keyword(text)
+    is_clause_word(text) || is_unsupported_keyword(text)
 }
 
 /// Returns true if the text, which is no keyword, is another word of unsupported InfluxQL.
-#[tactic(auto, unfolding(crate::specs::Words::is_foreign_word))]
-pub(crate) fn is_foreign_word(text: &str) -> bool
-    ensures { result ≡ is_foreign_word text.now }
+#[tactic(auto, unfolding(crate::specs::Words::is_unsupported_word))]
+pub(crate) fn is_unsupported_word(text: &str) -> bool
+    ensures { result ≡ is_unsupported_word text.now }
 {
     is_word(text, "show")
         || is_word(text, "create")

@@ -11,7 +11,7 @@ use Rattle.ts_core.specs.plans.Pieces.{Piece, IsValid}
 use Rattle.ts_core.specs.settings.Settings.{Settings}
 use Rattle.ts_core.specs.store.StoreData.{StoreData, state_of, OfEachHistory, ShowsEach}
 use Rattle.ts_core.specs.store.StoreStates.{StandsFor}
-use Rattle.ts_core.specs.store.Views.{seen_of}
+use Rattle.ts_core.specs.store.Views.{view_state_of}
 use Rattle.ts_check.specs.CertificateTexts.{certificate_text, IsFirstBadLine}
 use Rattle.ts_check.specs.CheckTexts.{certificate_fault_text, check_fault_text}
 use Rattle.ts_check.specs.declared.certificate_fault.CertificateFault.{CertificateFault}
@@ -34,7 +34,7 @@ use Rattle.ts_reply.specs.Explaining.{IsExplained}
 use Rattle.ts_reply.specs.Outcomes.{Outcome, Certificate, Fault, rows_outcome, rows_over}
 
 pub rows_shown : (k : StoreData) (s : Select) (fill : Fill) (plan : Plan) (table : Answered) (r : FilledAnswer)
-    → ShowsEach k → plan.select ≡ s → fill ≡ s.fill → IsAnswer (seen_of (state_of k)) plan table → r ≡ filled_answer fill table
+    → ShowsEach k → plan.select ≡ s → fill ≡ s.fill → IsAnswer (view_state_of (state_of k)) plan table → r ≡ filled_answer fill table
     → OfEachHistory k (λ opening h. rows_outcome r ≡ rows_over (latest_of h) s)
 rows_shown k s fill plan table r shows e f a is opening h stands =
     let select : table.select ≡ s = a.select ∙ e in

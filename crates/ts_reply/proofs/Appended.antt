@@ -11,7 +11,7 @@ use Rattle.serde_json.specs.Written.{comma_if, compact_text, items_text}
 use Rattle.ts_core.specs.facts.Facts.{Text}
 use Rattle.ts_core.specs.queries.Fills.{FilledGroup}
 use Rattle.ts_ql.specs.Selects.{Select}
-use Rattle.ts_reply.specs.Appending.{AppendsData, AppendsItems, IsArray}
+use Rattle.ts_reply.specs.AppendedData.{AppendsData, AppendsItems, IsArray}
 use Rattle.ts_reply.specs.declared.epoch.Epoch.{Epoch}
 use Rattle.ts_reply.specs.Outcomes.{Outcome, Rows}
 use Rattle.ts_reply.specs.Replies.{AreEach, IsSeriesData, IsResultData, AreResults, TellsOutcomes, results_data, result_of}

@@ -6,7 +6,7 @@ use Rattle.serde_json.specs.Written.{compact_text, items_text}
 use Rattle.ts_core.specs.facts.Facts.{Text}
 use Rattle.ts_core.specs.queries.Fills.{FilledRow}
 use Rattle.ts_core.specs.declared.queries.value.Value.{Value}
-use Rattle.ts_reply.specs.Appending.{AppendsData}
+use Rattle.ts_reply.specs.AppendedData.{AppendsData}
 use Rattle.ts_reply.specs.declared.epoch.Epoch.{Epoch}
 use Rattle.ts_reply.specs.Replies.{value_data, IsTimeData, IsRowData}
 use Rattle.ts_reply.proofs.Appended.{bracket_regrouped}

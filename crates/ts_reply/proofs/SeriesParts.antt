@@ -7,7 +7,7 @@ use Rattle.serde_json.specs.Written.{compact_text}
 use Rattle.ts_core.specs.facts.Facts.{Text}
 use Rattle.ts_core.specs.queries.Fills.{FilledGroup}
 use Rattle.ts_ql.specs.Selects.{Select}
-use Rattle.ts_reply.specs.Appending.{AppendsData, IsArray}
+use Rattle.ts_reply.specs.AppendedData.{AppendsData, IsArray}
 use Rattle.ts_reply.specs.declared.epoch.Epoch.{Epoch}
 use Rattle.ts_reply.specs.Replies.{AreEach, columns_data, series_by, series_data, IsRowData, IsSeriesData}
 use Rattle.ts_reply.specs.SeriesTexts.{series_head, grouped_tags_text}

@@ -3,7 +3,7 @@ use Rattle.std.proofs.Common.{◌≡◌, ℤ, Bool, true, false, ◌++◌, subst
 use Rattle.json.specs.Print.{quoted}
 use Rattle.serde_json.specs.Data.{Data, string}
 use Rattle.ts_core.specs.facts.Facts.{Text}
-use Rattle.ts_reply.specs.Appending.{AppendsData}
+use Rattle.ts_reply.specs.AppendedData.{AppendsData}
 use Rattle.ts_reply.specs.Replies.{IsTextOrCount}
 use Rattle.ts_reply.specs.TimeTexts.{IsTimeText}
 

@@ -2,10 +2,10 @@
 pub mod TimeTexts
 pub mod Epochs
 pub mod Outcomes
-pub mod Told
+pub mod OutcomeViews
 pub mod Replies
 pub mod Answering
 pub mod Explaining
 -- used only by models and proofs of the code
 pub mod SeriesTexts
-pub mod Appending
+pub mod AppendedData

@@ -5,7 +5,7 @@ ghost use Rattle.ts_core.specs.plans.Pieces.{IsValid};
 ghost use Rattle.ts_core.specs.store.StoreData.{OfEachHistory, ShowsEach};
 ghost use Rattle.ts_reply.specs.Answering.{IsPlannedOutcome, IsChecked, IsCertified, IsOutcome, AreOutcomes, is_of_several, IsReplyTo, IsReply};
 ghost use Rattle.ts_reply.specs.Outcomes.{rows_outcome, rows_over};
-ghost use Rattle.ts_reply.specs.Told.{outcome_view, handed_in};
+ghost use Rattle.ts_reply.specs.OutcomeViews.{outcome_view, handed_in};
 
 use crate::epoch::Epoch;
 use crate::faults::{

@@ -3,7 +3,7 @@ ghost use Rattle.std.specs.Prelude.{map, IfOk, string_bytes};
 ghost use Rattle.ts_core.specs.store.StoreData.{OfEachHistory};
 ghost use Rattle.ts_reply.specs.Answering.{AreOutcomes};
 ghost use Rattle.ts_reply.specs.Explaining.{IsExplained, IsExplanation};
-ghost use Rattle.ts_reply.specs.Told.{outcome_view};
+ghost use Rattle.ts_reply.specs.OutcomeViews.{outcome_view};
 
 use crate::answering::Reply;
 use crate::epoch::Epoch;

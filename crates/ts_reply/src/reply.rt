@@ -1,14 +1,14 @@
 //! Writes replies. Statements without rows go through JSON values; series and rows are written as text directly.
 ghost use Rattle.std.specs.Prelude.{◌≡◌, ◌+◌, ◌<◌, ◌^◌, ◌∷◌, ◌++◌, true, false, length, map, nat_lt, IfOk, OnOk, string_bytes};
 ghost use Rattle.serde_json.specs.Written.{comma_if};
-ghost use Rattle.ts_reply.specs.Appending.{AppendsData, AppendsItems, IsArray};
+ghost use Rattle.ts_reply.specs.AppendedData.{AppendsData, AppendsItems, IsArray};
 ghost use Rattle.ts_reply.specs.Replies.{AreEach, IsSeriesData, IsResultData, AreResults, TellsOutcomes};
-ghost use Rattle.ts_reply.specs.Told.{outcome_view};
+ghost use Rattle.ts_reply.specs.OutcomeViews.{outcome_view};
 ghost use Rattle.ts_reply.specs.Outcomes.{rows_outcome};
 ghost use Rattle.ts_reply.specs.SeriesTexts.{series_head};
 
 use crate::epoch::Epoch;
-use crate::results::{certificate_told, fault_told, nothing_told};
+use crate::results::{certificate_result, empty_result, fault_result};
 use crate::row_times::Times;
 use crate::series::{push_group, series_head};
 use crate::text::push_value;
@@ -77,7 +77,7 @@ fn push_rows<A: Allocator>(
 {
     let mut groups = rows.groups();
     match groups.next() {
-        None => push_value(alloc, text, &nothing_told(alloc, number)?),
+        None => push_value(alloc, text, &empty_result(alloc, number)?),
         Some(first) => {
             text.push_str("{\"series\":")?;
             push_series(alloc, text, epoch, rows.query(), first, groups)?;
@@ -101,11 +101,11 @@ fn push_result<A: Allocator>(
     match outcome {
         Outcome::Rows(rows) => push_rows(alloc, text, epoch, rows, number),
         Outcome::Certificate(certificate) => {
-            let value = certificate_told(alloc, certificate.as_str(), number)?;
+            let value = certificate_result(alloc, certificate.as_str(), number)?;
             push_value(alloc, text, &value)
         }
         Outcome::Fault(fault) => {
-            let value = fault_told(alloc, fault.as_str(), number)?;
+            let value = fault_result(alloc, fault.as_str(), number)?;
             push_value(alloc, text, &value)
         }
     }

@@ -9,21 +9,21 @@ use serde_json::{Value, json};
 use std::alloc::{AllocError, Global};
 
 /// Creates the result of a statement without series.
-pub(crate) fn nothing_told(alloc: Global, number: usize) -> Result<Value, AllocError>
+pub(crate) fn empty_result(alloc: Global, number: usize) -> Result<Value, AllocError>
     ensures { IfOk result (λ v. view v ≡ object (statement_id number)) }
 {
     json!(in alloc; {"statement_id": number})
 }
 
 /// Creates the result of a statement with an error.
-pub(crate) fn fault_told(alloc: Global, fault: &str, number: usize) -> Result<Value, AllocError>
+pub(crate) fn fault_result(alloc: Global, fault: &str, number: usize) -> Result<Value, AllocError>
     ensures { IfOk result (λ v. view v ≡ result_of (codes "error") (string fault.now) number) }
 {
     json!(in alloc; {"error": fault, "statement_id": number})
 }
 
 /// Creates the result of a statement that is explained by a certificate.
-pub(crate) fn certificate_told(
+pub(crate) fn certificate_result(
     alloc: Global,
     text: &str,
     number: usize,

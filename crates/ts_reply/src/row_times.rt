@@ -1,6 +1,6 @@
 //! Writes the times of rows as JSON. Caches the text of the last one, as all groups of an answer have the same times.
 ghost use Rattle.std.specs.Prelude.{◌≡◌, OnOk, string_bytes};
-ghost use Rattle.ts_reply.specs.Appending.{AppendsData};
+ghost use Rattle.ts_reply.specs.AppendedData.{AppendsData};
 ghost use Rattle.ts_reply.specs.Replies.{IsTimeData};
 
 use crate::epoch::Epoch;
@@ -20,7 +20,7 @@ pub(crate) struct Times {
 impl Model for Times {
     ghost use Rattle.std.specs.Prelude.{[], IfSome, string_bytes};
     ghost use Rattle.ts_reply.specs.declared.epoch.Epoch.{Epoch as EpochValue};
-    ghost use Rattle.ts_reply.specs.Appending.{AppendsData};
+    ghost use Rattle.ts_reply.specs.AppendedData.{AppendsData};
     ghost use Rattle.ts_reply.specs.Replies.{IsTimeData};
 
     ghost Value = { EpochValue };

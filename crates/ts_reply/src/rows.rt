@@ -2,7 +2,7 @@
 ghost use Rattle.std.specs.Prelude.{◌≡◌, ◌++◌, true, map, OnOk, string_bytes};
 ghost use Rattle.serde_json.specs.View.{items_of};
 ghost use Rattle.serde_json.specs.Written.{items_text};
-ghost use Rattle.ts_reply.specs.Appending.{AppendsData, AppendsItems, IsArray};
+ghost use Rattle.ts_reply.specs.AppendedData.{AppendsData, AppendsItems, IsArray};
 ghost use Rattle.ts_reply.specs.Replies.{value_data, AreEach, IsRowData};
 
 use crate::row_times::Times;

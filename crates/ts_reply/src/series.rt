@@ -5,7 +5,7 @@ ghost use Rattle.serde_json.specs.View.{view, members_view};
 ghost use Rattle.serde_json.specs.Written.{compact_text};
 ghost use Rattle.ts_exec.specs.Lent.{lent};
 ghost use Rattle.ts_ql.specs.Selects.{texts};
-ghost use Rattle.ts_reply.specs.Appending.{AppendsData};
+ghost use Rattle.ts_reply.specs.AppendedData.{AppendsData};
 ghost use Rattle.ts_reply.specs.Replies.{column_data, tags_among, IsSeriesData};
 ghost use Rattle.ts_reply.specs.SeriesTexts.{series_head, grouped_tags_text};
 

@@ -1,7 +1,7 @@
 //! Writes values and times as JSON.
 ghost use Rattle.std.specs.Prelude.{◌≡◌, ◌++◌, true, false, IfOk, OnOk, MatchOption, string_bytes};
 ghost use Rattle.serde_json.specs.Written.{compact_text};
-ghost use Rattle.ts_reply.specs.Appending.{AppendsData};
+ghost use Rattle.ts_reply.specs.AppendedData.{AppendsData};
 ghost use Rattle.ts_reply.specs.Replies.{integer_data, ratio_text, value_data, is_valid_time, IsTextOrCount, IsTimeData};
 
 use crate::clock::time_text;

@@ -9,7 +9,7 @@ use Rattle.ts_core.specs.plans.Pieces.{Piece}
 use Rattle.ts_core.specs.queries.Queries.{Query, matches}
 use Rattle.ts_core.specs.settings.Settings.{Settings}
 use Rattle.ts_core.specs.store.StoreData.{StoreData, state_of, OfEachHistory, ShowsEach}
-use Rattle.ts_core.specs.store.Views.{seen_of}
+use Rattle.ts_core.specs.store.Views.{view_state_of}
 use Rattle.ts_core.specs.text.FaultTexts.{memory_text}
 use Rattle.ts_check.specs.Checks.{Plan}
 use Rattle.ts_exec.specs.Executions.{IsPointCount}
@@ -76,7 +76,7 @@ of_history k P shows p = λ opening h stands.
 
 -- a valid plan counts the facts that match, of all ever accepted
 pub count_shown : (k : StoreData) (s : Select) (plan : Plan) (n : ℕ)
-    → ShowsEach k → plan.select ≡ s → IsPointCount (seen_of (state_of k)) plan n
+    → ShowsEach k → plan.select ≡ s → IsPointCount (view_state_of (state_of k)) plan n
     → OfEachHistory k (λ opening h. n ≡ length (filter (matches s.query) (latest_of h)))
 count_shown k s plan n shows e is opening h stands =
     is.answer opening h (shows opening h stands) ∙ ap (λ (x : Select). length (filter (matches x.query) (latest_of h))) e

@@ -12,7 +12,7 @@ pub mod NumberLemmas
 -- Counted: the output of a count
 pub mod CountLemmas
 pub mod CountAnswers
--- ScriptLines, HeldLine, LineReading: how lines are cut
+-- ScriptLines, ReaderState, LineReading: how lines are cut
 pub mod LineScan
 -- ScriptCertificates, MarksTexts: texts
 pub mod CertificateTextLemmas

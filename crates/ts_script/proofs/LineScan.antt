@@ -4,9 +4,9 @@ use Rattle.std.proofs.lemmas.Bool.Decides.{nat_tests}
 use Rattle.std.specs.Io.KnownBytes.{Consumes, prepend_known, Keeps, IsAtEnd}
 use Rattle.ts_core.specs.io.Devices.{Input}
 use Rattle.ts_script.specs.ScriptLines.{onto_first, lines_of, script_line_limit}
-use Rattle.ts_script.specs.HeldLine.{HeldLine}
+use Rattle.ts_script.specs.ReaderState.{ReaderState}
 use Rattle.memchr.specs.Find.{Nowhere, Passes, is_byte}
-use Rattle.ts_script.specs.LineReading.{first_line, after_line, has_lf, IsLineEnd, LineIs, to_come, NextOf, next_of, last_of}
+use Rattle.ts_script.specs.LineReading.{first_line, after_line, has_lf, IsLineEnd, LineIs, to_come, NextOf, next_of, result_at_end}
 use Rattle.ts_script.specs.declared.line_reader.Next.{Next}
 use Rattle.ts_script.specs.declared.line_reader.Next.TheVariants.{Line, End}
 
@@ -147,11 +147,11 @@ pub next_is_some : (long : Bool) → next_of long ≡ End → ⊥
 next_is_some true e = cc
 next_is_some false e = cc
 
-last_of-cons : (b : ℕ) (line : List ℕ) → last_of (b ∷ line) false ≡ Line
-last_of-cons b line = grind (arith, nat_tests)
+result_at_end-cons : (b : ℕ) (line : List ℕ) → result_at_end (b ∷ line) false ≡ Line
+result_at_end-cons b line = grind (arith, nat_tests)
 
 -- the input has ended
-pub last_next : (all now : Option (List ℕ)) (bytes line : List ℕ) (long : Bool) → SoFar all now bytes line long → IsAtEnd now → IfSome all (λ whole. NextOf whole (last_of line long) line now)
+pub last_next : (all now : Option (List ℕ)) (bytes line : List ℕ) (long : Bool) → SoFar all now bytes line long → IsAtEnd now → IfSome all (λ whole. NextOf whole (result_at_end line long) line now)
 last_next None now bytes line long so end = tt
 last_next (Some xs) None bytes line long so end = absurd so.before
 last_next (Some xs) (Some left) bytes line true so end =
@@ -164,19 +164,19 @@ last_next (Some xs) (Some left) bytes [] false so end =
 last_next (Some xs) (Some left) bytes (b ∷ line) false so end =
     let e : xs ≡ bytes = so.before ∙ ap (λ l. bytes ++ l) end ∙ append-nil bytes in
     let some : xs ≢ [] = λ n. let k = so.kept.0 in cc in
-    rw (last_of-cons b line) (told xs (b ∷ line) bytes false _ some (sym (ap first_line e ∙ first-whole bytes so.no_lf)) so.kept (ap Some (end ∙ sym (ap after_line e ∙ after-whole bytes so.no_lf))))
+    rw (result_at_end-cons b line) (told xs (b ∷ line) bytes false _ some (sym (ap first_line e ∙ first-whole bytes so.no_lf)) so.kept (ap Some (end ∙ sym (ap after_line e ∙ after-whole bytes so.no_lf))))
 
 -- ---- the bytes that were used of the read buffer
 
 -- ---- the turns of the loop, where start is the reader with its line forgotten, and now is the reader at the loop's head
 
-abbrev pub Kept : HeldLine → HeldLine → Type 0
+abbrev pub Kept : ReaderState → ReaderState → Type 0
 Kept now new = (before : List ℕ) → LineIs before now.line now.long → LineIs (before ++ first_line now.ahead.buffered) new.line new.long
 
-abbrev pub Told : HeldLine → Input → Next → HeldLine → Input → Type 0
+abbrev pub Told : ReaderState → Input → Next → ReaderState → Input → Type 0
 Told begun input next new input' = IfSome (to_come begun input) (λ whole. NextOf whole next new.line (to_come new input'))
 
-pub found_told : (begun start now new : HeldLine) (input input' : Input) (next : Next) (bytes : List ℕ) → start.ahead.buffered ≡ begun.ahead.buffered → SoFar (to_come start input) (to_come now input') bytes now.line now.long
+pub found_told : (begun start now new : ReaderState) (input input' : Input) (next : Next) (bytes : List ℕ) → start.ahead.buffered ≡ begun.ahead.buffered → SoFar (to_come start input) (to_come now input') bytes now.line now.long
     → has_lf now.ahead.buffered ≡ true → Kept now new → new.ahead.buffered ≡ after_line now.ahead.buffered → next ≡ next_of new.long → Told begun input next new input'
 found_told begun start now new input input' next bytes same so lf kept left is =
     let r = found_next (to_come start input) now.ahead.buffered input'.remaining bytes now.line new.line now.long new.long so lf (kept bytes so.kept) in
@@ -184,14 +184,14 @@ found_told begun start now new input input' next bytes same so lf kept left is =
     (subst (λ (n : Next). IfSome (to_come start input) (λ whole. NextOf whole n new.line (to_come new input'))) (sym is)
     (subst (λ (l : List ℕ). IfSome (to_come start input) (λ whole. NextOf whole (next_of new.long) new.line (prepend_known l input'.remaining))) (sym left) r))
 
-pub last_told : (begun start new : HeldLine) (input input' : Input) (next : Next) (bytes : List ℕ) → start.ahead.buffered ≡ begun.ahead.buffered → SoFar (to_come start input) (to_come new input') bytes new.line new.long
-    → IsAtEnd (to_come new input') → next ≡ last_of new.line new.long → Told begun input next new input'
+pub last_told : (begun start new : ReaderState) (input input' : Input) (next : Next) (bytes : List ℕ) → start.ahead.buffered ≡ begun.ahead.buffered → SoFar (to_come start input) (to_come new input') bytes new.line new.long
+    → IsAtEnd (to_come new input') → next ≡ result_at_end new.line new.long → Told begun input next new input'
 last_told begun start new input input' next bytes same so end is =
     let r = last_next (to_come start input) (to_come new input') bytes new.line new.long so end in
     subst (λ (l : List ℕ). IfSome (prepend_known l input.remaining) (λ whole. NextOf whole next new.line (to_come new input'))) same
     (subst (λ (n : Next). IfSome (to_come start input) (λ whole. NextOf whole n new.line (to_come new input'))) (sym is) r)
 
-pub more_told : (all : Option (List ℕ)) (now mid new : HeldLine) (input input' : Input) (bytes : List ℕ) → SoFar all (to_come now input) bytes now.line now.long
+pub more_told : (all : Option (List ℕ)) (now mid new : ReaderState) (input input' : Input) (bytes : List ℕ) → SoFar all (to_come now input) bytes now.line now.long
     → has_lf now.ahead.buffered ≡ false → Kept now mid → mid.ahead.buffered ≡ after_line now.ahead.buffered → Keeps (to_come mid input) (to_come new input') → new.line ≡ mid.line → new.long ≡ mid.long
     → (bytes' : List ℕ) × SoFar all (to_come new input') bytes' new.line new.long
 more_told all now mid new input input' bytes so lf kept left keeps line long =

@@ -11,7 +11,7 @@ use Rattle.ts_core.proofs.io.OutputBufferLemmas.{two_puts, second_refused, all_w
 use Rattle.ts_script.specs.ScriptLines.{lines_of}
 use Rattle.ts_script.specs.LineReading.{NextOf}
 use Rattle.ts_script.specs.Machine.{State, start, Step, Prints}
-use Rattle.ts_script.specs.Serving.{Serving, IsIn, IsAnswered}
+use Rattle.ts_script.specs.MachineState.{MachineState, IsMachineIn, IsAnswered}
 use Rattle.ts_script.specs.Script.{AnswersAll, AnswersSome}
 use Rattle.ts_core.specs.io.ReadingAhead.{one_if_device}
 use Rattle.ts_core.specs.declared.io.read_ahead.ReadFault.{ReadFault}
@@ -23,7 +23,7 @@ use Rattle.ts_script.specs.declared.line_reader.Next.{Next}
 use Rattle.ts_script.specs.declared.line_reader.Next.TheVariants.{End}
 
 -- the first lines of the input are answered, and the bytes after them are left; the last bytes of their answers are buffered
-pub record Done (input : Text) (left old new : Option Text) (kept : Text) (m : Serving) : Type 0 where
+pub record Done (input : Text) (left old new : Option Text) (kept : Text) (m : MachineState) : Type 0 where
   pub rest : Text
   pub left_is : left ≡ Some rest
   pub done : List Text
@@ -31,13 +31,13 @@ pub record Done (input : Text) (left old new : Option Text) (kept : Text) (m : S
   pub answers : List Text
   pub state : State
   pub run : Prints start done answers state
-  pub is_in : IsIn state m
+  pub is_in : IsMachineIn state m
   pub written : AreWrittenBut old new (concat answers) kept
 
-abbrev pub Progress : Option Text → Option Text → Option Text → Option Text → Text → Serving → Type 0
+abbrev pub Progress : Option Text → Option Text → Option Text → Option Text → Text → MachineState → Type 0
 Progress input left old new kept m = IfSome input (λ bytes. Done bytes left old new kept m)
 
-pub begins : (input : Option Text) (contents : Option Text) (buffered : Text) (m : Serving) → buffered ≡ [] → IsIn start m → (kept : Text) → kept ≡ [] → Progress input (prepend_known buffered input) contents contents kept m
+pub begins : (input : Option Text) (contents : Option Text) (buffered : Text) (m : MachineState) → buffered ≡ [] → IsMachineIn start m → (kept : Text) → kept ≡ [] → Progress input (prepend_known buffered input) contents contents kept m
 begins None contents buffered m e i kept none = tt
 begins (Some bytes) contents buffered m e i kept none = record {
   rest = bytes;
@@ -62,16 +62,16 @@ concat_more : (answers : List Text) (answer : Text) → concat (answers ++ answe
 concat_more answers answer = concat-append answers (answer ∷ []) ∙ ap (λ l. concat answers ++ l) (append-nil answer)
 
 -- the answer to the next line, in whatever state the machine was
-abbrev pub Answers : Option Text → Option Text → Serving → Serving → Text → Type 0
-Answers left left' m m' answer = IfSome left (λ bytes. (s : State) → IsIn s m → IsAnswered bytes left' s m' answer)
+abbrev pub Answers : Option Text → Option Text → MachineState → MachineState → Text → Type 0
+Answers left left' m m' answer = IfSome left (λ bytes. (s : State) → IsMachineIn s m → IsAnswered bytes left' s m' answer)
 
 lines_more : (input rest rest' text : Text) (done : List Text) → lines_of input ≡ done ++ lines_of rest → lines_of rest ≡ text ∷ lines_of rest' → lines_of input ≡ (done ++ text ∷ []) ++ lines_of rest'
 lines_more input rest rest' text done e f = e ∙ ap (λ l. done ++ l) f ∙ sym (append_assoc done (text ∷ []) (lines_of rest'))
 
-at_rest : (left left' : Option Text) (rest : Text) (m m' : Serving) (answer : Text) → left ≡ Some rest → Answers left left' m m' answer → (s : State) → IsIn s m → IsAnswered rest left' s m' answer
-at_rest left left' rest m m' answer e a = let P : Option Text → Type 0 = λ o. IfSome o (λ bytes. (s : State) → IsIn s m → IsAnswered bytes left' s m' answer) in subst P e a
+at_rest : (left left' : Option Text) (rest : Text) (m m' : MachineState) (answer : Text) → left ≡ Some rest → Answers left left' m m' answer → (s : State) → IsMachineIn s m → IsAnswered rest left' s m' answer
+at_rest left left' rest m m' answer e a = let P : Option Text → Type 0 = λ o. IfSome o (λ bytes. (s : State) → IsMachineIn s m → IsAnswered bytes left' s m' answer) in subst P e a
 
-pub goes_on : (input left left' old mid new : Option Text) (kept kept' : Text) (m m' : Serving) (answer : Text) → Progress input left old mid kept m → Answers left left' m m' answer → AreWrittenBut mid new (kept ++ answer) kept' → Progress input left' old new kept' m'
+pub goes_on : (input left left' old mid new : Option Text) (kept kept' : Text) (m m' : MachineState) (answer : Text) → Progress input left old mid kept m → Answers left left' m m' answer → AreWrittenBut mid new (kept ++ answer) kept' → Progress input left' old new kept' m'
 goes_on None left left' old mid new kept kept' m m' answer p a w = tt
 goes_on (Some input) left left' old mid new kept kept' m m' answer p a w =
     let t = at_rest left left' p.rest m m' answer p.left_is a p.state p.is_in in
@@ -88,7 +88,7 @@ goes_on (Some input) left left' old mid new kept kept' m m' answer p a w =
     }
 
 -- buffered answers go out
-pub sends : (input left old mid new : Option Text) (kept kept' : Text) (m : Serving) → Progress input left old mid kept m → AreWrittenBut mid new (kept ++ []) kept' → Progress input left old new kept' m
+pub sends : (input left old mid new : Option Text) (kept kept' : Text) (m : MachineState) → Progress input left old mid kept m → AreWrittenBut mid new (kept ++ []) kept' → Progress input left old new kept' m
 sends None left old mid new kept kept' m p w = tt
 sends (Some input) left old mid new kept kept' m p w = record {
   rest = p.rest;
@@ -103,7 +103,7 @@ sends (Some input) left old mid new kept kept' m p w = record {
 }
 
 -- the whole input is answered
-pub all_answered : (input left old new : Option Text) (kept : Text) (m : Serving) → Progress input left old new kept m → kept ≡ [] → IfSome left (λ bytes. bytes ≡ []) → AnswersAll input old new
+pub all_answered : (input left old new : Option Text) (kept : Text) (m : MachineState) → Progress input left old new kept m → kept ≡ [] → IfSome left (λ bytes. bytes ≡ []) → AnswersAll input old new
 all_answered None left old new kept m p sent e = tt
 all_answered (Some input) left old new kept m p sent e =
     let none : p.rest ≡ [] = let P : Option Text → Type 0 = λ o. IfSome o (λ bytes. bytes ≡ []) in subst P p.left_is e in
@@ -111,7 +111,7 @@ all_answered (Some input) left old new kept m p sent e =
     (concat p.answers, record { answers = p.answers; state = p.state; run = subst (λ (ls : List Text). Prints start ls p.answers p.state) (sym lines) p.run; output_is = refl }, all_written old new (concat p.answers) kept sent p.written)
 
 -- a device refused
-pub some_answered : (input left old new : Option Text) (kept : Text) (m : Serving) → Progress input left old new kept m → AnswersSome input old new
+pub some_answered : (input left old new : Option Text) (kept : Text) (m : MachineState) → Progress input left old new kept m → AnswersSome input old new
 some_answered None left old new kept m p = tt
 some_answered (Some input) left old new kept m p = (
   concat p.answers,
@@ -120,7 +120,7 @@ some_answered (Some input) left old new kept m p = (
 )
 
 -- the writer refused the buffered answers
-pub cut_off : (input left old mid new : Option Text) (kept : Text) (m : Serving) → Progress input left old mid kept m → AppendsFront mid new (kept ++ []) → AnswersSome input old new
+pub cut_off : (input left old mid new : Option Text) (kept : Text) (m : MachineState) → Progress input left old mid kept m → AppendsFront mid new (kept ++ []) → AnswersSome input old new
 cut_off None left old mid new kept m p w = tt
 cut_off (Some input) left old mid new kept m p w = (
   concat p.answers,
@@ -138,7 +138,7 @@ none_answered (Some input) contents = (
 )
 
 -- the writer refused in an answer, or in the buffered answers before it
-pub cut_short : (input left left' old mid new : Option Text) (kept : Text) (m m' : Serving) (answer : Text) → Progress input left old mid kept m → Answers left left' m m' answer → AppendsFront mid new (kept ++ answer) → AnswersSome input old new
+pub cut_short : (input left left' old mid new : Option Text) (kept : Text) (m m' : MachineState) (answer : Text) → Progress input left old mid kept m → Answers left left' m m' answer → AppendsFront mid new (kept ++ answer) → AnswersSome input old new
 cut_short None left left' old mid new kept m m' answer p a w = tt
 cut_short (Some input) left left' old mid new kept m m' answer p a w =
     let t = at_rest left left' p.rest m m' answer p.left_is a p.state p.is_in in (
@@ -156,9 +156,9 @@ cut_short (Some input) left left' old mid new kept m m' answer p a w =
     )
 
 -- the contracts of the line reader and of the answer to its line, together
-pub answers_next : (left left' : Option Text) (next : Next) (line text : Text) (m m' : Serving) (answer : Text) → text ≡ line → next ≢ End
+pub answers_next : (left left' : Option Text) (next : Next) (line text : Text) (m m' : MachineState) (answer : Text) → text ≡ line → next ≢ End
     → IfSome left (λ bytes. NextOf bytes next line left')
-    → ((bytes : Text) (after : Option Text) (s : State) → next ≢ End → NextOf bytes next text after → IsIn s m → IsAnswered bytes after s m' answer)
+    → ((bytes : Text) (after : Option Text) (s : State) → next ≢ End → NextOf bytes next text after → IsMachineIn s m → IsAnswered bytes after s m' answer)
     → Answers left left' m m' answer
 answers_next None left' next line text m m' answer e some n a = tt
 answers_next (Some bytes) left' next line text m m' answer e some n a = λ s i. a bytes left' s some (subst (λ (l : Text). NextOf bytes next l left') (sym e) n) i

@@ -15,7 +15,7 @@ use Rattle.ts_image.specs.Saving.{image_of}
 use Rattle.ts_image.proofs.FittingImages.{written_acceptable}
 use Rattle.ts_image.proofs.ImageBytes.{image_bytes}
 use Rattle.ts_image.proofs.Unambiguous.{are_unambiguous}
-use Rattle.ts_script.specs.Reloading.{IsImageIn, DoesNotFit, save_failed, load_failed}
+use Rattle.ts_script.specs.ReloadResults.{IsImageIn, DoesNotFit, save_failed, load_failed}
 use Rattle.ts_script.specs.declared.reloading.ReloadFault.TheVariants.{OutOfMemory}
 
 pub saves_but_for_memory : (k : StoreData) (fault : SaveFault) → IsWellFormed k → (fault ≡ saving.Unfit → DoesNotFit k) → OfEachHistory k (λ opening h. save_failed fault ≡ OutOfMemory)

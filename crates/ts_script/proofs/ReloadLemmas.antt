@@ -15,8 +15,8 @@ use Rattle.ts_core.specs.store.Cells.{Cell, is_in_cell, cell_of, is_rolled, same
 use Rattle.ts_core.specs.io.ReadingAhead.{bit}
 use Rattle.ts_core.specs.store.StoreStates.{ColumnPoints, StandsFor, HasCells, column_of}
 use Rattle.ts_core.specs.store.StoreData.{CellMap, StoreData, rule_cells, rules_of, state_of}
-use Rattle.ts_store.specs.image.Saving.{SavedColumn, SavedSeries, saved_key, SavesColumns, SavesSeries}
-use Rattle.ts_store.specs.read.Seats.{no_points}
+use Rattle.ts_store.specs.image.SavedContent.{SavedColumn, SavedSeries, saved_key, SavesColumns, SavesSeries}
+use Rattle.ts_store.specs.read.ViewResults.{no_points}
 use Rattle.ts_image.specs.Images.{ImageColumn, ImageSeries}
 use Rattle.ts_image.specs.Pictures.{points_in, column_in, columns_in, waiting_in}
 use Rattle.ts_image.specs.Saving.{column_at, image_column_of, image_series_of}

@@ -22,12 +22,12 @@ use Rattle.ts_core.proofs.moves.MovesStand.{key_not}
 use Rattle.ts_core.proofs.plans.PieceCells.{same_cell-eq, same_cell-refl}
 use Rattle.ts_store.specs.write.LinesPut.{IsOfFacts, PutsCells}
 use Rattle.ts_store.specs.store.Inventories.{AreFilled, OfRules}
-use Rattle.ts_store.specs.image.Saving.{SavedSeries}
+use Rattle.ts_store.specs.image.SavedContent.{SavedSeries}
 use Rattle.ts_image.specs.Images.{ImageCell}
 use Rattle.ts_image.specs.ImageTests.{settings_in}
 use Rattle.ts_image.specs.Pictures.{columns_in}
 use Rattle.ts_image.specs.SavedParts.{image_settings_of}
-use Rattle.ts_image.specs.Saving.{cells_at, image_cell_of, image_cells_from, image_of}
+use Rattle.ts_image.specs.Saving.{frozen_cells_at, image_cell_of, image_cells_from, image_of}
 use Rattle.ts_image.specs.StoresMade.{cells_in, IsStoreOf}
 use Rattle.ts_image.proofs.FrozenPictures.{frozen_some}
 use Rattle.ts_image.proofs.MadeCells.{from_image}
@@ -35,11 +35,11 @@ use Rattle.ts_image.proofs.WrittenPictures.{written, written_each, entry_of}
 use Rattle.ts_script.proofs.ReloadLemmas.{at_back}
 
 -- the cells of an image, by the number of their rule
-cells_from : (k : StoreData) (n : ℕ) (rs : List Rule) (i : ℕ) (r : Rule) → IsAt rs i r → IsAt (map cells_in (image_cells_from k n rs)) i (cells_in (map image_cell_of (cells_at k (n + i))))
+cells_from : (k : StoreData) (n : ℕ) (rs : List Rule) (i : ℕ) (r : Rule) → IsAt rs i r → IsAt (map cells_in (image_cells_from k n rs)) i (cells_in (map image_cell_of (frozen_cells_at k (n + i))))
 cells_from k n [] i r a = absurd (let none : None ≡ Some r = a in cc)
-cells_from k n (x ∷ rs) zero r a = subst (λ (j : ℕ). IsAt (map cells_in (image_cells_from k n (x ∷ rs))) zero (cells_in (map image_cell_of (cells_at k j)))) (let e : n ≡ n + 0 = omega arith in e) refl
+cells_from k n (x ∷ rs) zero r a = subst (λ (j : ℕ). IsAt (map cells_in (image_cells_from k n (x ∷ rs))) zero (cells_in (map image_cell_of (frozen_cells_at k j)))) (let e : n ≡ n + 0 = omega arith in e) refl
 cells_from k n (x ∷ rs) (suc i) r a =
-    subst (λ (j : ℕ). IsAt (map cells_in (image_cells_from k n (x ∷ rs))) (suc i) (cells_in (map image_cell_of (cells_at k j)))) (let e : n + 1 + i ≡ n + suc i = omega arith in e) (cells_from k (n + 1) rs i r a)
+    subst (λ (j : ℕ). IsAt (map cells_in (image_cells_from k n (x ∷ rs))) (suc i) (cells_in (map image_cell_of (frozen_cells_at k j)))) (let e : n + 1 + i ≡ n + suc i = omega arith in e) (cells_from k (n + 1) rs i r a)
 
 lists_from : (k : StoreData) (n : ℕ) (rs : List Rule) → length (image_cells_from k n rs) ≡ length rs
 lists_from k n [] = refl
@@ -74,7 +74,7 @@ module _ (opening : Settings) (h : History) (k n : StoreData) (order : List Save
     imaged =
         subst (λ (x : ℤ). IsAt (map cells_in (image_of k order).cells) i (cells_in (written x m))) (get_or_from_slice_get k.marks.lows i low (pos 0) b)
         (subst (λ (x : CellMap). IsAt (map cells_in (image_of k order).cells) i (cells_in (written (slice_index_or k.marks.lows i (pos 0)) x))) (get_or_from_slice_get k.cells i m finmap.empty c)
-        (subst (λ (j : ℕ). IsAt (map cells_in (image_of k order).cells) i (cells_in (map image_cell_of (cells_at k j)))) (let e : 0 + i ≡ i = omega arith in e) (cells_from k 0 k.settings.rules i r a)))
+        (subst (λ (j : ℕ). IsAt (map cells_in (image_of k order).cells) i (cells_in (map image_cell_of (frozen_cells_at k j)))) (let e : 0 + i ≡ i = omega arith in e) (cells_from k 0 k.settings.rules i r a)))
 
     puts : PutsCells (facts_of (columns_in (image_of k order).series)) r low (cells_in (written low m)) m'
     puts = made.cells.1 i r low (cells_in (written low m)) m' (subst (λ (s : Settings). IsAt s.rules i r) (sym said) a) b imaged d

@@ -12,7 +12,7 @@ use Rattle.ts_core.specs.io.Devices.{Input}
 use Rattle.ts_store.specs.write.LineTexts.{with_series}
 use Rattle.ts_store.specs.store.SizedStores.{IsSized}
 use Rattle.ts_store.specs.store.Inventories.{Inventory, inventory_of}
-use Rattle.ts_store.specs.image.Saving.{SavedSeries, saved_key}
+use Rattle.ts_store.specs.image.SavedContent.{SavedSeries, saved_key}
 use Rattle.ts_image.specs.declared.version.Version.TheVariants.{V2}
 use Rattle.ts_image.specs.Images.{ImageData, image, image_text}
 use Rattle.ts_image.specs.Saving.{image_of, image_series_of}
@@ -26,10 +26,10 @@ use Rattle.ts_image.proofs.Unambiguous.{are_unambiguous}
 use Rattle.ts_image.proofs.WrittenPictures.{written_picture}
 use Rattle.ts_script.specs.Commands.{Reload}
 use Rattle.ts_script.specs.Machine.{with_store, rules_in, lows_in, IsReload, reloads, reloads_no_memory}
-use Rattle.ts_script.specs.Reloading.{IsImageIn, IsReloadOf}
+use Rattle.ts_script.specs.ReloadResults.{IsImageIn, IsReloadOf}
 use Rattle.ts_script.specs.Reloads.{Reloaded, columns_of}
 use Rattle.ts_script.specs.ScriptReplies.{line, reloaded_text}
-use Rattle.ts_script.specs.Serving.{Serving, keeping, IsIn, Did}
+use Rattle.ts_script.specs.MachineState.{MachineState, keeping, IsMachineIn, Did}
 use Rattle.ts_script.specs.Machine.{State}
 use Rattle.ts_script.proofs.ReloadLemmas.{all_named, all_waiting}
 use Rattle.ts_script.proofs.ReloadedCells.{all_filled}
@@ -57,7 +57,7 @@ module _ (opening : Settings) (h : History) (k n : StoreData) (old : StandsFor o
 
 -- ---- the machine
 
-pub was_reloaded : (s : State) (m : Serving) (k : StoreData) → IsIn s m → IsReloadOf m.kept k → Did Reload s reloaded_text (keeping k m)
+pub was_reloaded : (s : State) (m : MachineState) (k : StoreData) → IsMachineIn s m → IsReloadOf m.kept k → Did Reload s reloaded_text (keeping k m)
 was_reloaded s m k i r =
     let now = reloaded_as s.store.opening s.store.history m.kept k i.store.stands r in
     let is : IsReload s k.series (inventory_of k) =
@@ -78,7 +78,7 @@ was_reloaded s m k i r =
       },
     )
 
-pub reloaded_no_memory : (s : State) (m : Serving) → IsIn s m → Did Reload s (line memory_text) m
+pub reloaded_no_memory : (s : State) (m : MachineState) → IsMachineIn s m → Did Reload s (line memory_text) m
 reloaded_no_memory s m i = (s, reloads_no_memory, i)
 
 -- a store that was loaded from the image of another has its contents

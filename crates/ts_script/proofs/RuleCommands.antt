@@ -14,24 +14,24 @@ use Rattle.ts_store.specs.rules.RuleTexts.{rule_for, settings_in, low_in, with_r
 use Rattle.ts_store.specs.declared.rules.rule_text.AddedRule.{AddedRule}
 use Rattle.ts_store.proofs.rules.RuleStates.{rule_came, rule_went, rule_gained}
 use Rattle.ts_script.specs.Commands.{AddRule, DropRule}
-use Rattle.ts_script.specs.Machine.{State, with_store, Gains, without_rule, Does, adds, refuses_rule, adds_no_memory, drops, refuses_drop}
+use Rattle.ts_script.specs.Machine.{State, with_store, GainsRuleCells, without_rule, Does, adds, refuses_rule, adds_no_memory, drops, refuses_drop}
 use Rattle.ts_script.specs.MarksTexts.{rule_text}
 use Rattle.ts_script.specs.ScriptReplies.{line, text_of, dropped_text}
-use Rattle.ts_script.specs.Serving.{Serving, keeping, IsIn, Did}
+use Rattle.ts_script.specs.MachineState.{MachineState, keeping, IsMachineIn, Did}
 use Rattle.ts_script.specs.declared.reply.Reply.{Reply}
 use Rattle.ts_script.specs.declared.reply.Reply.TheVariants.{OutOfMemory}
 use Rattle.ts_script.proofs.MachineLemmas.{storing, when_ok, when_err}
 
 -- a store that is as it was
-stays_in : (s : State) (m : Serving) (k : StoreData) → IsIn s m → k ≡ m.kept → IsIn s (keeping k m)
-stays_in s m k i same = subst (λ (z : StoreData). IsIn s (keeping z m)) (sym same) i
+stays_in : (s : State) (m : MachineState) (k : StoreData) → IsMachineIn s m → k ≡ m.kept → IsMachineIn s (keeping k m)
+stays_in s m k i same = subst (λ (z : StoreData). IsMachineIn s (keeping z m)) (sym same) i
 
-module _ (text : Text) (s : State) (m : Serving) (k : StoreData) (i : IsIn s m) where
+module _ (text : Text) (s : State) (m : MachineState) (k : StoreData) (i : IsMachineIn s m) where
   pub rule_told : (added : AddedRule) (answer : Text) → TextComes m.kept k text added → answer ≡ line (rule_text added.name.bytes added.low) → Did (AddRule text) s answer (keeping k m)
   rule_told added answer t told =
       let came = rule_came s.store m.kept k t.rule added.low i.store t.comes in
       let read : rule_for (settings_in s.store) text ≡ Ok t.rule = subst (λ (z : Settings). rule_for z text ≡ Ok t.rule) i.store.stands.settings t.read in
-      let gains : Gains s t.rule (inventory_of k) =
+      let gains : GainsRuleCells s t.rule (inventory_of k) =
       subst (λ (z : Inventory). GainsRule (all_raw z.waiting s.store.opening s.store.history) t.rule (low_in s.store t.rule) z (inventory_of k)) i.inventory
       (subst (λ (low : ℤ). GainsRule (all_raw m.kept.waiting s.store.opening s.store.history) t.rule low (inventory_of m.kept) (inventory_of k)) came.0 (rule_gained s.store m.kept k t.rule added.low i.store t.comes)) in
       let printed : answer ≡ line (rule_text t.rule.name (low_in s.store t.rule)) = told ∙ (λ j. line (rule_text (t.name j) (came.0 j))) in
@@ -55,7 +55,7 @@ found_name : {T E : Type 0} (b : Bool) (r : Result T E) → IsErr r ↔ (b ≡ f
 found_name true r unknown none = refl
 found_name false r unknown none = absurd (true≢false (sym (unknown.1 refl) ∙ none))
 
-pub rule_forgotten : {E : Type 0} (r : Result (Unit {0}) E) (name : Text) (s : State) (m : Serving) (k : StoreData) → IsIn s m → DropsRule m.kept k name r → is_err r ≡ false → Did (DropRule name) s dropped_text (keeping k m)
+pub rule_forgotten : {E : Type 0} (r : Result (Unit {0}) E) (name : Text) (s : State) (m : MachineState) (k : StoreData) → IsMachineIn s m → DropsRule m.kept k name r → is_err r ≡ false → Did (DropRule name) s dropped_text (keeping k m)
 rule_forgotten r name s m k i drops_rule none =
     let named : is_named m.kept.settings.rules name ≡ true = found_name (is_named m.kept.settings.rules name) r drops_rule.unknown none in
     let goes : RuleGoes m.kept k name = when_ok r (RuleGoes m.kept k name) drops_rule.ok none in
@@ -68,7 +68,7 @@ rule_forgotten r name s m k i drops_rule none =
       record { moment = i.moment; precision = i.precision; epoch = i.epoch; fresh = i.fresh; certificate = i.certificate; store = rule_went s.store m.kept k name i.store goes; inventory = inventory },
     )
 
-pub drop_refused : {E : Type 0} (r : Result (Unit {0}) E) (name : Text) (s : State) (m : Serving) (k : StoreData) → IsIn s m → DropsRule m.kept k name r → is_err r ≡ true → Did (DropRule name) s (line unknown_rule_text) (keeping k m)
+pub drop_refused : {E : Type 0} (r : Result (Unit {0}) E) (name : Text) (s : State) (m : MachineState) (k : StoreData) → IsMachineIn s m → DropsRule m.kept k name r → is_err r ≡ true → Did (DropRule name) s (line unknown_rule_text) (keeping k m)
 drop_refused r name s m k i drops_rule refused = (
   s,
   refuses_drop name (subst (λ (z : Settings). is_named z.rules name ≡ false) i.store.stands.settings (drops_rule.unknown.0 refused)),

@@ -13,7 +13,7 @@ pub mod CommandParts
 -- used only by models and proofs of the code
 pub mod Counted
 pub mod Opening
-pub mod Reloading
-pub mod Serving
-pub mod HeldLine
+pub mod ReloadResults
+pub mod MachineState
+pub mod ReaderState
 pub mod LineReading

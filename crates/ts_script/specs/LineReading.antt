@@ -8,7 +8,7 @@ use Rattle.ts_core.specs.declared.io.read_ahead.ReadFault.TheVariants.{Turns}
 use Rattle.ts_script.specs.ScriptLines.{lines_of, script_line_limit}
 use Rattle.ts_script.specs.declared.line_reader.Next.{Next}
 use Rattle.ts_script.specs.declared.line_reader.Next.TheVariants.{Line, TooLong, End}
-use Rattle.ts_script.specs.HeldLine.{HeldLine}
+use Rattle.ts_script.specs.ReaderState.{ReaderState}
 
 -- the first line, without its LF
 abbrev pub first_line : List ℕ → List ℕ
@@ -30,7 +30,7 @@ LineIs bytes line false = (line ≡ bytes) × (length bytes ≤ script_line_limi
 LineIs bytes line true = script_line_limit < length bytes
 
 -- the bytes still to come, if known
-abbrev pub to_come : HeldLine → Input → Option (List ℕ)
+abbrev pub to_come : ReaderState → Input → Option (List ℕ)
 to_come reading input = pending reading.ahead input
 
 -- the next line of these bytes, and the bytes that remain
@@ -44,8 +44,8 @@ abbrev pub next_of : Bool → Next
 next_of long = if long then TooLong else Line
 
 -- the result at the end of input
-abbrev pub last_of : List ℕ → Bool → Next
-last_of line long = if long then TooLong else if length line == 0 then End else Line
+abbrev pub result_at_end : List ℕ → Bool → Next
+result_at_end line long = if long then TooLong else if length line == 0 then End else Line
 
 -- ---- the effect of a call
 
@@ -57,7 +57,7 @@ pub record IsLineEnd (bytes : List ℕ) (end : ℕ) : Type 0 where
   pub found : IsTrue (has_lf bytes) ↔ (end < length bytes)
 
 -- the buffered bytes go to the line, up to an LF; `lf` is true if there was one
-pub record IsTaken (old : HeldLine) (lf : Bool) (new : HeldLine) : Type 0 where
+pub record TakesBuffered (old : ReaderState) (lf : Bool) (new : ReaderState) : Type 0 where
   pub found : lf ≡ has_lf old.ahead.buffered
   pub buffered : new.ahead.buffered ≡ after_line old.ahead.buffered
   pub turns : new.ahead.turns ≡ old.ahead.turns
@@ -67,11 +67,11 @@ pub record IsTaken (old : HeldLine) (lf : Bool) (new : HeldLine) : Type 0 where
   pub less : weight new.ahead + bit lf ≤ weight old.ahead
 
 -- and these are the next bytes of the line
-abbrev pub IsLonger : HeldLine → HeldLine → Type 0
+abbrev pub IsLonger : ReaderState → ReaderState → Type 0
 IsLonger old new = (before : List ℕ) → LineIs before old.line old.long → LineIs (before ++ first_line old.ahead.buffered) new.line new.long
 
 -- the calls of the source between two states of the read buffer
-pub record IsAsked {T : Type 0} (old : Ahead) (source : Input) (result : Result T ReadFault) (new : Ahead) (source' : Input) : Type 0 where
+pub record CallsReader {T : Type 0} (old : Ahead) (source : Input) (result : Result T ReadFault) (new : Ahead) (source' : Input) : Type 0 where
   pub end : EndIsEnd new source'
   pub stays : OnErr result (new.ended ≡ false)
   pub allowed : new.limit ≡ old.limit
@@ -82,7 +82,7 @@ pub record IsAsked {T : Type 0} (old : Ahead) (source : Input) (result : Result 
   pub ends : source'.ends + bit old.ended ≡ source.ends + bit new.ended
 
 -- one read; it returns false at the end of input
-pub record IsReadOn (old : HeldLine) (source : Input) (result : Result Bool ReadFault) (new : HeldLine) (source' : Input) : Type 0 where
+pub record IsReadOn (old : ReaderState) (source : Input) (result : Result Bool ReadFault) (new : ReaderState) (source' : Input) : Type 0 where
   pub bytes : Keeps (to_come old source) (to_come new source')
   pub more : IfOk result (λ more. more ≡ not new.ahead.ended)
   pub line : new.line ≡ old.line
@@ -91,7 +91,7 @@ pub record IsReadOn (old : HeldLine) (source : Input) (result : Result Bool Read
   pub less : OnOk result (weight new.ahead < weight old.ahead)
 
 -- if the bytes to come are known, the next line is the first of these bytes
-abbrev pub IsNext : HeldLine → Input → Next → HeldLine → Input → Type 0
+abbrev pub IsNext : ReaderState → Input → Next → ReaderState → Input → Type 0
 IsNext old source next new source' = IfSome (to_come old source) (λ bytes. NextOf bytes next new.line (to_come new source'))
 
 -- the end is reported only after it was read, and each line consumes something

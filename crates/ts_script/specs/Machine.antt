@@ -120,8 +120,8 @@ abbrev pub lows_in : State → List ℤ
 lows_in s = (marks_of s.store.opening s.store.history).lows
 
 -- the facts of a line's text
-abbrev pub facts_in : State → Text → List Fact
-facts_in s text = facts_of_text (parts_in s.precision s.moment text)
+abbrev pub facts_of_line : State → Text → List Fact
+facts_of_line s text = facts_of_text (parts_in s.precision s.moment text)
 
 -- A whole run takes this number of steps before the last one, and leaves this inventory: of each rule the cells from
 -- its new low index on.
@@ -134,16 +134,16 @@ abbrev pub IsReload : State → List Series → Inventory → Type 0
 IsReload old series new = Reloaded old.store.history (rules_in old) (lows_in old) old.store.series old.inventory series new
 
 -- a rule is added, and has the cells of raw facts from its low index on
-abbrev pub Gains : State → Rule → Inventory → Type 0
-Gains old r new = GainsRule (all_raw old.inventory.waiting old.store.opening old.store.history) r (low_in old.store r) old.inventory new
+abbrev pub GainsRuleCells : State → Rule → Inventory → Type 0
+GainsRuleCells old r new = GainsRule (all_raw old.inventory.waiting old.store.opening old.store.history) r (low_in old.store r) old.inventory new
 
 -- a rule is dropped with its cells
 abbrev pub without_rule : Text → State → State
 without_rule name s = with_store (with_rule_dropped name s.store) (record s.inventory { cells = kept_beside (is_unnamed name) (rules_in s) s.inventory.cells }) s
 
 -- the marks of the state, as text
-abbrev pub marks_told : State → Text
-marks_told s = marks_text (settings_of s.store.opening s.store.history) (marks_of s.store.opening s.store.history)
+abbrev pub current_marks_text : State → Text
+current_marks_text s = marks_text (settings_of s.store.opening s.store.history) (marks_of s.store.opening s.store.history)
 
 -- a planner's result for the counting query
 abbrev pub CountIsPlanned : Settings → History → Text → Text → ℤ → ℤ → Result (List Piece) PlanError → Type 0
@@ -169,17 +169,17 @@ pub data Does (old : State) : Command → Text → State → Type 0 where
   moves : (t : ℤ) → Does old (At t) [] (at_moment t old)
   sets : (p : TimeUnit) → Does old (SetPrecision p) [] (in_precision p old)
   -- a line is written with the script's precision; without a timestamp, it has the script's time
-  writes : (text : Text) (outcome : LineOutcome) (new : StoreState) (inventory : Inventory) → WritesText old.precision old.moment old.store text outcome new → GrowsBy (rules_in old) (lows_in old) (facts_in old text) outcome old.inventory inventory
+  writes : (text : Text) (outcome : LineOutcome) (new : StoreState) (inventory : Inventory) → WritesText old.precision old.moment old.store text outcome new → GrowsBy (rules_in old) (lows_in old) (facts_of_line old text) outcome old.inventory inventory
       → Does old (Write text) (outcome_text outcome) (with_store new inventory old)
-  writes_no_memory : (text : Text) (new : StoreState) (inventory : Inventory) → RunsOutOfMemory old.precision old.moment old.store text new → GrowsInPart (rules_in old) (lows_in old) (facts_in old text) old.inventory inventory
+  writes_no_memory : (text : Text) (new : StoreState) (inventory : Inventory) → RunsOutOfMemory old.precision old.moment old.store text new → GrowsInPart (rules_in old) (lows_in old) (facts_of_line old text) old.inventory inventory
       → Does old (Write text) (line memory_text) (with_store new inventory old)
   shows : (e : Epoch) → Does old (SetEpoch e) [] (in_epoch e old)
   -- unless a run is open, retention runs at the script's time, and the new marks are printed
-  retains : (steps : ℕ) (inventory : Inventory) → (IsRunOpen old.store.history → ⊥) → RunsWhole old steps inventory → Does old Retain (line (marks_told (with_run steps inventory old))) (with_run steps inventory old)
+  retains : (steps : ℕ) (inventory : Inventory) → (IsRunOpen old.store.history → ⊥) → RunsWhole old steps inventory → Does old Retain (line (current_marks_text (with_run steps inventory old))) (with_run steps inventory old)
   refuses_retain : IsRunOpen old.store.history → Does old Retain (line run_in_progress_text) old
   retains_no_memory : Does old Retain (line memory_text) old
   -- unless a run is open, one begins at the script's time, and the new marks are printed
-  begins : (IsRunOpen old.store.history → ⊥) → Does old BeginRun (line (marks_told (with_begin old))) (with_begin old)
+  begins : (IsRunOpen old.store.history → ⊥) → Does old BeginRun (line (current_marks_text (with_begin old))) (with_begin old)
   refuses_begin : IsRunOpen old.store.history → Does old BeginRun (line run_in_progress_text) old
   begins_no_memory : Does old BeginRun (line memory_text) old
   -- a step of the open run; without one, nothing changes
@@ -189,7 +189,7 @@ pub data Does (old : State) : Command → Text → State → Type 0 where
   reloads : (series : List Series) (inventory : Inventory) → IsReload old series inventory → Does old Reload reloaded_text (with_store (with_series series old.store) inventory old)
   reloads_no_memory : Does old Reload (line memory_text) old
   -- a rule is added, and its name and low index are printed; with a fault, or out of memory, nothing changes
-  adds : (text : Text) (r : Rule) (inventory : Inventory) → rule_for (settings_in old.store) text ≡ Ok r → Gains old r inventory → Does old (AddRule text) (line (rule_text r.name (low_in old.store r))) (with_store (with_rule_added r old.store) inventory old)
+  adds : (text : Text) (r : Rule) (inventory : Inventory) → rule_for (settings_in old.store) text ≡ Ok r → GainsRuleCells old r inventory → Does old (AddRule text) (line (rule_text r.name (low_in old.store r))) (with_store (with_rule_added r old.store) inventory old)
   refuses_rule : (text : Text) (fault : SettingsFault) → rule_for (settings_in old.store) text ≡ Err fault → Does old (AddRule text) (line (settings_fault_text fault)) old
   adds_no_memory : (text : Text) → Does old (AddRule text) (line memory_text) old
   -- the rule with the name is dropped, if there is one

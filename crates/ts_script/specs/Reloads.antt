@@ -6,7 +6,7 @@ use Rattle.ts_core.specs.store.History.{History}
 use Rattle.ts_core.specs.facts.Latest.{latest_of}
 use Rattle.ts_core.specs.store.RawFacts.{is_waiting}
 use Rattle.ts_store.specs.store.Inventories.{Inventory, AreFilled, OfRules}
-use Rattle.ts_store.specs.image.Saving.{SavedColumn, SavedSeries, saved_key, SavesSeries}
+use Rattle.ts_store.specs.image.SavedContent.{SavedColumn, SavedSeries, saved_key, SavesSeries}
 
 abbrev pub column_named : Series → SavedColumn → Column
 column_named s x = record { series = s; field = x.field }

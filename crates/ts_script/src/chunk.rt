@@ -1,7 +1,7 @@
 //! Chunks of a line that crosses reads.
 ghost use Rattle.std.specs.Prelude.{◌≡◌, ℕ, ◌≤◌, ◌++◌, List, length, IfSome, vec_len, vec_capacity};
 ghost use Rattle.ts_script.specs.ScriptLines.{script_line_limit};
-ghost use Rattle.ts_script.specs.HeldLine.{line_held};
+ghost use Rattle.ts_script.specs.ReaderState.{line_so_far};
 ghost use Rattle.ts_script.specs.LineReading.{IsLineEnd, LineIs};
 
 use memchr::memchr;
@@ -45,9 +45,9 @@ pub(crate) fn extend_line(line: &mut Vec<u8>, long: bool, bytes: &[u8]) -> bool
 pub(crate) fn keep_lent(line: &mut Vec<u8>, lent: Option<(usize, usize)>, used: &[u8])
     requires room { script_line_limit ≤ vec_capacity line.old }
     requires within { IfSome lent (λ lent. (lent.0 ≤ lent.1) × (lent.1 ≤ length used.now)) }
-    requires short { length (line_held used.now lent line.old.items) ≤ script_line_limit }
+    requires short { length (line_so_far used.now lent line.old.items) ≤ script_line_limit }
     ensures room { script_line_limit ≤ vec_capacity line.new }
-    ensures line { line.new.items ≡ line_held used.now lent line.old.items }
+    ensures line { line.new.items ≡ line_so_far used.now lent line.old.items }
 {
     if let Some((start, end)) = lent {
         line.clear();

@@ -7,7 +7,7 @@ ghost use Rattle.ts_script.specs.ScriptLines.{script_line_limit, turn_limit};
 ghost use Rattle.ts_script.specs.LineReading.{NextOf, has_lf};
 ghost use Rattle.ts_script.specs.ScriptReplies.{text_of};
 ghost use Rattle.ts_script.specs.Machine.{State, start};
-ghost use Rattle.ts_script.specs.Serving.{IsIn, IsAnswered};
+ghost use Rattle.ts_script.specs.MachineState.{IsMachineIn, IsAnswered};
 ghost use Rattle.ts_script.specs.Script.{IsReplay};
 ghost use Rattle.ts_script.specs.declared.reply.TheConstants.{TEXT_ROOM};
 
@@ -28,7 +28,7 @@ const TURN_LIMIT: u64 = 4_294_967_296;
 /// Answers the line that was read.
 fn answer(machine: &mut Machine, next: Next, line: &[u8]) -> Reply
     requires { length line.now ≤ script_line_limit }
-    ensures { (bytes : Text) (left : Option Text) (s : State) → next ≢ Next.End → NextOf bytes next line.now left → IsIn s machine.old → IsAnswered bytes left s machine.new (text_of result) }
+    ensures { (bytes : Text) (left : Option Text) (s : State) → next ≢ Next.End → NextOf bytes next line.now left → IsMachineIn s machine.old → IsAnswered bytes left s machine.new (text_of result) }
 {
     match next {
         Next::End => Reply::Nothing,
@@ -62,7 +62,7 @@ fn answer_all<R: Read, W: Write>(
     source: &mut Source<R>,
     sink: &mut Sink<W>,
 ) -> Result<(), RunFault>
-    requires machine { IsIn start machine.old }
+    requires machine { IsMachineIn start machine.old }
     requires lines { lines.old.ahead ≡ nothing_ahead lines.old.ahead.limit }
     requires text { TEXT_ROOM ≤ string_capacity text.old }
     requires answers { answers.old ≡ [] }

@@ -3,7 +3,7 @@ ghost use Rattle.std.specs.Prelude.{◌≡◌, ◌≤◌, [], length, IfOk, true
 ghost use Rattle.std.specs.Bool.{OnFalse, OnTrue};
 ghost use Rattle.ts_core.specs.io.ReadingAhead.{EndIsEnd, nothing_ahead};
 ghost use Rattle.ts_script.specs.ScriptLines.{script_line_limit};
-ghost use Rattle.ts_script.specs.LineReading.{LineIs, IsTaken, IsLonger, IsAsked, IsReadOn, IsNext, UsesUp, has_lf, next_of, last_of};
+ghost use Rattle.ts_script.specs.LineReading.{LineIs, TakesBuffered, IsLonger, CallsReader, IsReadOn, IsNext, UsesUp, has_lf, next_of, result_at_end};
 
 use crate::chunk::{LINE_LIMIT, extend_line, keep_lent, line_end};
 use std::alloc::{AllocError, Global};
@@ -38,13 +38,13 @@ impl Model for LineReader {
     ghost use Rattle.std.specs.Prelude.{◌≡◌, ◌≤◌, length, IfSome, vec_len, vec_capacity};
     ghost use Rattle.ts_script.specs.ScriptLines.{script_line_limit};
     ghost use Rattle.ts_script.specs.LineReading.{IsLineEnd};
-    ghost use Rattle.ts_script.specs.HeldLine.{HeldLine, line_held};
+    ghost use Rattle.ts_script.specs.ReaderState.{ReaderState, line_so_far};
 
-    ghost Value = { HeldLine };
+    ghost Value = { ReaderState };
 
-    ghost view = { λ r. record { ahead = r.ahead; line = line_held r.ahead.used r.lent r.line.items; long = r.long } };
+    ghost view = { λ r. record { ahead = r.ahead; line = line_so_far r.ahead.used r.lent r.line.items; long = r.long } };
 
-    ghost invariant = { λ r. (r.ahead.turns ≤ r.ahead.limit) × (script_line_limit ≤ vec_capacity r.line) × (vec_len r.line ≤ script_line_limit) × IsLineEnd r.ahead.buffered r.end × IfSome r.lent (λ lent. (lent.0 ≤ lent.1) × (lent.1 ≤ length r.ahead.used)) × (length (line_held r.ahead.used r.lent r.line.items) ≤ script_line_limit) };
+    ghost invariant = { λ r. (r.ahead.turns ≤ r.ahead.limit) × (script_line_limit ≤ vec_capacity r.line) × (vec_len r.line ≤ script_line_limit) × IsLineEnd r.ahead.buffered r.end × IfSome r.lent (λ lent. (lent.0 ≤ lent.1) × (lent.1 ≤ length r.ahead.used)) × (length (line_so_far r.ahead.used r.lent r.line.items) ≤ script_line_limit) };
 }
 
 impl LineReader {
@@ -93,7 +93,7 @@ impl LineReader {
     fn lend_line(&mut self) -> bool
         requires { LineIs [] self.old.line self.old.long }
         ensures whole { result ≡ has_lf self.old.ahead.buffered }
-        ensures taken { OnTrue result (IsTaken self.old true self.new) }
+        ensures taken { OnTrue result (TakesBuffered self.old true self.new) }
         ensures line { OnTrue result (IsLonger self.old self.new) }
         ensures left { OnFalse result (self.new ≡ self.old) }
     {
@@ -110,7 +110,7 @@ impl LineReader {
 
     /// Appends buffered bytes to the line, up to an LF; returns true if there was one.
     fn take_chunk(&mut self) -> bool
-        ensures taken { IsTaken self.old result self.new }
+        ensures taken { TakesBuffered self.old result self.new }
         ensures line { IsLonger self.old self.new }
     {
         keep_lent(&mut self.line, self.lent.take(), self.ahead.used());
@@ -129,7 +129,7 @@ impl LineReader {
         requires empty { self.old.ahead.buffered ≡ [] }
         requires going { self.old.ahead.ended ≡ false }
         ensures read { IsReadOn self.old source.old result self.new source.new }
-        ensures asked { IsAsked self.old.ahead source.old result self.new.ahead source.new }
+        ensures source_calls { CallsReader self.old.ahead source.old result self.new.ahead source.new }
     {
         keep_lent(&mut self.line, self.lent.take(), self.ahead.used());
         let more = self.ahead.fill(source);
@@ -144,7 +144,7 @@ impl LineReader {
         ensures next { IfOk result (λ next. IsNext self.old source.old next self.new source.new) }
         ensures long { IfOk result (λ next. next ≡ Next.TooLong → self.new.long ≡ true) }
         ensures goes_on { IfOk result (λ next. UsesUp self.old.ahead next self.new.ahead) }
-        ensures asked { IsAsked self.old.ahead source.old result self.new.ahead source.new }
+        ensures source_calls { CallsReader self.old.ahead source.old result self.new.ahead source.new }
     {
         loop {
             if self.take_chunk() {
@@ -162,7 +162,7 @@ impl LineReader {
         ensures next { IfOk result (λ next. IsNext self.old source.old next self.new source.new) }
         ensures long { IfOk result (λ next. next ≡ Next.TooLong → self.new.long ≡ true) }
         ensures goes_on { IfOk result (λ next. UsesUp self.old.ahead next self.new.ahead) }
-        ensures asked { IsAsked self.old.ahead source.old result self.new.ahead source.new }
+        ensures source_calls { CallsReader self.old.ahead source.old result self.new.ahead source.new }
     {
         if self.ahead.has_ended() {
             return Ok(Next::End);
@@ -183,7 +183,7 @@ impl LineReader {
 
     /// Returns the result for a line that the end of input ended.
     fn last(&self) -> Next
-        ensures { result ≡ last_of self.now.line self.now.long }
+        ensures { result ≡ result_at_end self.now.line self.now.long }
     {
         if !self.long && self.line().is_empty() {
             Next::End

@@ -1,7 +1,7 @@
 //! A store that is saved to memory and loaded back.
 ghost use Rattle.std.specs.Prelude.{◌≡◌, IfOk, IfErr, Result};
 ghost use Rattle.ts_core.specs.store.StoreData.{OfEachHistory};
-ghost use Rattle.ts_script.specs.Reloading.{IsImageIn, DoesNotFit, IsReloadOf, save_failed, load_failed};
+ghost use Rattle.ts_script.specs.ReloadResults.{IsImageIn, DoesNotFit, IsReloadOf, save_failed, load_failed};
 
 use std::alloc::Global;
 use ts_core::{Sink, Source};

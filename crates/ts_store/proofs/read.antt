@@ -3,4 +3,4 @@ pub mod RawReads
 pub mod ColumnsReads
 -- Seats, LiveCells: what a view lends
 pub mod ShownCells
-pub mod SeatLemmas
+pub mod ColumnRefLemmas

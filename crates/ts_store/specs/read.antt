@@ -1,7 +1,7 @@
 -- Reads of columns, and what a view lends.
 -- cited by public contracts and laws
 pub mod PointsRead
-pub mod Seats
+pub mod ViewResults
 -- used only by models and proofs of the code
 pub mod LiveCells
 pub mod CellsLeft

@@ -2,7 +2,7 @@
 -- cited by public contracts and laws
 pub mod Inventories
 -- used only by models and proofs of the code
-pub mod ColumnsKept
+pub mod ColumnStates
 pub mod CellCounts
 pub mod SizedStores
 pub mod CellIndices

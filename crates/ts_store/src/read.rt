@@ -2,9 +2,9 @@
 
 mod cell_walk;
 pub(crate) mod column_reads;
-mod columns_seen;
 mod view;
+mod view_columns;
 
-pub use cell_walk::{CellSeen, CellWalk};
-pub use columns_seen::Columns;
-pub use view::{ColumnSeen, View};
+pub use cell_walk::{CellWalk, ViewCell};
+pub use view::{View, ViewColumn};
+pub use view_columns::Columns;

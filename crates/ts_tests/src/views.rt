@@ -2,7 +2,7 @@
 ghost use Rattle.std.specs.Prelude.{◌≡◌, ◌∷◌, [], map};
 ghost use Rattle.ts_core.specs.facts.Facts.{is_within};
 ghost use Rattle.ts_core.specs.store.StoreData.{state_of};
-ghost use Rattle.ts_core.specs.store.Views.{seen_of};
+ghost use Rattle.ts_core.specs.store.Views.{view_state_of};
 
 use crate::stores::{ONE_RULE, at_second, certified, store_of, write};
 use std::alloc::{Allocator, Global};
@@ -12,7 +12,7 @@ use ts_check::Checked;
 use ts_core::{Agg, MAX_COUNT, Marks, Partial, Settings, Time};
 use ts_exec::{Table, count_points, execute};
 use ts_raw::{ColumnId, Points};
-use ts_store::{CellSeen, CellWalk, Columns, Store, View};
+use ts_store::{CellWalk, Columns, Store, View, ViewCell};
 
 /// Raw points for the first minute, and the rule's cells for the second.
 const TWO_PIECES: &str = "plan 1\nraw 0 60000000000\nrollup m1 60000000000 120000000000\nend\n";
@@ -28,7 +28,7 @@ fn is_within(from: &i128, to: &i128, index: &i128) -> bool
 #[derive(Drop)]
 struct OneCell<'a, A: Allocator> {
     store: &'a Store<A>,
-    cell: CellSeen<'a, A>,
+    cell: ViewCell<'a, A>,
 }
 
 impl<'a, A: Allocator + Copy> View<A> for OneCell<'a, A> {
@@ -36,7 +36,7 @@ impl<'a, A: Allocator + Copy> View<A> for OneCell<'a, A> {
       settings = v.store.now.settings;
       marks = v.store.now.marks;
       columns = v.store.now.columns;
-      rules = map (λ r. record { rule = r.rule; low = r.low; cells = v.cell.cell ∷ []; parts = λ k. v.cell.parts }) (seen_of (state_of v.store.now)).rules;
+      rules = map (λ r. record { rule = r.rule; low = r.low; cells = v.cell.cell ∷ []; parts = λ k. v.cell.parts }) (view_state_of (state_of v.store.now)).rules;
     } };
 
     fn settings(&self) -> &Settings<A> {
@@ -110,7 +110,7 @@ fn with_cell<A: Allocator + Copy>(
     total: Agg,
 ) -> Result<Option<(u64, i128)>, Fail> {
     let plan = certified(alloc, store, 120, TWO_PIECES).ok_or("no plan")?;
-    let cell = CellSeen::new(1, "v", &[], total, Agg::empty());
+    let cell = ViewCell::new(1, "v", &[], total, Agg::empty());
     Ok(answered(alloc, &OneCell { store, cell }, &plan))
 }
 

@@ -5,17 +5,17 @@ use Rattle.ts_core.specs.io.Devices.{Input, Output}
 use Rattle.ts_core.specs.store.StoreData.{StoreData}
 use Rattle.ts_store.specs.write.LineTexts.{State, IsIn}
 use Rattle.ts_http.specs.Maintaining.{left_in}
-use Rattle.ts_http.specs.Reading.{request_of}
+use Rattle.ts_http.specs.HeadsRead.{request_of}
 use Rattle.ts_http.specs.Served.{ServedAs, IsServed}
 use Rattle.ts_http.specs.declared.serve.IoFault.{IoFault}
 use Rattle.ts_http.specs.declared.serve.IoFault.TheVariants.{Reader, Writer}
 use Rattle.ts_http.specs.declared.serve.Served.{Served}
-use Rattle.tsdb.specs.Requests.{Request, Leave, WentBy}
+use Rattle.tsdb.specs.ServedRequests.{ServedRequest, Leave, WentBy}
 
 pub stayed : (k : StoreData) → WentBy k k
 stayed k = λ s here. ([], s, refl, here)
 
-leave_on : (newer older : List Request) (a b c : State) → Leave older a b → Leave newer b c → Leave (newer ++ older) a c
+leave_on : (newer older : List ServedRequest) (a b c : State) → Leave older a b → Leave newer b c → Leave (newer ++ older) a c
 leave_on [] older a b c first e = subst (λ (s : State). Leave older a s) (sym e) first
 leave_on (r ∷ rs) older a b c first then = (then.0, leave_on rs older a b then.0 first then.1, then.2)
 

@@ -5,16 +5,16 @@ use Rattle.clap.specs.Words.{kind_of}
 use Rattle.clap.specs.declared.error.Error.{Error}
 use Rattle.ts_core.specs.facts.Facts.{Text}
 use Rattle.ts_core.specs.io.Devices.{Input, Output, AppendsFront}
-use Rattle.tsdb.specs.CommandLines.{ParsesAs, told_of_kind, IsToldAs}
+use Rattle.tsdb.specs.CommandLines.{ParsesAs, outcome_of_kind, IsPrintedAs}
 use Rattle.tsdb.specs.FaultTables.{fault_table}
 use Rattle.ts_script.specs.Script.{IsReplay}
 use Rattle.ts_script.specs.ScriptLines.{turn_limit}
-use Rattle.ts_reply.specs.Told.{handed_in}
+use Rattle.ts_reply.specs.OutcomeViews.{handed_in}
 use Rattle.tsdb.specs.declared.call.Answer.{Answer}
 use Rattle.tsdb.specs.declared.call.Answer.TheVariants as answer
 use Rattle.tsdb.specs.declared.command_line.Action.{Action}
 use Rattle.tsdb.specs.declared.command_line.Action.TheVariants.{Replay, Faults, Serve}
-use Rattle.tsdb.specs.declared.command_line.Told.TheVariants as said
+use Rattle.tsdb.specs.declared.command_line.CliOutcome.TheVariants as cli_outcome
 use Rattle.tsdb.specs.declared.outcome.Outcome.{Outcome}
 use Rattle.tsdb.specs.declared.outcome.Outcome.TheVariants.{Answered, Stopped, NoScript, NoFault}
 use Rattle.ts_script.specs.declared.run_fault.RunFault.{RunFault}
@@ -28,21 +28,21 @@ abbrev pub IsReplayed : Input → Output → Outcome → Input → Output → Ty
 IsReplayed source sink outcome source' sink' = (result : Result ⊤ RunFault) × (outcome ≡ outcome_of result) × IsReplay turn_limit source sink result source' sink'
 
 -- The rows are printed, or a beginning of them if the device fails. There may be none, or the call runs out of memory.
-abbrev pub TellsFaults : Text → Output → Outcome → Output → Type 0
-TellsFaults table old (NoScript said.Done) new = (table ≢ []) × Appends old.contents new.contents table × (new.failures ≡ old.failures)
-TellsFaults table old (NoScript said.Device) new = (table ≢ []) × AppendsFront old.contents new.contents table × (new.failures ≡ old.failures + 1)
-TellsFaults table old (NoScript said.OutOfMemory) new = new ≡ old
-TellsFaults table old NoFault new = (table ≡ []) × (new ≡ old)
-TellsFaults table old other new = ⊥
+abbrev pub PrintsFaults : Text → Output → Outcome → Output → Type 0
+PrintsFaults table old (NoScript cli_outcome.Done) new = (table ≢ []) × Appends old.contents new.contents table × (new.failures ≡ old.failures)
+PrintsFaults table old (NoScript cli_outcome.Device) new = (table ≢ []) × AppendsFront old.contents new.contents table × (new.failures ≡ old.failures + 1)
+PrintsFaults table old (NoScript cli_outcome.OutOfMemory) new = new ≡ old
+PrintsFaults table old NoFault new = (table ≡ []) × (new ≡ old)
+PrintsFaults table old other new = ⊥
 
 -- a call with this command line may come out so, and leave this of its source and its sink
-abbrev pub Does : Result Action Error → Input → Output → Answer → Input → Output → Type 0
-Does (Ok Replay) source sink (answer.Outcome outcome) source' sink' = IsReplayed source sink outcome source' sink'
-Does (Ok (Faults number)) source sink (answer.Outcome outcome) source' sink' = TellsFaults (fault_table (handed_in number)) sink outcome sink' × (source' ≡ source)
-Does (Ok (Serve service)) source sink (answer.Service service') source' sink' = (service' ≡ service) × (source' ≡ source) × (sink' ≡ sink)
-Does (Err error) source sink (answer.Outcome (NoScript said)) source' sink' = IsToldAs (told_of_kind (kind_of error)) said × (source' ≡ source) × (sink' ≡ sink)
-Does _ source sink answer source' sink' = ⊥
+abbrev pub Executes : Result Action Error → Input → Output → Answer → Input → Output → Type 0
+Executes (Ok Replay) source sink (answer.Outcome outcome) source' sink' = IsReplayed source sink outcome source' sink'
+Executes (Ok (Faults number)) source sink (answer.Outcome outcome) source' sink' = PrintsFaults (fault_table (handed_in number)) sink outcome sink' × (source' ≡ source)
+Executes (Ok (Serve service)) source sink (answer.Service service') source' sink' = (service' ≡ service) × (source' ≡ source) × (sink' ≡ sink)
+Executes (Err error) source sink (answer.Outcome (NoScript cli_outcome)) source' sink' = IsPrintedAs (outcome_of_kind (kind_of error)) cli_outcome × (source' ≡ source) × (sink' ≡ sink)
+Executes _ source sink answer source' sink' = ⊥
 
 -- and so may one with these words, of which the first is the program's name
 abbrev pub IsCall : List Text → Input → Output → Answer → Input → Output → Type 0
-IsCall words source sink answer source' sink' = (result : Result Action Error) × ParsesAs words result × Does result source sink answer source' sink'
+IsCall words source sink answer source' sink' = (result : Result Action Error) × ParsesAs words result × Executes result source sink answer source' sink'

@@ -11,12 +11,12 @@ use Rattle.clap.specs.declared.builder.value_parser.ValueParser.TheVariants.{Sig
 use Rattle.clap.specs.declared.error.Error.{Error}
 use Rattle.clap.specs.declared.error.kind.ErrorKind.{ErrorKind}
 use Rattle.clap.specs.declared.error.kind.ErrorKind.TheVariants as kind
-use Rattle.ts_reply.specs.Told.{handed_in}
+use Rattle.ts_reply.specs.OutcomeViews.{handed_in}
 use Rattle.tsdb.specs.declared.command_line.Action.{Action}
 use Rattle.tsdb.specs.declared.command_line.Action.TheVariants.{Replay, Faults, Serve}
 use Rattle.tsdb.specs.declared.command_line.Service.{Service}
-use Rattle.tsdb.specs.declared.command_line.Told.{Told}
-use Rattle.tsdb.specs.declared.command_line.Told.TheVariants.{Done, Device, Wrong, OutOfMemory}
+use Rattle.tsdb.specs.declared.command_line.CliOutcome.{CliOutcome}
+use Rattle.tsdb.specs.declared.command_line.CliOutcome.TheVariants.{Done, Device, Wrong, OutOfMemory}
 
 -- ---- commands and arguments
 
@@ -94,13 +94,13 @@ ParsesAs words (Err error) = HasKind (fault_of program_app words) error
 -- ---- clap's answers
 
 -- how an answer with an error of this kind ends if its text is printed
-abbrev pub told_of_kind : ErrorKind → Told
-told_of_kind kind.OutOfMemory = OutOfMemory
-told_of_kind kind.DisplayHelp = Done
-told_of_kind kind.DisplayVersion = Done
-told_of_kind _ = Wrong
+abbrev pub outcome_of_kind : ErrorKind → CliOutcome
+outcome_of_kind kind.OutOfMemory = OutOfMemory
+outcome_of_kind kind.DisplayHelp = Done
+outcome_of_kind kind.DisplayVersion = Done
+outcome_of_kind _ = Wrong
 
 -- the device may fail that the text is printed to; without memory none is printed
-abbrev pub IsToldAs : Told → Told → Type 0
-IsToldAs OutOfMemory told = told ≡ OutOfMemory
-IsToldAs said told = (told ≡ said) ⊎ (told ≡ Device)
+abbrev pub IsPrintedAs : CliOutcome → CliOutcome → Type 0
+IsPrintedAs OutOfMemory cli_outcome = cli_outcome ≡ OutOfMemory
+IsPrintedAs said cli_outcome = (cli_outcome ≡ said) ⊎ (cli_outcome ≡ Device)

@@ -8,8 +8,8 @@ use Rattle.tsdb.specs.FaultTables.{fault_row}
 
 -- the row of a fault, if it is requested
 abbrev pub row_where : (FaultCode → Bool) → FaultCode → Text
-row_where asked code = if asked code then fault_row code else []
+row_where requested code = if requested code then fault_row code else []
 
 -- the row of the fault with this number, if it exists
-abbrev pub asked_row : (FaultCode → Bool) → ℕ → Text
-asked_row asked number = option_map_or (row_where asked) (code_of_number number) []
+abbrev pub requested_row : (FaultCode → Bool) → ℕ → Text
+requested_row requested number = option_map_or (row_where requested) (code_of_number number) []

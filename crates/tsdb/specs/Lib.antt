@@ -3,7 +3,7 @@ pub mod FaultTables
 pub mod CommandLines
 pub mod RunOutcomes
 pub mod Calls
-pub mod Requests
+pub mod ServedRequests
 pub mod Services
 -- used only by proofs of the code
 pub mod FaultNumbers

@@ -2,7 +2,7 @@
 use Rattle.std.specs.Prelude.{ℕ, ◌++◌, codes, Option, Some, None}
 use Rattle.ts_core.specs.facts.Facts.{Text}
 use Rattle.ts_script.specs.RunFaults.{run_fault_text}
-use Rattle.tsdb.specs.declared.command_line.Told.TheVariants as told
+use Rattle.tsdb.specs.declared.command_line.CliOutcome.TheVariants as cli_outcome
 use Rattle.ts_script.specs.declared.run_fault.RunFault.{RunFault}
 use Rattle.ts_script.specs.declared.run_fault.RunFault.TheVariants.{OutOfMemory, Reader, Writer, Turns}
 use Rattle.tsdb.specs.declared.outcome.Outcome.{Outcome}
@@ -11,15 +11,15 @@ use Rattle.tsdb.specs.declared.outcome.Outcome.TheVariants.{Answered, Stopped, N
 -- 0 for success, 1 for a device error or endless input, 2 for a wrong command line, 3 when out of memory
 abbrev pub status_of : Outcome → ℕ
 status_of Answered = 0
-status_of (NoScript told.Done) = 0
-status_of (NoScript told.Device) = 1
+status_of (NoScript cli_outcome.Done) = 0
+status_of (NoScript cli_outcome.Device) = 1
 status_of (Stopped Reader) = 1
 status_of (Stopped Writer) = 1
 status_of (Stopped Turns) = 1
-status_of (NoScript told.Wrong) = 2
+status_of (NoScript cli_outcome.Wrong) = 2
 status_of NoFault = 2
 status_of NoText = 2
-status_of (NoScript told.OutOfMemory) = 3
+status_of (NoScript cli_outcome.OutOfMemory) = 3
 status_of (Stopped OutOfMemory) = 3
 
 -- the meaning of an error of a run
@@ -37,9 +37,9 @@ stopped_line fault = run_fault_text fault ++ codes ": " ++ meaning_of fault
 abbrev pub error_line : Outcome → Option Text
 error_line Answered = None
 error_line (Stopped fault) = Some (stopped_line fault)
-error_line (NoScript told.Done) = None
-error_line (NoScript told.Wrong) = None
-error_line (NoScript told.Device) = Some (codes "tsdb: standard output or standard error could not be written")
-error_line (NoScript told.OutOfMemory) = Some (codes "tsdb: there is no memory to answer the command line")
+error_line (NoScript cli_outcome.Done) = None
+error_line (NoScript cli_outcome.Wrong) = None
+error_line (NoScript cli_outcome.Device) = Some (codes "tsdb: standard output or standard error could not be written")
+error_line (NoScript cli_outcome.OutOfMemory) = Some (codes "tsdb: there is no memory to answer the command line")
 error_line NoFault = Some (codes "tsdb: no fault has this number; `tsdb faults` prints them all")
 error_line NoText = Some (codes "tsdb: the command line can't be read as text")

@@ -1,14 +1,14 @@
 //! A call of the program, by the words of its command line.
 ghost use Rattle.std.specs.Prelude.{◌≡◌, ◌⊎◌, IfErr, map};
 ghost use Rattle.clap.specs.Words.{kind_of};
-ghost use Rattle.ts_reply.specs.Told.{handed_in};
-ghost use Rattle.tsdb.specs.CommandLines.{IsToldAs, told_of_kind};
+ghost use Rattle.ts_reply.specs.OutcomeViews.{handed_in};
+ghost use Rattle.tsdb.specs.CommandLines.{IsPrintedAs, outcome_of_kind};
 ghost use Rattle.tsdb.specs.FaultTables.{fault_table};
-ghost use Rattle.tsdb.specs.Calls.{IsReplayed, TellsFaults, IsCall};
-ghost use Rattle.tsdb.specs.declared.command_line.Told.TheVariants.{OutOfMemory};
+ghost use Rattle.tsdb.specs.Calls.{IsReplayed, PrintsFaults, IsCall};
+ghost use Rattle.tsdb.specs.declared.command_line.CliOutcome.TheVariants.{OutOfMemory};
 ghost use Rattle.tsdb.specs.declared.outcome.Outcome.TheVariants.{NoScript, NoText};
 
-use crate::command_line::{Action, Service, Told, parse, told_by};
+use crate::command_line::{Action, CliOutcome, Service, cli_outcome_of, parse};
 use crate::fault_table::fault_table;
 use crate::outcome::Outcome;
 use clap::Error;
@@ -27,13 +27,13 @@ pub fn read_words(rt: &(impl Env + AllocGlobal)) -> Result<Vec<String>, Outcome>
     let args = match env::args(rt) {
         Ok(args) => args,
         Err(error) if error.kind() == io::ErrorKind::OutOfMemory => {
-            return Err(Outcome::NoScript(Told::OutOfMemory));
+            return Err(Outcome::NoScript(CliOutcome::OutOfMemory));
         }
         Err(_) => return Err(Outcome::NoText),
     };
     match args.collect(rt.alloc()) {
         Ok(words) => Ok(words),
-        Err(_) => Err(Outcome::NoScript(Told::OutOfMemory)),
+        Err(_) => Err(Outcome::NoScript(CliOutcome::OutOfMemory)),
     }
 }
 
@@ -58,26 +58,26 @@ pub fn answer_words<'a, S: AsStr, R: Read, W: Write>(
 {
     match parse(rt.alloc(), words) {
         Ok(Action::Replay) => Answer::Outcome(replay(rt.alloc(), source, sink)),
-        Ok(Action::Faults(number)) => Answer::Outcome(tell_faults(rt.alloc(), number, sink)),
+        Ok(Action::Faults(number)) => Answer::Outcome(print_faults(rt.alloc(), number, sink)),
         Ok(Action::Serve(service)) => Answer::Service(service),
-        Err(error) => Answer::Outcome(Outcome::NoScript(tell_error(rt, &error))),
+        Err(error) => Answer::Outcome(Outcome::NoScript(print_error(rt, &error))),
     }
 }
 
 /// Prints the table of faults, or the row of one number.
-fn tell_faults<W: Write>(alloc: Global, number: Option<&str>, sink: &mut Sink<W>) -> Outcome
-    ensures { TellsFaults (fault_table (handed_in number.entry)) sink.old result sink.new }
+fn print_faults<W: Write>(alloc: Global, number: Option<&str>, sink: &mut Sink<W>) -> Outcome
+    ensures { PrintsFaults (fault_table (handed_in number.entry)) sink.old result sink.new }
 {
     let table = match fault_table(alloc, number) {
         Ok(table) => table,
-        Err(_) => return Outcome::NoScript(Told::OutOfMemory),
+        Err(_) => return Outcome::NoScript(CliOutcome::OutOfMemory),
     };
     if table.is_empty() {
         return Outcome::NoFault;
     }
     match sink.put(table.as_bytes()) {
-        Ok(()) => Outcome::NoScript(Told::Done),
-        Err(_) => Outcome::NoScript(Told::Device),
+        Ok(()) => Outcome::NoScript(CliOutcome::Done),
+        Err(_) => Outcome::NoScript(CliOutcome::Device),
     }
 }
 
@@ -92,14 +92,14 @@ fn replay<R: Read, W: Write>(alloc: Global, source: &mut Source<R>, sink: &mut S
 }
 
 /// Prints the text of clap's error.
-fn tell_error(rt: &(impl Print + Eprint), error: &Error) -> Told
-    ensures { IsToldAs (told_of_kind (kind_of error.now)) result }
+fn print_error(rt: &(impl Print + Eprint), error: &Error) -> CliOutcome
+    ensures { IsPrintedAs (outcome_of_kind (kind_of error.now)) result }
 {
-    match told_by(error) {
-        Told::OutOfMemory => Told::OutOfMemory,
-        told => match error.print(rt) {
-            Ok(()) => told,
-            Err(_) => Told::Device,
+    match cli_outcome_of(error) {
+        CliOutcome::OutOfMemory => CliOutcome::OutOfMemory,
+        cli_outcome => match error.print(rt) {
+            Ok(()) => cli_outcome,
+            Err(_) => CliOutcome::Device,
         },
     }
 }

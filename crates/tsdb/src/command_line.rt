@@ -1,7 +1,7 @@
 //! The command line: parses the action that it requests, or returns clap's answer to it.
 ghost use Rattle.std.specs.Prelude.{◌≡◌, map, MatchOption};
 ghost use Rattle.clap.specs.Words.{kind_of, found_of, rows_of, subcommand_rows_of};
-ghost use Rattle.tsdb.specs.CommandLines.{IsActionOf, IsServiceOf, ParsesAs, told_of_kind};
+ghost use Rattle.tsdb.specs.CommandLines.{IsActionOf, IsServiceOf, ParsesAs, outcome_of_kind};
 
 use crate::program::program;
 use clap::error::ErrorKind;
@@ -78,7 +78,7 @@ pub fn parse<'a, S: AsStr>(alloc: Global, words: &'a [S]) -> Result<Action<'a>, 
 
 /// How clap's answer to a command line ended; the exit status shows it.
 #[derive(Clone, Copy, Drop)]
-pub enum Told {
+pub enum CliOutcome {
     /// Help or the version was printed.
     Done,
     /// Standard output or standard error failed.
@@ -90,12 +90,12 @@ pub enum Told {
 }
 
 /// Returns how clap's answer ends if the text of this error is printed.
-pub fn told_by(error: &Error) -> Told
-    ensures { result ≡ told_of_kind (kind_of error.now) }
+pub fn cli_outcome_of(error: &Error) -> CliOutcome
+    ensures { result ≡ outcome_of_kind (kind_of error.now) }
 {
     match error.kind() {
-        ErrorKind::OutOfMemory => Told::OutOfMemory,
-        ErrorKind::DisplayHelp | ErrorKind::DisplayVersion => Told::Done,
-        _ => Told::Wrong,
+        ErrorKind::OutOfMemory => CliOutcome::OutOfMemory,
+        ErrorKind::DisplayHelp | ErrorKind::DisplayVersion => CliOutcome::Done,
+        _ => CliOutcome::Wrong,
     }
 }

@@ -1,52 +1,52 @@
 //! Table of all faults, as `tsdb faults` prints it.
 ghost use Rattle.std.specs.Prelude.{◌≡◌, ◌++◌, IfOk, OnOk, string_bytes};
-ghost use Rattle.ts_reply.specs.Told.{handed_in};
+ghost use Rattle.ts_reply.specs.OutcomeViews.{handed_in};
 ghost use Rattle.tsdb.specs.FaultTables.{is_wanted, is_listed, fault_table};
-ghost use Rattle.tsdb.specs.FaultNumbers.{row_where, asked_row};
+ghost use Rattle.tsdb.specs.FaultNumbers.{row_where, requested_row};
 
 use itoa::Buffer;
 use std::alloc::{AllocError, Global};
 use ts_core::{FaultCode, append_words};
 
 /// Returns true if these are the requested digits, or if all faults are requested.
-fn is_wanted(asked: Option<&str>, digits: &str) -> bool
-    ensures { result ≡ is_wanted (handed_in asked.entry) digits.now }
+fn is_wanted(requested: Option<&str>, digits: &str) -> bool
+    ensures { result ≡ is_wanted (handed_in requested.entry) digits.now }
 {
-    match asked {
+    match requested {
         None => true,
         Some(number) => digits == number,
     }
 }
 
 /// Appends the row of a fault, if it is requested.
-fn row_to(text: &mut String, asked: Option<&str>, code: FaultCode) -> Result<(), AllocError>
-    ensures { OnOk result (string_bytes text.new ≡ string_bytes text.old ++ row_where (is_listed (handed_in asked.entry)) code) }
+fn row_to(text: &mut String, requested: Option<&str>, code: FaultCode) -> Result<(), AllocError>
+    ensures { OnOk result (string_bytes text.new ≡ string_bytes text.old ++ row_where (is_listed (handed_in requested.entry)) code) }
 {
     let mut digits = Buffer::new();
     let digits = digits.format(code.number());
-    if !is_wanted(asked, digits) {
+    if !is_wanted(requested, digits) {
         return Ok(());
     }
     append_words(text, &[digits, " ", code.words(), "\n"])
 }
 
 /// Appends the row of the fault with this number, if it exists and is requested.
-fn numbered_row_to(text: &mut String, asked: Option<&str>, number: u8) -> Result<(), AllocError>
-    ensures { OnOk result (string_bytes text.new ≡ string_bytes text.old ++ asked_row (is_listed (handed_in asked.entry)) number) }
+fn numbered_row_to(text: &mut String, requested: Option<&str>, number: u8) -> Result<(), AllocError>
+    ensures { OnOk result (string_bytes text.new ≡ string_bytes text.old ++ requested_row (is_listed (handed_in requested.entry)) number) }
 {
     match FaultCode::of_number(number) {
-        Some(code) => row_to(text, asked, code),
+        Some(code) => row_to(text, requested, code),
         None => Ok(()),
     }
 }
 
 /// Returns the rows of the requested faults: all, or the one with this number, if it exists.
-pub fn fault_table(alloc: Global, asked: Option<&str>) -> Result<String, AllocError>
-    ensures { IfOk result (λ text. string_bytes text ≡ fault_table (handed_in asked.entry)) }
+pub fn fault_table(alloc: Global, requested: Option<&str>) -> Result<String, AllocError>
+    ensures { IfOk result (λ text. string_bytes text ≡ fault_table (handed_in requested.entry)) }
 {
     let mut text = String::new(alloc);
     for number in 0..128 {
-        numbered_row_to(&mut text, asked, number)?;
+        numbered_row_to(&mut text, requested, number)?;
     }
     Ok(text)
 }

@@ -3,7 +3,7 @@ ghost use Rattle.std.specs.Prelude.{◌≡◌, None, Some, MatchOption};
 ghost use Rattle.std.specs.Process.{exit_status};
 ghost use Rattle.tsdb.specs.RunOutcomes.{status_of, stopped_line, error_line};
 
-use crate::command_line::Told;
+use crate::command_line::CliOutcome;
 use std::process::ExitCode;
 use ts_script::RunFault;
 
@@ -15,7 +15,7 @@ pub enum Outcome {
     /// A script wasn't answered to its end.
     Stopped(RunFault),
     /// Command line that requests no script.
-    NoScript(Told),
+    NoScript(CliOutcome),
     /// Command line that requests a number that no fault has.
     NoFault,
     /// Command line that isn't valid text.
@@ -35,11 +35,12 @@ impl Outcome {
         ensures { result ≡ status_of self }
     {
         match self {
-            Outcome::Answered | Outcome::NoScript(Told::Done) => 0,
+            Outcome::Answered | Outcome::NoScript(CliOutcome::Done) => 0,
             Outcome::Stopped(RunFault::Reader | RunFault::Writer | RunFault::Turns)
-            | Outcome::NoScript(Told::Device) => 1,
-            Outcome::NoScript(Told::Wrong) | Outcome::NoFault | Outcome::NoText => 2,
-            Outcome::Stopped(RunFault::OutOfMemory) | Outcome::NoScript(Told::OutOfMemory) => 3,
+            | Outcome::NoScript(CliOutcome::Device) => 1,
+            Outcome::NoScript(CliOutcome::Wrong) | Outcome::NoFault | Outcome::NoText => 2,
+            Outcome::Stopped(RunFault::OutOfMemory) | Outcome::NoScript(CliOutcome::OutOfMemory) =>
+                3,
         }
     }
 
@@ -49,11 +50,11 @@ impl Outcome {
         ensures { MatchOption result (error_line self ≡ None) (λ line. error_line self ≡ Some line.now) }
     {
         match self {
-            Outcome::Answered | Outcome::NoScript(Told::Done | Told::Wrong) => None,
-            Outcome::NoScript(Told::Device) => {
+            Outcome::Answered | Outcome::NoScript(CliOutcome::Done | CliOutcome::Wrong) => None,
+            Outcome::NoScript(CliOutcome::Device) => {
                 Some("tsdb: standard output or standard error could not be written")
             }
-            Outcome::NoScript(Told::OutOfMemory) => {
+            Outcome::NoScript(CliOutcome::OutOfMemory) => {
                 Some("tsdb: there is no memory to answer the command line")
             }
             Outcome::NoFault => {

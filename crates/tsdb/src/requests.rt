@@ -1,6 +1,6 @@
 //! The loop of `tsdb serve`: serves the connections of a listener one after another, and saves the store's image.
 ghost use Rattle.std.specs.Prelude.{◌≡◌, ◌≤◌};
-ghost use Rattle.tsdb.specs.Requests.{WentBy, is_saved_after};
+ghost use Rattle.tsdb.specs.ServedRequests.{WentBy, is_saved_after};
 
 use crate::image_file::{save_image, save_or_report};
 use crate::timed::Timed;

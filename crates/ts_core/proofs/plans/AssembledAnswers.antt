@@ -13,10 +13,10 @@ use Rattle.ts_core.specs.store.History.{History}
 use Rattle.ts_core.specs.facts.Latest.{latest_of}
 use Rattle.ts_core.specs.queries.Queries.{Query, IsQuery, is_selected, matches, group_of}
 use Rattle.ts_core.specs.queries.Answers.{Group, buckets_in, all_groups, groups_of, row_of, rows_of, answer_of}
-use Rattle.ts_core.specs.plans.Pieces.{Source, Raw, Rollup, Piece, asked, SourceServes, IsValidPiece, Covers, IsValid}
+use Rattle.ts_core.specs.plans.Pieces.{Source, Raw, Rollup, Piece, query_context, SourceServes, IsValidPiece, Covers, IsValid}
 use Rattle.ts_core.specs.store.Cells.{Cell, same_cell, cell_of, is_rolled, is_in_cell, total_of}
 use Rattle.ts_core.specs.store.StoreStates.{StoreState, StandsFor, facts_of, RuleCells}
-use Rattle.ts_core.specs.store.Views.{Seen, Shows, seen_of, shown_total}
+use Rattle.ts_core.specs.store.Views.{ViewState, Shows, view_state_of, shown_total}
 use Rattle.ts_core.specs.plans.Assembly.{in_part, stand_in, rule_shown, cell_groups, groups_given, assembled_groups, assembled_row, assembled_answer}
 use Rattle.ts_core.proofs.settings.Intervals.{IsWide, asked_wide, settings_faultless}
 use Rattle.ts_core.proofs.lists.MembersLemmas.{Among-left, Among-right, Among-append, Among-filter_passes, Among-filter_was, Among-filter_stays, Among-map, map_back}
@@ -51,7 +51,7 @@ has_data f (g ∷ gs) a =
 
 -- ---- the groups of one piece
 
-module _ (opening : Settings) (h : History) (seen : Seen) (q : Query) (shows : Shows opening h seen) (wide : IsWide (asked seen.settings seen.marks q)) (g : List Text) where
+module _ (opening : Settings) (h : History) (seen : ViewState) (q : Query) (shows : Shows opening h seen) (wide : IsWide (query_context seen.settings seen.marks q)) (g : List Text) where
   -- a matching fact of the group, in a range
   record MatchIn (a b : ℤ) : Type 0 where
     fact : Fact
@@ -100,7 +100,7 @@ module _ (opening : Settings) (h : History) (seen : Seen) (q : Query) (shows : S
       let group : group_of q (stand_in rule c) ≡ g = sym (same_group_of q (record { rule = rule; low = s.shown.low }) a b wide.query s.wide s.serves l m f rolled) ∙ n.group in
       subst (λ x. Among g (cell_groups q x (test a b))) (sym s.is) (subst (λ x. Among x (map (λ y. group_of q (stand_in rule y)) (filter full s.shown.cells))) group (Among-map (λ y. group_of q (stand_in rule y)) c (filter full s.shown.cells) there))
 
-  piece_match : (source : Source) (a b : ℤ) → SourceServes (asked seen.settings seen.marks q) source a b → q.from ≤ℤ a → b ≤ℤ q.to → Among g (groups_given seen q source (test a b)) → MatchIn a b
+  piece_match : (source : Source) (a b : ℤ) → SourceServes (query_context seen.settings seen.marks q) source a b → q.from ≤ℤ a → b ≤ℤ q.to → Among g (groups_given seen q source (test a b)) → MatchIn a b
   piece_match Raw a b s l m n =
       let shown : List Fact = facts_of seen.columns in
       let found = map_back (group_of q) (filter (test a b) shown) g n in
@@ -109,7 +109,7 @@ module _ (opening : Settings) (h : History) (seen : Seen) (q : Query) (shows : S
       record { fact = found.0; among = (shows.raw found.0 above).0 (Among-filter_was (test a b) found.0 shown found.1); passes = p; group = found.2 }
   piece_match (Rollup name) a b s l m n = cells_match a b (rule_shown name seen.rules) (serving opening h seen q shows wide name a b s) l m n
 
-  match_piece : (source : Source) (a b : ℤ) → SourceServes (asked seen.settings seen.marks q) source a b → q.from ≤ℤ a → b ≤ℤ q.to → MatchIn a b → Among g (groups_given seen q source (test a b))
+  match_piece : (source : Source) (a b : ℤ) → SourceServes (query_context seen.settings seen.marks q) source a b → q.from ≤ℤ a → b ≤ℤ q.to → MatchIn a b → Among g (groups_given seen q source (test a b))
   match_piece Raw a b s l m n =
       let shown : List Fact = facts_of seen.columns in
       let f : Fact = n.fact in
@@ -120,7 +120,7 @@ module _ (opening : Settings) (h : History) (seen : Seen) (q : Query) (shows : S
 
   -- ---- the groups of all pieces
 
-  pieces_match : (a : ℤ) (ps : List Piece) → q.from ≤ℤ a → Covers a q.to ps → AllByRecursion (IsValidPiece (asked seen.settings seen.marks q)) ps → Among g (assembled_groups seen q ps) → HasMatch q (latest_of h) g
+  pieces_match : (a : ℤ) (ps : List Piece) → q.from ≤ℤ a → Covers a q.to ps → AllByRecursion (IsValidPiece (query_context seen.settings seen.marks q)) ps → Among g (assembled_groups seen q ps) → HasMatch q (latest_of h) g
   pieces_match a [] l c e n = absurd n
   pieces_match a (p ∷ ps) l c e n =
       let at : p.from ≡ a = c.0 in
@@ -132,7 +132,7 @@ module _ (opening : Settings) (h : History) (seen : Seen) (q : Query) (shows : S
       (λ m. pieces_match p.to ps to c.3 e.1 m)
       (Among-append g (groups_given seen q p.source (test p.from p.to)) (assembled_groups seen q ps) n)
 
-  match_pieces : (a : ℤ) (ps : List Piece) → q.from ≤ℤ a → Covers a q.to ps → AllByRecursion (IsValidPiece (asked seen.settings seen.marks q)) ps → (m : HasMatch q (latest_of h) g) → a ≤ℤ m.fact.time → m.fact.time <ℤ q.to → Among g (assembled_groups seen q ps)
+  match_pieces : (a : ℤ) (ps : List Piece) → q.from ≤ℤ a → Covers a q.to ps → AllByRecursion (IsValidPiece (query_context seen.settings seen.marks q)) ps → (m : HasMatch q (latest_of h) g) → a ≤ℤ m.fact.time → m.fact.time <ℤ q.to → Among g (assembled_groups seen q ps)
   match_pieces a [] l c e m low high = absurd (let at : a ≡ q.to = c in omega (arith, ints))
   match_pieces a (p ∷ ps) l c e m low high =
       let at : p.from ≡ a = c.0 in
@@ -151,10 +151,10 @@ module _ (opening : Settings) (h : History) (seen : Seen) (q : Query) (shows : S
 
 -- ---- the answer
 
-shown_wide : (opening : Settings) (h : History) (seen : Seen) (q : Query) → Shows opening h seen → IsQuery q → IsWide (asked seen.settings seen.marks q)
+shown_wide : (opening : Settings) (h : History) (seen : ViewState) (q : Query) → Shows opening h seen → IsQuery q → IsWide (query_context seen.settings seen.marks q)
 shown_wide opening h seen q shows is = asked_wide seen.settings seen.marks q (subst (λ s. settings_fault s ≡ None) (sym shows.settings) (settings_faultless opening h shows.lawful)) is
 
-module _ (opening : Settings) (h : History) (seen : Seen) (q : Query) (shows : Shows opening h seen) (wide : IsWide (asked seen.settings seen.marks q)) (ps : List Piece) (valid : IsValid seen.settings seen.marks q ps) where
+module _ (opening : Settings) (h : History) (seen : ViewState) (q : Query) (shows : Shows opening h seen) (wide : IsWide (query_context seen.settings seen.marks q)) (ps : List Piece) (valid : IsValid seen.settings seen.marks q ps) where
   -- just the groups that have a matching fact
   same_groups_found : all_groups (assembled_groups seen q ps) ≡ groups_of q (latest_of h)
   same_groups_found =
@@ -186,10 +186,10 @@ module _ (opening : Settings) (h : History) (seen : Seen) (q : Query) (shows : S
   same_answer = same_groups (all_groups (assembled_groups seen q ps)) ∙ ap (map (λ g. let z : Group = record { values = g; rows = rows_of q (latest_of h) g } in z)) same_groups_found
 
 -- valid pieces give the answer over all points ever accepted, as if nothing had ever been dropped
-pub assembled-answer : (opening : Settings) (h : History) (seen : Seen) (q : Query) (ps : List Piece) → Shows opening h seen → IsQuery q → IsValid seen.settings seen.marks q ps → assembled_answer seen q ps ≡ answer_of (latest_of h) q
+pub assembled-answer : (opening : Settings) (h : History) (seen : ViewState) (q : Query) (ps : List Piece) → Shows opening h seen → IsQuery q → IsValid seen.settings seen.marks q ps → assembled_answer seen q ps ≡ answer_of (latest_of h) q
 assembled-answer opening h seen q ps shows is valid = same_answer opening h seen q shows (shown_wide opening h seen q shows is) ps valid
 
 -- and so do those of a store that stands for the history
 pub stands-answer : (opening : Settings) (h : History) (s : StoreState) (q : Query) (ps : List Piece) → StandsFor opening h s → IsQuery q → IsValid s.settings s.marks q ps
-    → assembled_answer (seen_of s) q ps ≡ answer_of (latest_of h) q
-stands-answer opening h s q ps st is valid = assembled-answer opening h (seen_of s) q ps (stands_shows opening h s st) is valid
+    → assembled_answer (view_state_of s) q ps ≡ answer_of (latest_of h) q
+stands-answer opening h s q ps st is valid = assembled-answer opening h (view_state_of s) q ps (stands_shows opening h s st) is valid

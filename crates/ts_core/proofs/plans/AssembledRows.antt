@@ -14,10 +14,10 @@ use Rattle.ts_core.specs.store.History.{History, accepted}
 use Rattle.ts_core.specs.facts.Latest.{latest_of}
 use Rattle.ts_core.specs.queries.Queries.{Query, is_selected, group_of}
 use Rattle.ts_core.specs.queries.Answers.{same_group, is_in_row, bucket_in}
-use Rattle.ts_core.specs.plans.Pieces.{Source, Raw, Rollup, Piece, asked, SourceServes, IsValidPiece, Covers, IsValid}
+use Rattle.ts_core.specs.plans.Pieces.{Source, Raw, Rollup, Piece, query_context, SourceServes, IsValidPiece, Covers, IsValid}
 use Rattle.ts_core.specs.store.Cells.{Cell, same_cell, cell_of, is_rolled, is_in_cell}
 use Rattle.ts_core.specs.store.StoreStates.{facts_of, RuleCells}
-use Rattle.ts_core.specs.store.Views.{Seen, Shows, shown_total}
+use Rattle.ts_core.specs.store.Views.{ViewState, Shows, shown_total}
 use Rattle.ts_core.specs.plans.Assembly.{in_part, stand_in, rule_shown, totals_given, aggregate_given, assembled}
 use Rattle.ts_core.proofs.settings.Intervals.{IsWide}
 use Rattle.ts_core.proofs.lists.MembersLemmas.{AllDistinct-filter, Among-filter_passes, Among-filter_was, Among-filter_stays, filter-none}
@@ -34,7 +34,7 @@ use Rattle.ts_core.proofs.queries.AnswersLaws.{filter_both}
 
 -- ---- a piece of raw points
 
-raw_piece : (opening : Settings) (h : History) (seen : Seen) → Shows opening h seen → (p : Fact → Bool) → ((f : Fact) → p f ≡ true → seen.marks.raw ≤ℤ f.time)
+raw_piece : (opening : Settings) (h : History) (seen : ViewState) → Shows opening h seen → (p : Fact → Bool) → ((f : Fact) → p f ≡ true → seen.marks.raw ≤ℤ f.time)
     → aggregate_where p (facts_of seen.columns) ≡ aggregate_where p (latest_of h)
 raw_piece opening h seen s p above =
     let shown : List Fact = facts_of seen.columns in
@@ -124,15 +124,15 @@ and_again false w t = refl
 
 -- ---- all pieces
 
-module _ (opening : Settings) (h : History) (seen : Seen) (q : Query) (shows : Shows opening h seen) (wide : IsWide (asked seen.settings seen.marks q)) (g : List Text) (k : ℤ) where
+module _ (opening : Settings) (h : History) (seen : ViewState) (q : Query) (shows : Shows opening h seen) (wide : IsWide (query_context seen.settings seen.marks q)) (g : List Text) (k : ℤ) where
   abbrev row : Fact → Bool
   row = is_in_row q g k
 
-  one_piece : (source : Source) (a b : ℤ) → SourceServes (asked seen.settings seen.marks q) source a b → q.from ≤ℤ a → b ≤ℤ q.to → aggregate_given seen source (in_part row a b) ≡ aggregate_where (in_part row a b) (latest_of h)
+  one_piece : (source : Source) (a b : ℤ) → SourceServes (query_context seen.settings seen.marks q) source a b → q.from ≤ℤ a → b ≤ℤ q.to → aggregate_given seen source (in_part row a b) ≡ aggregate_where (in_part row a b) (latest_of h)
   one_piece Raw a b s l m = raw_piece opening h seen shows (in_part row a b) (λ f t. le_trans seen.marks.raw a f.time s (within_parts a b f.time (and_parts (row f) (is_within a b f.time) t).1).0)
   one_piece (Rollup name) a b s l m = cells_piece q g k a b (latest_of h) (rule_shown name seen.rules) wide.query (serving opening h seen q shows wide name a b s) l m
 
-  all_pieces : (a : ℤ) (ps : List Piece) → q.from ≤ℤ a → Covers a q.to ps → AllByRecursion (IsValidPiece (asked seen.settings seen.marks q)) ps → assembled seen q ps g k ≡ aggregate_where (in_part row a q.to) (latest_of h)
+  all_pieces : (a : ℤ) (ps : List Piece) → q.from ≤ℤ a → Covers a q.to ps → AllByRecursion (IsValidPiece (query_context seen.settings seen.marks q)) ps → assembled seen q ps g k ≡ aggregate_where (in_part row a q.to) (latest_of h)
   all_pieces a [] l c e =
       let none : (f : Fact) → in_part row a q.to f ≡ false = λ f. ap (λ x. row f && is_within a x f.time) (sym c) ∙ ap (λ x. row f && x) (never_within a f.time) ∙ and_none (row f) in
       sym (ap aggregate_of (filter-none (in_part row a q.to) (latest_of h) (λ f o. none f)))

@@ -8,8 +8,8 @@ use Rattle.ts_core.specs.facts.Facts.{Text, same_text}
 use Rattle.ts_core.specs.settings.Settings.{Rule}
 use Rattle.ts_core.specs.queries.Queries.{Query}
 use Rattle.ts_core.specs.store.Marks.{index_of}
-use Rattle.ts_core.specs.plans.Pieces.{Source, Raw, Rollup, Piece, MarkedRule, Asked, rule_named, start_of, IsBoundary, Divides, IsInOneBucket, RuleServes, SourceServes, IsValidPiece, Covers}
-use Rattle.ts_core.specs.plans.Plans.{IsGood, rollup_piece, LeadsOn}
+use Rattle.ts_core.specs.plans.Pieces.{Source, Raw, Rollup, Piece, MarkedRule, QueryContext, rule_named, start_of, IsBoundary, Divides, IsInOneBucket, RuleServes, SourceServes, IsValidPiece, Covers}
+use Rattle.ts_core.specs.plans.Plans.{ReachesEnd, rollup_piece, LeadsOn}
 use Rattle.ts_core.proofs.settings.Intervals.{IsWide}
 use Rattle.ts_core.proofs.aggregates.BucketsOrder.{one_more, times_le, bucket_le, bucket_of-start}
 use Rattle.ts_core.proofs.facts.Ids.{same_text-eq}
@@ -94,16 +94,16 @@ pub covers_within : (a b : ℤ) (ps : List Piece) → Covers a b ps → a ≤ℤ
 covers_within a b [] c = omega (arith, ints)
 covers_within a b (p ∷ ps) c = let f = c.0 in let l = c.1 in let u = c.2 in omega (arith, ints)
 
-pub good_within : (t : Asked) (p : ℤ) → IsGood t p → p ≤ℤ t.query.to
+pub good_within : (t : QueryContext) (p : ℤ) → ReachesEnd t p → p ≤ℤ t.query.to
 good_within t p g = covers_within p t.query.to g.0 g.1.covers
 
-pub record SomeLead (t : Asked) (p : ℤ) : Type 0 where
+pub record SomeLead (t : QueryContext) (p : ℤ) : Type 0 where
   pub n : ℕ
   pub end : ℤ
   pub leads : LeadsOn t n p end
 
 -- below the mark a good place has a rule that leads on
-from_piece : (t : Asked) (src : Source) (a b : ℤ) (ps : List Piece) → IsWide t → a <ℤ t.mark → a <ℤ b → b ≤ℤ t.query.to → Covers b t.query.to ps → SourceServes t src a b → AllByRecursion (IsValidPiece t) ps → SomeLead t a
+from_piece : (t : QueryContext) (src : Source) (a b : ℤ) (ps : List Piece) → IsWide t → a <ℤ t.mark → a <ℤ b → b ≤ℤ t.query.to → Covers b t.query.to ps → SourceServes t src a b → AllByRecursion (IsValidPiece t) ps → SomeLead t a
 from_piece t Raw a b ps s m l u c v w = absurd (omega (arith, ints))
 from_piece t (Rollup name) a b ps s m l u c v w =
     let r = v.0 in
@@ -112,12 +112,12 @@ from_piece t (Rollup name) a b ps s m l u c v w =
     let e : ℤ = a +ℤ r.rule.interval in
     let x = to_next r.rule a b h v.2.starts v.2.ends l in
     let valid : IsValidPiece t (rollup_piece r.rule.name a e) = (r, subst (λ z. rule_named z t.rules ≡ Some r) (sym k.named) v.1, first_serves t.query r a b s.query h l v.2) in
-    let good : IsGood t e = by_lt_z e b
+    let good : ReachesEnd t e = by_lt_z e b
     (λ m2. (rollup_piece name e b ∷ ps, record { covers = (refl, m2, u, c); each = ((r, v.1, rest_serves t.query r a b s.query h m2 v.2), w) }))
     (λ m2. let q : b ≡ e = omega (arith, ints) in (ps, record { covers = subst (λ z. Covers z t.query.to ps) q c; each = w })) in
     record { n = k.n; end = e; leads = record { rule = r; there = k.there; one = refl; valid = valid; good = good } }
 
-pub good_leads : (t : Asked) (p : ℤ) → IsWide t → p <ℤ t.mark → p <ℤ t.query.to → IsGood t p → SomeLead t p
+pub good_leads : (t : QueryContext) (p : ℤ) → IsWide t → p <ℤ t.mark → p <ℤ t.query.to → ReachesEnd t p → SomeLead t p
 good_leads t p s m l ([], v) = let c = v.covers in absurd (omega (arith, ints))
 good_leads t p s m l (q ∷ ps, v) =
     let c = v.covers in

@@ -13,9 +13,9 @@ use Rattle.ts_core.specs.store.History.{History}
 use Rattle.ts_core.specs.facts.Latest.{latest_of}
 use Rattle.ts_core.specs.store.Marks.{index_of}
 use Rattle.ts_core.specs.queries.Queries.{Query, matches}
-use Rattle.ts_core.specs.plans.Pieces.{Rollup, MarkedRule, marked_rules, asked, rule_named, start_of, RuleServes, SourceServes}
+use Rattle.ts_core.specs.plans.Pieces.{Rollup, MarkedRule, marked_rules, query_context, rule_named, start_of, RuleServes, SourceServes}
 use Rattle.ts_core.specs.store.Cells.{Cell, cell_cmp, same_cell, is_rolled}
-use Rattle.ts_core.specs.store.Views.{Seen, HasTotals, Shows}
+use Rattle.ts_core.specs.store.Views.{ViewState, HasTotals, Shows}
 use Rattle.ts_core.specs.plans.Assembly.{rule_shown}
 use Rattle.ts_core.specs.store.StoreStates.{RuleCells, rule_of, lowest_of}
 use Rattle.ts_core.proofs.settings.Intervals.{IsWide}
@@ -80,8 +80,8 @@ wide_rule name (x ∷ xs) r a e =
       | false ↦ λ k. wide_rule name xs r a.1 k
     ] e
 
-pub serving : (opening : Settings) (h : History) (seen : Seen) (q : Query) → Shows opening h seen → IsWide (asked seen.settings seen.marks q) → (name : Text) (a b : ℤ)
-    → SourceServes (asked seen.settings seen.marks q) (Rollup name) a b → Serving (latest_of h) q (rule_shown name seen.rules) a b
+pub serving : (opening : Settings) (h : History) (seen : ViewState) (q : Query) → Shows opening h seen → IsWide (query_context seen.settings seen.marks q) → (name : Text) (a b : ℤ)
+    → SourceServes (query_context seen.settings seen.marks q) (Rollup name) a b → Serving (latest_of h) q (rule_shown name seen.rules) a b
 serving opening h seen q shows wide name a b s =
     let r : MarkedRule = s.0 in
     let named : rule_named name (marked_rules seen.settings.rules seen.marks.lows) ≡ Some r = s.1 in

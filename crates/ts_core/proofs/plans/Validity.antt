@@ -9,7 +9,7 @@ use Rattle.ts_core.specs.settings.Settings.{Rule, Settings}
 use Rattle.ts_core.specs.aggregates.Buckets.{bucket_of}
 use Rattle.ts_core.specs.store.Marks.{Marks, index_of}
 use Rattle.ts_core.specs.queries.Queries.{Query}
-use Rattle.ts_core.specs.plans.Pieces.{Source, Raw, Rollup, Piece, MarkedRule, Asked, asked, rule_named, start_of, Divides, IsInOneBucket, tags_of, RuleServes, SourceServes, IsValidPiece, Covers, IsValidFrom, IsValid}
+use Rattle.ts_core.specs.plans.Pieces.{Source, Raw, Rollup, Piece, MarkedRule, QueryContext, query_context, rule_named, start_of, Divides, IsInOneBucket, tags_of, RuleServes, SourceServes, IsValidPiece, Covers, IsValidFrom, IsValid}
 use Rattle.ts_core.specs.settings.SettingsFaults.{unless}
 use Rattle.ts_core.specs.plans.Faults.{Fault, Gap, NoSuchRule, divides, is_in_one_bucket, rule_fault, source_fault, piece_fault, gap_at, or_fault, pieces_fault, or_gap, fault_from, first_fault}
 use Rattle.ts_core.proofs.lists.Comparisons.{le_from, le_true, lt_from, lt_true, same_text-from_eq, all_among, among_all}
@@ -66,11 +66,11 @@ rule_from : (q : Query) (o : Option MarkedRule) (a b : ℤ) → rule_fault q o a
 rule_from q None a b h = absurd (let e : Some NoSuchRule ≡ None = h in cc)
 rule_from q (Some r) a b h = (r, refl, serves_from q r a b h)
 
-pub source_from : (t : Asked) (s : Source) (a b : ℤ) → source_fault t s a b ≡ None → SourceServes t s a b
+pub source_from : (t : QueryContext) (s : Source) (a b : ℤ) → source_fault t s a b ≡ None → SourceServes t s a b
 source_from t Raw a b h = le_from t.mark a (well _ _ _ h).0
 source_from t (Rollup name) a b h = rule_from t.query (rule_named name t.rules) a b h
 
-pub source_none : (t : Asked) (s : Source) (a b : ℤ) → SourceServes t s a b → source_fault t s a b ≡ None
+pub source_none : (t : QueryContext) (s : Source) (a b : ℤ) → SourceServes t s a b → source_fault t s a b ≡ None
 source_none t Raw a b h = well_none _ _ _ (le_true t.mark a h) refl
 source_none t (Rollup name) a b h = ap (λ o. rule_fault t.query o a b) h.1 ∙ serves_none t.query h.0 a b h.2
 
@@ -80,11 +80,11 @@ or_none : (n : ℕ) (f : Option Fault) (next : Option (Fault × ℕ)) → or_fau
 or_none n None next h = (refl, h)
 or_none n (Some f) next h = absurd (let q : Some (f, n) ≡ None = h in cc)
 
-each_from : (t : Asked) (n : ℕ) (ps : List Piece) → pieces_fault t n ps ≡ None → AllByRecursion (IsValidPiece t) ps
+each_from : (t : QueryContext) (n : ℕ) (ps : List Piece) → pieces_fault t n ps ≡ None → AllByRecursion (IsValidPiece t) ps
 each_from t n [] h = tt
 each_from t n (p ∷ ps) h = let k = or_none n (piece_fault t p) (pieces_fault t (n + 1) ps) h in (source_from t p.source p.from p.to k.0, each_from t (n + 1) ps k.1)
 
-each_none : (t : Asked) (n : ℕ) (ps : List Piece) → AllByRecursion (IsValidPiece t) ps → pieces_fault t n ps ≡ None
+each_none : (t : QueryContext) (n : ℕ) (ps : List Piece) → AllByRecursion (IsValidPiece t) ps → pieces_fault t n ps ≡ None
 each_none t n [] h = refl
 each_none t n (p ∷ ps) h = ap (λ f. or_fault n f (pieces_fault t (n + 1) ps)) (source_none t p.source p.from p.to h.0) ∙ each_none t (n + 1) ps h.1
 
@@ -120,16 +120,16 @@ no_gap : (g : Option ℕ) (f : Option (Fault × ℕ)) → or_gap g f ≡ None �
 no_gap None f h = (refl, h)
 no_gap (Some n) f h = absurd (let q : Some (Gap, n) ≡ None = h in cc)
 
-pub valid_from : (t : Asked) (a : ℤ) (ps : List Piece) → fault_from t a ps ≡ None → IsValidFrom t a ps
+pub valid_from : (t : QueryContext) (a : ℤ) (ps : List Piece) → fault_from t a ps ≡ None → IsValidFrom t a ps
 valid_from t a ps h = let s = no_gap (gap_at 0 a t.query.to ps) (pieces_fault t 0 ps) h in record { covers = covers_from 0 a t.query.to ps s.0; each = each_from t 0 ps s.1 }
 
-pub valid_none : (t : Asked) (a : ℤ) (ps : List Piece) → IsValidFrom t a ps → fault_from t a ps ≡ None
+pub valid_none : (t : QueryContext) (a : ℤ) (ps : List Piece) → IsValidFrom t a ps → fault_from t a ps ≡ None
 valid_none t a ps v = ap₂ or_gap (covers_none 0 a t.query.to ps v.covers) (each_none t 0 ps v.each)
 
 -- pieces are valid exactly where they have no first fault
 pub first_fault-valid : (s : Settings) (m : Marks) (q : Query) (ps : List Piece) → (first_fault s m q ps ≡ None) ↔ IsValid s m q ps
-first_fault-valid s m q ps = (valid_from (asked s m q) q.from ps, valid_none (asked s m q) q.from ps)
+first_fault-valid s m q ps = (valid_from (query_context s m q) q.from ps, valid_none (query_context s m q) q.from ps)
 
 -- and with a fault they aren't
 pub first_fault-not_valid : (s : Settings) (m : Marks) (q : Query) (ps : List Piece) (e : Fault × ℕ) → first_fault s m q ps ≡ Some e → IsValid s m q ps → ⊥
-first_fault-not_valid s m q ps e h v = let n : Some e ≡ None = sym h ∙ valid_none (asked s m q) q.from ps v in absurd cc
+first_fault-not_valid s m q ps e h v = let n : Some e ≡ None = sym h ∙ valid_none (query_context s m q) q.from ps v in absurd cc

@@ -5,16 +5,16 @@ use Rattle.std.proofs.lemmas.Int.{ints, by_lt_z}
 use Rattle.std.specs.List.{AllByRecursion}
 use Rattle.std.proofs.lemmas.Bool.{and_parts}
 use Rattle.ts_core.specs.facts.Facts.{Text}
-use Rattle.ts_core.specs.plans.Pieces.{Source, Raw, Rollup, Piece, MarkedRule, Asked, SourceServes, IsValidPiece, Covers, IsValidFrom}
+use Rattle.ts_core.specs.plans.Pieces.{Source, Raw, Rollup, Piece, MarkedRule, QueryContext, SourceServes, IsValidPiece, Covers, IsValidFrom}
 use Rattle.ts_core.specs.plans.Faults.{Fault, piece_fault}
-use Rattle.ts_core.specs.plans.Plans.{IsFirstToLead, Steps, IsWalk, is_same_rule, is_faultless, drawn, joined_onto, joined, IsPlanOf}
+use Rattle.ts_core.specs.plans.Plans.{IsFirstToLead, Steps, IsWalk, is_same_rule, is_faultless, extended, joined_onto, joined, IsPlanOf}
 use Rattle.ts_core.proofs.settings.Intervals.{IsWide}
 use Rattle.ts_core.proofs.plans.Validity.{source_from}
 use Rattle.ts_core.proofs.plans.GoodPlaces.{rule_wide, good_within}
 
 -- ---- the walk is valid, and stays so where it is joined
 
-steps_valid : (t : Asked) (p : ℤ) (b : Piece) (src : Source) (bs : List Piece) (more : Type 0) → IsWide t → b.source ≡ src → p <ℤ t.query.to → b.from ≡ p → (more → IsValidFrom t b.to bs) → Steps t p b.to src bs more → IsValidFrom t p (b ∷ bs)
+steps_valid : (t : QueryContext) (p : ℤ) (b : Piece) (src : Source) (bs : List Piece) (more : Type 0) → IsWide t → b.source ≡ src → p <ℤ t.query.to → b.from ≡ p → (more → IsValidFrom t b.to bs) → Steps t p b.to src bs more → IsValidFrom t p (b ∷ bs)
 steps_valid t p b Raw bs more s e l f v k =
     let to : b.to ≡ t.query.to = k.1 in
     let has : SourceServes t b.source b.from b.to = subst (λ z. SourceServes t z b.from b.to) (sym e) (subst (λ z. t.mark ≤ℤ z) (sym f) k.0) in
@@ -29,7 +29,7 @@ steps_valid t p b (Rollup name) bs more s e l f v k =
     let has : SourceServes t b.source b.from b.to = subst (λ z. SourceServes t z b.from b.to) (sym e) (subst (λ z. SourceServes t (Rollup name) z b.to) (sym f) here) in
     record { covers = (f, omega (arith, ints), in', rest.covers); each = (has, rest.each) }
 
-pub walk_valid : (t : Asked) (p : ℤ) (bs : List Piece) → IsWide t → IsWalk t p bs → IsValidFrom t p bs
+pub walk_valid : (t : QueryContext) (p : ℤ) (bs : List Piece) → IsWide t → IsWalk t p bs → IsValidFrom t p bs
 walk_valid t p [] s w = record { covers = w; each = tt }
 walk_valid t p (b ∷ bs) s w = steps_valid t p b b.source bs (IsWalk t b.to bs) s refl w.0 w.1 (walk_valid t b.to bs s) w.2
 
@@ -37,32 +37,32 @@ pub faultless_none : (o : Option Fault) → is_faultless o ≡ true → o ≡ No
 faultless_none None h = refl
 faultless_none (Some f) h = absurd (true≢false (sym h))
 
-abbrev joins : Asked → Piece → Piece → Bool
-joins t p b = is_same_rule p.source b.source && is_faultless (piece_fault t (drawn p b))
+abbrev joins : QueryContext → Piece → Piece → Bool
+joins t p b = is_same_rule p.source b.source && is_faultless (piece_fault t (extended p b))
 
-pub joined_valid : (t : Asked) (a : ℤ) (p : Piece) (bs : List Piece) → IsValidFrom t a (p ∷ bs) → IsValidFrom t a (joined_onto t p bs)
+pub joined_valid : (t : QueryContext) (a : ℤ) (p : Piece) (bs : List Piece) → IsValidFrom t a (p ∷ bs) → IsValidFrom t a (joined_onto t p bs)
 joined_valid t a p [] v = v
 joined_valid t a p (b ∷ bs) v =
-    elim (joins t p b) as (λ z. joins t p b ≡ z → IsValidFrom t a (cond z (joined_onto t (drawn p b) bs) (p ∷ joined_onto t b bs))) [
+    elim (joins t p b) as (λ z. joins t p b ≡ z → IsValidFrom t a (cond z (joined_onto t (extended p b) bs) (p ∷ joined_onto t b bs))) [
       | true ↦ λ e.
-          let none = faultless_none (piece_fault t (drawn p b)) (and_parts (is_same_rule p.source b.source) _ e).1 in
+          let none = faultless_none (piece_fault t (extended p b)) (and_parts (is_same_rule p.source b.source) _ e).1 in
           let c = v.covers in
           let c0 = c.0 in
           let c1 = c.1 in
           let c3 = c.3.0 in
           let c4 = c.3.1 in
-          joined_valid t a (drawn p b) bs (record { covers = (c0, omega (arith, ints), c.3.2, c.3.3); each = (source_from t p.source p.from b.to none, v.each.1.1) })
+          joined_valid t a (extended p b) bs (record { covers = (c0, omega (arith, ints), c.3.2, c.3.3); each = (source_from t p.source p.from b.to none, v.each.1.1) })
       | false ↦ λ e.
           let rest = joined_valid t p.to b bs (record { covers = v.covers.3; each = v.each.1 }) in
           record { covers = (v.covers.0, v.covers.1, v.covers.2, rest.covers); each = (v.each.0, rest.each) }
     ] refl
 
-walk_joined : (t : Asked) (p : ℤ) (bs : List Piece) → IsWide t → IsWalk t p bs → IsValidFrom t p (joined t bs)
+walk_joined : (t : QueryContext) (p : ℤ) (bs : List Piece) → IsWide t → IsWalk t p bs → IsValidFrom t p (joined t bs)
 walk_joined t p [] s w = walk_valid t p [] s w
 walk_joined t p (b ∷ bs) s w = joined_valid t p b bs (walk_valid t p (b ∷ bs) s w)
 
 -- a plan is valid
-pub plan_valid : (t : Asked) (ps : List Piece) → IsWide t → IsPlanOf t ps → IsValidFrom t t.query.from ps
+pub plan_valid : (t : QueryContext) (ps : List Piece) → IsWide t → IsPlanOf t ps → IsValidFrom t t.query.from ps
 plan_valid t ps s k = subst (IsValidFrom t t.query.from) (sym k.2) (walk_joined t t.query.from k.0 s k.1)
 
 -- ---- and it is one alone
@@ -70,7 +70,7 @@ plan_valid t ps s k = subst (IsValidFrom t t.query.from) (sym k.2) (walk_joined 
 by_order : {P : Type 0} (m n : ℕ) → (m < n → P) → (n < m → P) → (m ≡ n → P) → P
 by_order m n f g h = by_lt_z (pos m) (pos n) (λ l. f (omega (arith, ints))) (λ l. by_lt_z (pos n) (pos m) (λ k. g (omega (arith, ints))) (λ k. h (omega (arith, ints))))
 
-same_rule : (t : Asked) (m n : ℕ) (r u : MarkedRule) → m ≡ n → slice_get t.rules m ≡ Some r → slice_get t.rules n ≡ Some u → r ≡ u
+same_rule : (t : QueryContext) (m n : ℕ) (r u : MarkedRule) → m ≡ n → slice_get t.rules m ≡ Some r → slice_get t.rules n ≡ Some u → r ≡ u
 same_rule t m n r u e a b = let q : Some r ≡ Some u = sym a ∙ ap (slice_get t.rules) e ∙ b in cc
 
 record Alike (s u : Source) (d e : ℤ) (bs cs : List Piece) : Type 0 where
@@ -78,7 +78,7 @@ record Alike (s u : Source) (d e : ℤ) (bs cs : List Piece) : Type 0 where
   end : d ≡ e
   rest : bs ≡ cs
 
-first_alike : (t : Asked) (p d e : ℤ) (name other : Text) (bs cs : List Piece) → (d ≡ e → bs ≡ cs) → IsFirstToLead t name p d → IsFirstToLead t other p e → Alike (Rollup name) (Rollup other) d e bs cs
+first_alike : (t : QueryContext) (p d e : ℤ) (name other : Text) (bs cs : List Piece) → (d ≡ e → bs ≡ cs) → IsFirstToLead t name p d → IsFirstToLead t other p e → Alike (Rollup name) (Rollup other) d e bs cs
 first_alike t p d e name other bs cs f a b =
     by_order a.n b.n
     (λ l. absurd (b.first a.n d l a.leads))
@@ -89,7 +89,7 @@ first_alike t p d e name other bs cs f a b =
     let n : name ≡ other = sym a.named ∙ ap (λ (x : MarkedRule). x.rule.name) r ∙ b.named in
     record { source = ap Rollup n; end = z; rest = f z })
 
-steps_same : (t : Asked) (p d e : ℤ) (s u : Source) (bs cs : List Piece) (w v : Type 0) → (d ≡ e → w → v → bs ≡ cs) → Steps t p d s bs w → Steps t p e u cs v → Alike s u d e bs cs
+steps_same : (t : QueryContext) (p d e : ℤ) (s u : Source) (bs cs : List Piece) (w v : Type 0) → (d ≡ e → w → v → bs ≡ cs) → Steps t p d s bs w → Steps t p e u cs v → Alike s u d e bs cs
 steps_same t p d e Raw Raw bs cs w v f a b = record { source = refl; end = a.1 ∙ sym b.1; rest = a.2 ∙ sym b.2 }
 steps_same t p d e Raw (Rollup n) bs cs w v f a b = absurd (let x = a.0 in let y = b.0 in omega (arith, ints))
 steps_same t p d e (Rollup m) Raw bs cs w v f a b = absurd (let x = a.0 in let y = b.0 in omega (arith, ints))
@@ -101,7 +101,7 @@ piece_of s a b = record { source = s; from = a; to = b }
 pub same_piece : (a b : Piece) → a.source ≡ b.source → a.from ≡ b.from → a.to ≡ b.to → a ≡ b
 same_piece a b p q r = ap (λ s. piece_of s a.from a.to) p ∙ ap (λ x. piece_of b.source x a.to) q ∙ ap (piece_of b.source b.from) r
 
-pub walk_same : (t : Asked) (p : ℤ) (bs cs : List Piece) → IsWalk t p bs → IsWalk t p cs → bs ≡ cs
+pub walk_same : (t : QueryContext) (p : ℤ) (bs cs : List Piece) → IsWalk t p bs → IsWalk t p cs → bs ≡ cs
 walk_same t p [] [] w v = refl
 walk_same t p [] (c ∷ cs) w v = absurd (let x = v.0 in omega (arith, ints))
 walk_same t p (b ∷ bs) [] w v = absurd (let x = w.0 in omega (arith, ints))
@@ -109,5 +109,5 @@ walk_same t p (b ∷ bs) (c ∷ cs) w v =
     let k = steps_same t p b.to c.to b.source c.source bs cs (IsWalk t b.to bs) (IsWalk t c.to cs) (λ e x y. walk_same t c.to bs cs (subst (λ z. IsWalk t z bs) e x) y) w.2 v.2 in
     ap₂ (λ x (xs : List Piece). x ∷ xs) (same_piece b c k.source (w.1 ∙ sym v.1) k.end) k.rest
 
-pub plan_same : (t : Asked) (ps qs : List Piece) → IsPlanOf t ps → IsPlanOf t qs → ps ≡ qs
+pub plan_same : (t : QueryContext) (ps qs : List Piece) → IsPlanOf t ps → IsPlanOf t qs → ps ≡ qs
 plan_same t ps qs a b = a.2 ∙ ap (joined t) (walk_same t t.query.from a.0 b.0 a.1 b.1) ∙ sym b.2

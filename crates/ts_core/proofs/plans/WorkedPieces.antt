@@ -84,7 +84,7 @@ other_measurement = refl
 off_boundary : fault_of (asks cpu [] 30000000000 120000000000 minute) (rollup m1 30000000000 120000000000 ∷ []) ≡ Some (OffBoundary, 0)
 off_boundary = refl
 
-tag_not_kept : fault_of (asks cpu (record { tag = 100 ∷ 99 ∷ []; value = 120 ∷ []; differs = false } ∷ []) 0 60000000000 minute) (rollup m1 0 60000000000 ∷ []) ≡ Some (TagNotKept, 0)
+tag_not_kept : fault_of (asks cpu (record { tag = 100 ∷ 99 ∷ []; value = 120 ∷ []; negated = false } ∷ []) 0 60000000000 minute) (rollup m1 0 60000000000 ∷ []) ≡ Some (TagNotKept, 0)
 tag_not_kept = refl
 
 straddles : fault_of (asks cpu [] 0 180000000000 90000000000) (rollup m1 0 180000000000 ∷ []) ≡ Some (Straddles, 0)

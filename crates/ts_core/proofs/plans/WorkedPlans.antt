@@ -5,7 +5,7 @@ use Rattle.ts_core.specs.settings.Settings.{Rule, Settings}
 use Rattle.ts_core.specs.store.Marks.{Marks, marks_of}
 use Rattle.ts_core.specs.store.History.{Begin}
 use Rattle.ts_core.specs.queries.Queries.{Query}
-use Rattle.ts_core.specs.plans.Pieces.{Piece, asked}
+use Rattle.ts_core.specs.plans.Pieces.{Piece, query_context}
 use Rattle.ts_core.specs.plans.Plans.{IsPlan, whole_buckets}
 use Rattle.ts_core.proofs.settings.Intervals.{IsWide, asked_wide}
 use Rattle.ts_core.proofs.plans.WalkChecks.{is_walk-IsWalk}
@@ -18,9 +18,9 @@ three_minutes = asks cpu [] 0 180000000000 minute
 
 three_minutes_plan : IsPlan two_minutes at_200s three_minutes (rollup m1 0 120000000000 ∷ raw 120000000000 180000000000 ∷ [])
 three_minutes_plan =
-    let h : IsWide (asked two_minutes at_200s three_minutes) = asked_wide two_minutes at_200s three_minutes refl (record { interval = omega (arith, ints); range = omega (arith, ints) }) in
+    let h : IsWide (query_context two_minutes at_200s three_minutes) = asked_wide two_minutes at_200s three_minutes refl (record { interval = omega (arith, ints); range = omega (arith, ints) }) in
     let bs : List Piece = rollup m1 0 60000000000 ∷ rollup m1 60000000000 120000000000 ∷ raw 120000000000 180000000000 ∷ [] in
-    (bs, is_walk-IsWalk (asked two_minutes at_200s three_minutes) (pos 0) bs h refl, refl)
+    (bs, is_walk-IsWalk (query_context two_minutes at_200s three_minutes) (pos 0) bs h refl, refl)
 
 -- ---- two pieces of one rule, since 180 s is a boundary of the query alone
 
@@ -32,9 +32,9 @@ by_90s = asks cpu [] 120000000000 240000000000 90000000000
 
 by_90s_plan : IsPlan two_minutes at_10m by_90s (rollup m1 120000000000 180000000000 ∷ rollup m1 180000000000 240000000000 ∷ [])
 by_90s_plan =
-    let h : IsWide (asked two_minutes at_10m by_90s) = asked_wide two_minutes at_10m by_90s refl (record { interval = omega (arith, ints); range = omega (arith, ints) }) in
+    let h : IsWide (query_context two_minutes at_10m by_90s) = asked_wide two_minutes at_10m by_90s refl (record { interval = omega (arith, ints); range = omega (arith, ints) }) in
     let bs : List Piece = rollup m1 120000000000 180000000000 ∷ rollup m1 180000000000 240000000000 ∷ [] in
-    (bs, is_walk-IsWalk (asked two_minutes at_10m by_90s) (pos 120000000000) bs h refl, refl)
+    (bs, is_walk-IsWalk (query_context two_minutes at_10m by_90s) (pos 120000000000) bs h refl, refl)
 
 -- ---- a rule by hour before a rule by minute: minutes up to the first whole hour
 
@@ -58,9 +58,9 @@ minutes_from k (suc n) more = rollup m1 (k * 60000000000) ((k + 1) * 60000000000
 half_past_plan : IsPlan hours_and_minutes at_3h from_half_past (rollup m1 1800000000000 3600000000000 ∷ rollup (104 ∷ 49 ∷ []) 3600000000000 10800000000000 ∷ [])
 unfolding minutes_from
 half_past_plan =
-    let h : IsWide (asked hours_and_minutes at_3h from_half_past) = asked_wide hours_and_minutes at_3h from_half_past refl (record { interval = omega (arith, ints); range = omega (arith, ints) }) in
+    let h : IsWide (query_context hours_and_minutes at_3h from_half_past) = asked_wide hours_and_minutes at_3h from_half_past refl (record { interval = omega (arith, ints); range = omega (arith, ints) }) in
     let bs : List Piece = minutes_from 30 30 (rollup (104 ∷ 49 ∷ []) 3600000000000 7200000000000 ∷ rollup (104 ∷ 49 ∷ []) 7200000000000 10800000000000 ∷ []) in
-    (bs, is_walk-IsWalk (asked hours_and_minutes at_3h from_half_past) (pos 1800000000000) bs h refl, refl)
+    (bs, is_walk-IsWalk (query_context hours_and_minutes at_3h from_half_past) (pos 1800000000000) bs h refl, refl)
 
 -- ---- the limit: a rule by second has 1,000,001 whole buckets in 1,000,001 s, and 1,000,000 in one second less
 

@@ -41,7 +41,7 @@ same_values r f (tag ∷ tags) a = ap₂ (λ x xs. x ∷ xs) (sym (kept_value f.
 same_meeting : (r : Rule) (f : Fact) (cs : List Condition) → AllByRecursion (λ tag. Among tag r.kept_tags) (map (λ (c : Condition). c.tag) cs) → list_all (meets f.column.series) cs ≡ list_all (meets (kept_series r f)) cs
 same_meeting r f [] a = refl
 same_meeting r f (c ∷ cs) a =
-    ap₂ (λ x y. x && y) (ap (λ x. cond c.differs (not (same_text x c.value)) (same_text x c.value)) (sym (kept_value f.column.series r.kept_tags c.tag a.0))) (same_meeting r f cs a.1)
+    ap₂ (λ x y. x && y) (ap (λ x. cond c.negated (not (same_text x c.value)) (same_text x c.value)) (sym (kept_value f.column.series r.kept_tags c.tag a.0))) (same_meeting r f cs a.1)
 
 all_parts : {X : Type 0} (P : X → Type 0) (xs ys : List X) → AllByRecursion P (xs ++ ys) → AllByRecursion P xs × AllByRecursion P ys
 all_parts P [] ys a = (tt, a)

@@ -6,12 +6,12 @@ use Rattle.ts_core.specs.settings.SettingsFaults.{settings_fault}
 use Rattle.ts_core.specs.store.History.{History, Line, Begin, Step, AddRule, DropRule, settings_of, IsLawful}
 use Rattle.ts_core.specs.store.Marks.{Marks}
 use Rattle.ts_core.specs.queries.Queries.{Query, IsQuery}
-use Rattle.ts_core.specs.plans.Pieces.{MarkedRule, marked_rules, Asked, asked}
+use Rattle.ts_core.specs.plans.Pieces.{MarkedRule, marked_rules, QueryContext, query_context}
 use Rattle.ts_core.proofs.settings.SettingsLaws.{settings_wide}
 use Rattle.ts_core.proofs.settings.RuleLaws.{with_rule-fault, without_rule-faultless}
 
 -- of what is asked
-pub record IsWide (t : Asked) : Type 0 where
+pub record IsWide (t : QueryContext) : Type 0 where
   pub query : pos 1 ≤ℤ t.query.interval
   pub rules : AllByRecursion (λ (r : MarkedRule). pos 1 ≤ℤ r.rule.interval) t.rules
 
@@ -20,10 +20,10 @@ wide_rules [] lows a = tt
 wide_rules (r ∷ rs) [] a = tt
 wide_rules (r ∷ rs) (low ∷ lows) a = (a.0, wide_rules rs lows a.1)
 
-pub wide_of : (s : Settings) (m : Marks) (q : Query) → AllByRecursion (λ (r : Rule). pos 1 ≤ℤ r.interval) s.rules → pos 1 ≤ℤ q.interval → IsWide (asked s m q)
+pub wide_of : (s : Settings) (m : Marks) (q : Query) → AllByRecursion (λ (r : Rule). pos 1 ≤ℤ r.interval) s.rules → pos 1 ≤ℤ q.interval → IsWide (query_context s m q)
 wide_of s m q a h = record { query = h; rules = wide_rules s.rules m.lows a }
 
-pub asked_wide : (s : Settings) (m : Marks) (q : Query) → settings_fault s ≡ None → IsQuery q → IsWide (asked s m q)
+pub asked_wide : (s : Settings) (m : Marks) (q : Query) → settings_fault s ≡ None → IsQuery q → IsWide (query_context s m q)
 asked_wide s m q well is = wide_of s m q (settings_wide s well) is.interval
 
 -- ---- the settings of a history

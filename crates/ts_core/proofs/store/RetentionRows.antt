@@ -15,7 +15,7 @@ use Rattle.ts_core.specs.store.RawFacts.{kept_from, raw_of}
 use Rattle.ts_core.specs.store.Cells.{Cell, total_of, frozen_of, live_of}
 use Rattle.ts_core.specs.store.StoreStates.{CellParts, StoreState}
 use Rattle.ts_core.specs.moves.Runs.{steps_left}
-use Rattle.ts_core.specs.store.Views.{Seen}
+use Rattle.ts_core.specs.store.Views.{ViewState}
 use Rattle.ts_core.specs.queries.Queries.{Query}
 use Rattle.ts_core.specs.queries.Answers.{Row, Group}
 use Rattle.ts_core.specs.plans.Pieces.{Raw, Rollup, Piece}
@@ -197,7 +197,7 @@ minute_parts k = record { frozen = total_of by_host k (latest_of three_points); 
 abbrev minute_cell : ℤ → Text → Cell
 minute_cell n h = record { index = n; field = v; group = h ∷ [] }
 
-abbrev after_run : Seen
+abbrev after_run : ViewState
 after_run = record {
   settings = two_minutes;
   marks = marks_of two_minutes three_points;

@@ -9,7 +9,7 @@ use Rattle.ts_core.specs.store.Marks.{Marks}
 use Rattle.ts_core.specs.aggregates.Aggregates.{merged}
 use Rattle.ts_core.specs.store.RawFacts.{kept_from}
 use Rattle.ts_core.specs.store.StoreStates.{RuleCells, StoreState, StandsFor, HasCells, facts_of}
-use Rattle.ts_core.specs.store.Views.{HasTotals, Shows, seen_of}
+use Rattle.ts_core.specs.store.Views.{HasTotals, Shows, view_state_of}
 use Rattle.ts_core.proofs.store.Cuts.{total_of-parts, Holds}
 use Rattle.ts_core.proofs.store.StateLemmas.{is_kept-above, StandsFor-Holds}
 
@@ -24,7 +24,7 @@ all_totals cut fs (r ∷ rs) a = (
   all_totals cut fs rs a.1,
 )
 
-pub stands_shows : (opening : Settings) (h : History) (s : StoreState) → StandsFor opening h s → Shows opening h (seen_of s)
+pub stands_shows : (opening : Settings) (h : History) (s : StoreState) → StandsFor opening h s → Shows opening h (view_state_of s)
 stands_shows opening h s st =
     let cut : Column → ℤ = kept_from opening h s.waiting in
     let held : Holds cut (latest_of h) (facts_of s.columns) = StandsFor-Holds opening h s st in

@@ -11,7 +11,7 @@ use Rattle.ts_core.specs.queries.Answers.{Row, Group, buckets_in, all_groups, is
 use Rattle.ts_core.specs.plans.Pieces.{Source, Raw, Rollup, Piece, start_of}
 use Rattle.ts_core.specs.store.Cells.{Cell}
 use Rattle.ts_core.specs.store.StoreStates.{facts_of, RuleCells}
-use Rattle.ts_core.specs.store.Views.{Seen, shown_total}
+use Rattle.ts_core.specs.store.Views.{ViewState, shown_total}
 
 -- a cell matches as a representative fact would: one at the start of its bucket, in a series with the kept tags
 abbrev pub stand_in : Rule → Cell → Fact
@@ -33,12 +33,12 @@ abbrev pub totals_given : Option RuleCells → (Fact → Bool) → Aggregate
 totals_given None test = empty_aggregate
 totals_given (Some r) test = fold_by empty_aggregate merged (shown_total r) (filter (λ (k : Cell). test (stand_in r.rule k)) r.cells)
 
-abbrev pub aggregate_given : Seen → Source → (Fact → Bool) → Aggregate
+abbrev pub aggregate_given : ViewState → Source → (Fact → Bool) → Aggregate
 aggregate_given seen Raw test = aggregate_of (filter test (facts_of seen.columns))
 aggregate_given seen (Rollup name) test = totals_given (rule_shown name seen.rules) test
 
 -- the merged contributions of all pieces to a row
-abbrev pub assembled : Seen → Query → List Piece → List Text → ℤ → Aggregate
+abbrev pub assembled : ViewState → Query → List Piece → List Text → ℤ → Aggregate
 assembled seen q pieces g k = fold_by empty_aggregate merged (λ (p : Piece). aggregate_given seen p.source (in_part (is_in_row q g k) p.from p.to)) pieces
 
 -- ---- groups
@@ -48,18 +48,18 @@ abbrev pub cell_groups : Query → Option RuleCells → (Fact → Bool) → List
 cell_groups q None test = []
 cell_groups q (Some r) test = map (λ (k : Cell). group_of q (stand_in r.rule k)) (filter (λ (k : Cell). test (stand_in r.rule k) && not ((shown_total r k).count == 0)) r.cells)
 
-abbrev pub groups_given : Seen → Query → Source → (Fact → Bool) → List (List Text)
+abbrev pub groups_given : ViewState → Query → Source → (Fact → Bool) → List (List Text)
 groups_given seen q Raw test = map (group_of q) (filter test (facts_of seen.columns))
 groups_given seen q (Rollup name) test = cell_groups q (rule_shown name seen.rules) test
 
-abbrev pub assembled_groups : Seen → Query → List Piece → List (List Text)
+abbrev pub assembled_groups : ViewState → Query → List Piece → List (List Text)
 assembled_groups seen q [] = []
 assembled_groups seen q (p ∷ ps) = groups_given seen q p.source (in_part (matches q) p.from p.to) ++ assembled_groups seen q ps
 
 -- ---- the answer
 
-abbrev pub assembled_row : Seen → Query → List Piece → List Text → ℤ → Row
+abbrev pub assembled_row : ViewState → Query → List Piece → List Text → ℤ → Row
 assembled_row seen q pieces g k = record { start = bucket_start k q.interval q.offset; aggregate = assembled seen q pieces g k }
 
-abbrev pub assembled_answer : Seen → Query → List Piece → List Group
+abbrev pub assembled_answer : ViewState → Query → List Piece → List Group
 assembled_answer seen q pieces = map (λ g. record { values = g; rows = map (assembled_row seen q pieces g) (buckets_in q) }) (all_groups (assembled_groups seen q pieces))

@@ -16,7 +16,7 @@ use Rattle.ts_core.specs.settings.SettingsFaults.{unless}
 use Rattle.ts_core.specs.aggregates.Buckets.{bucket_of}
 use Rattle.ts_core.specs.store.Marks.{Marks, index_of}
 use Rattle.ts_core.specs.queries.Queries.{Query}
-use Rattle.ts_core.specs.plans.Pieces.{Source, Raw, Rollup, Piece, MarkedRule, Asked, asked, rule_named, start_of, tags_of}
+use Rattle.ts_core.specs.plans.Pieces.{Source, Raw, Rollup, Piece, MarkedRule, QueryContext, query_context, rule_named, start_of, tags_of}
 
 -- the codes in the common table of faults
 abbrev pub piece_fault_code : Fault → FaultCode
@@ -67,11 +67,11 @@ rule_fault q (Some r) a b =
     (unless (divides r.rule q || is_in_one_bucket q a b) Straddles
     (unless (list_all (keeps r.rule) (tags_of q)) TagNotKept None)))))
 
-abbrev pub source_fault : Asked → Source → ℤ → ℤ → Option Fault
+abbrev pub source_fault : QueryContext → Source → ℤ → ℤ → Option Fault
 source_fault t Raw a b = unless (int_le t.mark a) BelowMark None
 source_fault t (Rollup name) a b = rule_fault t.query (rule_named name t.rules) a b
 
-abbrev pub piece_fault : Asked → Piece → Option Fault
+abbrev pub piece_fault : QueryContext → Piece → Option Fault
 piece_fault t p = source_fault t p.source p.from p.to
 
 -- ---- errors of a list
@@ -86,7 +86,7 @@ abbrev pub or_fault : ℕ → Option Fault → Option (Fault × ℕ) → Option 
 or_fault n None next = next
 or_fault n (Some fault) next = Some (fault, n)
 
-abbrev pub pieces_fault : Asked → ℕ → List Piece → Option (Fault × ℕ)
+abbrev pub pieces_fault : QueryContext → ℕ → List Piece → Option (Fault × ℕ)
 pieces_fault t n [] = None
 pieces_fault t n (p ∷ ps) = or_fault n (piece_fault t p) (pieces_fault t (n + 1) ps)
 
@@ -95,9 +95,9 @@ or_gap None next = next
 or_gap (Some n) next = Some (Gap, n)
 
 -- gaps in the whole list come first, then errors piece by piece
-abbrev pub fault_from : Asked → ℤ → List Piece → Option (Fault × ℕ)
+abbrev pub fault_from : QueryContext → ℤ → List Piece → Option (Fault × ℕ)
 fault_from t a ps = or_gap (gap_at 0 a t.query.to ps) (pieces_fault t 0 ps)
 
 -- the first error, and the index of its piece
 abbrev pub first_fault : Settings → Marks → Query → List Piece → Option (Fault × ℕ)
-first_fault s m q ps = fault_from (asked s m q) q.from ps
+first_fault s m q ps = fault_from (query_context s m q) q.from ps

@@ -33,13 +33,13 @@ marked_rules (r ∷ rs) [] = []
 marked_rules (r ∷ rs) (low ∷ lows) = record { rule = r; low = low } ∷ marked_rules rs lows
 
 -- a query, with the rules and the raw mark that it is planned under
-pub record Asked : Type 0 where
+pub record QueryContext : Type 0 where
   pub rules : List MarkedRule
   pub mark : ℤ
   pub query : Query
 
-abbrev pub asked : Settings → Marks → Query → Asked
-asked s m q = record { rules = marked_rules s.rules m.lows; mark = m.raw; query = q }
+abbrev pub query_context : Settings → Marks → Query → QueryContext
+query_context s m q = record { rules = marked_rules s.rules m.lows; mark = m.raw; query = q }
 
 -- the first rule of a name
 abbrev pub rule_named : Text → List MarkedRule → Option MarkedRule
@@ -81,11 +81,11 @@ pub record RuleServes (q : Query) (r : MarkedRule) (a b : ℤ) : Type 0 where
 -- ---- when pieces are valid
 
 -- raw points are complete from the raw mark on
-abbrev pub SourceServes : Asked → Source → ℤ → ℤ → Type 0
+abbrev pub SourceServes : QueryContext → Source → ℤ → ℤ → Type 0
 SourceServes t Raw a b = t.mark ≤ℤ a
 SourceServes t (Rollup name) a b = (r : MarkedRule) × (rule_named name t.rules ≡ Some r) × RuleServes t.query r a b
 
-abbrev pub IsValidPiece : Asked → Piece → Type 0
+abbrev pub IsValidPiece : QueryContext → Piece → Type 0
 IsValidPiece t p = SourceServes t p.source p.from p.to
 
 -- the first piece starts at a, each next one at the end of the one before, none is empty, and the last ends at b
@@ -94,9 +94,9 @@ Covers a b [] = a ≡ b
 Covers a b (p ∷ ps) = (p.from ≡ a) × (p.from <ℤ p.to) × (p.to ≤ℤ b) × Covers p.to b ps
 
 -- valid pieces of which the first starts at a
-pub record IsValidFrom (t : Asked) (a : ℤ) (ps : List Piece) : Type 0 where
+pub record IsValidFrom (t : QueryContext) (a : ℤ) (ps : List Piece) : Type 0 where
   pub covers : Covers a t.query.to ps
   pub each : AllByRecursion (IsValidPiece t) ps
 
 abbrev pub IsValid : Settings → Marks → Query → List Piece → Type 0
-IsValid s m q ps = IsValidFrom (asked s m q) q.from ps
+IsValid s m q ps = IsValidFrom (query_context s m q) q.from ps

@@ -6,14 +6,14 @@ use Rattle.ts_core.specs.settings.Settings.{Rule, Settings}
 use Rattle.ts_core.specs.store.Marks.{Marks, index_of}
 use Rattle.ts_core.specs.queries.Queries.{Query}
 use Rattle.ts_core.specs.queries.Answers.{at_least_none}
-use Rattle.ts_core.specs.plans.Pieces.{Source, Raw, Rollup, Piece, MarkedRule, Asked, asked, IsValidPiece, IsValidFrom}
+use Rattle.ts_core.specs.plans.Pieces.{Source, Raw, Rollup, Piece, MarkedRule, QueryContext, query_context, IsValidPiece, IsValidFrom}
 use Rattle.ts_core.specs.plans.Faults.{Fault, piece_fault}
 
 -- ---- the walk
 
 -- some list of valid pieces leads from p to the end of the range
-abbrev pub IsGood : Asked → ℤ → Type 0
-IsGood t p = (ps : List Piece) × IsValidFrom t p ps
+abbrev pub ReachesEnd : QueryContext → ℤ → Type 0
+ReachesEnd t p = (ps : List Piece) × IsValidFrom t p ps
 
 abbrev pub rollup_piece : Text → ℤ → ℤ → Piece
 rollup_piece name a b = record { source = Rollup name; from = a; to = b }
@@ -22,19 +22,19 @@ abbrev pub raw_piece : ℤ → ℤ → Piece
 raw_piece a b = record { source = Raw; from = a; to = b }
 
 -- the bucket of rule n that starts at p is a valid piece, and the end can be reached from its end e
-pub record LeadsOn (t : Asked) (n : ℕ) (p e : ℤ) : Type 0 where
+pub record LeadsOn (t : QueryContext) (n : ℕ) (p e : ℤ) : Type 0 where
   pub rule : MarkedRule
   pub there : slice_get t.rules n ≡ Some rule
   pub one : e ≡ p +ℤ rule.rule.interval
   pub valid : IsValidPiece t (rollup_piece rule.rule.name p e)
-  pub good : IsGood t e
+  pub good : ReachesEnd t e
 
 -- no rule with an index below n leads on from p
-abbrev pub NoneBefore : Asked → ℤ → ℕ → Type 0
+abbrev pub NoneBefore : QueryContext → ℤ → ℕ → Type 0
 NoneBefore t p n = (m : ℕ) (d : ℤ) → m < n → LeadsOn t m p d → ⊥
 
 -- rule n leads on, and none before it in the order of the settings does
-pub record IsFirstToLead (t : Asked) (name : Text) (p e : ℤ) : Type 0 where
+pub record IsFirstToLead (t : QueryContext) (name : Text) (p e : ℤ) : Type 0 where
   pub n : ℕ
   pub leads : LeadsOn t n p e
   pub named : leads.rule.rule.name ≡ name
@@ -42,12 +42,12 @@ pub record IsFirstToLead (t : Asked) (name : Text) (p e : ℤ) : Type 0 where
 
 -- one step of the walk, from p to e. At or above the raw mark, one raw piece covers the rest. Below it, the step takes
 -- one bucket, and the walk continues.
-abbrev pub Steps : Asked → ℤ → ℤ → Source → List Piece → Type 0 → Type 0
+abbrev pub Steps : QueryContext → ℤ → ℤ → Source → List Piece → Type 0 → Type 0
 Steps t p e Raw rest more = (t.mark ≤ℤ p) × (e ≡ t.query.to) × (rest ≡ [])
 Steps t p e (Rollup name) rest more = (p <ℤ t.mark) × IsFirstToLead t name p e × more
 
 -- the walk from p to the end of the range
-abbrev pub IsWalk : Asked → ℤ → List Piece → Type 0
+abbrev pub IsWalk : QueryContext → ℤ → List Piece → Type 0
 IsWalk t p [] = p ≡ t.query.to
 IsWalk t p (b ∷ bs) = (p <ℤ t.query.to) × (b.from ≡ p) × Steps t p b.to b.source bs (IsWalk t b.to bs)
 
@@ -63,26 +63,26 @@ is_faultless None = true
 is_faultless (Some fault) = false
 
 -- the piece p, extended to the end of b
-abbrev pub drawn : Piece → Piece → Piece
-drawn p b = record { source = p.source; from = p.from; to = b.to }
+abbrev pub extended : Piece → Piece → Piece
+extended p b = record { source = p.source; from = p.from; to = b.to }
 
 -- from left to right: the next bucket of the same rule extends the piece as long as the result is valid
-abbrev pub joined_onto : Asked → Piece → List Piece → List Piece
+abbrev pub joined_onto : QueryContext → Piece → List Piece → List Piece
 joined_onto t p [] = p ∷ []
 joined_onto t p (b ∷ bs) =
-    if is_same_rule p.source b.source && is_faultless (piece_fault t (drawn p b))
-    then joined_onto t (drawn p b) bs
+    if is_same_rule p.source b.source && is_faultless (piece_fault t (extended p b))
+    then joined_onto t (extended p b) bs
     else (p ∷ joined_onto t b bs)
 
-abbrev pub joined : Asked → List Piece → List Piece
+abbrev pub joined : QueryContext → List Piece → List Piece
 joined t [] = []
 joined t (b ∷ bs) = joined_onto t b bs
 
-abbrev pub IsPlanOf : Asked → List Piece → Type 0
+abbrev pub IsPlanOf : QueryContext → List Piece → Type 0
 IsPlanOf t ps = (bs : List Piece) × IsWalk t t.query.from bs × (ps ≡ joined t bs)
 
 abbrev pub IsPlan : Settings → Marks → Query → List Piece → Type 0
-IsPlan s m q ps = IsPlanOf (asked s m q) ps
+IsPlan s m q ps = IsPlanOf (query_context s m q) ps
 
 -- ---- the limit of the search
 

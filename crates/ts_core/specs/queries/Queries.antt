@@ -5,11 +5,11 @@ use Rattle.std.specs.List.{list_all}
 use Rattle.ts_core.specs.facts.Facts.{Text, same_text, Series, Column, Fact, is_of, is_within}
 use Rattle.ts_core.specs.facts.Tags.{tag_value, tag_values}
 
--- tag = 'value', or tag != 'value' if `differs`
+-- tag = 'value', or tag != 'value' if `negated`
 pub record Condition : Type 0 where
   pub tag : Text
   pub value : Text
-  pub differs : Bool
+  pub negated : Bool
 
 pub record Query : Type 0 where
   pub measurement : Text
@@ -30,7 +30,7 @@ pub record IsQuery (q : Query) : Type 0 where
   pub range : q.from ≤ℤ q.to
 
 abbrev pub meets : Series → Condition → Bool
-meets s c = if c.differs then not (same_text (tag_value s c.tag) c.value) else same_text (tag_value s c.tag) c.value
+meets s c = if c.negated then not (same_text (tag_value s c.tag) c.value) else same_text (tag_value s c.tag) c.value
 
 -- a column of the query's measurement and field that meets all conditions
 abbrev pub is_selected : Query → Column → Bool

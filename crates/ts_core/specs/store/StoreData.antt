@@ -9,7 +9,7 @@ use Rattle.ts_core.specs.store.Marks.{Marks, marks_of}
 use Rattle.ts_core.specs.aggregates.Aggregates.{empty_aggregate}
 use Rattle.ts_core.specs.store.Cells.{Cell, cell_cmp, total_of}
 use Rattle.ts_core.specs.store.StoreStates.{ColumnPoints, CellParts, RuleCells, StoreState, StandsFor, facts_of}
-use Rattle.ts_core.specs.store.Views.{Shows, seen_of}
+use Rattle.ts_core.specs.store.Views.{Shows, view_state_of}
 use Rattle.ts_core.specs.lists.Changes.{or_else}
 use Rattle.ts_core.specs.store.TwoParts.{both_parts}
 
@@ -89,7 +89,7 @@ StaysFor old new = OfEachHistory old (λ opening h. StandsFor opening h (state_o
 
 -- the view of the store shows every history that the store represents
 abbrev pub ShowsEach : StoreData → Type 0
-ShowsEach k = OfEachHistory k (λ opening h. Shows opening h (seen_of (state_of k)))
+ShowsEach k = OfEachHistory k (λ opening h. Shows opening h (view_state_of (state_of k)))
 
 -- ---- live parts of all cells
 

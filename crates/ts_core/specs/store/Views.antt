@@ -12,7 +12,7 @@ use Rattle.ts_core.specs.aggregates.Aggregates.{Aggregate}
 use Rattle.ts_core.specs.store.Cells.{Cell, cell_of, is_rolled, total_of}
 use Rattle.ts_core.specs.store.StoreStates.{ColumnPoints, column_of, facts_of, RuleCells, total_in, rule_of, lowest_of, StoreState}
 
-pub record Seen : Type 0 where
+pub record ViewState : Type 0 where
   pub settings : Settings
   pub marks : Marks
   pub columns : List ColumnPoints
@@ -29,7 +29,7 @@ pub record HasTotals (facts : List Fact) (r : RuleCells) : Type 0 where
   pub totals : (k : Cell) → r.low ≤ℤ k.index → shown_total r k ≡ total_of r.rule k facts
 
 -- the view shows a history
-pub record Shows (opening : Settings) (h : History) (seen : Seen) : Type 0 where
+pub record Shows (opening : Settings) (h : History) (seen : ViewState) : Type 0 where
   pub lawful : IsLawful opening h
   pub settings : seen.settings ≡ settings_of opening h
   pub marks : seen.marks ≡ marks_of opening h
@@ -46,5 +46,5 @@ pub record Shows (opening : Settings) (h : History) (seen : Seen) : Type 0 where
 
 -- ---- the view of a store
 
-abbrev pub seen_of : StoreState → Seen
-seen_of s = record { settings = s.settings; marks = s.marks; columns = s.columns; rules = s.rules }
+abbrev pub view_state_of : StoreState → ViewState
+view_state_of s = record { settings = s.settings; marks = s.marks; columns = s.columns; rules = s.rules }

@@ -22,7 +22,7 @@ impl<A: Allocator + Copy> Condition<A> {
         Ok(Condition::new(
             String::from_str(alloc, self.tag.as_str())?,
             String::from_str(alloc, self.value.as_str())?,
-            self.differs,
+            self.negated,
         ))
     }
 }

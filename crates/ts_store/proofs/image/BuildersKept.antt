@@ -12,19 +12,19 @@ use Rattle.ts_core.specs.store.StoreStates.{ColumnPoints, column_of}
 use Rattle.ts_core.specs.store.StoreData.{CellMap}
 use Rattle.ts_core.proofs.lists.MembersLemmas.{Among-append}
 use Rattle.ts_line.specs.Names.{IsKey, IsNamed}
-use Rattle.ts_store.specs.image.Building.{new_built, with_series, with_column, with_cell, cells_at}
+use Rattle.ts_store.specs.image.Building.{new_built, with_series, with_column, with_cell, cell_map_at}
 use Rattle.ts_store.specs.image.BuildingParts.{built_of, IsInOrder, AreIdle}
-use Rattle.ts_store.specs.store.ColumnsKept.{Held}
+use Rattle.ts_store.specs.store.ColumnStates.{StoreContent}
 use Rattle.ts_store.specs.rollup.Rollups.{AreRollups, cells_of}
 use Rattle.ts_store.proofs.image.PartsBuilt.{idle_new, idle-insert, idle-set, idle-at}
 use Rattle.ts_store.proofs.store.Stands.{held_new, new_rollups, new_cells}
 
 -- ---- new
 
-pub order_new : (settings : Settings) (held : Held) (passed : List Bool) → held ≡ held_new settings → passed ≡ [] → IsInOrder settings held passed
+pub order_new : (settings : Settings) (held : StoreContent) (passed : List Bool) → held ≡ held_new settings → passed ≡ [] → IsInOrder settings held passed
 order_new settings held passed e f =
     subst (IsInOrder settings held) (sym f)
-    (subst (λ (h : Held). IsInOrder settings h []) (sym e) (record {
+    (subst (λ (h : StoreContent). IsInOrder settings h []) (sym e) (record {
       rollups = new_rollups settings.rules;
       each = refl;
       idle = subst AreIdle (sym (new_cells settings.rules)) (idle_new settings.rules);
@@ -33,17 +33,17 @@ order_new settings held passed e f =
       keys = λ c a. absurd a;
     }))
 
-pub built_new : (settings : Settings) (marks : Marks) (running : Bool) (n : ℕ) (held : Held) (passed : List Bool) → held ≡ held_new settings → passed ≡ [] → built_of settings marks running n held passed ≡ new_built settings marks n running
+pub built_new : (settings : Settings) (marks : Marks) (running : Bool) (n : ℕ) (held : StoreContent) (passed : List Bool) → held ≡ held_new settings → passed ≡ [] → built_of settings marks running n held passed ≡ new_built settings marks n running
 built_new settings marks running n held passed e f =
-    ap (built_of settings marks running n held) f ∙ ap (λ (h : Held). built_of settings marks running n h []) e
+    ap (built_of settings marks running n held) f ∙ ap (λ (h : StoreContent). built_of settings marks running n h []) e
     ∙ ap (λ (ms : List CellMap). record { settings = settings; marks = marks; running = running; accepted = n; series = []; columns = []; waits = []; cells = ms }) (new_cells settings.rules)
 
 -- ---- a series more
 
-pub order_series : (settings : Settings) (held after : Held) (passed : List Bool) (s : Series) → length held.series < 1000000 → IsNamed s → after ≡ record { series = held.series ++ s ∷ []; columns = held.columns; rollups = held.rollups } → IsInOrder settings held passed
+pub order_series : (settings : Settings) (held after : StoreContent) (passed : List Bool) (s : Series) → length held.series < 1000000 → IsNamed s → after ≡ record { series = held.series ++ s ∷ []; columns = held.columns; rollups = held.rollups } → IsInOrder settings held passed
     → IsInOrder settings after passed
 order_series settings held after passed s few named e h =
-    subst (λ (x : Held). IsInOrder settings x passed) (sym e) (record {
+    subst (λ (x : StoreContent). IsInOrder settings x passed) (sym e) (record {
       rollups = h.rollups;
       each = h.each;
       idle = h.idle;
@@ -52,9 +52,9 @@ order_series settings held after passed s few named e h =
       keys = h.keys;
     })
 
-pub built_series : (settings : Settings) (marks : Marks) (running : Bool) (n : ℕ) (held after : Held) (passed : List Bool) (s : Series) → after ≡ record { series = held.series ++ s ∷ []; columns = held.columns; rollups = held.rollups }
+pub built_series : (settings : Settings) (marks : Marks) (running : Bool) (n : ℕ) (held after : StoreContent) (passed : List Bool) (s : Series) → after ≡ record { series = held.series ++ s ∷ []; columns = held.columns; rollups = held.rollups }
     → built_of settings marks running n after passed ≡ with_series s (built_of settings marks running n held passed)
-built_series settings marks running n held after passed s e = ap (λ (h : Held). built_of settings marks running n h passed) e
+built_series settings marks running n held after passed s e = ap (λ (h : StoreContent). built_of settings marks running n h passed) e
 
 -- ---- a column more
 
@@ -62,7 +62,7 @@ not_not : (b : Bool) → not (not b) ≡ b
 not_not true = refl
 not_not false = refl
 
-pub order_column : (settings : Settings) (held after : Held) (passed passed' : List Bool) (c : ColumnPoints) (b : Bool) → IsKey c.column.field → after.columns ≡ held.columns ++ c ∷ [] → after.series ≡ held.series → cells_of after.rollups ≡ cells_of held.rollups
+pub order_column : (settings : Settings) (held after : StoreContent) (passed passed' : List Bool) (c : ColumnPoints) (b : Bool) → IsKey c.column.field → after.columns ≡ held.columns ++ c ∷ [] → after.series ≡ held.series → cells_of after.rollups ≡ cells_of held.rollups
     → AreRollups settings.rules (map column_of after.columns) after.rollups → passed' ≡ passed ++ b ∷ [] → IsInOrder settings held passed → IsInOrder settings after passed'
 order_column settings held after passed passed' c b key columns series cells rollups flags h = record {
   rollups = rollups;
@@ -79,14 +79,14 @@ order_column settings held after passed passed' c b key columns series cells rol
       (Among-append x (map column_of held.columns) (c.column ∷ []) (subst (Among x) (ap (map column_of) columns ∙ map-append column_of held.columns (c ∷ [])) a));
 }
 
-pub built_column : (settings : Settings) (marks : Marks) (running : Bool) (n : ℕ) (held after : Held) (passed passed' : List Bool) (c : ColumnPoints) (w : Bool) → after.columns ≡ held.columns ++ c ∷ [] → after.series ≡ held.series
+pub built_column : (settings : Settings) (marks : Marks) (running : Bool) (n : ℕ) (held after : StoreContent) (passed passed' : List Bool) (c : ColumnPoints) (w : Bool) → after.columns ≡ held.columns ++ c ∷ [] → after.series ≡ held.series
     → cells_of after.rollups ≡ cells_of held.rollups → passed' ≡ passed ++ not w ∷ [] → built_of settings marks running n after passed' ≡ with_column c w (built_of settings marks running n held passed)
 built_column settings marks running n held after passed passed' c w columns series cells flags =
     let waits : map not passed' ≡ map not passed ++ w ∷ [] = ap (map not) flags ∙ map-append not passed (not w ∷ []) ∙ ap (λ (b : Bool). map not passed ++ b ∷ []) (not_not w) in
     λ i. record { settings = settings; marks = marks; running = running; accepted = n; series = series i; columns = columns i; waits = waits i; cells = cells i }
 
 -- what stays when nothing that shows has changed
-pub order_same : (settings : Settings) (held after : Held) (passed : List Bool) → after.columns ≡ held.columns → after.series ≡ held.series → cells_of after.rollups ≡ cells_of held.rollups
+pub order_same : (settings : Settings) (held after : StoreContent) (passed : List Bool) → after.columns ≡ held.columns → after.series ≡ held.series → cells_of after.rollups ≡ cells_of held.rollups
     → AreRollups settings.rules (map column_of after.columns) after.rollups → IsInOrder settings held passed → IsInOrder settings after passed
 order_same settings held after passed columns series cells rollups h = record {
   rollups = rollups;
@@ -97,7 +97,7 @@ order_same settings held after passed columns series cells rollups h = record {
   keys = λ x a. h.keys x (subst (λ (cs : List ColumnPoints). Among x (map column_of cs)) columns a);
 }
 
-pub built_same : (settings : Settings) (marks : Marks) (running : Bool) (n : ℕ) (held after : Held) (passed passed' : List Bool) → after.columns ≡ held.columns → after.series ≡ held.series → cells_of after.rollups ≡ cells_of held.rollups → passed' ≡ passed
+pub built_same : (settings : Settings) (marks : Marks) (running : Bool) (n : ℕ) (held after : StoreContent) (passed passed' : List Bool) → after.columns ≡ held.columns → after.series ≡ held.series → cells_of after.rollups ≡ cells_of held.rollups → passed' ≡ passed
     → built_of settings marks running n after passed' ≡ built_of settings marks running n held passed
 built_same settings marks running n held after passed passed' columns series cells flags =
     λ i. record { settings = settings; marks = marks; running = running; accepted = n; series = series i; columns = columns i; waits = map not (flags i); cells = cells i }
@@ -105,32 +105,32 @@ built_same settings marks running n held after passed passed' columns series cel
 -- ---- a cell more
 
 abbrev pub with_one : List CellMap → ℕ → Cell → Aggregate → List CellMap
-with_one ms rule k frozen = set ms rule (finmap.insert (cells_at ms rule) k (record { frozen = frozen; live = empty_aggregate }))
+with_one ms rule k frozen = set ms rule (finmap.insert (cell_map_at ms rule) k (record { frozen = frozen; live = empty_aggregate }))
 
-pub order_cell : (settings : Settings) (held after : Held) (passed : List Bool) (rule : ℕ) (k : Cell) (frozen : Aggregate) → after.columns ≡ held.columns → after.series ≡ held.series → cells_of after.rollups ≡ with_one (cells_of held.rollups) rule k frozen
+pub order_cell : (settings : Settings) (held after : StoreContent) (passed : List Bool) (rule : ℕ) (k : Cell) (frozen : Aggregate) → after.columns ≡ held.columns → after.series ≡ held.series → cells_of after.rollups ≡ with_one (cells_of held.rollups) rule k frozen
     → AreRollups settings.rules (map column_of held.columns) after.rollups → IsInOrder settings held passed → IsInOrder settings after passed
 order_cell settings held after passed rule k frozen columns series cells rollups h = record {
   rollups = subst (λ (cs : List ColumnPoints). AreRollups settings.rules (map column_of cs) after.rollups) (sym columns) rollups;
   each = h.each ∙ sym (ap length columns);
-  idle = subst AreIdle (sym cells) (idle-set (cells_of held.rollups) rule _ (idle-insert (cells_at (cells_of held.rollups) rule) k (record { frozen = frozen; live = empty_aggregate }) refl (idle-at (cells_of held.rollups) rule h.idle)) h.idle);
+  idle = subst AreIdle (sym cells) (idle-set (cells_of held.rollups) rule _ (idle-insert (cell_map_at (cells_of held.rollups) rule) k (record { frozen = frozen; live = empty_aggregate }) refl (idle-at (cells_of held.rollups) rule h.idle)) h.idle);
   few = subst (λ (xs : List Series). length xs ≤ 1000000) (sym series) h.few;
   named = λ x a. h.named x (subst (Among x) series a);
   keys = λ x a. h.keys x (subst (λ (cs : List ColumnPoints). Among x (map column_of cs)) columns a);
 }
 
-pub built_cell : (settings : Settings) (marks : Marks) (running : Bool) (n : ℕ) (held after : Held) (passed : List Bool) (rule : ℕ) (k : Cell) (frozen : Aggregate) → after.columns ≡ held.columns → after.series ≡ held.series
+pub built_cell : (settings : Settings) (marks : Marks) (running : Bool) (n : ℕ) (held after : StoreContent) (passed : List Bool) (rule : ℕ) (k : Cell) (frozen : Aggregate) → after.columns ≡ held.columns → after.series ≡ held.series
     → cells_of after.rollups ≡ with_one (cells_of held.rollups) rule k frozen → built_of settings marks running n after passed ≡ with_cell rule k frozen (built_of settings marks running n held passed)
 built_cell settings marks running n held after passed rule k frozen columns series cells =
     λ i. record { settings = settings; marks = marks; running = running; accepted = n; series = series i; columns = columns i; waits = map not passed; cells = cells i }
 
 -- ---- whether there was memory or not
 
-pub order_series-either : {T E : Type 0} (r : Result T E) (settings : Settings) (held after : Held) (passed : List Bool) (s : Series) → length held.series < 1000000 → IsNamed s → OnOk r (after ≡ record { series = held.series ++ s ∷ []; columns = held.columns; rollups = held.rollups }) → OnErr r (after ≡ held)
+pub order_series-either : {T E : Type 0} (r : Result T E) (settings : Settings) (held after : StoreContent) (passed : List Bool) (s : Series) → length held.series < 1000000 → IsNamed s → OnOk r (after ≡ record { series = held.series ++ s ∷ []; columns = held.columns; rollups = held.rollups }) → OnErr r (after ≡ held)
     → IsInOrder settings held passed → IsInOrder settings after passed
 order_series-either (Ok x) settings held after passed s few named ok err h = order_series settings held after passed s few named ok h
-order_series-either (Err e) settings held after passed s few named ok err h = subst (λ (x : Held). IsInOrder settings x passed) (sym err) h
+order_series-either (Err e) settings held after passed s few named ok err h = subst (λ (x : StoreContent). IsInOrder settings x passed) (sym err) h
 
-pub order_cell-either : {T E : Type 0} (r : Result T E) (settings : Settings) (held after : Held) (passed : List Bool) (rule : ℕ) (k : Cell) (frozen : Aggregate) → after.columns ≡ held.columns → after.series ≡ held.series
+pub order_cell-either : {T E : Type 0} (r : Result T E) (settings : Settings) (held after : StoreContent) (passed : List Bool) (rule : ℕ) (k : Cell) (frozen : Aggregate) → after.columns ≡ held.columns → after.series ≡ held.series
     → OnOk r (cells_of after.rollups ≡ with_one (cells_of held.rollups) rule k frozen) → OnErr r (cells_of after.rollups ≡ cells_of held.rollups) → AreRollups settings.rules (map column_of held.columns) after.rollups → IsInOrder settings held passed → IsInOrder settings after passed
 order_cell-either (Ok x) settings held after passed rule k frozen columns series ok err rollups h = order_cell settings held after passed rule k frozen columns series ok rollups h
 order_cell-either (Err e) settings held after passed rule k frozen columns series ok err rollups h =

@@ -9,7 +9,7 @@ use Rattle.ts_core.specs.facts.Facts.{Column}
 use Rattle.ts_core.specs.lists.Numbered.{IsAt}
 use Rattle.ts_core.specs.store.StoreStates.{ColumnPoints, facts_at, facts_of}
 use Rattle.ts_raw.specs.Columns.{PointMap, ColumnState}
-use Rattle.ts_store.specs.store.ColumnsKept.{no_column, with_points, point_maps}
+use Rattle.ts_store.specs.store.ColumnStates.{no_column, with_points, point_maps}
 use Rattle.ts_store.specs.read.PointsRead.{number_of_points}
 use Rattle.ts_store.proofs.write.ColumnsAside.{points_at}
 

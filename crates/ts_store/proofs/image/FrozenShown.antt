@@ -17,14 +17,14 @@ use Rattle.ts_core.specs.store.StoreData.{CellMap}
 use Rattle.ts_core.proofs.lists.Comparisons.{lt_true}
 use Rattle.ts_core.proofs.aggregates.IndicesFit.{indices_fit}
 use Rattle.ts_core.proofs.lists.MembersLemmas.{Among-map}
-use Rattle.ts_cells.specs.Walks.{KeptCell, entry_of, entries_within}
+use Rattle.ts_cells.specs.Walks.{CellWithPart, entry_of, entries_within}
 use Rattle.ts_store.specs.store.CellIndices.{IsIndex, HasIndices, HaveIndices}
-use Rattle.ts_store.specs.store.ColumnsKept.{Held}
+use Rattle.ts_store.specs.store.ColumnStates.{StoreContent}
 use Rattle.ts_store.specs.read.LiveCells.{rollup_at}
 use Rattle.ts_store.specs.rollup.Rollups.{RollupState, new_rollup, AreRollups, cells_of}
 use Rattle.ts_store.proofs.rollup.RollupsGrow.{rollups-length}
 use Rattle.ts_store.specs.image.FrozenLeft.{has_frozen, frozen_cell, frozen_left, HasNearCells}
-use Rattle.ts_store.specs.image.Saving.{FrozenCell, frozen_from}
+use Rattle.ts_store.specs.image.SavedContent.{FrozenCell, frozen_from}
 
 -- ---- indices
 
@@ -46,7 +46,7 @@ is_frozen e = nat_lt 0 e.1.frozen.count
 abbrev frozen_entry : Cell × CellParts → FrozenCell
 frozen_entry e = record { cell = e.0; frozen = e.1.frozen }
 
-left_frozen : (ks : List (KeptCell CellParts)) → frozen_left ks ≡ map frozen_entry (filter is_frozen (map entry_of ks))
+left_frozen : (ks : List (CellWithPart CellParts)) → frozen_left ks ≡ map frozen_entry (filter is_frozen (map entry_of ks))
 left_frozen [] = refl
 left_frozen (k ∷ ks) =
     elim (has_frozen k) as (λ b. map frozen_cell (cond b (k ∷ filter has_frozen ks) (filter has_frozen ks)) ≡ map frozen_entry (cond b (entry_of k ∷ filter is_frozen (map entry_of ks)) (filter is_frozen (map entry_of ks)))) [
@@ -67,14 +67,14 @@ from_low low to (e ∷ es) near =
       | false ↦ rest
     ]
 
-pub walk_frozen : (m : CellMap) (low to : ℤ) (ks : List (KeptCell CellParts)) → ((k : Cell) → Among k (finmap.keys m) → k.index <ℤ to) → map entry_of ks ≡ entries_within low to m → frozen_left ks ≡ frozen_from low m
+pub walk_frozen : (m : CellMap) (low to : ℤ) (ks : List (CellWithPart CellParts)) → ((k : Cell) → Among k (finmap.keys m) → k.index <ℤ to) → map entry_of ks ≡ entries_within low to m → frozen_left ks ≡ frozen_from low m
 walk_frozen m low to ks near e =
     left_frozen ks
     ∙ ap (λ (es : List (Cell × CellParts)). map frozen_entry (filter is_frozen es)) e
     ∙ ap (map frozen_entry) (from_low low to (finmap.entries m) (λ x a. near x.0 (Among-map (λ (y : Cell × CellParts). y.0) x (finmap.entries m) a)))
 
 -- of the rule of a number
-pub facts_frozen : (held : Held) (r : Rule) (n : ℕ) (s : RollupState) (low to : ℤ) (ks : List (KeptCell CellParts)) → HasNearCells held r n → pos (2 ^ 64) ≤ℤ to → s ≡ get_or held.rollups n s → map entry_of ks ≡ entries_within low to s.grid.cells
+pub facts_frozen : (held : StoreContent) (r : Rule) (n : ℕ) (s : RollupState) (low to : ℤ) (ks : List (CellWithPart CellParts)) → HasNearCells held r n → pos (2 ^ 64) ≤ℤ to → s ≡ get_or held.rollups n s → map entry_of ks ≡ entries_within low to s.grid.cells
     → frozen_left ks ≡ frozen_from low (rollup_at held.rollups n).grid.cells
 facts_frozen held r n s low to ks near wide read entries =
     let is : s ≡ rollup_at held.rollups n = read ∙ get_or_default held.rollups n s new_rollup near.there in
@@ -95,7 +95,7 @@ indices_at (x ∷ rs) [] n r s all at here = absurd (none-some s here)
 indices_at (x ∷ rs) (y ∷ ss) zero r s all at here = subst (λ q. HasIndices q s.grid.cells) (same_Some x r at) (subst (λ (t : RollupState). HasIndices x t.grid.cells) (same_Some y s here) all.0)
 indices_at (x ∷ rs) (y ∷ ss) (suc n) r s all at here = indices_at rs ss n r s all.1 at here
 
-pub store_near : (rs : List Rule) (names : List Column) (held : Held) (n : ℕ) (r : Rule) → AreRollups rs names held.rollups → HaveIndices rs (cells_of held.rollups) → AllByRecursion (λ (q : Rule). pos 1000000000 ≤ℤ q.interval) rs → AllByRecursion IsPossibleRule rs
+pub store_near : (rs : List Rule) (names : List Column) (held : StoreContent) (n : ℕ) (r : Rule) → AreRollups rs names held.rollups → HaveIndices rs (cells_of held.rollups) → AllByRecursion (λ (q : Rule). pos 1000000000 ≤ℤ q.interval) rs → AllByRecursion IsPossibleRule rs
     → n < length rs → r ≡ get_or rs n r → HasNearCells held r n
 store_near rs names held n r rollups indices seconds possible there read =
     let below : n < length held.rollups = let l = rollups-length rs names held.rollups rollups in omega (arith, l, there) in

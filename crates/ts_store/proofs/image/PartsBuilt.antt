@@ -24,7 +24,7 @@ use Rattle.ts_raw.specs.Columns.{PointMap, ColumnState}
 use Rattle.ts_store.specs.image.BuildingParts.{IsIdle, AreIdle}
 use Rattle.ts_raw.specs.Indexed.{Indexed, IsSoundIndex, no_series, column_in}
 use Rattle.ts_raw.specs.Registering.{IsRegistered}
-use Rattle.ts_store.specs.store.ColumnsKept.{no_column, with_points, point_maps, columns_in, held_of, Held, IsHeld, IsColumnFor}
+use Rattle.ts_store.specs.store.ColumnStates.{no_column, with_points, point_maps, columns_in, content_of, StoreContent, IsSoundContent, IsColumnFor}
 use Rattle.ts_store.specs.rollup.Rollups.{RollupState, AreRollups, Extends, cells_of, with_frozen}
 use Rattle.ts_store.proofs.store.ColumnsLemmas.{names_held}
 use Rattle.ts_store.proofs.rollup.RollupsGrow.{rollups_kept, made_behind}
@@ -119,20 +119,20 @@ idle-at (x ∷ ms) (suc n) h = idle-at ms n h.1
 
 -- ---- what is held, with a series or a column more
 
-pub series_held : (index after : Indexed) (ss : List ColumnState) → IsSoundIndex after → after.columns ≡ index.columns → IsHeld index ss → IsHeld after ss
+pub series_held : (index after : Indexed) (ss : List ColumnState) → IsSoundIndex after → after.columns ≡ index.columns → IsSoundContent index ss → IsSoundContent after ss
 series_held index after ss sound same held = record { sound = sound; each = held.each ∙ sym (ap length same) }
 
 pub series_added : {E : Type 0} (index after : Indexed) (ss : List ColumnState) (us : List RollupState) (result : Result ℕ E) (s : Series) (n : ℕ) → result ≡ Ok n → (Among s index.series → ⊥) → IsRegistered index.series after.series result s → after.columns ≡ index.columns
-    → held_of after ss us ≡ record { series = index.series ++ s ∷ []; columns = columns_in index ss; rollups = us }
+    → content_of after ss us ≡ record { series = index.series ++ s ∷ []; columns = columns_in index ss; rollups = us }
 series_added index after ss us result s n ok absent h same =
     let gains : Gains index.series after.series s = subst (λ r. OnOk r (Gains index.series after.series s)) ok h.gains in
     let series : after.series ≡ index.series ++ s ∷ [] = ⊎_elim {C = after.series ≡ index.series ++ s ∷ []} (λ old. absurd (absent old.0)) (λ new. new.1) gains in
     λ i. record { series = series i; columns = with_points (same i) (point_maps ss); rollups = us }
 
-pub series_refused : (index after : Indexed) (ss : List ColumnState) (us : List RollupState) → after.series ≡ index.series → after.columns ≡ index.columns → held_of after ss us ≡ held_of index ss us
+pub series_refused : (index after : Indexed) (ss : List ColumnState) (us : List RollupState) → after.series ≡ index.series → after.columns ≡ index.columns → content_of after ss us ≡ content_of index ss us
 series_refused index after ss us series columns = λ i. record { series = series i; columns = with_points (columns i) (point_maps ss); rollups = us }
 
-module _ (E : Type 0) (index after : Indexed) (ss ss' : List ColumnState) (series n : ℕ) (field : Text) (held : IsHeld index ss) (absent : Among (column_in index series field) index.columns → ⊥) where
+module _ (E : Type 0) (index after : Indexed) (ss ss' : List ColumnState) (series n : ℕ) (field : Text) (held : IsSoundContent index ss) (absent : Among (column_in index series field) index.columns → ⊥) where
   abbrev its_column : Column
   its_column = column_in index series field
 
@@ -142,7 +142,7 @@ module _ (E : Type 0) (index after : Indexed) (ss ss' : List ColumnState) (serie
   behind : IsColumnFor {E = E} its_column index ss after ss' (Ok n) → n ≡ length ss
   behind h = (made_behind index.columns after.columns its_column n absent (inr (absent, (grows h).0)) h.number).1 ∙ sym held.each
 
-  pub column_held : (state : ColumnState) → IsColumnFor {E = E} its_column index ss after ss' (Ok n) → IsHeld after (set ss' n state)
+  pub column_held : (state : ColumnState) → IsColumnFor {E = E} its_column index ss after ss' (Ok n) → IsSoundContent after (set ss' n state)
   column_held state h = record {
     sound = h.sound held.sound;
     each =
@@ -179,16 +179,16 @@ err_then (Ok x) p f = tt
 err_then (Err e) p f = f p
 
 -- the column isn't among those of the index
-pub its_absent : (index : Indexed) (ss : List ColumnState) (us : List RollupState) (held : Held) (series : ℕ) (field : Text) → IsHeld index ss → held_of index ss us ≡ held → series < length held.series
+pub its_absent : (index : Indexed) (ss : List ColumnState) (us : List RollupState) (held : StoreContent) (series : ℕ) (field : Text) → IsSoundContent index ss → content_of index ss us ≡ held → series < length held.series
     → ((s : Series) → IsAt held.series series s → Among (record { series = s; field = field }) (map column_of held.columns) → ⊥) → Among (column_in index series field) index.columns → ⊥
 its_absent index ss us held series field kept is within absent among =
-    let within' : series < length index.series = subst (λ (h : Held). series < length h.series) (sym is) within in
+    let within' : series < length index.series = subst (λ (h : StoreContent). series < length h.series) (sym is) within in
     let at : IsAt index.series series (column_in index series field).series = slice_get-get_or index.series series no_series within' in
-    subst (λ (h : Held). ((s : Series) → IsAt h.series series s → Among (record { series = s; field = field }) (map column_of h.columns) → ⊥) → ⊥) is
+    subst (λ (h : StoreContent). ((s : Series) → IsAt h.series series s → Among (record { series = s; field = field }) (map column_of h.columns) → ⊥) → ⊥) is
     (λ none. none (column_in index series field).series at (subst (Among (column_in index series field)) (sym (names_held index ss kept.each)) among)) absent
 
 -- no column is made
-pub column_refused : (index after : Indexed) (ss ss' : List ColumnState) → IsHeld index ss → (after.columns ≡ index.columns) × (ss' ≡ ss) → IsSoundIndex after → IsHeld after ss'
+pub column_refused : (index after : Indexed) (ss ss' : List ColumnState) → IsSoundContent index ss → (after.columns ≡ index.columns) × (ss' ≡ ss) → IsSoundIndex after → IsSoundContent after ss'
 column_refused index after ss ss' held same sound = record { sound = sound; each = ap length same.1 ∙ held.each ∙ sym (ap length same.0) }
 
 pub columns_refused : (index after : Indexed) (ss ss' : List ColumnState) → (after.columns ≡ index.columns) × (ss' ≡ ss) → columns_in after ss' ≡ columns_in index ss

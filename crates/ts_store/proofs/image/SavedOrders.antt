@@ -16,7 +16,7 @@ use denote.Param.Members.{Mut}
 use denote.Ref.{Bor}
 use Rattle.ts_core.specs.lists.Members.{Among, AllDistinct}
 use Rattle.ts_core.proofs.facts.Ids.{equal_of}
-use Rattle.ts_store.specs.image.Saving.{AreRising}
+use Rattle.ts_store.specs.image.SavedContent.{AreRising}
 
 -- ---- what is moved
 

@@ -16,9 +16,9 @@ use Rattle.ts_core.proofs.moves.MovesStand.{key_there}
 use Rattle.ts_store.specs.image.Building.{AreLowIndices, IsBuildable, IsBuiltFrom, HaveCells, waiting_of}
 use Rattle.ts_store.specs.image.BuildingParts.{built_of, IsInOrder, FillsCells}
 use Rattle.ts_store.specs.store.CellCounts.{HoldFew, live_count}
-use Rattle.ts_store.specs.store.ColumnsKept.{Held}
+use Rattle.ts_store.specs.store.ColumnStates.{StoreContent}
 use Rattle.ts_store.specs.write.LinesPut.{OfEachRule, PutsCells}
-use Rattle.ts_store.specs.retain.OpenRuns.{Run, opened, unflagged, waiting_in, kept_data, IsWithin, IsKept}
+use Rattle.ts_store.specs.retain.OpenRuns.{Run, opened, unflagged, waiting_in, data_of_parts, IsWithin, IsSoundStore}
 use Rattle.ts_store.specs.rollup.Rollups.{RollupState, AreRollups, cells_of}
 use Rattle.ts_store.specs.store.SizedStores.{IsSizedRule}
 use Rattle.ts_store.proofs.retain.RollupMoves.{rollups_with}
@@ -84,16 +84,16 @@ within-built false columns passed = tt
 
 -- ---- the whole
 
-module _ (settings : Settings) (marks : Marks) (running : Bool) (count : ℕ) (held after : Held) (passed : List Bool) (order : IsInOrder settings held passed) (well : settings_fault settings ≡ None) (can : IsBuildable (built_of settings marks running count held passed))
+module _ (settings : Settings) (marks : Marks) (running : Bool) (count : ℕ) (held after : StoreContent) (passed : List Bool) (order : IsInOrder settings held passed) (well : settings_fault settings ≡ None) (can : IsBuildable (built_of settings marks running count held passed))
     (fills : FillsCells settings.rules marks.lows held after) where
   abbrev run : Option Run
   run = opened running 0 (length after.columns) passed
 
   same_columns : after.columns ≡ held.columns
-  same_columns = ap (λ (h : Held). h.columns) fills.others
+  same_columns = ap (λ (h : StoreContent). h.columns) fills.others
 
   same_series : after.series ≡ held.series
-  same_series = ap (λ (h : Held). h.series) fills.others
+  same_series = ap (λ (h : StoreContent). h.series) fills.others
 
   many : length passed ≡ length after.columns
   many = order.each ∙ sym (ap length same_columns)
@@ -101,9 +101,9 @@ module _ (settings : Settings) (marks : Marks) (running : Bool) (count : ℕ) (h
   rules_many : length (cells_of after.rollups) ≡ length settings.rules
   rules_many = fills.cells.0 ∙ length-map held.rollups (λ (s : RollupState). s.grid.cells) ∙ rollups-length settings.rules (map column_of held.columns) held.rollups order.rollups
 
-  pub kept_built : IsKept (kept_data settings marks count after run) after run
+  pub kept_built : IsSoundStore (data_of_parts settings marks count after run) after run
   kept_built = record {
-    rollups = subst (λ (h : Held). AreRollups settings.rules (map column_of h.columns) h.rollups) (sym fills.others) (rollups_with settings.rules (map column_of held.columns) (cells_of after.rollups) held.rollups order.rollups);
+    rollups = subst (λ (h : StoreContent). AreRollups settings.rules (map column_of h.columns) h.rollups) (sym fills.others) (rollups_with settings.rules (map column_of held.columns) (cells_of after.rollups) held.rollups order.rollups);
     few = within-built running after.columns passed;
     counts = counts-built count (facts_of held.columns) after.columns settings.rules marks.lows (cells_of held.rollups) (cells_of after.rollups) (lows-length marks.raw settings.rules marks.lows can.lows) fills.cells
         (subst (λ (cs : List ColumnPoints). HoldFew count cs settings.rules (cells_of held.rollups)) (sym same_columns) can.counts);
@@ -126,7 +126,7 @@ module _ (settings : Settings) (marks : Marks) (running : Bool) (count : ℕ) (h
     };
   }
 
-  pub built_from : IsBuiltFrom (built_of settings marks running count held passed) (kept_data settings marks count after run)
+  pub built_from : IsBuiltFrom (built_of settings marks running count held passed) (data_of_parts settings marks count after run)
   built_from = record {
     settings = refl;
     marks = refl;

@@ -8,7 +8,7 @@ use Rattle.std.proofs.lemmas.List.Sums.{sum_by-cons}
 use Rattle.ts_core.specs.facts.Facts.{Column}
 use Rattle.ts_core.specs.store.StoreStates.{column_of, fact_at}
 use Rattle.ts_raw.specs.Columns.{PointMap, ColumnState}
-use Rattle.ts_store.specs.store.ColumnsKept.{facts_in, with_points, facts_of_columns, point_maps}
+use Rattle.ts_store.specs.store.ColumnStates.{facts_in, with_points, facts_of_columns, point_maps}
 use Rattle.ts_raw.proofs.ColumnLaws.{points-rising}
 use Rattle.ts_store.specs.read.PointsRead.{number_of_points, HasRisingPoints}
 use Rattle.ts_store.proofs.store.ColumnsLemmas.{names_of}

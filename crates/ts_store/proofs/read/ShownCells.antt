@@ -15,34 +15,34 @@ use Rattle.ts_core.specs.store.Cells.{Cell, is_in_cell}
 use Rattle.ts_core.specs.lists.Changes.{or_else}
 use Rattle.ts_core.specs.store.StoreStates.{ColumnPoints, CellParts, column_of, facts_of, RuleCells, rule_of}
 use Rattle.ts_core.specs.store.StoreData.{CellMap, StoreData, no_parts, rule_cells, rules_of, state_of, IsLive, AreLive}
-use Rattle.ts_core.specs.store.Views.{seen_of}
+use Rattle.ts_core.specs.store.Views.{view_state_of}
 use Rattle.ts_core.proofs.store.Cuts.{one_fact}
 use Rattle.ts_core.proofs.aggregates.Folds.{fold-count}
 use Rattle.ts_core.proofs.lists.MembersLemmas.{Among-filter_was}
 use Rattle.ts_core.proofs.plans.PieceCells.{cells_total}
 use Rattle.ts_core.proofs.lists.Sorted.{found_among}
 use Rattle.ts_core.specs.lists.Numbered.{IsAt}
-use Rattle.ts_cells.specs.Walks.{KeptCell, entry_of, entries_within}
+use Rattle.ts_cells.specs.Walks.{CellWithPart, entry_of, entries_within}
 use Rattle.ts_store.specs.store.CellCounts.{HoldsFew, HoldFew, frozen_count}
-use Rattle.ts_store.specs.store.ColumnsKept.{Held}
-use Rattle.ts_store.specs.retain.OpenRuns.{Run, IsKept, kept_data}
+use Rattle.ts_store.specs.store.ColumnStates.{StoreContent}
+use Rattle.ts_store.specs.retain.OpenRuns.{Run, IsSoundStore, data_of_parts}
 use Rattle.ts_store.specs.read.LiveCells.{walked_cell, walked_cells, rollup_at, cells_of_rule, IsWhole, AreWhole, IsRuled}
 use Rattle.ts_store.specs.rollup.Rollups.{RollupState, new_rollup, cells_of}
-use Rattle.ts_store.specs.read.Seats.{SeenCell, with_parts, cells_within, cells_at, no_rule}
+use Rattle.ts_store.specs.read.ViewResults.{SeenCell, with_parts, cells_within, view_cells_at, no_rule}
 use Rattle.ts_store.proofs.rollup.RollupsGrow.{rollups-length}
 
 -- ---- cells of a map
 
 -- a cell that was found
-abbrev IsFound : CellMap → KeptCell CellParts → Type 0
+abbrev IsFound : CellMap → CellWithPart CellParts → Type 0
 IsFound m k = finmap.get m k.cell ≡ Some k.part
 
-parts_shown : (r : Rule) (low : ℤ) (m : CellMap) (k : KeptCell CellParts) → IsFound m k → walked_cell k ≡ with_parts (rule_cells r low m).parts k.cell
+parts_shown : (r : Rule) (low : ℤ) (m : CellMap) (k : CellWithPart CellParts) → IsFound m k → walked_cell k ≡ with_parts (rule_cells r low m).parts k.cell
 parts_shown r low m k found =
     let parts : k.part ≡ or_else no_parts (finmap.get m k.cell) = sym (ap (or_else no_parts) found) in
     λ i. record { cell = k.cell; parts = parts i }
 
-cell_whole : (r : Rule) (columns : List ColumnPoints) (m : CellMap) → IsLive columns r m → HoldsFew (2 ^ 62) columns r m → (k : KeptCell CellParts) → IsFound m k → IsWhole k
+cell_whole : (r : Rule) (columns : List ColumnPoints) (m : CellMap) → IsLive columns r m → HoldsFew (2 ^ 62) columns r m → (k : CellWithPart CellParts) → IsFound m k → IsWhole k
 cell_whole r columns m live counts k found =
     let frozen : k.part.frozen.count ≡ frozen_count m k.cell = sym (ap (λ o. (or_else no_parts o).frozen.count) found) in
     let inside : List Fact = filter (is_in_cell r k.cell) (facts_of columns) in
@@ -54,21 +54,21 @@ cell_whole r columns m live counts k found =
 entry_found : (m : CellMap) (e : Cell × CellParts) → Among e (finmap.entries m) → finmap.get m e.0 ≡ Some e.1
 entry_found m e a = get-entries m e.0 ∙ found_among cells_total (finmap.entries m) (entries_sorted m) e a
 
-all_found : (m : CellMap) (es : List (Cell × CellParts)) → ((e : Cell × CellParts) → Among e es → finmap.get m e.0 ≡ Some e.1) → (ks : List (KeptCell CellParts)) → map entry_of ks ≡ es → AllByRecursion (IsFound m) ks
+all_found : (m : CellMap) (es : List (Cell × CellParts)) → ((e : Cell × CellParts) → Among e es → finmap.get m e.0 ≡ Some e.1) → (ks : List (CellWithPart CellParts)) → map entry_of ks ≡ es → AllByRecursion (IsFound m) ks
 all_found m es find [] e = tt
 all_found m es find (k ∷ ks) e = (
   find (entry_of k) (subst (Among (entry_of k)) e (inl refl)),
   all_found m (map entry_of ks) (λ x a. find x (subst (Among x) e (inr a))) ks refl,
 )
 
-walk_found : (m : CellMap) (a b : ℤ) (ks : List (KeptCell CellParts)) → map entry_of ks ≡ entries_within a b m → AllByRecursion (IsFound m) ks
+walk_found : (m : CellMap) (a b : ℤ) (ks : List (CellWithPart CellParts)) → map entry_of ks ≡ entries_within a b m → AllByRecursion (IsFound m) ks
 walk_found m a b ks e = all_found m (entries_within a b m) (λ x k. entry_found m x (Among-filter_was (λ (y : Cell × CellParts). is_within a b y.0.index) x (finmap.entries m) k)) ks e
 
-all_whole : (r : Rule) (columns : List ColumnPoints) (m : CellMap) → IsLive columns r m → HoldsFew (2 ^ 62) columns r m → (ks : List (KeptCell CellParts)) → AllByRecursion (IsFound m) ks → AreWhole ks
+all_whole : (r : Rule) (columns : List ColumnPoints) (m : CellMap) → IsLive columns r m → HoldsFew (2 ^ 62) columns r m → (ks : List (CellWithPart CellParts)) → AllByRecursion (IsFound m) ks → AreWhole ks
 all_whole r columns m live counts [] found = tt
 all_whole r columns m live counts (k ∷ ks) found = (cell_whole r columns m live counts k found.0, all_whole r columns m live counts ks found.1)
 
-all_shown : (r : Rule) (low : ℤ) (m : CellMap) (ks : List (KeptCell CellParts)) → AllByRecursion (IsFound m) ks → walked_cells ks ≡ map (with_parts (rule_cells r low m).parts) (map (λ (e : Cell × CellParts). e.0) (map entry_of ks))
+all_shown : (r : Rule) (low : ℤ) (m : CellMap) (ks : List (CellWithPart CellParts)) → AllByRecursion (IsFound m) ks → walked_cells ks ≡ map (with_parts (rule_cells r low m).parts) (map (λ (e : Cell × CellParts). e.0) (map entry_of ks))
 all_shown r low m [] found = refl
 all_shown r low m (k ∷ ks) found = ap₂ (λ (x : SeenCell) (xs : List SeenCell). x ∷ xs) (parts_shown r low m k found.0) (all_shown r low m ks found.1)
 
@@ -83,7 +83,7 @@ keys_within a b (e ∷ es) =
     ]
 
 -- and they are those that are shown
-walk_shows : (r : Rule) (low : ℤ) (m : CellMap) (a b : ℤ) (ks : List (KeptCell CellParts)) → map entry_of ks ≡ entries_within a b m → walked_cells ks ≡ cells_within (rule_cells r low m) a b
+walk_shows : (r : Rule) (low : ℤ) (m : CellMap) (a b : ℤ) (ks : List (CellWithPart CellParts)) → map entry_of ks ≡ entries_within a b m → walked_cells ks ≡ cells_within (rule_cells r low m) a b
 walk_shows r low m a b ks e =
     let parts : Cell → CellParts = (rule_cells r low m).parts in
     all_shown r low m ks (walk_found m a b ks e)
@@ -132,7 +132,7 @@ rule_few : (n m : ℕ) (columns : List ColumnPoints) (r : Rule) (cells : CellMap
 rule_few n m columns r cells more few = λ k. let f = few k in omega (arith, f, more)
 
 -- the rule of a number, of a store between two calls
-pub store_ruled : (k : StoreData) (held : Held) (run : Option Run) (n : ℕ) (r : Rule) → IsKept k held run → k.columns ≡ held.columns → k.cells ≡ cells_of held.rollups → n < length k.settings.rules → r ≡ get_or k.settings.rules n r → IsRuled held r n
+pub store_ruled : (k : StoreData) (held : StoreContent) (run : Option Run) (n : ℕ) (r : Rule) → IsSoundStore k held run → k.columns ≡ held.columns → k.cells ≡ cells_of held.rollups → n < length k.settings.rules → r ≡ get_or k.settings.rules n r → IsRuled held r n
 store_ruled k held run n r kept columns cells there read =
     let rs : List Rule = k.settings.rules in
     let below : n < length held.rollups = let l = rollups-length rs (map column_of held.columns) held.rollups kept.rollups in omega (arith, l, there) in
@@ -148,8 +148,8 @@ store_ruled k held run n r kept columns cells there read =
     }
 
 -- its cells are shown
-pub store_shows : (settings : Settings) (marks : Marks) (accepted : ℕ) (held : Held) (run : Option Run) (n : ℕ) (r : Rule) (a b : ℤ) → IsKept (kept_data settings marks accepted held run) held run → n < length settings.rules → r ≡ get_or settings.rules n r
-    → cells_of_rule held r n a b ≡ cells_at (seen_of (state_of (kept_data settings marks accepted held run))).rules n a b
+pub store_shows : (settings : Settings) (marks : Marks) (accepted : ℕ) (held : StoreContent) (run : Option Run) (n : ℕ) (r : Rule) (a b : ℤ) → IsSoundStore (data_of_parts settings marks accepted held run) held run → n < length settings.rules → r ≡ get_or settings.rules n r
+    → cells_of_rule held r n a b ≡ view_cells_at (view_state_of (state_of (data_of_parts settings marks accepted held run))).rules n a b
 store_shows settings marks accepted held run n r a b kept there read =
     let rs : List Rule = settings.rules in
     let below : n < length held.rollups = let l = rollups-length rs (map column_of held.columns) held.rollups kept.rollups in omega (arith, l, there) in
@@ -160,7 +160,7 @@ store_shows settings marks accepted held run n r a b kept there read =
 
 -- ---- a walk over the cells of the rule of a number
 
-module _ (held : Held) (r : Rule) (n : ℕ) (s : RollupState) (a b : ℤ) (ks : List (KeptCell CellParts)) (ruled : IsRuled held r n) (read : s ≡ get_or held.rollups n s) (entries : map entry_of ks ≡ entries_within a b s.grid.cells) where
+module _ (held : StoreContent) (r : Rule) (n : ℕ) (s : RollupState) (a b : ℤ) (ks : List (CellWithPart CellParts)) (ruled : IsRuled held r n) (read : s ≡ get_or held.rollups n s) (entries : map entry_of ks ≡ entries_within a b s.grid.cells) where
   its_rollup : s ≡ rollup_at held.rollups n
   its_rollup = read ∙ get_or_default held.rollups n s new_rollup ruled.there
 

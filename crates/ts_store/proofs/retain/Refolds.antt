@@ -20,7 +20,7 @@ use Rattle.ts_core.proofs.plans.PieceCells.{cells_total, exact_cells, same_cell-
 use Rattle.ts_cells.proofs.GridMoves.{get-changed}
 use Rattle.ts_cells.specs.Grids.{no_lane, cell_at}
 use Rattle.ts_raw.specs.Columns.{PointMap, ColumnState, points_from}
-use Rattle.ts_store.specs.store.ColumnsKept.{with_points, point_maps, no_column}
+use Rattle.ts_store.specs.store.ColumnStates.{with_points, point_maps, no_column}
 use Rattle.ts_store.specs.rollup.LivePoints.{lane_total, left_state, left_states}
 use Rattle.ts_store.specs.write.LivePuts.{IsOver}
 use Rattle.ts_store.specs.rollup.Rollups.{RollupState, IsLaneOf, lane_under, lane_at, with_frozen, corrected_in}

@@ -20,10 +20,10 @@ use Rattle.ts_core.proofs.store.StateLemmas.{same_column-refl, same_column-eq}
 use Rattle.ts_raw.specs.Columns.{PointMap, ColumnState, points_from}
 use Rattle.ts_raw.specs.Indexed.{Indexed}
 use Rattle.ts_core.proofs.lists.NumberedLemmas.{at_among}
-use Rattle.ts_store.specs.store.ColumnsKept.{point_maps, with_points, columns_in, no_column, held_of, IsHeld}
+use Rattle.ts_store.specs.store.ColumnStates.{point_maps, with_points, columns_in, no_column, content_of, IsSoundContent}
 use Rattle.ts_store.specs.read.PointsRead.{number_of_points}
 use Rattle.ts_store.specs.rollup.Rollups.{RollupState, IsLaneOf, AreRollups, lane_at, with_frozen, cells_of}
-use Rattle.ts_store.specs.retain.RollupSteps.{with_frozen_all, FreezesFit, FreezeFit, facts_left, held_moved}
+use Rattle.ts_store.specs.retain.RollupSteps.{with_frozen_all, FreezesFit, FreezeFit, facts_left, content_moved}
 use Rattle.ts_store.specs.write.LivePuts.{IsOver}
 use Rattle.ts_store.proofs.store.ColumnsLemmas.{names_held}
 use Rattle.ts_store.proofs.write.ColumnsAside.{points_at}
@@ -152,11 +152,11 @@ with_points-at (c ∷ cs) [] n s e = absurd (none-some s e)
 with_points-at (c ∷ cs) (m ∷ ms) zero s e = let is = same_Some (record { column = c; points = entries m }) s e in (ap (λ (x : ColumnPoints). Some x.column) is, sym (ap (λ (x : ColumnPoints). x.points) is))
 with_points-at (c ∷ cs) (m ∷ ms) (suc n) s e = with_points-at cs ms n s e
 
-pub held_moves : (index : Indexed) (ss : List ColumnState) (us vs : List RollupState) (rs : List Rule) (mark : ℤ) (n : ℕ) (x y : ColumnState) → IsHeld index ss → n < length ss → x ≡ get_or ss n x → y.points ≡ points_from x.points mark
+pub held_moves : (index : Indexed) (ss : List ColumnState) (us vs : List RollupState) (rs : List Rule) (mark : ℤ) (n : ℕ) (x y : ColumnState) → IsSoundContent index ss → n < length ss → x ≡ get_or ss n x → y.points ≡ points_from x.points mark
     → AreRollups rs (map column_of (columns_in index ss)) us
     → ((cs : List Column) (c : Column) → length ss ≡ length cs → AllDistinct cs → AreRollups rs cs us → slice_get cs n ≡ Some c → FreezeFit rs c (points_below mark (entries (get_or ss n no_column).points)) (cells_of us)
     → vs ≡ with_frozen_all (all_moved rs c (points_below mark (entries (get_or ss n no_column).points)) (facts_left mark c cs ss) (cells_of us)) us)
-    → (s : ColumnPoints) → slice_get (columns_in index ss) n ≡ Some s → FreezeFit rs s.column (points_below mark s.points) (cells_of us) → held_of index (set ss n y) vs ≡ held_moved rs s mark (held_of index ss us)
+    → (s : ColumnPoints) → slice_get (columns_in index ss) n ≡ Some s → FreezeFit rs s.column (points_below mark s.points) (cells_of us) → content_of index (set ss n y) vs ≡ content_moved rs s mark (content_of index ss us)
 held_moves index ss us vs rs mark n x y held within is left a moved s at fit =
     let cs : List Column = index.columns in
     let ms : List PointMap = point_maps ss in

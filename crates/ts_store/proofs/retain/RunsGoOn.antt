@@ -19,15 +19,15 @@ use Rattle.ts_core.proofs.store.RunSteps.{idle_step_stands}
 use Rattle.ts_core.specs.lists.Numbered.{IsAt}
 use Rattle.ts_core.proofs.lists.NumberedLemmas.{at_among}
 use Rattle.ts_store.specs.store.CellCounts.{HoldFew}
-use Rattle.ts_store.specs.store.ColumnsKept.{Held}
+use Rattle.ts_store.specs.store.ColumnStates.{StoreContent}
 use Rattle.std.specs.Option.{is_some}
-use Rattle.ts_store.specs.retain.OpenRuns.{Run, run_over, waiting_in, IsWithin, TakesFirst, kept_data, IsKept}
+use Rattle.ts_store.specs.retain.OpenRuns.{Run, run_over, waiting_in, IsWithin, TakesFirst, data_of_parts, IsSoundStore}
 use Rattle.ts_store.proofs.retain.WaitingColumns.{same_waiting, within_more, all_wait}
 use Rattle.ts_store.specs.rollup.Rollups.{RollupState, AreRollups, cells_of}
-use Rattle.ts_store.specs.read.Seats.{no_points}
+use Rattle.ts_store.specs.read.ViewResults.{no_points}
 use Rattle.ts_store.specs.store.SizedStores.{IsSized}
 use Rattle.ts_store.specs.store.CellIndices.{HaveIndices}
-use Rattle.ts_store.specs.retain.RollupSteps.{held_with, FreezeFit, held_moved}
+use Rattle.ts_store.specs.retain.RollupSteps.{content_with_cells, FreezeFit, content_moved}
 use Rattle.ts_store.proofs.retain.CountsMoved.{counts-fit, counts-moved}
 use Rattle.ts_store.proofs.retain.RollupMoves.{cells_with, rollups_with, moved-length}
 use Rattle.ts_store.proofs.rollup.RollupsGrow.{rollups-length}
@@ -47,27 +47,27 @@ kept-names c mark (s ∷ cs) =
 
 module _ (settings : Settings) (marks : Marks) (n : ℕ) where
   -- no count overflows
-  pub few_accepted : (held : Held) (run : Option Run) → IsKept (kept_data settings marks n held run) held run → n ≤ 2 ^ 62
+  pub few_accepted : (held : StoreContent) (run : Option Run) → IsSoundStore (data_of_parts settings marks n held run) held run → n ≤ 2 ^ 62
   few_accepted held run k = k.sized.accepted
 
-  pub few_facts : (held : Held) (run : Option Run) → IsKept (kept_data settings marks n held run) held run → length (facts_of held.columns) ≤ 2 ^ 62
+  pub few_facts : (held : StoreContent) (run : Option Run) → IsSoundStore (data_of_parts settings marks n held run) held run → length (facts_of held.columns) ≤ 2 ^ 62
   few_facts held run k = let facts = k.sized.facts in let few = k.sized.accepted in omega (arith, facts, few)
 
-  pub kept-fits : (held : Held) (run : Option Run) (next : ℕ) (s : ColumnPoints) → IsKept (kept_data settings marks n held run) held run → IsAt held.columns next s → FreezeFit settings.rules s.column (points_below marks.raw s.points) (cells_of held.rollups)
+  pub kept-fits : (held : StoreContent) (run : Option Run) (next : ℕ) (s : ColumnPoints) → IsSoundStore (data_of_parts settings marks n held run) held run → IsAt held.columns next s → FreezeFit settings.rules s.column (points_below marks.raw s.points) (cells_of held.rollups)
   kept-fits held run next s k at = counts-fit n marks.raw s held.columns k.sized.columns (at_among held.columns next s at) (few_accepted held run k) settings.rules (cells_of held.rollups) k.counts
 
   -- ---- a column is moved
 
-  module _ (held : Held) (run left : Run) (number : ℕ) (s : ColumnPoints) (first : waiting_in (Some run) held.columns ≡ s.column ∷ waiting_in (Some left) held.columns) (within : IsWithin (Some left) held.columns) (at : IsAt held.columns number s)
-      (kept : IsKept (kept_data settings marks n held (Some run)) held (Some run)) where
+  module _ (held : StoreContent) (run left : Run) (number : ℕ) (s : ColumnPoints) (first : waiting_in (Some run) held.columns ≡ s.column ∷ waiting_in (Some left) held.columns) (within : IsWithin (Some left) held.columns) (at : IsAt held.columns number s)
+      (kept : IsSoundStore (data_of_parts settings marks n held (Some run)) held (Some run)) where
     abbrev before : StoreData
-    before = kept_data settings marks n held (Some run)
+    before = data_of_parts settings marks n held (Some run)
 
-    abbrev after : Held
-    after = held_moved settings.rules s marks.raw held
+    abbrev after : StoreContent
+    after = content_moved settings.rules s marks.raw held
 
     abbrev moved : StoreData
-    moved = kept_data settings marks n after (Some left)
+    moved = data_of_parts settings marks n after (Some left)
 
     rest : List Column
     rest = waiting_in (Some left) held.columns
@@ -112,7 +112,7 @@ module _ (settings : Settings) (marks : Marks) (n : ℕ) where
         ∙ turns_left-moved s.column (points_below marks.raw s.points) (facts_of (map (kept_points s.column marks.raw) held.columns)) settings.rules marks.lows (cells_of held.rollups) in
         omega arith
 
-    pub moved-kept : IsKept moved after (Some left)
+    pub moved-kept : IsSoundStore moved after (Some left)
     moved-kept = record {
       rollups = subst (λ (cs : List Column). AreRollups settings.rules cs after.rollups) (sym (kept-names s.column marks.raw held.columns))
           (rollups_with settings.rules (map column_of held.columns) (all_moved settings.rules s.column (points_below marks.raw s.points) (facts_of (map (kept_points s.column marks.raw) held.columns)) (cells_of held.rollups)) held.rollups kept.rollups);
@@ -128,34 +128,34 @@ module _ (settings : Settings) (marks : Marks) (n : ℕ) where
 
   -- ---- cells are removed
 
-  module _ (held left : Held) (run : Run) (is : left ≡ held_with (cells_of left.rollups) held) (loses : FirstLoses marks.lows (cells_of held.rollups) (cells_of left.rollups)) (kept : IsKept (kept_data settings marks n held (Some run)) held (Some run)) where
+  module _ (held left : StoreContent) (run : Run) (is : left ≡ content_with_cells (cells_of left.rollups) held) (loses : FirstLoses marks.lows (cells_of held.rollups) (cells_of left.rollups)) (kept : IsSoundStore (data_of_parts settings marks n held (Some run)) held (Some run)) where
     abbrev full : StoreData
-    full = kept_data settings marks n held (Some run)
+    full = data_of_parts settings marks n held (Some run)
 
-    is_removed : with_cells (cells_of left.rollups) full ≡ kept_data settings marks n left (Some run)
+    is_removed : with_cells (cells_of left.rollups) full ≡ data_of_parts settings marks n left (Some run)
     is_removed = λ i.
-        let h : Held = sym is i in
+        let h : StoreContent = sym is i in
         record { settings = settings; marks = marks; running = true; waiting = waiting_in (Some run) h.columns; series = h.series; columns = h.columns; accepted = n; cells = cells_of left.rollups }
 
-    pub removes-cells : waiting_in (Some run) held.columns ≡ [] → RemovesCells full (kept_data settings marks n left (Some run))
+    pub removes-cells : waiting_in (Some run) held.columns ≡ [] → RemovesCells full (data_of_parts settings marks n left (Some run))
     removes-cells none = record { waits = none; loses = loses; others = sym is_removed }
 
-    pub removed-stands : GoesOn full (Step false) (kept_data settings marks n left (Some run))
+    pub removed-stands : GoesOn full (Step false) (data_of_parts settings marks n left (Some run))
     removed-stands = λ opening h st.
         subst (λ (k : StoreData). StandsFor opening (Step false ∷ h) (state_of k)) is_removed (cells_go opening h full (cells_of left.rollups) st (expired-loses marks.lows (cells_of held.rollups) (cells_of left.rollups) loses))
 
-    pub removed-steps : steps_left (state_of full) ≡ steps_left (state_of (kept_data settings marks n left (Some run))) + 1
+    pub removed-steps : steps_left (state_of full) ≡ steps_left (state_of (data_of_parts settings marks n left (Some run))) + 1
     removed-steps =
         let many : length (cells_of held.rollups) ≡ length settings.rules = length-map held.rollups (λ (u : RollupState). u.grid.cells) ∙ rollups-length settings.rules (map column_of held.columns) held.rollups kept.rollups in
         let turns = turns_left-loses settings.rules marks.lows (cells_of held.rollups) (cells_of left.rollups) many loses in
         let same = ap (λ (k : StoreData). steps_left (state_of k)) is_removed in
         omega arith
 
-    pub removed-kept : IsKept (kept_data settings marks n left (Some run)) left (Some run)
+    pub removed-kept : IsSoundStore (data_of_parts settings marks n left (Some run)) left (Some run)
     removed-kept =
-        let columns : left.columns ≡ held.columns = ap (λ (h : Held). h.columns) is in
+        let columns : left.columns ≡ held.columns = ap (λ (h : StoreContent). h.columns) is in
         record {
-          rollups = subst (λ (h : Held). AreRollups settings.rules (map column_of h.columns) h.rollups) (sym is) (rollups_with settings.rules (map column_of held.columns) (cells_of left.rollups) held.rollups kept.rollups);
+          rollups = subst (λ (h : StoreContent). AreRollups settings.rules (map column_of h.columns) h.rollups) (sym is) (rollups_with settings.rules (map column_of held.columns) (cells_of left.rollups) held.rollups kept.rollups);
           few = (kept.few.0, subst (λ (cs : List ColumnPoints). run.end ≤ length cs) (sym columns) kept.few.1);
           counts = subst (λ (cs : List ColumnPoints). HoldFew n cs settings.rules (cells_of left.rollups)) (sym columns) (counts-removed n held.columns settings.rules marks.lows (cells_of held.rollups) (cells_of left.rollups) loses kept.counts);
           live = subst (λ (cs : List ColumnPoints). AreLive cs settings.rules (cells_of left.rollups)) (sym columns) (lives_go held.columns settings.rules (cells_of held.rollups) (cells_of left.rollups) (of-loses marks.lows (cells_of held.rollups) (cells_of left.rollups) loses) kept.live);
@@ -165,11 +165,11 @@ module _ (settings : Settings) (marks : Marks) (n : ℕ) where
 
   -- ---- the run ends
 
-  module _ (held : Held) (run : Run) (none : waiting_in (Some run) held.columns ≡ []) (kept : IsKept (kept_data settings marks n held (Some run)) held (Some run)) where
+  module _ (held : StoreContent) (run : Run) (none : waiting_in (Some run) held.columns ≡ []) (kept : IsSoundStore (data_of_parts settings marks n held (Some run)) held (Some run)) where
     abbrev open_run : StoreData
-    open_run = kept_data settings marks n held (Some run)
+    open_run = data_of_parts settings marks n held (Some run)
 
-    is_ended : run_ended open_run ≡ kept_data settings marks n held None
+    is_ended : run_ended open_run ≡ data_of_parts settings marks n held None
     is_ended = λ i. record {
       settings = settings;
       marks = marks;
@@ -181,10 +181,10 @@ module _ (settings : Settings) (marks : Marks) (n : ℕ) where
       cells = cells_of held.rollups;
     }
 
-    ended-stands : GoesOn open_run (Step true) (kept_data settings marks n held None)
+    ended-stands : GoesOn open_run (Step true) (data_of_parts settings marks n held None)
     ended-stands = λ opening h st. subst (λ (k : StoreData). StandsFor opening (Step true ∷ h) (state_of k)) is_ended (run_ends opening h open_run st none)
 
-    ended-kept : IsKept (kept_data settings marks n held None) held None
+    ended-kept : IsSoundStore (data_of_parts settings marks n held None) held None
     ended-kept = record {
       rollups = kept.rollups;
       few = tt;
@@ -196,14 +196,14 @@ module _ (settings : Settings) (marks : Marks) (n : ℕ) where
 
   -- ---- a run begins
 
-  module _ (held : Held) (now : ℤ) (end : ℕ) (all : end ≡ length held.columns) (kept : IsKept (kept_data settings marks n held None) held None) where
+  module _ (held : StoreContent) (now : ℤ) (end : ℕ) (all : end ≡ length held.columns) (kept : IsSoundStore (data_of_parts settings marks n held None) held None) where
     abbrev idle : StoreData
-    idle = kept_data settings marks n held None
+    idle = data_of_parts settings marks n held None
 
     abbrev risen : Marks
     risen = record { raw = int_max marks.raw (kept_since settings.raw_duration now); lows = raised now settings.rules marks.lows }
 
-    pub is_begun : kept_data settings risen n held (Some (run_over end)) ≡ run_begun now idle
+    pub is_begun : data_of_parts settings risen n held (Some (run_over end)) ≡ run_begun now idle
     is_begun = λ i. record {
       settings = settings;
       marks = risen;
@@ -215,7 +215,7 @@ module _ (settings : Settings) (marks : Marks) (n : ℕ) where
       cells = cells_of held.rollups;
     }
 
-    pub begun-kept : IsKept (kept_data settings risen n held (Some (run_over end))) held (Some (run_over end))
+    pub begun-kept : IsSoundStore (data_of_parts settings risen n held (Some (run_over end))) held (Some (run_over end))
     begun-kept = record {
       rollups = kept.rollups;
       few = (omega arith, omega arith);
@@ -228,18 +228,18 @@ module _ (settings : Settings) (marks : Marks) (n : ℕ) where
 -- ---- a step of the run that is open
 
 -- the store goes on with one step fewer left, and is kept
-pub record IsStep (before after : StoreData) (held : Held) (run : Option Run) : Type 0 where
+pub record IsStep (before after : StoreData) (held : StoreContent) (run : Option Run) : Type 0 where
   pub goes : GoesOn before (Step false) after
   pub fewer : steps_left (state_of before) ≡ steps_left (state_of after) + 1
   pub moves : MovesFirst before after ⊎ RemovesCells before after
   pub series : after.series ≡ before.series
-  pub kept : IsKept after held run
+  pub kept : IsSoundStore after held run
 
-module _ (settings : Settings) (marks : Marks) (n : ℕ) (held after : Held) (before : StoreData) where
+module _ (settings : Settings) (marks : Marks) (n : ℕ) (held after : StoreContent) (before : StoreData) where
   -- the first waiting column is taken off the run, and moved
-  pub move_steps : (run left : Option Run) (number : ℕ) (rs : List Rule) (mark : ℤ) → kept_data settings marks n held run ≡ before → IsKept (kept_data settings marks n held run) held run → is_some run ≡ true → TakesFirst run left (Some number)
-      → rs ≡ settings.rules → mark ≡ marks.raw → ((s : ColumnPoints) → IsAt held.columns number s → FreezeFit rs s.column (points_below mark s.points) (cells_of held.rollups) → after ≡ held_moved rs s mark held)
-      → IsStep before (kept_data settings marks n after left) after left
+  pub move_steps : (run left : Option Run) (number : ℕ) (rs : List Rule) (mark : ℤ) → data_of_parts settings marks n held run ≡ before → IsSoundStore (data_of_parts settings marks n held run) held run → is_some run ≡ true → TakesFirst run left (Some number)
+      → rs ≡ settings.rules → mark ≡ marks.raw → ((s : ColumnPoints) → IsAt held.columns number s → FreezeFit rs s.column (points_below mark s.points) (cells_of held.rollups) → after ≡ content_moved rs s mark held)
+      → IsStep before (data_of_parts settings marks n after left) after left
   move_steps None left number rs mark shown kept runs takes same raw moves = absurd (true≢false (sym runs))
   move_steps (Some run) None number rs mark shown kept runs takes same raw moves = absurd (true≢false (sym takes.running))
   move_steps (Some run) (Some left) number rs mark shown kept runs takes same raw moves =
@@ -248,11 +248,11 @@ module _ (settings : Settings) (marks : Marks) (n : ℕ) (held after : Held) (be
       let at : IsAt held.columns number s = slice_get-get_or held.columns number no_points within.1 in
       let first : waiting_in (Some run) held.columns ≡ s.column ∷ waiting_in (Some left) held.columns = takes.first held.columns s at in
       let fit : FreezeFit settings.rules s.column (points_below marks.raw s.points) (cells_of held.rollups) = kept-fits settings marks n held (Some run) number s kept at in
-      let is : after ≡ held_moved settings.rules s marks.raw held =
+      let is : after ≡ content_moved settings.rules s marks.raw held =
       moves s at (subst (λ (us : List Rule). FreezeFit us s.column (points_below mark s.points) (cells_of held.rollups)) (sym same) (subst (λ m. FreezeFit settings.rules s.column (points_below m s.points) (cells_of held.rollups)) (sym raw) fit))
-      ∙ ap₂ (λ (us : List Rule) m. held_moved us s m held) same raw in
-      let step : IsStep (kept_data settings marks n held (Some run)) (kept_data settings marks n after (Some left)) after (Some left) =
-      subst (λ (h : Held). IsStep (kept_data settings marks n held (Some run)) (kept_data settings marks n h (Some left)) h (Some left)) (sym is)
+      ∙ ap₂ (λ (us : List Rule) m. content_moved us s m held) same raw in
+      let step : IsStep (data_of_parts settings marks n held (Some run)) (data_of_parts settings marks n after (Some left)) after (Some left) =
+      subst (λ (h : StoreContent). IsStep (data_of_parts settings marks n held (Some run)) (data_of_parts settings marks n h (Some left)) h (Some left)) (sym is)
       (record {
         goes = moved-stands settings marks n held run left number s first within.0 at kept;
         fewer = moved-steps settings marks n held run left number s first within.0 at kept;
@@ -260,19 +260,19 @@ module _ (settings : Settings) (marks : Marks) (n : ℕ) (held after : Held) (be
         series = refl;
         kept = moved-kept settings marks n held run left number s first within.0 at kept;
       }) in
-      subst (λ (k : StoreData). IsStep k (kept_data settings marks n after (Some left)) after (Some left)) shown step
+      subst (λ (k : StoreData). IsStep k (data_of_parts settings marks n after (Some left)) after (Some left)) shown step
 
   -- the store with what is left of a run of which no column waits
   pub record IsThrough (left : Option Run) : Type 0 where
-    pub shown : kept_data settings marks n held left ≡ before
-    pub kept : IsKept (kept_data settings marks n held left) held left
+    pub shown : data_of_parts settings marks n held left ≡ before
+    pub kept : IsSoundStore (data_of_parts settings marks n held left) held left
     pub none : waiting_in left held.columns ≡ []
     pub running : is_some left ≡ true
 
-  pub run_through : (run left : Option Run) → kept_data settings marks n held run ≡ before → IsKept (kept_data settings marks n held run) held run → is_some run ≡ true → TakesFirst run left None → IsThrough left
+  pub run_through : (run left : Option Run) → data_of_parts settings marks n held run ≡ before → IsSoundStore (data_of_parts settings marks n held run) held run → is_some run ≡ true → TakesFirst run left None → IsThrough left
   run_through run left shown kept runs takes =
       let none = takes.none held.columns in
-      let same : kept_data settings marks n held left ≡ kept_data settings marks n held run = λ i. record {
+      let same : data_of_parts settings marks n held left ≡ data_of_parts settings marks n held run = λ i. record {
         settings = settings;
         marks = marks;
         running = takes.running i;
@@ -297,28 +297,28 @@ module _ (settings : Settings) (marks : Marks) (n : ℕ) (held after : Held) (be
       }
 
   -- then cells are removed
-  pub removal_steps : (run : Option Run) (lows : List ℤ) → IsThrough run → lows ≡ marks.lows → after ≡ held_with (cells_of after.rollups) held → FirstLoses lows (cells_of held.rollups) (cells_of after.rollups)
-      → IsStep before (kept_data settings marks n after run) after run
+  pub removal_steps : (run : Option Run) (lows : List ℤ) → IsThrough run → lows ≡ marks.lows → after ≡ content_with_cells (cells_of after.rollups) held → FirstLoses lows (cells_of held.rollups) (cells_of after.rollups)
+      → IsStep before (data_of_parts settings marks n after run) after run
   removal_steps None lows all same is loses = absurd (true≢false (sym all.running))
   removal_steps (Some r) lows all same is loses =
       let some : FirstLoses marks.lows (cells_of held.rollups) (cells_of after.rollups) = subst (λ (ls : List ℤ). FirstLoses ls (cells_of held.rollups) (cells_of after.rollups)) same loses in
-      let step : IsStep (kept_data settings marks n held (Some r)) (kept_data settings marks n after (Some r)) after (Some r) = record {
+      let step : IsStep (data_of_parts settings marks n held (Some r)) (data_of_parts settings marks n after (Some r)) after (Some r) = record {
         goes = removed-stands settings marks n held after r is some all.kept;
         fewer = removed-steps settings marks n held after r is some all.kept;
         moves = inr (removes-cells settings marks n held after r is some all.kept all.none);
-        series = ap (λ (h : Held). h.series) is;
+        series = ap (λ (h : StoreContent). h.series) is;
         kept = removed-kept settings marks n held after r is some all.kept;
       } in
-      subst (λ (k : StoreData). IsStep k (kept_data settings marks n after (Some r)) after (Some r)) all.shown step
+      subst (λ (k : StoreData). IsStep k (data_of_parts settings marks n after (Some r)) after (Some r)) all.shown step
 
   -- or nothing was left, and the run is over
   pub end_steps : (run : Option Run) → IsThrough run → after ≡ held
-      → (kept_data settings marks n after None ≡ run_ended before) × GoesOn before (Step true) (kept_data settings marks n after None) × IsKept (kept_data settings marks n after None) after None
+      → (data_of_parts settings marks n after None ≡ run_ended before) × GoesOn before (Step true) (data_of_parts settings marks n after None) × IsSoundStore (data_of_parts settings marks n after None) after None
   end_steps None all is = absurd (true≢false (sym all.running))
   end_steps (Some r) all is =
-      subst (λ (h : Held). (kept_data settings marks n h None ≡ run_ended before) × GoesOn before (Step true) (kept_data settings marks n h None) × IsKept (kept_data settings marks n h None) h None) (sym is) (
+      subst (λ (h : StoreContent). (data_of_parts settings marks n h None ≡ run_ended before) × GoesOn before (Step true) (data_of_parts settings marks n h None) × IsSoundStore (data_of_parts settings marks n h None) h None) (sym is) (
         sym (is_ended settings marks n held r all.none all.kept) ∙ ap run_ended all.shown,
-        subst (λ (k : StoreData). GoesOn k (Step true) (kept_data settings marks n held None)) all.shown (ended-stands settings marks n held r all.none all.kept),
+        subst (λ (k : StoreData). GoesOn k (Step true) (data_of_parts settings marks n held None)) all.shown (ended-stands settings marks n held r all.none all.kept),
         ended-kept settings marks n held r all.none all.kept,
       )
 
@@ -328,7 +328,7 @@ module _ (settings : Settings) (marks : Marks) (n : ℕ) (held after : Held) (be
   end_last (Some r) all above =
       let waits : length (waiting_in (Some r) held.columns) ≡ 0 = ap (λ (ws : List Column). length ws) all.none in
       let turns = turns_left-above settings.rules marks.lows (cells_of held.rollups) above in
-      let one : steps_left (state_of (kept_data settings marks n held (Some r))) ≡ 1 = omega arith in
+      let one : steps_left (state_of (data_of_parts settings marks n held (Some r))) ≡ 1 = omega arith in
       subst (λ (k : StoreData). steps_left (state_of k) ≡ 1) all.shown one
 
 -- without an open run a step changes nothing

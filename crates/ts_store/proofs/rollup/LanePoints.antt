@@ -13,13 +13,13 @@ use Rattle.ts_core.specs.lists.Numbered.{numbers_where_from}
 use Rattle.ts_core.proofs.lists.Comparisons.{le_true}
 use Rattle.ts_core.proofs.lists.ListSteps.{length-filter}
 use Rattle.ts_raw.specs.Columns.{PointMap, ColumnState, points_from, points_in_bucket}
-use Rattle.ts_store.specs.store.ColumnsKept.{no_column}
+use Rattle.ts_store.specs.store.ColumnStates.{no_column}
 use Rattle.ts_store.specs.rollup.LivePoints.{points_in, points_since, left_state, left_states}
 use Rattle.ts_store.specs.read.PointsRead.{number_of_points}
 use Rattle.ts_store.specs.rollup.Rollups.{RollupState, is_of_lane, columns_of_lane}
 use Rattle.ts_store.proofs.rollup.LiveParts.{IsNext, column_next, number_there}
 use Rattle.ts_store.proofs.retain.RollupMoves.{entries_from}
-use Rattle.ts_store.proofs.read.SeatLemmas.{numbers-below}
+use Rattle.ts_store.proofs.read.ColumnRefLemmas.{numbers-below}
 
 points-few : (r : Rule) (all : List ColumnState) (index : ℤ) (l n : ℕ) (ss : List ColumnState) (os : List (Option ℕ)) → length os ≡ length ss → ((i : ℕ) → i < length ss → get_or all (n + i) no_column ≡ get_or ss i no_column)
     → length (points_in r all index (numbers_where_from (is_of_lane l) n os)) ≤ number_of_points ss

@@ -24,7 +24,7 @@ use Rattle.ts_cells.specs.Grids.{Lane, lane_of, cell_at}
 use Rattle.ts_raw.specs.Columns.{ColumnState, points_in_bucket}
 use Rattle.ts_core.specs.lists.Numbered.{IsAt, numbers_where_from}
 use Rattle.ts_core.proofs.lists.NumberedLemmas.{at_among, same_at}
-use Rattle.ts_store.specs.store.ColumnsKept.{with_points, point_maps, no_column}
+use Rattle.ts_store.specs.store.ColumnStates.{with_points, point_maps, no_column}
 use Rattle.ts_store.specs.rollup.Rollups.{RollupState, IsLaneOf, HaveLanes, lane_under, is_of_lane, columns_of_lane}
 use Rattle.ts_store.specs.rollup.LivePoints.{points_in}
 

@@ -21,7 +21,7 @@ use Rattle.ts_store.specs.image.BuildingParts.{IsIdle, AreIdle, MakesCells, Fill
 use Rattle.ts_raw.specs.Columns.{ColumnState}
 use Rattle.ts_raw.specs.Indexed.{Indexed}
 use Rattle.ts_store.specs.store.CellIndices.{HaveIndices}
-use Rattle.ts_store.specs.store.ColumnsKept.{IsHeld, held_of, columns_in, with_points, point_maps}
+use Rattle.ts_store.specs.store.ColumnStates.{IsSoundContent, content_of, columns_in, with_points, point_maps}
 use Rattle.ts_store.specs.write.LinesPut.{OfEachRule, IsOfFacts, PutsCells}
 use Rattle.ts_store.specs.rollup.Rollups.{RollupState, AreRollups, HaveLanes, IsLaneOf, lane_at, cells_of}
 use Rattle.ts_store.specs.retain.RollupSteps.{with_frozen_all}
@@ -285,12 +285,12 @@ Makes rs lows vs ss us = (cs : List Column) → length ss ≡ length cs → AreR
 abbrev pub Adds : List Rule → List RollupState → List ColumnState → List RollupState → Type 0
 Adds rs ws ss vs = (cs : List Column) → length ss ≡ length cs → AreRollups rs cs vs → AreIdle (cells_of vs) → AreLive (with_points cs (point_maps ss)) rs (cells_of ws)
 
-module _ (rs : List Rule) (lows : List ℤ) (index : Indexed) (ss : List ColumnState) (us vs ws : List RollupState) (held : IsHeld index ss) (many : length lows ≡ length rs) (rollups : AreRollups rs (map column_of (columns_in index ss)) us) (idle : AreIdle (cells_of us)) where
+module _ (rs : List Rule) (lows : List ℤ) (index : Indexed) (ss : List ColumnState) (us vs ws : List RollupState) (held : IsSoundContent index ss) (many : length lows ≡ length rs) (rollups : AreRollups rs (map column_of (columns_in index ss)) us) (idle : AreIdle (cells_of us)) where
   names : AreRollups rs index.columns us
   names = subst (λ (cs : List Column). AreRollups rs cs us) (names_held index ss held.each) rollups
 
   pub all_fill : vs ≡ with_frozen_all (cells_of vs) us → ws ≡ with_frozen_all (cells_of ws) vs → Makes rs lows vs ss us → KeepFrozen (cells_of vs) (cells_of ws) → Adds rs ws ss vs
-      → FillsCells rs lows (held_of index ss us) (held_of index ss ws)
+      → FillsCells rs lows (content_of index ss us) (content_of index ss ws)
   all_fill one two make frozen add =
       let facts : List Fact = facts_of (columns_in index ss) in
       let made : OfEachRule (MakesCells facts) rs lows (cells_of us) (cells_of vs) = make index.columns held.each names in
@@ -299,7 +299,7 @@ module _ (rs : List Rule) (lows : List ℤ) (index : Indexed) (ss : List ColumnS
       add index.columns held.each between (idle-made facts rs lows (cells_of us) (cells_of vs) many (length-map us (λ (s : RollupState). s.grid.cells) ∙ rollups-length rs index.columns us names) made idle) in
       let cells : OfEachRule (PutsCells facts) rs lows (cells_of us) (cells_of ws) = all-filled (columns_in index ss) rs lows (cells_of us) (cells_of vs) (cells_of ws) made frozen live idle in
       record {
-        others = ap (held_of index ss) (lanes_then us vs ws one two);
+        others = ap (content_of index ss) (lanes_then us vs ws one two);
         cells = cells;
         rooms = rooms-had facts rs lows (cells_of us) (cells_of ws) cells;
         live = live;

@@ -22,7 +22,7 @@ use Rattle.ts_raw.specs.Columns.{ColumnState}
 use Rattle.ts_raw.specs.Indexed.{Indexed}
 use Rattle.ts_store.specs.image.BuildingParts.{AreIdle, FillsCells, KeepFrozen}
 use Rattle.ts_store.specs.store.CellIndices.{HasIndices}
-use Rattle.ts_store.specs.store.ColumnsKept.{IsHeld, held_of, columns_in}
+use Rattle.ts_store.specs.store.ColumnStates.{IsSoundContent, content_of, columns_in}
 use Rattle.ts_store.specs.store.Inventories.{AreFilled}
 use Rattle.ts_store.specs.write.LinesPut.{IsOfFacts, PutsCells}
 use Rattle.ts_store.specs.rules.RuleRollups.{HasFirstLanes, IsRollupOf}
@@ -79,14 +79,14 @@ module _ (facts : List Fact) (r : Rule) (low : ℤ) (m : CellMap) (puts : PutsCe
 no_indices : (r : Rule) → HasIndices r finmap.empty
 no_indices r = λ k a. absurd (key_not finmap.empty k a (get-empty cell_cmp k))
 
-pub rollup_made : (index : Indexed) (ss : List ColumnState) (us : List RollupState) (r : Rule) (low : ℤ) (s t : RollupState) → IsHeld index ss → HasFirstLanes r index.columns (length index.columns) s
-    → t ≡ with_frozen t.grid.cells s → FillsCells (r ∷ []) (low ∷ []) (held_of index ss (s ∷ [])) (held_of index ss (t ∷ [])) → IsRollupOf (held_of index ss us) r low t
+pub rollup_made : (index : Indexed) (ss : List ColumnState) (us : List RollupState) (r : Rule) (low : ℤ) (s t : RollupState) → IsSoundContent index ss → HasFirstLanes r index.columns (length index.columns) s
+    → t ≡ with_frozen t.grid.cells s → FillsCells (r ∷ []) (low ∷ []) (content_of index ss (s ∷ [])) (content_of index ss (t ∷ [])) → IsRollupOf (content_of index ss us) r low t
 rollup_made index ss us r low s t held first same fills =
-    let facts : List Fact = facts_of (held_of index ss us).columns in
+    let facts : List Fact = facts_of (content_of index ss us).columns in
     let puts : PutsCells facts r low finmap.empty t.grid.cells = subst (λ (m : CellMap). PutsCells facts r low m t.grid.cells) first.cells (fills.cells.1 0 r low s.grid.cells t.grid.cells refl refl refl refl) in
     let lanes : HaveLanes r s.grid.lanes index.columns s.lanes = subst (λ (cs : List Column). HaveLanes r s.grid.lanes cs s.lanes) (take-length index.columns) first.lanes in
     record {
-      lanes = subst (λ (x : RollupState). HaveLanes r x.grid.lanes (map column_of (held_of index ss us).columns) x.lanes) (sym same) (subst (λ (cs : List Column). HaveLanes r s.grid.lanes cs s.lanes) (sym (names_held index ss held.each)) lanes);
+      lanes = subst (λ (x : RollupState). HaveLanes r x.grid.lanes (map column_of (content_of index ss us).columns) x.lanes) (sym same) (subst (λ (cs : List Column). HaveLanes r s.grid.lanes cs s.lanes) (sym (names_held index ss held.each)) lanes);
       fresh = fresh_of facts r low t.grid.cells puts fills.live.0;
       filled = filled_of facts r low t.grid.cells puts;
       indices = (fills.indices (subst (HasIndices r) (sym first.cells) (no_indices r), tt)).0;
@@ -102,13 +102,13 @@ alone {X} xs (y ∷ ys) x one e = absurd (let n : length xs ≡ length (y ∷ (y
 pub alone_wide : (n : ℕ) (s : RollupState) (us : List RollupState) → us ≡ s ∷ [] → length s.lanes ≡ n → AllByRecursion (λ (u : RollupState). length u.lanes ≡ n) us
 alone_wide n s us e wide = subst (AllByRecursion (λ (u : RollupState). length u.lanes ≡ n)) (sym e) (wide, tt)
 
-pub alone_made : (index : Indexed) (ss : List ColumnState) (us : List RollupState) (r : Rule) (low : ℤ) (s t : RollupState) (vs ws : List RollupState) → IsHeld index ss → HasFirstLanes r index.columns (length index.columns) s
-    → vs ≡ with_frozen_all (cells_of vs) (s ∷ []) → ws ≡ with_frozen_all (cells_of ws) vs → Makes (r ∷ []) (low ∷ []) vs ss (s ∷ []) → KeepFrozen (cells_of vs) (cells_of ws) → Adds (r ∷ []) ws ss vs → ws ≡ t ∷ [] → IsRollupOf (held_of index ss us) r low t
+pub alone_made : (index : Indexed) (ss : List ColumnState) (us : List RollupState) (r : Rule) (low : ℤ) (s t : RollupState) (vs ws : List RollupState) → IsSoundContent index ss → HasFirstLanes r index.columns (length index.columns) s
+    → vs ≡ with_frozen_all (cells_of vs) (s ∷ []) → ws ≡ with_frozen_all (cells_of ws) vs → Makes (r ∷ []) (low ∷ []) vs ss (s ∷ []) → KeepFrozen (cells_of vs) (cells_of ws) → Adds (r ∷ []) ws ss vs → ws ≡ t ∷ [] → IsRollupOf (content_of index ss us) r low t
 alone_made index ss us r low s t vs ws held first one two make frozen add only =
     let lanes : HaveLanes r s.grid.lanes index.columns s.lanes = subst (λ (cs : List Column). HaveLanes r s.grid.lanes cs s.lanes) (take-length index.columns) first.lanes in
     let named : HaveLanes r s.grid.lanes (map column_of (columns_in index ss)) s.lanes = subst (λ (cs : List Column). HaveLanes r s.grid.lanes cs s.lanes) (sym (names_held index ss held.each)) lanes in
     let idle : AreIdle (cells_of (s ∷ [])) = (λ k p e. absurd (none-some p (sym (ap (λ (m : CellMap). finmap.get m k) first.cells ∙ get-empty cell_cmp k) ∙ e)), tt) in
-    let fills : FillsCells (r ∷ []) (low ∷ []) (held_of index ss (s ∷ [])) (held_of index ss ws) = all_fill (r ∷ []) (low ∷ []) index ss (s ∷ []) vs ws held refl (named, tt) idle one two make frozen add in
+    let fills : FillsCells (r ∷ []) (low ∷ []) (content_of index ss (s ∷ [])) (content_of index ss ws) = all_fill (r ∷ []) (low ∷ []) index ss (s ∷ []) vs ws held refl (named, tt) idle one two make frozen add in
     let same : t ≡ with_frozen t.grid.cells s =
     same_head t (with_frozen t.grid.cells s) [] [] (sym only ∙ lanes_then (s ∷ []) vs ws one two ∙ ap (λ (xs : List RollupState). with_frozen_all (cells_of xs) (s ∷ [])) only) in
-    rollup_made index ss us r low s t held first same (subst (λ (xs : List RollupState). FillsCells (r ∷ []) (low ∷ []) (held_of index ss (s ∷ [])) (held_of index ss xs)) only fills)
+    rollup_made index ss us r low s t held first same (subst (λ (xs : List RollupState). FillsCells (r ∷ []) (low ∷ []) (content_of index ss (s ∷ [])) (content_of index ss xs)) only fills)

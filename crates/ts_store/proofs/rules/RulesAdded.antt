@@ -30,8 +30,8 @@ use Rattle.ts_core.proofs.settings.SettingsLaws.{settings_are}
 use Rattle.ts_core.proofs.moves.MovesStand.{key_there}
 use Rattle.ts_store.specs.store.CellCounts.{HoldsFew, HoldFew}
 use Rattle.ts_store.specs.store.CellIndices.{HasIndices, HaveIndices}
-use Rattle.ts_store.specs.store.ColumnsKept.{Held}
-use Rattle.ts_store.specs.retain.OpenRuns.{Run, kept_data, IsKept}
+use Rattle.ts_store.specs.store.ColumnStates.{StoreContent}
+use Rattle.ts_store.specs.retain.OpenRuns.{Run, data_of_parts, IsSoundStore}
 use Rattle.ts_store.specs.rollup.Rollups.{RollupState, HaveLanes, AreRollups, cells_of}
 use Rattle.ts_store.specs.rules.RuleRollups.{IsRollupOf, with_rollup}
 use Rattle.ts_store.specs.rules.RulesChanged.{RuleComes, AddsRule}
@@ -101,9 +101,9 @@ first_most r mark w =
 
 -- ---- the store
 
-module _ (settings : Settings) (marks : Marks) (n : ℕ) (held : Held) (run : Option Run) (kept : IsKept (kept_data settings marks n held run) held run) where
+module _ (settings : Settings) (marks : Marks) (n : ℕ) (held : StoreContent) (run : Option Run) (kept : IsSoundStore (data_of_parts settings marks n held run) held run) where
   abbrev now : StoreData
-  now = kept_data settings marks n held run
+  now = data_of_parts settings marks n held run
 
   pub even : IsEven now
   even = record { lows = kept.sized.lows; cells = kept.sized.cells }
@@ -131,7 +131,7 @@ module _ (settings : Settings) (marks : Marks) (n : ℕ) (held : Held) (run : Op
         let all = kept.sized.facts in
         omega (arith, none, some, all)
 
-    pub is_added : kept_data (with_rule r settings) (record { raw = marks.raw; lows = marks.lows ++ low ∷ [] }) n (with_rollup s held) run ≡ later
+    pub is_added : data_of_parts (with_rule r settings) (record { raw = marks.raw; lows = marks.lows ++ low ∷ [] }) n (with_rollup s held) run ≡ later
     is_added = ap (λ (ms : List CellMap). record {
       settings = with_rule r settings;
       marks = record { raw = marks.raw; lows = marks.lows ++ low ∷ [] };
@@ -143,7 +143,7 @@ module _ (settings : Settings) (marks : Marks) (n : ℕ) (held : Held) (run : Op
       cells = ms;
     }) (map-append (λ (x : RollupState). x.grid.cells) held.rollups (s ∷ []))
 
-    pub kept_added : IsKept later (with_rollup s held) run
+    pub kept_added : IsSoundStore later (with_rollup s held) run
     kept_added = record {
       rollups = rollups_push settings.rules (map column_of held.columns) held.rollups r s kept.rollups rollup.lanes;
       few = kept.few;
@@ -188,23 +188,23 @@ module _ (settings : Settings) (marks : Marks) (n : ℕ) (held : Held) (run : Op
       left = left_added now r low cells even rollup.fresh;
     }
 
-    abbrev HasCome : Settings → Marks → Held → Type 0
-    HasCome x m h = IsKept (kept_data x m n h run) h run × RuleComes now (kept_data x m n h run) r low
+    abbrev HasCome : Settings → Marks → StoreContent → Type 0
+    HasCome x m h = IsSoundStore (data_of_parts x m n h run) h run × RuleComes now (data_of_parts x m n h run) r low
 
     has_come : HasCome (with_rule r settings) (record { raw = marks.raw; lows = marks.lows ++ low ∷ [] }) (with_rollup s held)
-    has_come = (subst (λ (k : StoreData). IsKept k (with_rollup s held) run) (sym is_added) kept_added, subst (λ (k : StoreData). RuleComes now k r low) (sym is_added) comes)
+    has_come = (subst (λ (k : StoreData). IsSoundStore k (with_rollup s held) run) (sym is_added) kept_added, subst (λ (k : StoreData). RuleComes now k r low) (sym is_added) comes)
 
-    pub parts_come : (x : Settings) (m : Marks) (h : Held) → x ≡ with_rule r settings → m ≡ record { raw = marks.raw; lows = marks.lows ++ low ∷ [] } → h ≡ with_rollup s held → HasCome x m h
+    pub parts_come : (x : Settings) (m : Marks) (h : StoreContent) → x ≡ with_rule r settings → m ≡ record { raw = marks.raw; lows = marks.lows ++ low ∷ [] } → h ≡ with_rollup s held → HasCome x m h
     parts_come x m h ex em eh =
         subst (λ (y : Settings). HasCome y m h) (sym ex) (subst (λ (y : Marks). HasCome (with_rule r settings) y h) (sym em) (subst (HasCome (with_rule r settings) (record { raw = marks.raw; lows = marks.lows ++ low ∷ [] })) (sym eh) has_come))
 
 -- the same from what the calls ensure
-pub rule_is_added : (settings : Settings) (marks : Marks) (n : ℕ) (held : Held) (run : Option Run) (r : Rule) (low : ℤ) (s : RollupState) (x : Settings) (m : Marks) (h : Held) → IsKept (kept_data settings marks n held run) held run → added_fault settings r ≡ None → IsTime marks.raw
+pub rule_is_added : (settings : Settings) (marks : Marks) (n : ℕ) (held : StoreContent) (run : Option Run) (r : Rule) (low : ℤ) (s : RollupState) (x : Settings) (m : Marks) (h : StoreContent) → IsSoundStore (data_of_parts settings marks n held run) held run → added_fault settings r ≡ None → IsTime marks.raw
     → low ≡ first_from r marks.raw → IsRollupOf held r low s → x ≡ with_rule r settings → m ≡ record { raw = marks.raw; lows = marks.lows ++ low ∷ [] } → h ≡ with_rollup s held
-    → IsKept (kept_data x m n h run) h run × RuleComes (kept_data settings marks n held run) (kept_data x m n h run) r low
+    → IsSoundStore (data_of_parts x m n h run) h run × RuleComes (data_of_parts settings marks n held run) (data_of_parts x m n h run) r low
 rule_is_added settings marks n held run r l s x m h kept well mark is =
     subst (λ (z : ℤ). IsRollupOf held r z s → x ≡ with_rule r settings → m ≡ record { raw = marks.raw; lows = marks.lows ++ z ∷ [] } → h ≡ with_rollup s held
-    → IsKept (kept_data x m n h run) h run × RuleComes (kept_data settings marks n held run) (kept_data x m n h run) r z) (sym is)
+    → IsSoundStore (data_of_parts x m n h run) h run × RuleComes (data_of_parts settings marks n held run) (data_of_parts x m n h run) r z) (sym is)
     (λ rollup ex em eh. parts_come settings marks n held run kept r s well mark rollup x m h ex em eh)
 
 -- ---- the call

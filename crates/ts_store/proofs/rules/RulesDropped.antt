@@ -12,8 +12,8 @@ use Rattle.ts_core.proofs.settings.RuleLaws.{without_rule-faultless}
 use Rattle.ts_core.proofs.moves.RulesMove.{rule_goes, lives_kept, left_dropped, even_dropped}
 use Rattle.ts_store.specs.store.CellCounts.{HoldFew}
 use Rattle.ts_store.specs.store.CellIndices.{HaveIndices}
-use Rattle.ts_store.specs.store.ColumnsKept.{Held}
-use Rattle.ts_store.specs.retain.OpenRuns.{Run, kept_data, IsKept}
+use Rattle.ts_store.specs.store.ColumnStates.{StoreContent}
+use Rattle.ts_store.specs.retain.OpenRuns.{Run, data_of_parts, IsSoundStore}
 use Rattle.ts_store.specs.rollup.Rollups.{RollupState, AreRollups, cells_of}
 use Rattle.ts_store.specs.rules.RuleRollups.{without_rollup}
 use Rattle.ts_store.specs.rules.RulesChanged.{RuleGoes, DropsRule}
@@ -85,9 +85,9 @@ module _ (p : Rule → Bool) where
 
 -- ---- the store
 
-module _ (settings : Settings) (marks : Marks) (n : ℕ) (held : Held) (run : Option Run) (kept : IsKept (kept_data settings marks n held run) held run) (name : Text) (i : ℕ) (at : IsRuleAt name settings.rules i) where
+module _ (settings : Settings) (marks : Marks) (n : ℕ) (held : StoreContent) (run : Option Run) (kept : IsSoundStore (data_of_parts settings marks n held run) held run) (name : Text) (i : ℕ) (at : IsRuleAt name settings.rules i) where
   abbrev now : StoreData
-  now = kept_data settings marks n held run
+  now = data_of_parts settings marks n held run
 
   abbrev stays : Rule → Bool
   stays = is_unnamed name
@@ -98,7 +98,7 @@ module _ (settings : Settings) (marks : Marks) (n : ℕ) (held : Held) (run : Op
   lasting : IsEven now
   lasting = record { lows = kept.sized.lows; cells = kept.sized.cells }
 
-  pub is_dropped : kept_data (record { raw_duration = settings.raw_duration; rules = remove settings.rules i }) (record { raw = marks.raw; lows = remove marks.lows i }) n (without_rollup i held) run ≡ later
+  pub is_dropped : data_of_parts (record { raw_duration = settings.raw_duration; rules = remove settings.rules i }) (record { raw = marks.raw; lows = remove marks.lows i }) n (without_rollup i held) run ≡ later
   is_dropped =
       let cells : cells_of (remove held.rollups i) ≡ kept_beside stays settings.rules (cells_of held.rollups) = removed (λ (s : RollupState). s.grid.cells) held.rollups i ∙ sym (at.cells (cells_of held.rollups) kept.sized.cells) in
       λ j. record {
@@ -112,7 +112,7 @@ module _ (settings : Settings) (marks : Marks) (n : ℕ) (held : Held) (run : Op
         cells = cells j;
       }
 
-  pub kept_dropped : IsKept later (without_rollup i held) run
+  pub kept_dropped : IsSoundStore later (without_rollup i held) run
   kept_dropped = record {
     rollups = subst (λ (rs : List Rule). AreRollups rs (map column_of held.columns) (remove held.rollups i)) (sym at.without) (rollups_removed settings.rules (map column_of held.columns) held.rollups i kept.rollups);
     few = kept.few;
@@ -146,19 +146,19 @@ module _ (settings : Settings) (marks : Marks) (n : ℕ) (held : Held) (run : Op
   }
 
   -- the parts of the store after the call
-  module _ (others : Settings) (lower : Marks) (left : Held) (es : others ≡ record { raw_duration = settings.raw_duration; rules = remove settings.rules i }) (em : lower ≡ record { raw = marks.raw; lows = remove marks.lows i }) (eh : left ≡ without_rollup i held) where
-    pub comes_later : kept_data others lower n left run ≡ later
+  module _ (others : Settings) (lower : Marks) (left : StoreContent) (es : others ≡ record { raw_duration = settings.raw_duration; rules = remove settings.rules i }) (em : lower ≡ record { raw = marks.raw; lows = remove marks.lows i }) (eh : left ≡ without_rollup i held) where
+    pub comes_later : data_of_parts others lower n left run ≡ later
     comes_later =
-        ap (λ (s : Settings). kept_data s lower n left run) es
-        ∙ ap (λ (m : Marks). kept_data (record { raw_duration = settings.raw_duration; rules = remove settings.rules i }) m n left run) em
-        ∙ ap (λ (h : Held). kept_data (record { raw_duration = settings.raw_duration; rules = remove settings.rules i }) (record { raw = marks.raw; lows = remove marks.lows i }) n h run) eh
+        ap (λ (s : Settings). data_of_parts s lower n left run) es
+        ∙ ap (λ (m : Marks). data_of_parts (record { raw_duration = settings.raw_duration; rules = remove settings.rules i }) m n left run) em
+        ∙ ap (λ (h : StoreContent). data_of_parts (record { raw_duration = settings.raw_duration; rules = remove settings.rules i }) (record { raw = marks.raw; lows = remove marks.lows i }) n h run) eh
         ∙ is_dropped
 
-    pub kept_later : IsKept (kept_data others lower n left run) left run
-    kept_later = subst (λ (k : StoreData). IsKept k left run) (sym comes_later) (subst (λ (h : Held). IsKept later h run) (sym eh) kept_dropped)
+    pub kept_later : IsSoundStore (data_of_parts others lower n left run) left run
+    kept_later = subst (λ (k : StoreData). IsSoundStore k left run) (sym comes_later) (subst (λ (h : StoreContent). IsSoundStore later h run) (sym eh) kept_dropped)
 
     dropped : {E : Type 0} → DropsRule {E = E} now later name (Ok tt)
     dropped = record { ok = goes; err = tt; unknown = (λ wrong. absurd (true≢false (sym wrong)), λ none. absurd (true≢false (sym at.named ∙ none))) }
 
-    pub rule_went : {E : Type 0} (was : StoreData) → now ≡ was → DropsRule {E = E} was (kept_data others lower n left run) name (Ok tt)
-    rule_went {E} was e = subst (λ (k : StoreData). DropsRule {E = E} k (kept_data others lower n left run) name (Ok tt)) e (subst (λ (k : StoreData). DropsRule {E = E} now k name (Ok tt)) (sym comes_later) dropped)
+    pub rule_went : {E : Type 0} (was : StoreData) → now ≡ was → DropsRule {E = E} was (data_of_parts others lower n left run) name (Ok tt)
+    rule_went {E} was e = subst (λ (k : StoreData). DropsRule {E = E} k (data_of_parts others lower n left run) name (Ok tt)) e (subst (λ (k : StoreData). DropsRule {E = E} now k name (Ok tt)) (sym comes_later) dropped)

@@ -19,7 +19,7 @@ use Rattle.ts_raw.specs.Columns.{PointMap, ColumnState}
 use Rattle.ts_raw.specs.Indexed.{Indexed}
 use Rattle.ts_core.proofs.lists.NumberedLemmas.{at_among}
 use Rattle.ts_core.specs.store.StoreStates.{ColumnPoints, column_of, fact_at}
-use Rattle.ts_store.specs.store.ColumnsKept.{facts_in, point_maps, with_points, columns_in, facts_of_columns, held_of, AreKnown, IsHeld}
+use Rattle.ts_store.specs.store.ColumnStates.{facts_in, point_maps, with_points, columns_in, facts_of_columns, content_of, AreKnown, IsSoundContent}
 use Rattle.ts_store.specs.rollup.Rollups.{RollupState}
 
 -- ---- in one column
@@ -164,7 +164,7 @@ pub names_held : (index : Indexed) (ss : List ColumnState) → length ss ≡ len
 names_held index ss each = names_of index.columns (point_maps ss) (length-map ss (λ (s : ColumnState). s.points) ∙ each)
 
 -- each column of an index is known
-pub known_of : (index : Indexed) (ss : List ColumnState) (rollups : List RollupState) → IsHeld index ss → AreKnown (held_of index ss rollups)
+pub known_of : (index : Indexed) (ss : List ColumnState) (rollups : List RollupState) → IsSoundContent index ss → AreKnown (content_of index ss rollups)
 known_of index ss rollups h =
     let names : map column_of (columns_in index ss) ≡ index.columns = names_held index ss h.each in
     record {

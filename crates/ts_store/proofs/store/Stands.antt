@@ -36,13 +36,13 @@ use Rattle.ts_line.specs.Names.{AreKeys, IsNamed}
 use Rattle.ts_line.specs.Parts.{LinePart, Parts, series_of, fact_of, field_text, line_facts}
 use Rattle.ts_core.specs.lists.Numbered.{IsAt}
 use Rattle.ts_core.proofs.lists.NumberedLemmas.{at_among}
-use Rattle.ts_store.specs.store.ColumnsKept.{Held}
+use Rattle.ts_store.specs.store.ColumnStates.{StoreContent}
 use Rattle.ts_store.specs.read.PointsRead.{points_between, AreLatestOf}
 use Rattle.ts_store.specs.write.Registered.{new_columns, with_columns}
 use Rattle.ts_store.specs.declared.write.fault.WriteFault.{WriteFault}
 use Rattle.ts_store.specs.declared.write.fault.WriteFault.TheVariants.{BelowRawMark, TooManySeries, TooManyFacts}
 use Rattle.ts_store.specs.write.Refusals.{is_registered, is_too_many, write_fault}
-use Rattle.ts_store.specs.retain.OpenRuns.{Run, waiting_in, IsWithin, kept_data, IsKept}
+use Rattle.ts_store.specs.retain.OpenRuns.{Run, waiting_in, IsWithin, data_of_parts, IsSoundStore}
 use Rattle.ts_store.specs.store.CellCounts.{HoldFew}
 use Rattle.ts_store.specs.store.SizedStores.{IsSized}
 use Rattle.ts_store.specs.store.CellIndices.{HaveIndices}
@@ -75,23 +75,23 @@ new_cells [] = refl
 new_cells (r ∷ rs) = ap (λ (ms : List CellMap). finmap.empty ∷ ms) (new_cells rs)
 
 -- no columns, under these rules
-abbrev pub held_new : Settings → Held
+abbrev pub held_new : Settings → StoreContent
 held_new settings = record { series = []; columns = []; rollups = replicate (length settings.rules) new_rollup }
 
-pub data_new : (settings : Settings) (marks : Marks) (held : Held) → marks ≡ marks_of settings [] → held ≡ held_new settings → kept_data settings marks 0 held None ≡ new_data settings
+pub data_new : (settings : Settings) (marks : Marks) (held : StoreContent) → marks ≡ marks_of settings [] → held ≡ held_new settings → data_of_parts settings marks 0 held None ≡ new_data settings
 data_new settings marks held m h =
-    (λ i. kept_data settings (m i) 0 (h i) None)
+    (λ i. data_of_parts settings (m i) 0 (h i) None)
     ∙ (λ i. record { settings = settings; marks = marks_of settings []; running = false; waiting = []; series = []; columns = []; accepted = 0; cells = new_cells settings.rules i })
 
-pub kept_new : (settings : Settings) (marks : Marks) (held : Held) → settings_fault settings ≡ None → marks ≡ marks_of settings [] → held ≡ held_new settings → IsKept (kept_data settings marks 0 held None) held None
+pub kept_new : (settings : Settings) (marks : Marks) (held : StoreContent) → settings_fault settings ≡ None → marks ≡ marks_of settings [] → held ≡ held_new settings → IsSoundStore (data_of_parts settings marks 0 held None) held None
 kept_new settings marks held well m h =
     let rs : List Rule = settings.rules in
     record {
-      rollups = subst (λ (x : Held). AreRollups rs (map column_of x.columns) x.rollups) (sym h) (new_rollups rs);
+      rollups = subst (λ (x : StoreContent). AreRollups rs (map column_of x.columns) x.rollups) (sym h) (new_rollups rs);
       few = tt;
-      counts = subst (λ (x : Held). HoldFew 0 x.columns rs (cells_of x.rollups)) (sym h) (subst (λ ms. HoldFew 0 [] rs ms) (sym (new_cells rs)) (counts-new rs));
-      live = subst (λ (x : Held). AreLive x.columns rs (cells_of x.rollups)) (sym h) (subst (λ ms. AreLive [] rs ms) (sym (new_cells rs)) (no_live [] rs));
-      indices = subst (λ (x : Held). HaveIndices rs (cells_of x.rollups)) (sym h) (subst (HaveIndices rs) (sym (new_cells rs)) (indices_new rs));
+      counts = subst (λ (x : StoreContent). HoldFew 0 x.columns rs (cells_of x.rollups)) (sym h) (subst (λ ms. HoldFew 0 [] rs ms) (sym (new_cells rs)) (counts-new rs));
+      live = subst (λ (x : StoreContent). AreLive x.columns rs (cells_of x.rollups)) (sym h) (subst (λ ms. AreLive [] rs ms) (sym (new_cells rs)) (no_live [] rs));
+      indices = subst (λ (x : StoreContent). HaveIndices rs (cells_of x.rollups)) (sym h) (subst (HaveIndices rs) (sym (new_cells rs)) (indices_new rs));
       sized = subst IsSized (sym (data_new settings marks held m h)) (sized_new settings well);
     }
 
@@ -139,22 +139,22 @@ sized_waits settings marks n run before after series columns ms s = record {
 }
 
 -- a store that has only grown
-grown_stands : (opening : Settings) (h : History) (settings : Settings) (marks : Marks) (n : ℕ) (before : Held) (run : Option Run) (made : List Column) (facts : List Fact) (series : List Series) (columns : List ColumnPoints) (ms : List CellMap)
+grown_stands : (opening : Settings) (h : History) (settings : Settings) (marks : Marks) (n : ℕ) (before : StoreContent) (run : Option Run) (made : List Column) (facts : List Fact) (series : List Series) (columns : List ColumnPoints) (ms : List CellMap)
     → columns ≡ with_columns before.columns made → AllDistinct (map column_of columns) → ((c : Column) → Among c (map column_of columns) → Among c.series series) → HaveRoom settings.rules marks.lows facts (cells_of before.rollups) ms → IsWithin run before.columns
-    → StandsFor opening h (state_of (kept_data settings marks n before run)) → StandsFor opening h (state_of (data_of settings marks n run series columns ms))
+    → StandsFor opening h (state_of (data_of_parts settings marks n before run)) → StandsFor opening h (state_of (data_of settings marks n run series columns ms))
 grown_stands opening h settings marks n before run made facts series columns ms e once registered room within st =
     let more : NamesMore before.columns columns made = ap (map column_of) e ∙ names_with before.columns made in
     subst (λ ws. StandsFor opening h (state_of (waits settings marks n run ws series columns ms))) (sym (waiting_more run before.columns columns made more within))
-    (grows opening h (kept_data settings marks n before run) series columns ms facts st once
+    (grows opening h (data_of_parts settings marks n before run) series columns ms facts st once
     (λ c a. subst (λ (cs : List ColumnPoints). Among c (map column_of cs)) (sym e) (names_stay before.columns made c a)) registered (ap facts_of e ∙ same_facts before.columns made) room)
 
 -- after out of memory
-pub left_by : (settings : Settings) (marks : Marks) (n : ℕ) (before after : Held) (run : Option Run) (p : Parts) → IsKept (kept_data settings marks n before run) before run → GrowsForLine settings.rules marks.lows before after p
-    → Leaves (kept_data settings marks n before run) (kept_data settings marks n after run) p
+pub left_by : (settings : Settings) (marks : Marks) (n : ℕ) (before after : StoreContent) (run : Option Run) (p : Parts) → IsSoundStore (data_of_parts settings marks n before run) before run → GrowsForLine settings.rules marks.lows before after p
+    → Leaves (data_of_parts settings marks n before run) (data_of_parts settings marks n after run) p
 left_by settings marks n before after run p kept g =
-    let old : StoreData = kept_data settings marks n before run in
+    let old : StoreData = data_of_parts settings marks n before run in
     let more : NamesMore before.columns after.columns g.columns.made = ap (map column_of) g.columns.columns ∙ names_with before.columns g.columns.made in
-    let others : kept_data settings marks n after run ≡ grown after.series after.columns (cells_of after.rollups) old =
+    let others : data_of_parts settings marks n after run ≡ grown after.series after.columns (cells_of after.rollups) old =
     ap (λ ws. waits settings marks n run ws after.series after.columns (cells_of after.rollups)) (waiting_more run before.columns after.columns g.columns.made more kept.few) in
     record {
       history = λ opening h st. grown_stands opening h settings marks n before run g.columns.made [] after.series after.columns (cells_of after.rollups) g.columns.columns g.known.once g.known.registered g.rooms kept.few st;
@@ -166,11 +166,11 @@ left_by settings marks n before after run p kept g =
     }
 
 -- the store is as it was between two calls
-pub kept_left : (settings : Settings) (marks : Marks) (n : ℕ) (before after : Held) (run : Option Run) (p : Parts) → IsKept (kept_data settings marks n before run) before run → is_too_many before.series (series_of p) ≡ false → IsNamed (series_of p) → AreKeys (map field_text p.fields) → GrowsForLine settings.rules marks.lows before after p
-    → IsKept (kept_data settings marks n after run) after run
+pub kept_left : (settings : Settings) (marks : Marks) (n : ℕ) (before after : StoreContent) (run : Option Run) (p : Parts) → IsSoundStore (data_of_parts settings marks n before run) before run → is_too_many before.series (series_of p) ≡ false → IsNamed (series_of p) → AreKeys (map field_text p.fields) → GrowsForLine settings.rules marks.lows before after p
+    → IsSoundStore (data_of_parts settings marks n after run) after run
 kept_left settings marks n before after run p kept registers named keys g =
     let made : List Column = g.columns.made in
-    let k : StoreData = kept_data settings marks n before run in
+    let k : StoreData = data_of_parts settings marks n before run in
     let same : facts_of after.columns ≡ facts_of before.columns = ap facts_of g.columns.columns ∙ same_facts before.columns made in
     record {
       rollups = g.rollups;
@@ -212,9 +212,9 @@ line_names rs before ms after ns fs puts =
     let made : List Column = new_columns (map column_of before) fs in
     puts_names rs (with_columns before made) ms after ns fs puts ∙ names_with before made
 
-write_stands : (opening : Settings) (h : History) (settings : Settings) (marks : Marks) (n : ℕ) (before after : Held) (run : Option Run) (p : Parts) → PutsLine settings.rules marks.lows before after p → AllByRecursion (MayBeTaken marks.raw) (line_facts p)
-    → n + length (line_facts p) ≤ 2 ^ 62 → IsWithin run before.columns → StandsFor opening h (state_of (kept_data settings marks n before run))
-    → StandsFor opening (Line (line_facts p) ∷ h) (state_of (kept_data settings marks (n + length (line_facts p)) after run))
+write_stands : (opening : Settings) (h : History) (settings : Settings) (marks : Marks) (n : ℕ) (before after : StoreContent) (run : Option Run) (p : Parts) → PutsLine settings.rules marks.lows before after p → AllByRecursion (MayBeTaken marks.raw) (line_facts p)
+    → n + length (line_facts p) ≤ 2 ^ 62 → IsWithin run before.columns → StandsFor opening h (state_of (data_of_parts settings marks n before run))
+    → StandsFor opening (Line (line_facts p) ∷ h) (state_of (data_of_parts settings marks (n + length (line_facts p)) after run))
 write_stands opening h settings marks n before after run p put taken few within st =
     let fs : List Fact = line_facts p in
     let made : List Column = new_columns (map column_of before.columns) fs in
@@ -230,13 +230,13 @@ write_stands opening h settings marks n before after run p put taken few within 
     (line_put opening h (data_of settings marks n run after.series columns put.roomy) after.columns fs (cells_of before.rollups) (cells_of after.rollups) room put.rooms
     (λ f a. column_new before.columns fs f a) put.facts (st.lawful, subst (λ (m : ℤ). AllByRecursion (MayBeTaken m) fs) mark taken, omega (arith, st.accepted, more, few)))
 
-pub accepted_by : (settings : Settings) (marks : Marks) (n : ℕ) (before after : Held) (run : Option Run) (p : Parts) → IsKept (kept_data settings marks n before run) before run → PutsLine settings.rules marks.lows before after p
-    → AllByRecursion (MayBeTaken marks.raw) (line_facts p) → n + length (line_facts p) ≤ 2 ^ 62 → Accepts (kept_data settings marks n before run) (kept_data settings marks (n + length (line_facts p)) after run) p
+pub accepted_by : (settings : Settings) (marks : Marks) (n : ℕ) (before after : StoreContent) (run : Option Run) (p : Parts) → IsSoundStore (data_of_parts settings marks n before run) before run → PutsLine settings.rules marks.lows before after p
+    → AllByRecursion (MayBeTaken marks.raw) (line_facts p) → n + length (line_facts p) ≤ 2 ^ 62 → Accepts (data_of_parts settings marks n before run) (data_of_parts settings marks (n + length (line_facts p)) after run) p
 accepted_by settings marks n before after run p kept put taken few =
     let fs : List Fact = line_facts p in
     let made : List Column = new_columns (map column_of before.columns) fs in
-    let old : StoreData = kept_data settings marks n before run in
-    let others : kept_data settings marks (n + length fs) after run ≡ put_facts after.columns (cells_of after.rollups) (length fs) (grown after.series after.columns (cells_of after.rollups) old) =
+    let old : StoreData = data_of_parts settings marks n before run in
+    let others : data_of_parts settings marks (n + length fs) after run ≡ put_facts after.columns (cells_of after.rollups) (length fs) (grown after.series after.columns (cells_of after.rollups) old) =
     ap (λ ws. waits settings marks (n + length fs) run ws after.series after.columns (cells_of after.rollups))
     (waiting_more run before.columns after.columns made (line_names settings.rules before.columns put.roomy after.columns (cells_of after.rollups) fs put.facts) kept.few) in
     let roomy : StoreData = grown after.series (with_columns before.columns made) put.roomy old in
@@ -250,19 +250,19 @@ accepted_by settings marks n before after run p kept put taken few =
     }
 
 -- live parts stay those of the raw facts, when room is made
-pub stay_live : (settings : Settings) (marks : Marks) (n : ℕ) (before : Held) (run : Option Run) → IsKept (kept_data settings marks n before run) before run → StayLive settings.rules marks.lows before.columns (cells_of before.rollups)
+pub stay_live : (settings : Settings) (marks : Marks) (n : ℕ) (before : StoreContent) (run : Option Run) → IsSoundStore (data_of_parts settings marks n before run) before run → StayLive settings.rules marks.lows before.columns (cells_of before.rollups)
 stay_live settings marks n before run kept = λ facts ms room. lives_grown marks.raw before.columns before.columns refl settings.rules marks.lows facts (cells_of before.rollups) ms kept.sized.lows room kept.sized.rules kept.live
 
 -- the store is again what it is between two calls
-pub kept_accepted : (settings : Settings) (marks : Marks) (n : ℕ) (before after : Held) (run : Option Run) (p : Parts) → IsKept (kept_data settings marks n before run) before run → is_too_many before.series (series_of p) ≡ false → IsNamed (series_of p) → AreKeys (map field_text p.fields) → PutsLine settings.rules marks.lows before after p
-    → n + length (line_facts p) ≤ 2 ^ 62 → IsKept (kept_data settings marks (n + length (line_facts p)) after run) after run
+pub kept_accepted : (settings : Settings) (marks : Marks) (n : ℕ) (before after : StoreContent) (run : Option Run) (p : Parts) → IsSoundStore (data_of_parts settings marks n before run) before run → is_too_many before.series (series_of p) ≡ false → IsNamed (series_of p) → AreKeys (map field_text p.fields) → PutsLine settings.rules marks.lows before after p
+    → n + length (line_facts p) ≤ 2 ^ 62 → IsSoundStore (data_of_parts settings marks (n + length (line_facts p)) after run) after run
 kept_accepted settings marks n before after run p kept registers named keys put few =
     let fs : List Fact = line_facts p in
     let made : List Column = new_columns (map column_of before.columns) fs in
     let columns : List ColumnPoints = with_columns before.columns made in
     let ms : List CellMap = cells_of before.rollups in
     let ns : List CellMap = cells_of after.rollups in
-    let k : StoreData = kept_data settings marks n before run in
+    let k : StoreData = data_of_parts settings marks n before run in
     let same : facts_of columns ≡ facts_of before.columns = same_facts before.columns made in
     let names : map column_of after.columns ≡ map column_of columns = puts_names settings.rules columns put.roomy after.columns ns fs put.facts in
     let roomy : AreLive columns settings.rules put.roomy = lives_grown marks.raw before.columns columns same settings.rules marks.lows fs ms put.roomy kept.sized.lows put.rooms kept.sized.rules kept.live in

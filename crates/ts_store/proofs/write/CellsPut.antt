@@ -21,7 +21,7 @@ use Rattle.ts_core.proofs.lists.ListSteps.{length-filter}
 use Rattle.ts_core.proofs.moves.PutCells.{add_puts, correct_puts}
 use Rattle.ts_cells.specs.Grids.{no_lane, cell_at, cell_in}
 use Rattle.ts_raw.specs.Columns.{ColumnState}
-use Rattle.ts_store.specs.store.ColumnsKept.{with_points, point_maps}
+use Rattle.ts_store.specs.store.ColumnStates.{with_points, point_maps}
 use Rattle.ts_store.specs.rollup.LivePoints.{lane_total}
 use Rattle.ts_store.specs.write.LivePuts.{IsOver, WasThere, IsPut}
 use Rattle.ts_store.specs.rollup.Rollups.{RollupState, IsLaneOf, lane_under, lane_at, added_in, corrected_in, live_part}

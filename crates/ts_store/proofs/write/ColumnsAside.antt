@@ -13,7 +13,7 @@ use Rattle.ts_raw.specs.Columns.{PointMap, ColumnState}
 use Rattle.ts_raw.specs.Indexed.{Indexed, no_series, column_in}
 use Rattle.ts_core.specs.store.StoreStates.{ColumnPoints, column_of, facts_at, facts_of}
 use Rattle.ts_core.specs.moves.StoreMoves.{Puts}
-use Rattle.ts_store.specs.store.ColumnsKept.{with_points, columns_in, facts_of_columns, point_maps, no_column, with_aside, with_point_aside, committed, all_committed, AreReady, AreAside, MayGrow}
+use Rattle.ts_store.specs.store.ColumnStates.{with_points, columns_in, facts_of_columns, point_maps, no_column, with_aside, with_point_aside, committed, all_committed, AreReady, AreAside, MayGrow}
 use Rattle.ts_store.specs.write.Registered.{new_columns, without_points, with_columns, MakesAll, MakesFirst}
 use Rattle.ts_store.proofs.store.ColumnsLemmas.{columns_puts, names_of, grown_behind}
 use Rattle.ts_core.specs.store.RawFacts.{is_waiting}

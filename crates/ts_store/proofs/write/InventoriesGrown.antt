@@ -12,7 +12,7 @@ use Rattle.ts_core.specs.store.StoreStates.{column_of}
 use Rattle.ts_core.specs.store.StoreData.{CellMap, StoreData}
 use Rattle.ts_core.proofs.moves.MovesStand.{keys_once, key_there, key_not}
 use Rattle.ts_line.specs.Parts.{Parts, line_facts}
-use Rattle.ts_store.specs.store.Inventories.{inventory_of, OfRules, AddsAll, AddsSome, Grows, GrowsInPart}
+use Rattle.ts_store.specs.store.Inventories.{inventory_of, OfRules, AddsAll, AddsSome, InventoryGrows, GrowsInPart}
 use Rattle.ts_store.specs.write.LinesPut.{OfEachRule, IsOfFacts, PutsCells, GainsCells, Accepts, Leaves}
 use Rattle.ts_store.specs.write.Registered.{new_columns}
 use Rattle.ts_store.proofs.write.ColumnsAside.{names_with}
@@ -63,7 +63,7 @@ module _ (facts : List Fact) (r : Rule) (low : ℤ) (m n : CellMap) where
 
 -- ---- a line
 
-pub grown : (old new : StoreData) (p : Parts) → Accepts old new p → Grows old.settings.rules old.marks.lows (line_facts p) (inventory_of old) (inventory_of new)
+pub grown : (old new : StoreData) (p : Parts) → Accepts old new p → InventoryGrows old.settings.rules old.marks.lows (line_facts p) (inventory_of old) (inventory_of new)
 grown old new p a = record {
   columns = a.columns ∙ names_with old.columns (new_columns (map column_of old.columns) (line_facts p));
   waiting = ap (λ (k : StoreData). k.waiting) a.others;

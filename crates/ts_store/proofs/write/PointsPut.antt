@@ -23,7 +23,7 @@ use Rattle.ts_core.proofs.lists.Sorted.{found_among, among_found}
 use Rattle.ts_core.specs.store.Cells.{cell_of, is_rolled, total_of}
 use Rattle.ts_line.specs.Parts.{LinePart, Parts, fact_of}
 use Rattle.ts_raw.specs.Columns.{PointMap, ColumnState}
-use Rattle.ts_store.specs.store.ColumnsKept.{facts_in, facts_of_columns, with_points, point_maps, no_column, with_aside, committed, all_committed, AreReady, AreAside}
+use Rattle.ts_store.specs.store.ColumnStates.{facts_in, facts_of_columns, with_points, point_maps, no_column, with_aside, committed, all_committed, AreReady, AreAside}
 use Rattle.ts_store.specs.write.LivePuts.{IsOver, WasThere, IsPut, AreOfFields}
 use Rattle.ts_store.specs.read.PointsRead.{number_of_points}
 use Rattle.ts_store.specs.rollup.Rollups.{RollupState, IsLaneOf, AreRollups, lane_at, with_frozen, cells_of}

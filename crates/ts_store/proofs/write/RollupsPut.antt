@@ -11,7 +11,7 @@ use Rattle.ts_core.specs.moves.StoreMoves.{HaveRoom}
 use Rattle.ts_line.specs.Parts.{LinePart, Parts, fact_of, line_facts}
 use Rattle.ts_raw.specs.Columns.{ColumnState}
 use Rattle.ts_raw.specs.Indexed.{Indexed}
-use Rattle.ts_store.specs.store.ColumnsKept.{columns_in, AreAside}
+use Rattle.ts_store.specs.store.ColumnStates.{columns_in, AreAside}
 use Rattle.ts_store.specs.rollup.Rollups.{RollupState, AreRollups, cells_of}
 use Rattle.ts_store.specs.write.Rooms.{roomed_under, AreRoomedInPart}
 use Rattle.ts_store.specs.write.LinesPut.{OfEachRule, GainsCells}

@@ -71,8 +71,8 @@ with_column c waits b = record {
 }
 
 -- the cells of the rule with this number
-abbrev pub cells_at : List CellMap → ℕ → CellMap
-cells_at ms rule = get_or ms rule finmap.empty
+abbrev pub cell_map_at : List CellMap → ℕ → CellMap
+cell_map_at ms rule = get_or ms rule finmap.empty
 
 -- a cell of the rule with this number, with a frozen part
 abbrev pub with_cell : ℕ → Cell → Aggregate → Built → Built
@@ -84,7 +84,7 @@ with_cell rule k frozen b = record {
   series = b.series;
   columns = b.columns;
   waits = b.waits;
-  cells = set b.cells rule (finmap.insert (cells_at b.cells rule) k (record { frozen = frozen; live = empty_aggregate }));
+  cells = set b.cells rule (finmap.insert (cell_map_at b.cells rule) k (record { frozen = frozen; live = empty_aggregate }));
 }
 
 -- ---- a store can be made of the parts

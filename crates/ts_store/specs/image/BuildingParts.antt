@@ -13,13 +13,13 @@ use Rattle.ts_core.specs.store.StoreData.{CellMap, AreLive}
 use Rattle.ts_line.specs.Names.{IsKey, IsNamed}
 use Rattle.ts_store.specs.image.Building.{Built, HaveCells}
 use Rattle.ts_store.specs.store.CellIndices.{HasIndices, HaveIndices}
-use Rattle.ts_store.specs.store.ColumnsKept.{Held, AreKnown}
+use Rattle.ts_store.specs.store.ColumnStates.{StoreContent, AreKnown}
 use Rattle.ts_store.specs.write.LinesPut.{OfEachRule, PutsCells, GainsCells}
 use Rattle.ts_store.specs.rollup.Rollups.{AreRollups, cells_of}
-use Rattle.ts_store.specs.retain.RollupSteps.{held_with}
+use Rattle.ts_store.specs.retain.RollupSteps.{content_with_cells}
 
 -- a column that isn't passed waits
-abbrev pub built_of : Settings → Marks → Bool → ℕ → Held → List Bool → Built
+abbrev pub built_of : Settings → Marks → Bool → ℕ → StoreContent → List Bool → Built
 built_of settings marks running accepted held passed = record {
   settings = settings;
   marks = marks;
@@ -39,7 +39,7 @@ abbrev pub AreIdle : List CellMap → Type 0
 AreIdle ms = AllByRecursion IsIdle ms
 
 -- the invariant of a store under construction
-pub record IsInOrder (settings : Settings) (held : Held) (passed : List Bool) : Type 0 where
+pub record IsInOrder (settings : Settings) (held : StoreContent) (passed : List Bool) : Type 0 where
   pub rollups : AreRollups settings.rules (map column_of held.columns) held.rollups
   pub each : length passed ≡ length held.columns
   pub idle : AreIdle (cells_of held.rollups)
@@ -80,8 +80,8 @@ AreFilledBut left all (r ∷ rs) [] = Unit {0}
 AreFilledBut left all (r ∷ rs) (m ∷ ms) = IsFilledBut left all r m × AreFilledBut left all rs ms
 
 -- the missing cells of raw facts are created, and the facts are added to empty live parts; series, columns and lanes stay
-pub record FillsCells (rules : List Rule) (lows : List ℤ) (old new : Held) : Type 0 where
-  pub others : new ≡ held_with (cells_of new.rollups) old
+pub record FillsCells (rules : List Rule) (lows : List ℤ) (old new : StoreContent) : Type 0 where
+  pub others : new ≡ content_with_cells (cells_of new.rollups) old
   pub cells : OfEachRule (PutsCells (facts_of old.columns)) rules lows (cells_of old.rollups) (cells_of new.rollups)
   pub rooms : HaveCells rules lows (facts_of old.columns) (cells_of new.rollups)
   pub live : AreLive old.columns rules (cells_of new.rollups)

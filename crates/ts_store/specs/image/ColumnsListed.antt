@@ -5,7 +5,7 @@ use Rattle.ts_core.specs.lists.Members.{Among, AllDistinct}
 use Rattle.ts_core.specs.lists.Numbered.{IsAt}
 use Rattle.ts_core.specs.facts.Facts.{Series, Column}
 use Rattle.ts_raw.specs.Indexed.{Indexed}
-use Rattle.ts_store.specs.image.Saving.{SavedColumn, SavedSeries, saved_field, saved_key}
+use Rattle.ts_store.specs.image.SavedContent.{SavedColumn, SavedSeries, saved_field, saved_key}
 
 abbrev pub without_columns : Series → SavedSeries
 without_columns s = record { series = s; columns = [] }

@@ -3,24 +3,24 @@ use Rattle.std.specs.Prelude.{ℕ, ◌<◌, pos, ◌≤ℤ◌, FitsSigned, Bool,
 use Rattle.std.specs.Int.{w64}
 use Rattle.ts_core.specs.settings.Settings.{Rule}
 use Rattle.ts_core.specs.store.StoreStates.{CellParts}
-use Rattle.ts_cells.specs.Walks.{KeptCell}
+use Rattle.ts_cells.specs.Walks.{CellWithPart}
 use Rattle.ts_store.specs.store.CellIndices.{HasIndices}
-use Rattle.ts_store.specs.store.ColumnsKept.{Held}
+use Rattle.ts_store.specs.store.ColumnStates.{StoreContent}
 use Rattle.ts_store.specs.read.LiveCells.{rollup_at}
-use Rattle.ts_store.specs.image.Saving.{FrozenCell}
+use Rattle.ts_store.specs.image.SavedContent.{FrozenCell}
 
 -- the cell has frozen facts
-abbrev pub has_frozen : KeptCell CellParts → Bool
+abbrev pub has_frozen : CellWithPart CellParts → Bool
 has_frozen k = nat_lt 0 k.part.frozen.count
 
-abbrev pub frozen_cell : KeptCell CellParts → FrozenCell
+abbrev pub frozen_cell : CellWithPart CellParts → FrozenCell
 frozen_cell k = record { cell = k.cell; frozen = k.part.frozen }
 
-abbrev pub frozen_left : List (KeptCell CellParts) → List FrozenCell
+abbrev pub frozen_left : List (CellWithPart CellParts) → List FrozenCell
 frozen_left ks = map frozen_cell (filter has_frozen ks)
 
 -- the indices of the cells of the rule with this index fit 64 bits
-pub record HasNearCells (held : Held) (r : Rule) (n : ℕ) : Type 0 where
+pub record HasNearCells (held : StoreContent) (r : Rule) (n : ℕ) : Type 0 where
   pub there : n < length held.rollups
   pub second : pos 1000000000 ≤ℤ r.interval
   pub offset : FitsSigned w64 r.offset

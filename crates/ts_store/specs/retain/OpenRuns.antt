@@ -9,7 +9,7 @@ use Rattle.ts_core.specs.settings.Settings.{Settings}
 use Rattle.ts_core.specs.store.Marks.{Marks}
 use Rattle.ts_core.specs.store.StoreStates.{ColumnPoints, column_of}
 use Rattle.ts_core.specs.store.StoreData.{StoreData, AreLive}
-use Rattle.ts_store.specs.store.ColumnsKept.{Held}
+use Rattle.ts_store.specs.store.ColumnStates.{StoreContent}
 use Rattle.ts_store.specs.store.CellCounts.{HoldFew}
 use Rattle.ts_store.specs.rollup.Rollups.{AreRollups, cells_of}
 use Rattle.ts_store.specs.store.CellIndices.{HaveIndices}
@@ -65,8 +65,8 @@ abbrev pub coded_run : Coded Run
 coded_run = code_by (ℕ × (ℕ × List Bool)) (coded× coded_ℕ (coded× coded_ℕ (coded_list coded_bool))) (λ r. (r.next, (r.end, r.passed))) (λ p. record { next = p.0; end = p.1.0; passed = p.1.1 }) (λ _. refl)
 
 -- the data of a store with these parts
-abbrev pub kept_data : Settings → Marks → ℕ → Held → Option Run → StoreData
-kept_data settings marks n held run = record {
+abbrev pub data_of_parts : Settings → Marks → ℕ → StoreContent → Option Run → StoreData
+data_of_parts settings marks n held run = record {
   settings = settings;
   marks = marks;
   running = is_some run;
@@ -78,7 +78,7 @@ kept_data settings marks n held run = record {
 }
 
 -- the invariant of a store with these parts
-pub record IsKept (k : StoreData) (held : Held) (run : Option Run) : Type 0 where
+pub record IsSoundStore (k : StoreData) (held : StoreContent) (run : Option Run) : Type 0 where
   pub rollups : AreRollups k.settings.rules (map column_of held.columns) held.rollups
   pub few : IsWithin run held.columns
   pub counts : HoldFew k.accepted k.columns k.settings.rules k.cells

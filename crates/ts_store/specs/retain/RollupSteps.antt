@@ -8,7 +8,7 @@ use Rattle.ts_core.specs.store.StoreData.{CellMap}
 use Rattle.ts_core.specs.moves.StoreMoves.{all_moved, points_below, kept_points}
 use Rattle.ts_store.specs.store.CellCounts.{frozen_count}
 use Rattle.ts_raw.specs.Columns.{ColumnState}
-use Rattle.ts_store.specs.store.ColumnsKept.{Held, with_points, point_maps}
+use Rattle.ts_store.specs.store.ColumnStates.{StoreContent, with_points, point_maps}
 use Rattle.ts_store.specs.rollup.Rollups.{RollupState, with_frozen, cells_of}
 
 -- other cells for each rule, under the same lanes
@@ -17,8 +17,8 @@ with_frozen_all ms [] = []
 with_frozen_all [] (s ∷ ss) = s ∷ ss
 with_frozen_all (m ∷ ms) (s ∷ ss) = with_frozen m s ∷ with_frozen_all ms ss
 
-abbrev pub held_with : List CellMap → Held → Held
-held_with ms held = record { series = held.series; columns = held.columns; rollups = with_frozen_all ms held.rollups }
+abbrev pub content_with_cells : List CellMap → StoreContent → StoreContent
+content_with_cells ms held = record { series = held.series; columns = held.columns; rollups = with_frozen_all ms held.rollups }
 
 -- ---- a column is moved
 
@@ -41,8 +41,8 @@ FreezeFit (r ∷ rs) c ps [] = Unit {0}
 FreezeFit (r ∷ rs) c ps (m ∷ ms) = FreezesFit r c ps m × FreezeFit rs c ps ms
 
 -- the points of a column below a mark are frozen under each rule, and leave it; the live parts of their cells are what is left
-abbrev pub held_moved : List Rule → ColumnPoints → ℤ → Held → Held
-held_moved rs s mark held = record {
+abbrev pub content_moved : List Rule → ColumnPoints → ℤ → StoreContent → StoreContent
+content_moved rs s mark held = record {
   series = held.series;
   columns = map (kept_points s.column mark) held.columns;
   rollups = with_frozen_all (all_moved rs s.column (points_below mark s.points) (facts_of (map (kept_points s.column mark) held.columns)) (cells_of held.rollups)) held.rollups;

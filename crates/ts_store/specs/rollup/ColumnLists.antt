@@ -1,18 +1,18 @@
 -- The columns of a lane in memory: one is inline, more are in a vector of their own. (Own rule.)
 use Rattle.std.specs.Prelude.{ℕ, Bool, true, false, nat_lt, vec_len, vec_capacity, List, [], ◌∷◌, map, Some, None, get_or, ◌≡◌, refl}
 use Rattle.std.specs.Coded.{Coded, code_by, coded×, coded_ℕ, coded_list, coded_bool}
-use Rattle.ts_store.specs.declared.rollup.lane_columns.Kept.{Kept}
-use Rattle.ts_store.specs.declared.rollup.lane_columns.Kept.TheVariants.{One, Many}
+use Rattle.ts_store.specs.declared.rollup.lane_columns.Storage.{Storage}
+use Rattle.ts_store.specs.declared.rollup.lane_columns.Storage.TheVariants.{One, Many}
 
 -- the columns, and whether there is capacity for one more
 pub record ColumnList : Type 0 where
   pub items : List ℕ
   pub place : Bool
 
-abbrev pub list_kept : {A : Type 0} → Kept A → ColumnList
-list_kept (One None) = record { items = []; place = true }
-list_kept (One (Some c)) = record { items = c ∷ []; place = false }
-list_kept (Many b) = record { items = b.value.items; place = nat_lt (vec_len b.value) (vec_capacity b.value) }
+abbrev pub stored_list : {A : Type 0} → Storage A → ColumnList
+stored_list (One None) = record { items = []; place = true }
+stored_list (One (Some c)) = record { items = c ∷ []; place = false }
+stored_list (Many b) = record { items = b.value.items; place = nat_lt (vec_len b.value) (vec_capacity b.value) }
 
 abbrev pub coded_list_of_columns : Coded ColumnList
 coded_list_of_columns = code_by (List ℕ × Bool) (coded× (coded_list coded_ℕ) coded_bool) (λ l. (l.items, l.place)) (λ p. record { items = p.0; place = p.1 }) (λ _. refl)

@@ -3,7 +3,7 @@ use Rattle.std.specs.Prelude.{ℕ, ℤ, List, [], ◌∷◌, ◌++◌, None, fil
 use Rattle.ts_core.specs.settings.Settings.{Rule}
 use Rattle.ts_core.specs.aggregates.Aggregates.{Aggregate, aggregate_of_points}
 use Rattle.ts_raw.specs.Columns.{ColumnState, points_from, points_in_bucket}
-use Rattle.ts_store.specs.store.ColumnsKept.{no_column}
+use Rattle.ts_store.specs.store.ColumnStates.{no_column}
 use Rattle.ts_store.specs.rollup.Rollups.{RollupState, columns_of_lane}
 
 -- the points of columns, by their numbers, in a bucket of a rule

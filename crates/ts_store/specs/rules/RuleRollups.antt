@@ -7,7 +7,7 @@ use Rattle.ts_core.specs.settings.Settings.{Rule}
 use Rattle.ts_core.specs.store.StoreStates.{column_of, facts_of}
 use Rattle.ts_core.specs.moves.RuleMoves.{IsFresh}
 use Rattle.ts_store.specs.store.CellIndices.{HasIndices}
-use Rattle.ts_store.specs.store.ColumnsKept.{Held}
+use Rattle.ts_store.specs.store.ColumnStates.{StoreContent}
 use Rattle.ts_store.specs.store.Inventories.{AreFilled}
 use Rattle.ts_store.specs.rollup.Rollups.{RollupState, HaveLanes}
 
@@ -18,16 +18,16 @@ pub record HasFirstLanes (r : Rule) (columns : List Column) (n : ℕ) (s : Rollu
   pub cells : s.grid.cells ≡ finmap.empty
 
 -- each column has its lane, and the rollup has exactly the cells of the raw facts from the low index on
-pub record IsRollupOf (held : Held) (r : Rule) (low : ℤ) (s : RollupState) : Type 0 where
+pub record IsRollupOf (held : StoreContent) (r : Rule) (low : ℤ) (s : RollupState) : Type 0 where
   pub lanes : HaveLanes r s.grid.lanes (map column_of held.columns) s.lanes
   pub fresh : IsFresh r low (facts_of held.columns) s.grid.cells
   pub filled : AreFilled (facts_of held.columns) r low (finmap.keys s.grid.cells)
   pub indices : HasIndices r s.grid.cells
 
 -- the rollup of one more rule
-abbrev pub with_rollup : RollupState → Held → Held
+abbrev pub with_rollup : RollupState → StoreContent → StoreContent
 with_rollup s held = record { series = held.series; columns = held.columns; rollups = held.rollups ++ s ∷ [] }
 
 -- without that of the rule with this index
-abbrev pub without_rollup : ℕ → Held → Held
+abbrev pub without_rollup : ℕ → StoreContent → StoreContent
 without_rollup n held = record { series = held.series; columns = held.columns; rollups = remove held.rollups n }

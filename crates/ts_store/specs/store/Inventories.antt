@@ -54,7 +54,7 @@ pub record AddsSome (facts : List Fact) (r : Rule) (low : ℤ) (old new : List C
 
 -- Facts were accepted: their missing columns are appended, in the order of the facts, and their missing cells are created.
 -- No new column waits.
-pub record Grows (rules : List Rule) (lows : List ℤ) (facts : List Fact) (old new : Inventory) : Type 0 where
+pub record InventoryGrows (rules : List Rule) (lows : List ℤ) (facts : List Fact) (old new : Inventory) : Type 0 where
   pub columns : new.columns ≡ old.columns ++ new_columns old.columns facts
   pub waiting : new.waiting ≡ old.waiting
   pub cells : OfRules (AddsAll facts) rules lows old.cells new.cells
@@ -76,7 +76,7 @@ facts_of_text (Err fault) = []
 
 -- a text with these facts had this outcome: if it isn't accepted, nothing is created
 abbrev pub GrowsBy : List Rule → List ℤ → List Fact → LineOutcome → Inventory → Inventory → Type 0
-GrowsBy rules lows facts Accepted old new = Grows rules lows facts old new
+GrowsBy rules lows facts Accepted old new = InventoryGrows rules lows facts old new
 GrowsBy rules lows facts NoLine old new = new ≡ old
 GrowsBy rules lows facts (Refused refusal) old new = new ≡ old
 

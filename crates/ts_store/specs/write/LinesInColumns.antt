@@ -11,7 +11,7 @@ use Rattle.ts_line.specs.Parts.{Parts, series_of, line_facts}
 use Rattle.ts_core.specs.lists.Numbered.{Gains}
 use Rattle.ts_raw.specs.Columns.{ColumnState}
 use Rattle.ts_raw.specs.Indexed.{Indexed}
-use Rattle.ts_store.specs.store.ColumnsKept.{Held, IsHeld, AreAside, AreKnown, columns_in}
+use Rattle.ts_store.specs.store.ColumnStates.{StoreContent, IsSoundContent, AreAside, AreKnown, columns_in}
 use Rattle.ts_store.specs.rollup.Rollups.{AreRollups, cells_of}
 use Rattle.ts_store.specs.write.LinesPut.{OfEachRule, PutsCells, GainsCells}
 use Rattle.ts_store.specs.write.Registered.{MayGain, MakesAll, MakesFirst, new_columns, with_columns}
@@ -23,12 +23,12 @@ pub record SetsAside {E : Type 0} (p : Parts) (before : Indexed) (states : List 
   pub taken : OnOk result (AllByRecursion (MayBeTaken least_time) (line_facts p))
   pub all : OnOk result (MakesAll (columns_in before states) (columns_in after states') (line_facts p))
   pub made : MakesFirst (columns_in before states) (columns_in after states') (line_facts p)
-  pub held : IsHeld after states'
+  pub held : IsSoundContent after states'
   pub series : after.series ≡ before.series
 
 -- under these rules the line's series is registered, its new columns are made, there is room for its facts in cells from low indices on,
 -- and they are put, into columns and cells: facts that may be taken from the least time on
-pub record PutsLine (rules : List Rule) (lows : List ℤ) (old new : Held) (p : Parts) : Type 0 where
+pub record PutsLine (rules : List Rule) (lows : List ℤ) (old new : StoreContent) (p : Parts) : Type 0 where
   pub series : Gains old.series new.series (series_of p)
   -- the cells before the first fact is put
   pub roomy : List CellMap
@@ -40,7 +40,7 @@ pub record PutsLine (rules : List Rule) (lows : List ℤ) (old new : Held) (p : 
   pub cells : OfEachRule (PutsCells (line_facts p)) rules lows (cells_of old.rollups) (cells_of new.rollups)
 
 -- without memory the series may be registered, and the first of the new columns and cells made
-pub record GrowsForLine (rules : List Rule) (lows : List ℤ) (old new : Held) (p : Parts) : Type 0 where
+pub record GrowsForLine (rules : List Rule) (lows : List ℤ) (old new : StoreContent) (p : Parts) : Type 0 where
   pub series : MayGain old.series new.series (series_of p)
   pub columns : MakesFirst old.columns new.columns (line_facts p)
   pub known : AreKnown new

@@ -9,7 +9,7 @@ use Rattle.ts_core.specs.store.StoreData.{CellMap, AreLive}
 use Rattle.ts_core.specs.moves.StoreMoves.{PutsFact, HaveRoom}
 use Rattle.ts_line.specs.Parts.{LinePart}
 use Rattle.ts_raw.specs.Columns.{ColumnState}
-use Rattle.ts_store.specs.store.ColumnsKept.{with_points, point_maps}
+use Rattle.ts_store.specs.store.ColumnStates.{with_points, point_maps}
 use Rattle.ts_store.specs.rollup.Rollups.{RollupState, HaveLanes}
 
 -- the columns of these names have these points, and a lane each

@@ -3,12 +3,12 @@ ghost use Rattle.std.specs.Prelude.{◌≡◌, [], ◌∷◌, MatchOption};
 ghost use Rattle.std.specs.Iterator.{YieldsFirst, item_count};
 ghost use Rattle.ts_store.specs.image.FrozenLeft.{frozen_cell, frozen_left, HasNearCells};
 ghost use Rattle.ts_store.specs.read.LiveCells.{rollup_at};
-ghost use Rattle.ts_store.specs.image.Saving.{frozen_from};
+ghost use Rattle.ts_store.specs.image.SavedContent.{frozen_from};
 
 use crate::store::column_facts::ColumnFacts;
 use std::alloc::Allocator;
 use std::marker::Model;
-use ts_cells::{Kept, Parts, Walk};
+use ts_cells::{CellEntry, Parts, Walk};
 use ts_core::{Agg, Partial, Rule};
 
 /// A cell with its frozen part.
@@ -26,7 +26,7 @@ pub struct FrozenCell<'a, A: Allocator> {
 
 impl<'a, A: Allocator> Model for FrozenCell<'a, A> {
     ghost use Rattle.std.specs.Prelude.{map, string_bytes};
-    ghost use Rattle.ts_store.specs.image.Saving.{FrozenCell as FrozenCellValue};
+    ghost use Rattle.ts_store.specs.image.SavedContent.{FrozenCell as FrozenCellValue};
 
     ghost Value = { FrozenCellValue };
 
@@ -41,7 +41,7 @@ pub struct FrozenCells<'a, A: Allocator> {
 
 impl<'a, A: Allocator> Model for FrozenCells<'a, A> {
     ghost use Rattle.std.specs.Prelude.{List};
-    ghost use Rattle.ts_store.specs.image.Saving.{FrozenCell as FrozenCellValue};
+    ghost use Rattle.ts_store.specs.image.SavedContent.{FrozenCell as FrozenCellValue};
     ghost use Rattle.ts_store.specs.image.FrozenLeft.{frozen_left};
 
     ghost Value = { List FrozenCellValue };
@@ -77,7 +77,7 @@ impl<A: Allocator + Copy> ColumnFacts<A> {
 /// Returns the next cell whose frozen part isn't empty, and skips those before it.
 fn next_frozen<'a, A: Allocator + Copy>(
     left: &mut Walk<'a, Parts<Agg>, A>,
-) -> Option<Kept<'a, Parts<Agg>, A>>
+) -> Option<CellEntry<'a, Parts<Agg>, A>>
     ensures { MatchOption result ((frozen_left left.old ≡ []) × (frozen_left left.new ≡ [])) (λ k. frozen_left left.old ≡ frozen_cell k ∷ frozen_left left.new) }
 {
     while let Some(kept) = left.next() {

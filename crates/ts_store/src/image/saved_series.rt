@@ -8,7 +8,7 @@ ghost use Rattle.ts_core.specs.facts.Facts.{Column, text_cmp, tag_cmp, series_cm
 ghost use Rattle.ts_core.specs.store.StoreStates.{column_of};
 ghost use Rattle.ts_core.specs.text.Texts.{owned_pairs};
 ghost use Rattle.ts_store.specs.image.ColumnsListed.{without_columns, with_column, ListsColumns};
-ghost use Rattle.ts_store.specs.image.Saving.{saved_field, saved_key, SavesColumns, SavesSeries};
+ghost use Rattle.ts_store.specs.image.SavedContent.{saved_field, saved_key, SavesColumns, SavesSeries};
 
 use crate::store::column_facts::ColumnFacts;
 use std::alloc::{AllocError, Allocator};
@@ -27,7 +27,7 @@ pub struct SavedColumn<'a, A: Allocator> {
 }
 
 impl<'a, A: Allocator> Model for SavedColumn<'a, A> {
-    ghost use Rattle.ts_store.specs.image.Saving.{SavedColumn as SavedColumnValue};
+    ghost use Rattle.ts_store.specs.image.SavedContent.{SavedColumn as SavedColumnValue};
 
     ghost Value = { SavedColumnValue };
 
@@ -44,7 +44,7 @@ pub struct SavedSeries<'a, A: Allocator> {
 }
 
 impl<'a, A: Allocator> Model for SavedSeries<'a, A> {
-    ghost use Rattle.ts_store.specs.image.Saving.{SavedSeries as SavedSeriesValue};
+    ghost use Rattle.ts_store.specs.image.SavedContent.{SavedSeries as SavedSeriesValue};
 
     ghost Value = { SavedSeriesValue };
 

@@ -12,7 +12,7 @@ use ts_core::{Agg, Partial, Rule};
 
 /// A cell with both its parts, which have at most 2^62 facts together.
 #[derive(Drop)]
-pub struct CellSeen<'a, A: Allocator> {
+pub struct ViewCell<'a, A: Allocator> {
     /// Index of its bucket.
     pub index: i128,
     /// Field.
@@ -23,9 +23,9 @@ pub struct CellSeen<'a, A: Allocator> {
     live: Agg,
 }
 
-impl<'a, A: Allocator> Model for CellSeen<'a, A> {
+impl<'a, A: Allocator> Model for ViewCell<'a, A> {
     ghost use Rattle.std.specs.Prelude.{◌+◌, ◌≤◌, ◌^◌, map, string_bytes};
-    ghost use Rattle.ts_store.specs.read.Seats.{SeenCell};
+    ghost use Rattle.ts_store.specs.read.ViewResults.{SeenCell};
 
     ghost Value = { SeenCell };
 
@@ -34,7 +34,7 @@ impl<'a, A: Allocator> Model for CellSeen<'a, A> {
     ghost invariant = { λ c. c.frozen.count + c.live.count ≤ 2 ^ 62 };
 }
 
-impl<'a, A: Allocator> CellSeen<'a, A> {
+impl<'a, A: Allocator> ViewCell<'a, A> {
     /// Creates a cell, for views that aren't stores.
     pub fn new(
         index: i128,
@@ -42,11 +42,11 @@ impl<'a, A: Allocator> CellSeen<'a, A> {
         group: &'a [String<A>],
         frozen: Agg,
         live: Agg,
-    ) -> CellSeen<'a, A>
+    ) -> ViewCell<'a, A>
         requires { frozen.count + live.count ≤ 2 ^ 62 }
         ensures { result ≡ record { cell = record { index = index; field = field.now; group = map string_bytes group.now }; parts = record { frozen = frozen; live = live } } }
     {
-        CellSeen {
+        ViewCell {
             index,
             field,
             group,
@@ -83,10 +83,10 @@ impl<'a, A: Allocator> CellSeen<'a, A> {
         self.frozen.merge(self.live)
     }
 
-    fn again(&self) -> CellSeen<'a, A>
+    fn again(&self) -> ViewCell<'a, A>
         ensures { result ≡ self.now }
     {
-        CellSeen {
+        ViewCell {
             index: self.index,
             field: self.field,
             group: self.group,
@@ -104,7 +104,7 @@ struct RollupCells<'a, A: Allocator> {
 
 impl<'a, A: Allocator> Model for RollupCells<'a, A> {
     ghost use Rattle.std.specs.Prelude.{List};
-    ghost use Rattle.ts_store.specs.read.Seats.{SeenCell};
+    ghost use Rattle.ts_store.specs.read.ViewResults.{SeenCell};
     ghost use Rattle.ts_store.specs.read.LiveCells.{walked_cells, AreWhole};
 
     ghost Value = { List SeenCell };
@@ -116,14 +116,14 @@ impl<'a, A: Allocator> Model for RollupCells<'a, A> {
 
 /// Iterator over the cells of a slice. Its model is the list of those that remain.
 #[derive(Drop)]
-struct LentCells<'a, A: Allocator> {
-    cells: &'a [CellSeen<'a, A>],
+struct SliceCells<'a, A: Allocator> {
+    cells: &'a [ViewCell<'a, A>],
     given: usize,
 }
 
-impl<'a, A: Allocator> Model for LentCells<'a, A> {
+impl<'a, A: Allocator> Model for SliceCells<'a, A> {
     ghost use Rattle.std.specs.Prelude.{List, drop};
-    ghost use Rattle.ts_store.specs.read.Seats.{SeenCell};
+    ghost use Rattle.ts_store.specs.read.ViewResults.{SeenCell};
 
     ghost Value = { List SeenCell };
 
@@ -131,20 +131,20 @@ impl<'a, A: Allocator> Model for LentCells<'a, A> {
 }
 
 #[derive(Drop)]
-enum Left<'a, A: Allocator> {
+enum CellsSource<'a, A: Allocator> {
     Rollup(RollupCells<'a, A>),
-    Lent(LentCells<'a, A>),
+    Lent(SliceCells<'a, A>),
 }
 
 /// Iterator over the cells of a rule. Its model is the list of those that remain.
 #[derive(Drop)]
 pub struct CellWalk<'a, A: Allocator> {
-    left: Left<'a, A>,
+    left: CellsSource<'a, A>,
 }
 
 impl<'a, A: Allocator> Model for CellWalk<'a, A> {
     ghost use Rattle.std.specs.Prelude.{List};
-    ghost use Rattle.ts_store.specs.read.Seats.{SeenCell};
+    ghost use Rattle.ts_store.specs.read.ViewResults.{SeenCell};
     ghost use Rattle.ts_store.specs.read.CellsLeft.{cells_left};
 
     ghost Value = { List SeenCell };
@@ -154,11 +154,11 @@ impl<'a, A: Allocator> Model for CellWalk<'a, A> {
 
 impl<'a, A: Allocator> CellWalk<'a, A> {
     /// Creates an iterator over these cells, for views that aren't stores.
-    pub fn lent(cells: &'a [CellSeen<'a, A>]) -> CellWalk<'a, A>
+    pub fn lent(cells: &'a [ViewCell<'a, A>]) -> CellWalk<'a, A>
         ensures { result ≡ cells.now }
     {
         CellWalk {
-            left: Left::Lent(LentCells { cells, given: 0 }),
+            left: CellsSource::Lent(SliceCells { cells, given: 0 }),
         }
     }
 
@@ -168,7 +168,7 @@ impl<'a, A: Allocator> CellWalk<'a, A> {
         ensures { result ≡ walked_cells left.entry }
     {
         CellWalk {
-            left: Left::Rollup(RollupCells { left }),
+            left: CellsSource::Rollup(RollupCells { left }),
         }
     }
 }
@@ -192,15 +192,15 @@ impl<A: Allocator + Copy> ColumnFacts<A> {
 }
 
 impl<'a, A: Allocator + Copy> Iterator for RollupCells<'a, A> {
-    type Item = CellSeen<'a, A>;
+    type Item = ViewCell<'a, A>;
 
     ghost next_gives = { YieldsFirst (λ w. w) };
 
     ghost remaining = { item_count (λ w. w) };
 
-    fn next(&mut self) -> Option<CellSeen<'a, A>> {
+    fn next(&mut self) -> Option<ViewCell<'a, A>> {
         let kept = self.left.next()?;
-        Some(CellSeen {
+        Some(ViewCell {
             index: kept.index,
             field: kept.field,
             group: kept.group,
@@ -210,14 +210,14 @@ impl<'a, A: Allocator + Copy> Iterator for RollupCells<'a, A> {
     }
 }
 
-impl<'a, A: Allocator> Iterator for LentCells<'a, A> {
-    type Item = CellSeen<'a, A>;
+impl<'a, A: Allocator> Iterator for SliceCells<'a, A> {
+    type Item = ViewCell<'a, A>;
 
     ghost next_gives = { YieldsFirst (λ c. c) };
 
     ghost remaining = { item_count (λ c. c) };
 
-    fn next(&mut self) -> Option<CellSeen<'a, A>> {
+    fn next(&mut self) -> Option<ViewCell<'a, A>> {
         if self.given >= self.cells.len() {
             return None;
         }
@@ -228,16 +228,16 @@ impl<'a, A: Allocator> Iterator for LentCells<'a, A> {
 }
 
 impl<'a, A: Allocator + Copy> Iterator for CellWalk<'a, A> {
-    type Item = CellSeen<'a, A>;
+    type Item = ViewCell<'a, A>;
 
     ghost next_gives = { YieldsFirst (λ w. w) };
 
     ghost remaining = { item_count (λ w. w) };
 
-    fn next(&mut self) -> Option<CellSeen<'a, A>> {
+    fn next(&mut self) -> Option<ViewCell<'a, A>> {
         match &mut self.left {
-            Left::Rollup(cells) => cells.next(),
-            Left::Lent(cells) => cells.next(),
+            CellsSource::Rollup(cells) => cells.next(),
+            CellsSource::Lent(cells) => cells.next(),
         }
     }
 }

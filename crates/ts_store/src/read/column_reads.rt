@@ -3,7 +3,7 @@ ghost use Rattle.std.specs.Prelude.{◌≡◌, ◌+◌, ◌*◌, ◌≤◌, ◌<
 ghost use Rattle.std.specs.FinMap as map;
 ghost use Rattle.ts_raw.specs.Columns.{AreTimed, points_within};
 ghost use Rattle.ts_raw.specs.PlainColumns.{IsRising};
-ghost use Rattle.ts_store.specs.store.ColumnsKept.{point_maps};
+ghost use Rattle.ts_store.specs.store.ColumnStates.{point_maps};
 ghost use Rattle.ts_store.specs.read.PointsRead.{number_of_points};
 
 use crate::store::column_facts::StoredColumn;

@@ -2,9 +2,9 @@
 ghost use Rattle.std.specs.Prelude.{◌≡◌, ◌<◌, length, map};
 ghost use Rattle.std.specs.Iterator.{YieldsFirst, item_count};
 ghost use Rattle.ts_core.specs.facts.Facts.{is_of};
-ghost use Rattle.ts_core.specs.store.Views.{Seen};
+ghost use Rattle.ts_core.specs.store.Views.{ViewState};
 ghost use Rattle.ts_core.specs.store.StoreStates.{rule_of};
-ghost use Rattle.ts_store.specs.read.Seats.{seats_where, points_at, cells_at};
+ghost use Rattle.ts_store.specs.read.ViewResults.{column_refs_where, points_at, view_cells_at};
 
 use crate::read::{CellWalk, Columns};
 use std::alloc::Allocator;
@@ -14,17 +14,17 @@ use ts_raw::{ColumnId, Points};
 
 /// A column's id, with the key of its series.
 #[derive(Drop)]
-pub struct ColumnSeen<'a, A: Allocator> {
+pub struct ViewColumn<'a, A: Allocator> {
     /// Id of the column.
     pub id: ColumnId,
     /// Key of its series.
     pub key: &'a Key<A>,
 }
 
-impl<'a, A: Allocator> Model for ColumnSeen<'a, A> {
-    ghost use Rattle.ts_store.specs.read.Seats.{Seat};
+impl<'a, A: Allocator> Model for ViewColumn<'a, A> {
+    ghost use Rattle.ts_store.specs.read.ViewResults.{ColumnRef};
 
-    ghost Value = { Seat };
+    ghost Value = { ColumnRef };
 
     ghost view = { λ c. record { number = c.id; series = c.key.now } };
 }
@@ -33,7 +33,7 @@ impl<'a, A: Allocator> Model for ColumnSeen<'a, A> {
 /// indices.
 pub trait View<A: Allocator> {
     // Everything that the view shows.
-    ghost seen: { Self → Seen };
+    ghost seen: { Self → ViewState };
 
     /// Returns the settings. The view shows the cells of each of their rules, in their order.
     fn settings(&self) -> &Settings<A>
@@ -46,7 +46,7 @@ pub trait View<A: Allocator> {
 
     /// Returns the columns of a measurement and a field, in creation order.
     fn columns_of(&self, measurement: &str, field: &str) -> Columns<'_, A>
-        ensures { result ≡ seats_where (is_of measurement.now field.now) (seen self.now).columns };
+        ensures { result ≡ column_refs_where (is_of measurement.now field.now) (seen self.now).columns };
 
     /// Returns the points of a column from `from`, inclusive, to `to`, exclusive (nanoseconds).
     fn raw_range(&self, column: ColumnId, from: i64, to: i64) -> Points<'_>
@@ -56,5 +56,5 @@ pub trait View<A: Allocator> {
     /// Returns the cells of the rule with this index, from bucket `from`, inclusive, to bucket `to`, exclusive.
     fn cell_walk(&self, rule: usize, from: &i128, to: &i128) -> CellWalk<'_, A>
         requires { rule < length (seen self.now).rules }
-        ensures { result ≡ cells_at (seen self.now).rules rule from.now to.now };
+        ensures { result ≡ view_cells_at (seen self.now).rules rule from.now to.now };
 }

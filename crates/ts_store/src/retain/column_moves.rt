@@ -7,7 +7,7 @@ ghost use Rattle.ts_core.specs.moves.StoreMoves.{points_below};
 ghost use Rattle.ts_core.specs.lists.Numbered.{IsAt};
 ghost use Rattle.ts_store.specs.read.PointsRead.{HasRisingPoints};
 ghost use Rattle.ts_store.specs.rollup.Rollups.{AreRollups, cells_of};
-ghost use Rattle.ts_store.specs.retain.RollupSteps.{with_frozen_all, held_with, FreezeFit, held_moved};
+ghost use Rattle.ts_store.specs.retain.RollupSteps.{with_frozen_all, content_with_cells, FreezeFit, content_moved};
 ghost use Rattle.ts_store.specs.retain.WholeRuns.{AreAbove, FirstLoses};
 
 use crate::retain::freezing::move_all;
@@ -52,7 +52,7 @@ impl<A: Allocator + Copy> ColumnFacts<A> {
         requires rollups { AreRollups rules.now (map column_of self.old.columns) self.old.rollups }
         requires column { column < length self.old.columns }
         requires few { length (facts_of self.old.columns) ≤ 2 ^ 62 }
-        ensures { (s : ColumnPoints) → IsAt self.old.columns column s → FreezeFit rules.now s.column (points_below mark s.points) (cells_of self.old.rollups) → self.new ≡ held_moved rules.now s mark self.old }
+        ensures { (s : ColumnPoints) → IsAt self.old.columns column s → FreezeFit rules.now s.column (points_below mark s.points) (cells_of self.old.rollups) → self.new ≡ content_moved rules.now s mark self.old }
     {
         let columns = self.columns.as_slice();
         move_all(rules, self.rollups.as_mut_slice(), columns, column, mark);
@@ -62,7 +62,7 @@ impl<A: Allocator + Copy> ColumnFacts<A> {
     /// Removes cells below a low index, of the first rule that has such: 256, or all where there are fewer. It answers whether
     /// there were any. It takes no memory.
     pub(crate) fn expire(&mut self, lows: &[i128]) -> bool
-        ensures lanes { self.new ≡ held_with (cells_of self.new.rollups) self.old }
+        ensures lanes { self.new ≡ content_with_cells (cells_of self.new.rollups) self.old }
         ensures some { OnTrue result (FirstLoses lows.now (cells_of self.old.rollups) (cells_of self.new.rollups)) }
         ensures none { OnFalse result ((self.new ≡ self.old) × AreAbove lows.now (cells_of self.old.rollups)) }
     {

@@ -7,7 +7,7 @@ ghost use Rattle.ts_core.specs.moves.StoreMoves.{frozen_points, refolded_points,
 ghost use Rattle.ts_core.specs.lists.Numbered.{IsAt};
 ghost use Rattle.ts_store.specs.rollup.Rollups.{IsLaneOf, AreRollups, lane_at, with_frozen, cells_of};
 ghost use Rattle.ts_core.specs.lists.Members.{AllDistinct};
-ghost use Rattle.ts_store.specs.store.ColumnsKept.{no_column};
+ghost use Rattle.ts_store.specs.store.ColumnStates.{no_column};
 ghost use Rattle.ts_store.specs.write.LivePuts.{IsOver};
 ghost use Rattle.ts_store.specs.read.PointsRead.{number_of_points};
 ghost use Rattle.ts_store.specs.retain.RollupSteps.{FreezesFit, FreezeFit, facts_left, with_frozen_all};

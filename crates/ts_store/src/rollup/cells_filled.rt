@@ -7,7 +7,7 @@ ghost use Rattle.ts_core.specs.lists.Numbered.{IsAt};
 ghost use Rattle.ts_core.specs.store.StoreData.{AreLive};
 ghost use Rattle.ts_core.specs.store.StoreStates.{column_of, facts_at, facts_of};
 ghost use Rattle.ts_store.specs.image.BuildingParts.{AreIdle, MakesCells, FillsCells, KeepsFrozen, KeepFrozen, IsFilledBut, AreFilledBut};
-ghost use Rattle.ts_store.specs.store.ColumnsKept.{with_points, point_maps};
+ghost use Rattle.ts_store.specs.store.ColumnStates.{with_points, point_maps};
 ghost use Rattle.ts_store.specs.write.LinesPut.{OfEachRule};
 ghost use Rattle.ts_store.specs.read.PointsRead.{number_of_points};
 ghost use Rattle.ts_store.specs.retain.RollupSteps.{with_frozen_all};

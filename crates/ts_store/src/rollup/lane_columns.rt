@@ -8,7 +8,7 @@ use std::slice;
 use ts_raw::ColumnId;
 
 #[derive(Drop)]
-enum Kept<A: Allocator> {
+enum Storage<A: Allocator> {
     /// At most one, inline.
     One(Option<ColumnId>),
     /// More. The box keeps the inline case small.
@@ -18,17 +18,17 @@ enum Kept<A: Allocator> {
 /// Small vector of the columns of a lane, in creation order.
 #[derive(Drop)]
 pub(crate) struct LaneColumns<A: Allocator> {
-    kept: Kept<A>,
+    kept: Storage<A>,
 }
 
 impl<A: Allocator> Model for LaneColumns<A> {
-    ghost use Rattle.ts_store.specs.rollup.ColumnLists.{ColumnList, coded_list_of_columns, list_kept};
+    ghost use Rattle.ts_store.specs.rollup.ColumnLists.{ColumnList, coded_list_of_columns, stored_list};
 
     ghost Value = { ColumnList };
 
     ghost coded = { coded_list_of_columns };
 
-    ghost view = { λ c. list_kept c.kept };
+    ghost view = { λ c. stored_list c.kept };
 }
 
 impl<A: Allocator + Copy> LaneColumns<A> {
@@ -37,7 +37,7 @@ impl<A: Allocator + Copy> LaneColumns<A> {
         ensures { result.items ≡ [] }
     {
         LaneColumns {
-            kept: Kept::One(None),
+            kept: Storage::One(None),
         }
     }
 
@@ -46,9 +46,9 @@ impl<A: Allocator + Copy> LaneColumns<A> {
         ensures { result.now ≡ self.now.items }
     {
         match &self.kept {
-            Kept::One(None) => &[],
-            Kept::One(Some(column)) => slice::from_ref(column),
-            Kept::Many(columns) => columns.as_slice(),
+            Storage::One(None) => &[],
+            Storage::One(Some(column)) => slice::from_ref(column),
+            Storage::Many(columns) => columns.as_slice(),
         }
     }
 
@@ -58,14 +58,14 @@ impl<A: Allocator + Copy> LaneColumns<A> {
         ensures ok { OnOk result (self.new.place ≡ true) }
     {
         match &mut self.kept {
-            Kept::One(None) => Ok(()),
-            Kept::One(Some(column)) => {
+            Storage::One(None) => Ok(()),
+            Storage::One(Some(column)) => {
                 let mut columns = Vec::with_capacity(alloc, 2)?;
                 columns.push(*column).unwrap();
-                self.kept = Kept::Many(Box::new(alloc, columns)?);
+                self.kept = Storage::Many(Box::new(alloc, columns)?);
                 Ok(())
             }
-            Kept::Many(columns) => columns.reserve(1),
+            Storage::Many(columns) => columns.reserve(1),
         }
     }
 
@@ -75,8 +75,8 @@ impl<A: Allocator + Copy> LaneColumns<A> {
         ensures { self.new.items ≡ self.old.items ++ column ∷ [] }
     {
         match &mut self.kept {
-            Kept::One(one) => *one = Some(column),
-            Kept::Many(columns) => columns.push(column).unwrap(),
+            Storage::One(one) => *one = Some(column),
+            Storage::Many(columns) => columns.push(column).unwrap(),
         }
     }
 }

@@ -9,7 +9,7 @@ ghost use Rattle.ts_line.specs.Names.{IsKey, IsNamed};
 ghost use Rattle.ts_cells.specs.Grids.{cell_at, lane_named};
 ghost use Rattle.ts_raw.specs.Columns.{AreTimed};
 ghost use Rattle.ts_raw.specs.PlainColumns.{IsRising};
-ghost use Rattle.ts_store.specs.image.Building.{new_built, with_series, with_column, with_cell, cells_at, IsBuildable, IsBuiltFrom};
+ghost use Rattle.ts_store.specs.image.Building.{new_built, with_series, with_column, with_cell, cell_map_at, IsBuildable, IsBuiltFrom};
 
 use crate::retain::run::Run;
 use crate::store::Store;
@@ -113,7 +113,7 @@ impl<A: Allocator + Copy> StoreBuilder<A> {
         frozen: Agg,
     ) -> Result<(), AllocError>
         requires rule { rule < length self.old.settings.rules }
-        requires absent { finmap.get (cells_at self.old.cells rule) (cell_at index.now (lane_named field.now group.now)) ≡ None }
+        requires absent { finmap.get (cell_map_at self.old.cells rule) (cell_at index.now (lane_named field.now group.now)) ≡ None }
         ensures ok { OnOk result (self.new ≡ with_cell rule (cell_at index.now (lane_named field.now group.now)) frozen self.old) }
         ensures err { OnErr result (self.new ≡ self.old) }
     {

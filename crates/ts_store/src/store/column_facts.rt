@@ -8,7 +8,7 @@ ghost use Rattle.ts_store.specs.write.LivePuts.{StayLive};
 ghost use Rattle.ts_raw.specs.Columns.{AreTimed};
 ghost use Rattle.ts_raw.specs.PlainColumns.{IsRising};
 ghost use Rattle.ts_store.specs.write.Refusals.{is_too_many};
-ghost use Rattle.ts_store.specs.read.Seats.{no_points, seats_where, points_at};
+ghost use Rattle.ts_store.specs.read.ViewResults.{no_points, column_refs_where, points_at};
 ghost use Rattle.ts_store.specs.write.LinesInColumns.{PutsLine, GrowsForLine};
 ghost use Rattle.ts_store.specs.rollup.Rollups.{new_rollup, AreRollups, cells_of};
 ghost use Rattle.ts_core.specs.store.StoreStates.{column_of};
@@ -39,15 +39,15 @@ pub(crate) struct ColumnFacts<A: Allocator> {
 }
 
 impl<A: Allocator> Model for ColumnFacts<A> {
-    ghost use Rattle.ts_store.specs.store.ColumnsKept.{Held, coded_held, held_of, IsHeld};
+    ghost use Rattle.ts_store.specs.store.ColumnStates.{StoreContent, coded_content, content_of, IsSoundContent};
 
-    ghost Value = { Held };
+    ghost Value = { StoreContent };
 
-    ghost coded = { coded_held };
+    ghost coded = { coded_content };
 
-    ghost view = { λ f. held_of f.index f.columns.items f.rollups.items };
+    ghost view = { λ f. content_of f.index f.columns.items f.rollups.items };
 
-    ghost invariant = { λ f. IsHeld f.index f.columns.items };
+    ghost invariant = { λ f. IsSoundContent f.index f.columns.items };
 }
 
 impl<A: Allocator + Copy> ColumnFacts<A> {
@@ -142,7 +142,7 @@ impl<A: Allocator + Copy> ColumnFacts<A> {
 
     /// Returns the columns of a measurement and a field, in creation order.
     pub(crate) fn columns_of(&self, measurement: &str, field: &str) -> Columns<'_, A>
-        ensures { result ≡ seats_where (is_of measurement.now field.now) self.now.columns }
+        ensures { result ≡ column_refs_where (is_of measurement.now field.now) self.now.columns }
     {
         Columns::all_of(&self.index, measurement, field)
     }

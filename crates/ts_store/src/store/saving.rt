@@ -6,8 +6,8 @@ ghost use Rattle.ts_core.specs.lists.Numbered.{IsAt};
 ghost use Rattle.ts_core.specs.store.StoreStates.{ColumnPoints, column_of};
 ghost use Rattle.ts_raw.specs.Columns.{AreTimed};
 ghost use Rattle.ts_raw.specs.PlainColumns.{IsRising};
-ghost use Rattle.ts_store.specs.image.Saving.{SavesSeries, frozen_from};
-ghost use Rattle.ts_store.specs.read.Seats.{no_points};
+ghost use Rattle.ts_store.specs.image.SavedContent.{SavesSeries, frozen_from};
+ghost use Rattle.ts_store.specs.read.ViewResults.{no_points};
 
 use crate::image::{FrozenCells, SavedSeries};
 use crate::store::Store;

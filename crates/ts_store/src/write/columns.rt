@@ -4,7 +4,7 @@ ghost use Rattle.std.specs.List.{AllByRecursion};
 ghost use Rattle.ts_line.specs.Parts.{series_of};
 ghost use Rattle.ts_raw.specs.Indexed.{column_in};
 ghost use Rattle.ts_core.specs.lists.Numbered.{IsAt};
-ghost use Rattle.ts_store.specs.store.ColumnsKept.{no_column, point_maps, with_point_aside, IsColumnFor, IsHeld};
+ghost use Rattle.ts_store.specs.store.ColumnStates.{no_column, point_maps, with_point_aside, IsColumnFor, IsSoundContent};
 ghost use Rattle.ts_store.specs.write.LinesInColumns.{SetsAside};
 ghost use Rattle.ts_store.specs.rollup.Rollups.{AreRollups, KeepCells, HaveNext, with_next, cells_of};
 ghost use Rattle.ts_core.specs.lists.Members.{Among};
@@ -130,7 +130,7 @@ pub(crate) fn prepare_line<A: Allocator + Copy, L: Allocator>(
     series: SeriesId,
     line: &Line<'_, L>,
 ) -> Result<(), AllocError>
-    requires held { IsHeld index.old columns.old.items }
+    requires held { IsSoundContent index.old columns.old.items }
     requires rollups { AreRollups rules.now index.old.columns rollups.old }
     requires series { IsAt index.old.series series (series_of line.now) }
     requires none { touched.old.items ≡ [] }

@@ -7,7 +7,7 @@ ghost use Rattle.ts_core.specs.lists.Members.{AllDistinct};
 ghost use Rattle.ts_core.specs.store.StoreData.{IsLive, AreLive};
 ghost use Rattle.ts_core.specs.moves.StoreMoves.{put_cell, put_cells, PutsFacts};
 ghost use Rattle.ts_core.specs.store.StoreStates.{ColumnPoints, facts_of};
-ghost use Rattle.ts_store.specs.store.ColumnsKept.{no_column, with_points, point_maps, committed, all_committed, AreReady, AreAside};
+ghost use Rattle.ts_store.specs.store.ColumnStates.{no_column, with_points, point_maps, committed, all_committed, AreReady, AreAside};
 ghost use Rattle.ts_store.specs.write.LivePuts.{IsOver, IsPut, AreOfFields};
 ghost use Rattle.ts_store.specs.read.PointsRead.{number_of_points};
 ghost use Rattle.ts_store.specs.rollup.Rollups.{AreRollups, lane_at, with_frozen, cells_of};

@@ -1,7 +1,7 @@
 use Rattle.std.proofs.Common.{rules, ◌≡◌, ℕ, List, ◌∷◌, Option, None, sym, ◌∙◌, ap, subst}
 use Rattle.ts_cells.specs.Grids.{cell_in, held}
 use Rattle.ts_cells.specs.Lanes.{AreInside}
-use Rattle.ts_cells.specs.Walks.{with_kept, row_left}
+use Rattle.ts_cells.specs.Walks.{with_entry, row_left}
 use Rattle.ts_cells.proofs.walk.first_in.Goals as goal
 
 pub returns-in-Some-get-clause-inside : goal.returns-in-Some-get-clause-inside
@@ -17,7 +17,7 @@ loop-lane-preserved g c =
     let none : held c.args.row.now.1 lane ≡ None = search rules in
     record {
       same = λ ls.
-          sym (ap (λ (o : Option g.row.P.Denot). with_kept o lane (cell_in ls c.args.row.now.0 lane) (row_left ls c.args.row.now.0 c.args.row.now.1 others)) none)
+          sym (ap (λ (o : Option g.row.P.Denot). with_entry o lane (cell_in ls c.args.row.now.0 lane) (row_left ls c.args.row.now.0 c.args.row.now.1 others)) none)
           ∙ ap (row_left ls c.args.row.now.0 c.args.row.now.1) (sym first) ∙ c.loop-lane.invariant.same ls;
       inside = λ ls a. (subst (AreInside ls) first (c.loop-lane.invariant.inside ls a)).1;
     }

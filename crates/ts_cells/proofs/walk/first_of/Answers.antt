@@ -1,6 +1,6 @@
 use Rattle.std.proofs.Common.{◌≡◌, List, ◌∷◌, ◌++◌, sym, ◌∙◌, ap}
 use Rattle.ts_cells.specs.Grids.{RowOf}
-use Rattle.ts_cells.specs.Walks.{KeptCell, walk_left}
+use Rattle.ts_cells.specs.Walks.{CellWithPart, walk_left}
 use Rattle.ts_cells.proofs.walk.first_of.Goals as goal
 
 pub returns-in-Some-first_in-clause-inside : goal.returns-in-Some-first_in-clause-inside
@@ -13,7 +13,7 @@ loop-row-preserved g c =
     let first : rows ≡ c.in-Some.row.now ∷ others = c.in-Some.ensures.cases.0 in
     record {
       same = λ ls.
-          sym (ap (λ (ks : List (KeptCell g.row.P.Denot)). ks ++ walk_left ls c.args.order.now others c.args.order.now) (c.in_default-first_in.ensures.none ls))
+          sym (ap (λ (ks : List (CellWithPart g.row.P.Denot)). ks ++ walk_left ls c.args.order.now others c.args.order.now) (c.in_default-first_in.ensures.none ls))
           ∙ ap (λ (rs : List (RowOf g.row.P.Denot)). walk_left ls c.args.order.now rs c.loop-row.left.now) (sym first) ∙ c.loop-row.invariant.same ls;
       inside = λ ls a b. a;
     }

@@ -5,7 +5,7 @@ use Rattle.ts_core.specs.store.Marks.{index_of}
 use Rattle.ts_core.specs.queries.Queries.{Query}
 use Rattle.ts_core.specs.settings.Settings.{Rule}
 use Rattle.ts_core.specs.store.StoreStates.{RuleCells, total_in}
-use Rattle.ts_store.specs.read.Seats.{SeenCell, no_rule, cells_at}
+use Rattle.ts_store.specs.read.ViewResults.{SeenCell, no_rule, view_cells_at}
 use Rattle.ts_exec.specs.GroupTables.{is_cell_taken}
 use Rattle.ts_exec.proofs.Walked.{cells-within}
 use Rattle.ts_exec.proofs.CountSteps.{counted, taken_shares, counted-cell, counted-all, counted-none}
@@ -18,7 +18,7 @@ loop-cell-init g c =
     let rs : List RuleCells = (g.V.View.seen c.args.view.now).rules in
     let f : SFits w64 c.args.from = search rules in
     let t : SFits w64 c.args.to = search rules in
-    let first : c.into_iter-cell-iterator.result ≡ cells_at rs c.args.number (index_of r c.args.from) (index_of r c.args.to) = search rules in
+    let first : c.into_iter-cell-iterator.result ≡ view_cells_at rs c.args.number (index_of r c.args.from) (index_of r c.args.to) = search rules in
     rw (to_z-of_z f, to_z-of_z t) (
       tt,
       tt,
@@ -59,4 +59,4 @@ returns g c =
     counted-all c.loop-cell.count so_far.4
     ∙ ap (λ (cs : List SeenCell). counted c.loop-cell.count (taken_shares q r c.args.from c.args.to cs)) (sym none)
     ∙ so_far.2
-    ∙ counted-none (taken_shares q r c.args.from c.args.to (cells_at rs c.args.number (index_of r c.args.from) (index_of r c.args.to)))
+    ∙ counted-none (taken_shares q r c.args.from c.args.to (view_cells_at rs c.args.number (index_of r c.args.from) (index_of r c.args.to)))

@@ -2,7 +2,7 @@ use Rattle.std.proofs.Common.{◌≡◌, ◌≤◌, true}
 use Rattle.std.specs.List.{AllByRecursion}
 use Rattle.ts_core.specs.facts.Facts.{is_within}
 use Rattle.ts_core.specs.store.Marks.{index_of}
-use Rattle.ts_store.specs.read.Seats.{SeenCell, cells_at}
+use Rattle.ts_store.specs.read.ViewResults.{SeenCell, view_cells_at}
 use Rattle.ts_exec.proofs.CountSteps.{counted, taken_shares}
 use Rattle.ts_exec.proofs.counting.rollup_points.Given as goal
 
@@ -12,6 +12,6 @@ invariant-loop-cell g l =
     let a = index_of l.rule l.from in
     let b = index_of l.rule l.to in
     (goal.iterator-loop-cell g).can_next l.cell-iterator × (goal.iterator-loop-cell g).is_finite l.cell-iterator
-    × (counted l.count (taken_shares q l.rule l.from l.to l.cell-iterator) ≡ counted 0 (taken_shares q l.rule l.from l.to (cells_at (g.V.View.seen l.view).rules l.number a b)))
+    × (counted l.count (taken_shares q l.rule l.from l.to l.cell-iterator) ≡ counted 0 (taken_shares q l.rule l.from l.to (view_cells_at (g.V.View.seen l.view).rules l.number a b)))
     × AllByRecursion (λ (c : SeenCell). is_within a b c.cell.index ≡ true) l.cell-iterator
     × (l.count ≤ 18446744073709551615)

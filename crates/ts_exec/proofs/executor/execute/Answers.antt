@@ -1,9 +1,9 @@
 use Rattle.std.proofs.Common.{rules, ◌≡◌, ◌∙◌}
 use Rattle.ts_core.specs.queries.Queries.{Query, IsQuery}
 use Rattle.ts_core.specs.plans.Pieces.{IsValid}
-use Rattle.ts_core.specs.store.Views.{Seen}
+use Rattle.ts_core.specs.store.Views.{ViewState}
 use Rattle.ts_check.specs.Checks.{Plan}
-use Rattle.ts_exec.specs.Executions.{IsFresh}
+use Rattle.ts_exec.specs.Executions.{IsCurrent}
 use Rattle.ts_exec.specs.GroupTables.{given}
 use Rattle.ts_exec.proofs.Given.{given-answer}
 use Rattle.ts_exec.proofs.Fresh.{fresh-valid}
@@ -11,10 +11,10 @@ use Rattle.ts_exec.proofs.executor.execute.Goals as goal
 
 pub returns : goal.returns
 returns g c =
-    let seen : Seen = g.V.View.seen c.args.view.now in
+    let seen : ViewState = g.V.View.seen c.args.view.now in
     let p : Plan = c.args.checked.now in
     let q : Query = p.select.query in
-    let fresh : IsFresh seen p = search rules in
+    let fresh : IsCurrent seen p = search rules in
     let valid : IsValid seen.settings seen.marks q p.pieces = fresh-valid seen p fresh c.pieces.ensures.valid in
     let is : IsQuery q = search rules in
     let select : c.new.result.select ≡ p.select = search rules in

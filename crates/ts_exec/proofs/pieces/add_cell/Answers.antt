@@ -9,7 +9,7 @@ use Rattle.ts_core.specs.plans.Assembly.{stand_in}
 use Rattle.ts_core.specs.store.StoreStates.{total_in}
 use Rattle.ts_core.proofs.queries.Boundaries.{within_parts}
 use Rattle.ts_ql.specs.Selects.{texts}
-use Rattle.ts_store.specs.read.Seats.{SeenCell}
+use Rattle.ts_store.specs.read.ViewResults.{SeenCell}
 use Rattle.ts_exec.specs.Lent.{lent}
 use Rattle.ts_exec.specs.RowParts.{BucketGrid, bucket_grid, place_at}
 use Rattle.ts_exec.specs.GroupTables.{Table, width, is_cell_taken, with_cell_part, with_cell}

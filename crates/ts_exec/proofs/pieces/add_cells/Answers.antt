@@ -5,7 +5,7 @@ use Rattle.ts_core.specs.store.Marks.{index_of}
 use Rattle.ts_core.specs.queries.Queries.{Query}
 use Rattle.ts_core.specs.settings.Settings.{Rule}
 use Rattle.ts_core.specs.store.StoreStates.{RuleCells}
-use Rattle.ts_store.specs.read.Seats.{SeenCell, no_rule, cells_at}
+use Rattle.ts_store.specs.read.ViewResults.{SeenCell, no_rule, view_cells_at}
 use Rattle.ts_exec.specs.GroupTables.{with_cell_parts}
 use Rattle.ts_exec.proofs.Walked.{cells-within}
 use Rattle.ts_exec.proofs.pieces.add_cells.Goals as goal
@@ -17,7 +17,7 @@ loop-cell-init g c =
     let rs : List RuleCells = (g.V.View.seen c.args.view.now).rules in
     let f : SFits w64 c.args.from = search rules in
     let t : SFits w64 c.args.to = search rules in
-    let first : c.into_iter-cell-iterator.result ≡ cells_at rs c.args.number (index_of r c.args.from) (index_of r c.args.to) = search rules in
+    let first : c.into_iter-cell-iterator.result ≡ view_cells_at rs c.args.number (index_of r c.args.from) (index_of r c.args.to) = search rules in
     rw (to_z-of_z f, to_z-of_z t) (
       tt,
       tt,

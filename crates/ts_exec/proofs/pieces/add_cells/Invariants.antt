@@ -2,7 +2,7 @@ use Rattle.std.proofs.Common.{◌≡◌, true}
 use Rattle.std.specs.List.{AllByRecursion}
 use Rattle.ts_core.specs.facts.Facts.{is_within}
 use Rattle.ts_core.specs.store.Marks.{index_of}
-use Rattle.ts_store.specs.read.Seats.{SeenCell, cells_at}
+use Rattle.ts_store.specs.read.ViewResults.{SeenCell, view_cells_at}
 use Rattle.ts_exec.specs.GroupTables.{with_cell_parts}
 use Rattle.ts_exec.proofs.pieces.add_cells.Given as goal
 
@@ -12,6 +12,6 @@ invariant-loop-cell g l =
     let a = index_of l.rule l.from in
     let b = index_of l.rule l.to in
     (goal.iterator-loop-cell g).can_next l.cell-iterator × (goal.iterator-loop-cell g).is_finite l.cell-iterator
-    × (with_cell_parts q l.rule l.from l.to l.cell-iterator l.groups ≡ with_cell_parts q l.rule l.from l.to (cells_at (g.V.View.seen l.view).rules l.number a b) l.fn.groups)
+    × (with_cell_parts q l.rule l.from l.to l.cell-iterator l.groups ≡ with_cell_parts q l.rule l.from l.to (view_cells_at (g.V.View.seen l.view).rules l.number a b) l.fn.groups)
     × AllByRecursion (λ (c : SeenCell). is_within a b c.cell.index ≡ true) l.cell-iterator
     × (l.scan ≡ l.fn.scan)

@@ -1,7 +1,7 @@
 use Rattle.std.proofs.Common.{rules, ◌≡◌, pos, ◌≤ℤ◌, ◌∙◌, ap, subst, sym, map, Some, None, List, OnOk}
 use Rattle.ts_core.specs.settings.Settings.{Rule}
 use Rattle.ts_core.specs.queries.Queries.{Query}
-use Rattle.ts_core.specs.store.Views.{Seen}
+use Rattle.ts_core.specs.store.Views.{ViewState}
 use Rattle.ts_core.specs.plans.Pieces.{Source, Rollup}
 use Rattle.ts_core.specs.store.StoreStates.{RuleCells, rule_of}
 use Rattle.ts_exec.specs.FirstOf.{rule_from}
@@ -22,7 +22,7 @@ add_cells-requires-clause-interval g c =
 
 pub returns-in-Some-clause-value : goal.returns-in-Some-clause-value
 returns-in-Some-clause-value g c =
-    let seen : Seen = g.V.View.seen c.args.view.now in
+    let seen : ViewState = g.V.View.seen c.args.view.now in
     let q : Query = c.args.scan.now in
     let e : rule_from c.as_str.result.now 0 (map rule_of seen.rules) ≡ Some (c.in-Some.number, c.in-Some.rule.now) = search rules in
     let own_name : c.args.piece.now.source ≡ Rollup c.in-Rollup.name = search rules in
@@ -34,7 +34,7 @@ returns-in-Some-clause-value g c =
 
 pub returns-in-None-clause-value : goal.returns-in-None-clause-value
 returns-in-None-clause-value g c =
-    let seen : Seen = g.V.View.seen c.args.view.now in
+    let seen : ViewState = g.V.View.seen c.args.view.now in
     let q : Query = c.args.scan.now in
     let e : rule_from c.as_str.result.now 0 (map rule_of seen.rules) ≡ None = search rules in
     let own_name : c.args.piece.now.source ≡ Rollup c.in-Rollup.name = search rules in

@@ -5,10 +5,10 @@ use Rattle.ts_core.specs.facts.Facts.{is_of}
 use Rattle.ts_core.specs.queries.Queries.{Query, meets}
 use Rattle.ts_core.specs.store.StoreStates.{ColumnPoints}
 use Rattle.ts_core.specs.facts.Tags.{tag_values}
-use Rattle.ts_store.specs.read.Seats.{Seat, seats_where, points_at}
-use Rattle.ts_store.proofs.read.SeatLemmas.{seats-there}
+use Rattle.ts_store.specs.read.ViewResults.{ColumnRef, column_refs_where, points_at}
+use Rattle.ts_store.proofs.read.ColumnRefLemmas.{column_refs-there}
 use Rattle.ts_exec.specs.RowParts.{bucket_grid}
-use Rattle.ts_exec.specs.GroupTables.{Table, AreBucketsOf, width, with_column_parts, with_seats, selected_seats}
+use Rattle.ts_exec.specs.GroupTables.{Table, AreBucketsOf, width, with_column_parts, with_column_refs, selected_column_refs}
 use Rattle.ts_exec.proofs.Selected.{IsSelected, all_selected, selected_give}
 use Rattle.ts_exec.proofs.pieces.add_raw.Goals as goal
 
@@ -16,14 +16,14 @@ pub loop-column-init : goal.loop-column-init
 loop-column-init g c =
     let q : Query = c.args.scan.now in
     let cs : List ColumnPoints = (g.V.View.seen c.args.view.now).columns in
-    let all : List Seat = seats_where (is_of q.measurement q.field) cs in
+    let all : List ColumnRef = column_refs_where (is_of q.measurement q.field) cs in
     let a : ℤ = to_z w64 (of_z w64 c.args.from) in
     let b : ℤ = to_z w64 (of_z w64 c.args.to) in
-    let chosen : c.deref-column-items.result.now ≡ selected_seats q.conditions all =
+    let chosen : c.deref-column-items.result.now ≡ selected_column_refs q.conditions all =
     c.deref-column-items.ensures.value
-    ∙ subst (λ (x : Query). c.in_ok-columns.columns.items ≡ selected_seats x.conditions (seats_where (is_of x.measurement x.field) cs)) c.scan.view_is c.in_ok-columns.ensures in (
-      ap₂ (λ (ss : List Seat) (t : Table). with_seats q cs a b ss t) chosen c.expect_groups.ensures ∙ selected_give q cs a b all c.args.groups.now,
-      subst (AllByRecursion (IsSelected (length cs) q.conditions)) (sym chosen) (all_selected (length cs) q.conditions all (seats-there (is_of q.measurement q.field) cs)),
+    ∙ subst (λ (x : Query). c.in_ok-columns.columns.items ≡ selected_column_refs x.conditions (column_refs_where (is_of x.measurement x.field) cs)) c.scan.view_is c.in_ok-columns.ensures in (
+      ap₂ (λ (ss : List ColumnRef) (t : Table). with_column_refs q cs a b ss t) chosen c.expect_groups.ensures ∙ selected_give q cs a b all c.args.groups.now,
+      subst (AllByRecursion (IsSelected (length cs) q.conditions)) (sym chosen) (all_selected (length cs) q.conditions all (column_refs-there (is_of q.measurement q.field) cs)),
       c.scan.view_is,
       c.scan.invariant,
     )
@@ -34,18 +34,18 @@ loop-column-preserved g c =
     let cs : List ColumnPoints = (g.V.View.seen c.args.view.now).columns in
     let a : ℤ = to_z w64 (of_z w64 c.args.from) in
     let b : ℤ = to_z w64 (of_z w64 c.args.to) in
-    let items : List Seat = c.deref-column-items.result.now in
+    let items : List ColumnRef = c.deref-column-items.result.now in
     let i : ℕ = c.loop-column.column-index in
-    let s : Seat = c.column-item.result in
-    let rest : List Seat = drop (i + 1) items in
+    let s : ColumnRef = c.column-item.result in
+    let rest : List ColumnRef = drop (i + 1) items in
     let groups : Table = c.loop-column.groups in
-    let next : drop i items ≡ s ∷ rest = drop_more items i _ c.loop-column-test.true ∙ ap (λ (x : Seat). x ∷ rest) (sym c.column-item.is) in
+    let next : drop i items ≡ s ∷ rest = drop_more items i _ c.loop-column-test.true ∙ ap (λ (x : ColumnRef). x ∷ rest) (sym c.column-item.is) in
     let here : AllByRecursion (IsSelected (length cs) q.conditions) (s ∷ rest) = subst (AllByRecursion (IsSelected (length cs) q.conditions)) next c.loop-column.invariant.1 in
     let met : list_all (meets s.series) q.conditions ≡ true = here.0.1 in
     let given : Table = with_column_parts (bucket_grid q) (width q) (tag_values q.group_tags s.series) (points_at cs s.number a b) groups in
     let added : c.add_points.new.self ≡ given = search rules in (
-      ap (λ (t : Table). with_seats q cs a b rest t) (added ∙ ap (λ (v : Bool). cond v given groups) (sym met))
-          ∙ ap (λ (ss : List Seat). with_seats q cs a b ss groups) (sym next)
+      ap (λ (t : Table). with_column_refs q cs a b rest t) (added ∙ ap (λ (v : Bool). cond v given groups) (sym met))
+          ∙ ap (λ (ss : List ColumnRef). with_column_refs q cs a b ss groups) (sym next)
           ∙ c.loop-column.invariant.0,
       here.1,
       c.loop-column.invariant.2,

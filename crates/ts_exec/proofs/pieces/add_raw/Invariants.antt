@@ -1,8 +1,8 @@
 use Rattle.std.proofs.Common.{◌≡◌, drop, length}
 use Rattle.std.specs.List.{AllByRecursion}
 use Rattle.ts_core.specs.facts.Facts.{is_of}
-use Rattle.ts_store.specs.read.Seats.{seats_where}
-use Rattle.ts_exec.specs.GroupTables.{AreBucketsOf, with_seats}
+use Rattle.ts_store.specs.read.ViewResults.{column_refs_where}
+use Rattle.ts_exec.specs.GroupTables.{AreBucketsOf, with_column_refs}
 use Rattle.ts_exec.proofs.Selected.{IsSelected}
 use Rattle.ts_exec.proofs.pieces.add_raw.Given as goal
 
@@ -10,6 +10,6 @@ abbrev pub invariant-loop-column : goal.invariant-loop-column
 invariant-loop-column g l =
     let q = l.fn.scan in
     let cs = (g.V.View.seen l.view).columns in
-    (with_seats q cs l.from l.to (drop l.column-index l.column-items) l.groups ≡ with_seats q cs l.from l.to (seats_where (is_of q.measurement q.field) cs) l.fn.groups)
+    (with_column_refs q cs l.from l.to (drop l.column-index l.column-items) l.groups ≡ with_column_refs q cs l.from l.to (column_refs_where (is_of q.measurement q.field) cs) l.fn.groups)
     × AllByRecursion (IsSelected (length cs) q.conditions) (drop l.column-index l.column-items)
     × (l.scan-inside.query.now.query ≡ q) × AreBucketsOf l.scan-inside.query.now.query l.scan-inside.width l.scan-inside.buckets

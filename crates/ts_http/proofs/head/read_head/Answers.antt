@@ -1,6 +1,6 @@
 use Rattle.std.proofs.Common.{rules, ◌≡◌, length, ◌+◌, ◌<◌, take, unwrap_or, [], arith, sym, ◌∙◌, subst}
 use Rattle.std.proofs.lemmas.List.{length-take-le}
-use Rattle.ts_http.specs.Heads.{head_limit, IsUnfinished}
+use Rattle.ts_http.specs.Heads.{head_limit, IsUnfinishedHead}
 use Rattle.ts_http.proofs.ReadLemmas.{more_came, none_came}
 use Rattle.ts_http.proofs.HeadLemmas.{front_told, too_long_told, end_told}
 use Rattle.ts_http.proofs.head.read_head.Goals as goal
@@ -15,7 +15,7 @@ returns-then-more-eq0 g c =
     record {
       within = omega (arith, i.within, r.size);
       bytes = none_came _ _ _ count c.in_ok-more.more c.loop-count.room c.read_behind.new.room none i.came r.came;
-      head = end_told (take count c.read_behind.new.room) count c.read_behind.new.source c.loop-count.spans c.at_end.result (length-take-le count c.read_behind.new.room (omega (arith, i.within, r.size))) (omega (arith, c.loop-count-test.true, i.room)) (λ some. subst IsUnfinished (sym same) (i.unfinished some)) (r.end none) c.at_end.ensures.none c.at_end.ensures.some;
+      head = end_told (take count c.read_behind.new.room) count c.read_behind.new.source c.loop-count.spans c.at_end.result (length-take-le count c.read_behind.new.room (omega (arith, i.within, r.size))) (omega (arith, c.loop-count-test.true, i.room)) (λ some. subst IsUnfinishedHead (sym same) (i.unfinished some)) (r.end none) c.at_end.ensures.none c.at_end.ensures.some;
       failures = search rules;
       turns = omega (arith, r.turns, i.turns, c.loop-count-test.true, i.room);
     }

@@ -1,6 +1,6 @@
 use Rattle.std.proofs.Common.{length, take, ◌-◌, ◌≡◌, ◌+◌, ◌<◌, ◌≤◌}
 use Rattle.std.specs.Io.KnownBytes.{Consumes}
-use Rattle.ts_http.specs.Heads.{head_limit, field_limit, IsUnfinished}
+use Rattle.ts_http.specs.Heads.{head_limit, field_limit, IsUnfinishedHead}
 use Rattle.ts_http.proofs.head.read_head.Given as goal
 
 abbrev pub invariant-loop-count : goal.invariant-loop-count
@@ -9,7 +9,7 @@ invariant-loop-count g l = record {
   room : length l.room ≡ head_limit;
   spans : length l.spans ≡ field_limit;
   came : Consumes l.initial.source.remaining l.source.remaining (take l.count l.room);
-  unfinished : 0 < l.count → IsUnfinished (take l.count l.room);
+  unfinished : 0 < l.count → IsUnfinishedHead (take l.count l.room);
   failures : l.source.failures ≡ l.initial.source.failures;
   turns : l.source.turns ≤ l.initial.source.turns + l.count;
 }

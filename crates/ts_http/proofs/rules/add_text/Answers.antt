@@ -1,7 +1,7 @@
 use Rattle.std.proofs.Common.{true, ap, subst, sym}
 use Rattle.ts_core.specs.facts.Facts.{Text}
 use Rattle.ts_http.specs.Acts.{answer_reply}
-use Rattle.ts_http.specs.Outcomes.{AddsAs}
+use Rattle.ts_http.specs.OutcomeReplies.{AddsAs}
 use Rattle.ts_http.specs.declared.outcome.Outcome.TheVariants.{Brief, Refused}
 use Rattle.ts_http.specs.declared.refusal.Refusal.TheVariants as refusals
 use Rattle.ts_http.specs.declared.status.Status.TheVariants.{Success}

@@ -2,8 +2,8 @@ use Rattle.std.proofs.Common.{◌∙◌, ◌++◌, ap, sym, subst, arith, refl, 
 use Rattle.std.proofs.KnownBytes.{Consumes-trans}
 use Rattle.std.proofs.lemmas.Result.{err_from_is_err_and}
 use Rattle.ts_core.specs.facts.Facts.{Text}
-use Rattle.ts_http.specs.Heads.{IsWhole}
-use Rattle.ts_http.specs.Reading.{request_of, TellsHead}
+use Rattle.ts_http.specs.Heads.{IsWholeHead}
+use Rattle.ts_http.specs.HeadsRead.{request_of, TellsHead}
 use Rattle.ts_http.specs.Requested.{Refuses, Asks}
 use Rattle.ts_http.specs.Served.{Serves}
 use Rattle.ts_http.specs.declared.outcome.Outcome.TheVariants as outcomes
@@ -53,7 +53,7 @@ returns-in-Err g c =
     let spans = c.read_head.new.spans in
     let bytes = request_of came c.read_head.new.source in
     let found = c.in-Whole.found in
-    let q = c.asked_by-asked in
+    let q = c.head_parts_of-head in
     let told = subst (TellsHead bytes came spans) c.in-Whole.is h.head in
     let asks = asks_refused came spans found told.1.0 told.1.1 bytes (drop found.len bytes) q.result.route q.result.method c.in-Err.refusal told.1.2 q.ensures.route q.ensures.method c.in-Err.ensures in
     sent_told c.args.now c.args.store.now c.args.store.now c.args.source.now c.read_head.new.source c.args.sink.now c.reply-in-Err.new.sink (outcomes.Refused c.in-Err.refusal) q.result.route c.is_head.result came c.reply-in-Err.result c.reply-in-Err.ensures h.bytes
@@ -66,14 +66,14 @@ returns-in_ok-outcome-in-Ok g c =
     let came = take c.in_ok-count.count c.read_head.new.room in
     let spans = c.read_head.new.spans in
     let found = c.in-Whole.found in
-    let q = c.asked_by-asked in
+    let q = c.head_parts_of-head in
     let source = c.act_on_body.new.source in
     let told = subst (TellsHead (request_of came c.read_head.new.source) came spans) c.in-Whole.is h.head in
     let got = a.acted.0 in
     let more = got ++ unwrap_or source.remaining [] in
-    let whole : IsWhole (request_of (came ++ got) source) told.1.0 (q.result.behind.now ++ more) =
-    subst (λ (b : Text). IsWhole b told.1.0 (q.result.behind.now ++ more)) (sym (append_assoc came got (unwrap_or source.remaining [])))
-    (subst (λ (b : Text). IsWhole (came ++ more) told.1.0 (b ++ more)) (sym q.ensures.behind) (whole_more came more _ _ spans found told.1.0 told.1.1 told.1.2)) in
+    let whole : IsWholeHead (request_of (came ++ got) source) told.1.0 (q.result.behind.now ++ more) =
+    subst (λ (b : Text). IsWholeHead b told.1.0 (q.result.behind.now ++ more)) (sym (append_assoc came got (unwrap_or source.remaining [])))
+    (subst (λ (b : Text). IsWholeHead (came ++ more) told.1.0 (b ++ more)) (sym q.ensures.behind) (whole_more came more _ _ spans found told.1.0 told.1.1 told.1.2)) in
     sent_told c.args.now c.args.store.now c.act_on_body.new.store c.args.source.now source c.args.sink.now c.reply-in-Ok.new.sink c.in_ok-outcome-in-Ok.outcome q.result.route _ (came ++ got) c.reply-in-Ok.result c.reply-in-Ok.ensures
     (Consumes-trans c.args.source.now.remaining c.read_head.new.source.remaining source.remaining came got h.bytes a.acted.1)
     (λ s i. asks_taken came spans found told.1.0 told.1.1 (request_of (came ++ got) source) (q.result.behind.now ++ more) c.args.now q.result.route q.result.method q.result.query.now c.in-Ok.len c.args.store.now c.act_on_body.new.store c.in_ok-outcome-in-Ok.outcome s whole

@@ -1,7 +1,7 @@
 use Rattle.std.proofs.Common.{rules, ◌≡◌, length, map, ap, ◌∙◌, sym}
 use Rattle.std.specs.Prelude.{string_bytes}
 use Rattle.std.proofs.lemmas.List.{length-map}
-use Rattle.ts_store.specs.image.Saving.{FrozenCell}
+use Rattle.ts_store.specs.image.SavedContent.{FrozenCell}
 use Rattle.ts_image.specs.SavedParts.{image_rule_of}
 use Rattle.ts_image.specs.Saving.{image_cell_of}
 use Rattle.ts_image.proofs.Putting.{puts_at}

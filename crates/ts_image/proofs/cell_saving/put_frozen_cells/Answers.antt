@@ -2,7 +2,7 @@ use Rattle.std.proofs.Common.{rules, ◌≡◌, ◌<◌, ◌∷◌, subst, sym}
 use Rattle.std.specs.List.{AllByRecursion}
 use Rattle.std.proofs.lemmas.Result.{err_from_is_err_and}
 use Rattle.ts_image.specs.Images.{image_cell}
-use Rattle.ts_store.specs.image.Saving.{FrozenCell}
+use Rattle.ts_store.specs.image.SavedContent.{FrozenCell}
 use Rattle.ts_image.specs.SavedParts.{image_rule_of}
 use Rattle.ts_image.specs.Saving.{FitsCell, image_cell_of}
 use Rattle.ts_image.proofs.Putting.{going_starts, going_on, going_stops, going_ends}

@@ -1,7 +1,7 @@
 use Rattle.std.proofs.Common.{◌<◌}
 use Rattle.std.specs.List.{AllByRecursion}
 use Rattle.ts_image.specs.Images.{image_cell}
-use Rattle.ts_store.specs.image.Saving.{FrozenCell}
+use Rattle.ts_store.specs.image.SavedContent.{FrozenCell}
 use Rattle.ts_image.specs.SavedParts.{image_rule_of}
 use Rattle.ts_image.specs.Saving.{FitsCell, image_cell_of}
 use Rattle.ts_image.proofs.Putting.{Going}

@@ -1,6 +1,6 @@
 use Rattle.std.proofs.Common.{◌<◌, length, refl, subst}
 use Rattle.std.specs.List.{AllByRecursion}
-use Rattle.ts_store.specs.image.Saving.{SavedSeries}
+use Rattle.ts_store.specs.image.SavedContent.{SavedSeries}
 use Rattle.ts_image.proofs.Testing.{all_next, all_done}
 use Rattle.ts_image.proofs.Saved.{all_at, as_it_is, mapped}
 use Rattle.ts_image.proofs.form_tests.have_few_tags.Goals as goal

@@ -1,6 +1,6 @@
 use Rattle.std.proofs.Common.{◌<◌, length, map, take}
 use Rattle.std.specs.List.{AllByRecursion}
-use Rattle.ts_store.specs.image.Saving.{SavedSeries}
+use Rattle.ts_store.specs.image.SavedContent.{SavedSeries}
 use Rattle.ts_image.proofs.Saved.{as_it_is}
 use Rattle.ts_image.proofs.form_tests.have_few_tags.Given as goal
 

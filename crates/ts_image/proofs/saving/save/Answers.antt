@@ -5,7 +5,7 @@ use Rattle.ts_core.proofs.io.OutputBufferLemmas.{done, refused}
 use Rattle.ts_core.specs.store.StoreData.{StoreData}
 use Rattle.ts_image.specs.declared.version.Version.TheVariants.{V2}
 use Rattle.ts_image.specs.Images.{image, image_text}
-use Rattle.ts_store.specs.image.Saving.{SavedSeries}
+use Rattle.ts_store.specs.image.SavedContent.{SavedSeries}
 use Rattle.ts_image.specs.Saving.{image_of}
 use Rattle.ts_image.proofs.SavedWholes.{is_cut, is_saved, columns_there}
 use Rattle.ts_image.proofs.saving.save.Goals as goal

@@ -1,5 +1,5 @@
 use Rattle.std.proofs.Common.{◌<◌, length}
-use Rattle.ts_store.specs.image.Saving.{SavedSeries}
+use Rattle.ts_store.specs.image.SavedContent.{SavedSeries}
 use Rattle.ts_image.specs.Saving.{HasItsColumns}
 use Rattle.ts_image.proofs.Saved.{all_at}
 use Rattle.ts_image.specs.Saving.{image_series_of}

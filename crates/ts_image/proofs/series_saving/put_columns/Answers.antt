@@ -1,5 +1,5 @@
 use Rattle.std.proofs.Common.{◌<◌, length}
-use Rattle.ts_store.specs.image.Saving.{SavedColumn}
+use Rattle.ts_store.specs.image.SavedContent.{SavedColumn}
 use Rattle.ts_image.proofs.Saved.{all_at}
 use Rattle.ts_image.specs.Saving.{image_column_of}
 use Rattle.ts_image.specs.declared.version.Version.TheVariants.{V2}

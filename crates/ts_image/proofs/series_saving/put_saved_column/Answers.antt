@@ -4,8 +4,8 @@ use Rattle.ts_core.specs.store.RawFacts.{is_waiting}
 use Rattle.ts_core.specs.io.ReadingAhead.{bit}
 use Rattle.ts_core.specs.store.StoreStates.{ColumnPoints}
 use Rattle.ts_core.specs.store.StoreData.{StoreData}
-use Rattle.ts_store.specs.image.Saving.{SavedColumn}
-use Rattle.ts_store.specs.read.Seats.{no_points}
+use Rattle.ts_store.specs.image.SavedContent.{SavedColumn}
+use Rattle.ts_store.specs.read.ViewResults.{no_points}
 use Rattle.ts_image.specs.Saving.{image_column_of}
 use Rattle.ts_image.proofs.Putting.{puts_at}
 use Rattle.ts_image.proofs.SavedOf.{at_number, waits_is, column_same}

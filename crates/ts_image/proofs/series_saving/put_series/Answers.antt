@@ -1,6 +1,6 @@
 use Rattle.std.proofs.Common.{rules, ◌≡◌, ◌∙◌, ◌<◌, length, subst, sym, ap, map}
 use Rattle.std.specs.List.{AllByRecursion}
-use Rattle.ts_store.specs.image.Saving.{SavedColumn}
+use Rattle.ts_store.specs.image.SavedContent.{SavedColumn}
 use Rattle.std.specs.Int.{w64}
 use Rattle.ts_image.specs.declared.version.Version.TheVariants.{V2}
 use Rattle.ts_image.specs.Images.{image_column}

@@ -6,7 +6,7 @@ use Rattle.ts_line.specs.Scan.{spaces_end}
 use Rattle.ts_line.specs.Fields.{fields_at}
 use Rattle.ts_line.proofs.FieldLemmas.{read_fields}
 use Rattle.ts_line.proofs.LineLemmas.{parts_read, time_fails}
-use Rattle.ts_line.proofs.NamesTold.{parts_named}
+use Rattle.ts_line.proofs.NameFacts.{parts_named}
 use Rattle.ts_line.proofs.read.parts.Goals as goal
 
 pub new-requires : goal.new-requires

@@ -12,7 +12,7 @@ pub returns-in_err-tag : goal.returns-in_err-tag
 returns-in_err-tag g c =
     let read : FailsIfRoom c.in_err-tag.field-0.0 (next_tag c.args.tags.now.items c.args.line.now c.args.start) = rw (← c.deref.ensures.value) c.in_err-tag.ensures.value in
     let p = err_from_is_err_and c.from_residual.result c.from_residual.ensures.1 in
-    rw (p.1, p.2) (record { value = put_fault (λ (tag : LinePart × LinePart). c.args.tags.now.items ++ tag ∷ []) (next_tag c.args.tags.now.items c.args.line.now c.args.start) c.in_err-tag.field-0.0 read; marked = tt; few = tt; place = tt })
+    rw (p.1, p.2) (record { value = put_fault (λ (tag : LinePart × LinePart). c.args.tags.now.items ++ tag ∷ []) (next_tag c.args.tags.now.items c.args.line.now c.args.start) c.in_err-tag.field-0.0 read; marked = tt; few = tt; offset = tt })
 
 pub returns : goal.returns
 returns g c =
@@ -28,5 +28,5 @@ returns g c =
       value = rw items (put_read (λ (tag : LinePart × LinePart). tags ++ tag ∷ []) (next_tag tags c.args.line.now c.args.start) tag c.in_ok-tag.end read);
       marked = rw (items, slot) (push_key_marked c.args.marks.now tag tags within c.requires.marked);
       few = omega arith;
-      place = c.in_ok-tag.ensures.place;
+      offset = c.in_ok-tag.ensures.offset;
     }

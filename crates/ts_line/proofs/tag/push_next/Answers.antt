@@ -25,5 +25,5 @@ returns-then-not-marks-slot g c =
       value = rw items (put_read (λ (t : LinePart × LinePart). tags ++ t ∷ []) (next_tag tags c.args.line.now c.args.start) tag c.in-Some.end read);
       marked = rw (items, slot) (push_key_marked c.args.marks.now tag tags within c.requires.marked);
       few = omega arith;
-      place = c.in-Some.ensures.place;
+      offset = c.in-Some.ensures.offset;
     }

@@ -19,7 +19,7 @@ loop-alloc-preserved g c =
     let t = was_read push read c.push_next.new.tags.items c.in_ok-at.at step in
     let len : length c.push_next.new.tags.items ≡ length before + 1 = ap (λ (ts : List (LinePart × LinePart)). length ts) t.2 ∙ length-append before (t.0 ∷ []) in
     record {
-      boundary = c.in_ok-at.ensures.place.boundary;
+      boundary = c.in_ok-at.ensures.offset.boundary;
       marked = c.in_ok-at.ensures.marked;
       few = c.in_ok-at.ensures.few;
       value = rw (len, t.2) (tag_taken (length before) before c.args.line.now c.loop-alloc.at t.0 c.in_ok-at.at (tags_at 65 [] c.args.line.now c.args.start) c.loop-alloc.invariant.few comma t.1 c.loop-alloc.invariant.value);

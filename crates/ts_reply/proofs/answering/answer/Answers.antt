@@ -7,7 +7,7 @@ use Rattle.ts_ql.specs.QueryFaultText.{query_fault_text}
 use Rattle.ts_ql.specs.Selects.{Select}
 use Rattle.ts_reply.specs.Answering.{IsReplyTo, IsReply, read, bad}
 use Rattle.ts_reply.specs.Replies.{refusal_text}
-use Rattle.ts_reply.specs.Told.{handed_in}
+use Rattle.ts_reply.specs.OutcomeViews.{handed_in}
 use Rattle.ts_reply.proofs.answering.answer.Goals as goal
 
 pub returns-in-Ok : goal.returns-in-Ok

@@ -5,7 +5,7 @@ use Rattle.ts_check.specs.CheckTexts.{certificate_fault_text}
 use Rattle.ts_check.specs.declared.certificate_fault.ReadCertificateError.{ReadCertificateError}
 use Rattle.ts_reply.specs.Answering.{spelled}
 use Rattle.ts_reply.specs.Outcomes.{Fault}
-use Rattle.ts_reply.specs.Told.{outcome_view}
+use Rattle.ts_reply.specs.OutcomeViews.{outcome_view}
 use Rattle.ts_reply.proofs.Answered.{certificate_fault}
 use Rattle.ts_reply.proofs.answering.certified.Goals as goal
 

@@ -2,7 +2,7 @@ use Rattle.std.proofs.Common.{rules, ◌≡◌, ◌+◌, ◌<◌, ◌≤◌, Lis
 use Rattle.std.proofs.lemmas.List.{take_all}
 use Rattle.ts_ql.specs.Selects.{Select}
 use Rattle.ts_reply.specs.Answering.{IsOutcome, AreOutcomes}
-use Rattle.ts_reply.specs.Told.{outcome_view, handed_in}
+use Rattle.ts_reply.specs.OutcomeViews.{outcome_view, handed_in}
 use Rattle.ts_reply.proofs.Each.{outcomes_more}
 use Rattle.ts_reply.proofs.answering.outcomes_of.Goals as goal
 

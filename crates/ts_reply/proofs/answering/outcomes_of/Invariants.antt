@@ -1,7 +1,7 @@
 use Rattle.std.proofs.Common.{map, take}
 use Rattle.ts_core.specs.store.StoreData.{OfEachHistory}
 use Rattle.ts_reply.specs.Answering.{IsOutcome, AreOutcomes}
-use Rattle.ts_reply.specs.Told.{outcome_view, handed_in}
+use Rattle.ts_reply.specs.OutcomeViews.{outcome_view, handed_in}
 use Rattle.ts_reply.proofs.answering.outcomes_of.Given as goal
 
 abbrev pub invariant-loop-query : goal.invariant-loop-query

@@ -2,7 +2,7 @@ use Rattle.std.proofs.Common.{map, subst, sym, ◌∙◌, string_bytes, false}
 use Rattle.ts_core.specs.facts.Facts.{Text}
 use Rattle.ts_reply.specs.Answering.{IsReplyTo, good, several}
 use Rattle.ts_reply.specs.Replies.{TellsOutcomes}
-use Rattle.ts_reply.specs.Told.{outcome_view, handed_in}
+use Rattle.ts_reply.specs.OutcomeViews.{outcome_view, handed_in}
 use Rattle.ts_reply.proofs.answering.reply_to.Goals as goal
 
 pub returns-then-is_of_several : goal.returns-then-is_of_several

@@ -3,7 +3,7 @@ use Rattle.std.proofs.lemmas.List.{take_all}
 use Rattle.ts_ql.specs.Selects.{Select}
 use Rattle.ts_reply.specs.Answering.{AreOutcomes}
 use Rattle.ts_reply.specs.Explaining.{IsExplained}
-use Rattle.ts_reply.specs.Told.{outcome_view}
+use Rattle.ts_reply.specs.OutcomeViews.{outcome_view}
 use Rattle.ts_reply.proofs.Each.{outcomes_more}
 use Rattle.ts_reply.proofs.explaining.each_explained.Goals as goal
 

@@ -8,7 +8,7 @@ use Rattle.ts_reply.specs.Answering.{AreOutcomes}
 use Rattle.ts_reply.specs.declared.epoch.Epoch.TheVariants.{Text as AsText}
 use Rattle.ts_reply.specs.Explaining.{IsExplained, IsExplanation, good, bad}
 use Rattle.ts_reply.specs.Replies.{TellsOutcomes, refusal_text}
-use Rattle.ts_reply.specs.Told.{outcome_view}
+use Rattle.ts_reply.specs.OutcomeViews.{outcome_view}
 use Rattle.ts_reply.proofs.explaining.explain.Goals as goal
 
 pub returns-in_ok-body-in-Ok : goal.returns-in_ok-body-in-Ok

@@ -1,8 +1,8 @@
 use Rattle.std.proofs.Common.{rules, ◌≡◌, nat_lt, ◌∷◌, map, sym, subst, string_bytes}
 use Rattle.std.proofs.lemmas.Result.{on_ok_weaker}
-use Rattle.ts_reply.specs.Appending.{AppendsItems}
+use Rattle.ts_reply.specs.AppendedData.{AppendsItems}
 use Rattle.ts_reply.specs.Replies.{AreResults}
-use Rattle.ts_reply.specs.Told.{outcome_view}
+use Rattle.ts_reply.specs.OutcomeViews.{outcome_view}
 use Rattle.ts_reply.proofs.Appended.{if_pushed, none_appended, one_more_appended}
 use Rattle.ts_reply.proofs.reply.+push_results.Goals as goal
 

@@ -1,7 +1,7 @@
 use Rattle.std.proofs.Common.{rules, ◌≡◌, List, [], ◌∷◌, ◌++◌, codes, refl, subst, ◌∙◌, string_bytes}
 use Rattle.std.proofs.lemmas.Result.{on_ok_weaker}
 use Rattle.ts_core.specs.queries.Fills.{FilledGroup}
-use Rattle.ts_reply.specs.Appending.{AppendsData}
+use Rattle.ts_reply.specs.AppendedData.{AppendsData}
 use Rattle.ts_reply.specs.declared.epoch.Epoch.{Epoch}
 use Rattle.ts_reply.specs.Replies.{IsSeriesData}
 use Rattle.ts_reply.proofs.Appended.{if_pushed, IsTold, none_told, one_more_told, all_told}

@@ -3,7 +3,7 @@ use Rattle.std.proofs.lemmas.Result.{on_ok_weaker}
 use Rattle.std.specs.Fmt.{decimal}
 use Rattle.ts_core.specs.queries.Fills.{FilledGroup}
 use Rattle.ts_ql.specs.Selects.{Select}
-use Rattle.ts_reply.specs.Appending.{AppendsData, IsArray}
+use Rattle.ts_reply.specs.AppendedData.{AppendsData, IsArray}
 use Rattle.ts_reply.specs.Outcomes.{Rows}
 use Rattle.ts_reply.specs.Replies.{AreEach, IsSeriesData, IsResultData}
 use Rattle.ts_reply.proofs.Appended.{if_pushed, rows_appended}

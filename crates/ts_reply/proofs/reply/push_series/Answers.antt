@@ -1,6 +1,6 @@
 use Rattle.std.proofs.Common.{rules, ◌≡◌, ◌++◌, codes, true, OnOk, subst, ◌∙◌, string_bytes}
 use Rattle.std.proofs.lemmas.Result.{on_ok_weaker}
-use Rattle.ts_reply.specs.Appending.{AppendsData, AppendsItems}
+use Rattle.ts_reply.specs.AppendedData.{AppendsData, AppendsItems}
 use Rattle.ts_reply.specs.declared.epoch.Epoch.{Epoch}
 use Rattle.ts_reply.specs.Replies.{AreEach, IsSeriesData}
 use Rattle.ts_reply.proofs.Appended.{array_appended}

@@ -1,6 +1,6 @@
 use Rattle.std.proofs.Common.{rules, arith, ◌≡◌, ◌++◌, codes, map, string_bytes}
 use Rattle.std.proofs.lemmas.Grind.{common_steps}
-use Rattle.ts_reply.specs.Told.{outcome_view}
+use Rattle.ts_reply.specs.OutcomeViews.{outcome_view}
 use Rattle.ts_reply.proofs.Appended.{reply_told}
 use Rattle.ts_reply.proofs.reply.reply_json.Goals as goal
 

@@ -1,7 +1,7 @@
 use Rattle.std.proofs.Common.{rules, ◌≡◌, List, [], ◌∷◌, ◌++◌, codes, true, OnOk, subst, sym, string_bytes}
 use Rattle.std.proofs.lemmas.Result.{on_ok_weaker}
 use Rattle.ts_core.specs.queries.Fills.{FilledRow}
-use Rattle.ts_reply.specs.Appending.{AppendsData, AppendsItems, IsArray}
+use Rattle.ts_reply.specs.AppendedData.{AppendsData, AppendsItems, IsArray}
 use Rattle.ts_reply.specs.declared.epoch.Epoch.{Epoch}
 use Rattle.ts_reply.specs.Replies.{AreEach, IsRowData}
 use Rattle.ts_reply.proofs.Appended.{if_pushed, no_items_appended, array_appended}

@@ -2,7 +2,7 @@ use Rattle.std.proofs.Common.{rules, ◌≡◌, true, ◌++◌, map, codes, stri
 use Rattle.std.proofs.lemmas.Result.{on_ok_weaker}
 use Rattle.serde_json.specs.View.{items_of}
 use Rattle.serde_json.specs.Written.{items_text}
-use Rattle.ts_reply.specs.Appending.{AppendsData}
+use Rattle.ts_reply.specs.AppendedData.{AppendsData}
 use Rattle.ts_reply.specs.Replies.{value_data, IsTimeData}
 use Rattle.ts_reply.proofs.RowTexts.{row_appended}
 use Rattle.ts_reply.proofs.rows.push_row.Goals as goal

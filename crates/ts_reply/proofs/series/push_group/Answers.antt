@@ -1,7 +1,7 @@
 use Rattle.std.proofs.Common.{rules, ◌≡◌, ◌++◌, codes, string_bytes}
 use Rattle.std.proofs.lemmas.Result.{on_ok_weaker}
 use Rattle.ts_core.specs.queries.Fills.{FilledGroup}
-use Rattle.ts_reply.specs.Appending.{AppendsData, IsArray}
+use Rattle.ts_reply.specs.AppendedData.{AppendsData, IsArray}
 use Rattle.ts_reply.specs.Replies.{AreEach, IsRowData}
 use Rattle.ts_reply.specs.SeriesTexts.{series_head, grouped_tags_text}
 use Rattle.ts_reply.proofs.Appended.{if_pushed}

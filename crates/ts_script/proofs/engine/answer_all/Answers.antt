@@ -52,12 +52,12 @@ loop-lines-preserved g c =
           (sends c.args.source.now.remaining (to_come c.loop-lines.lines c.loop-lines.source) c.args.sink.now.contents c.loop-lines.sink.contents c.send_before_wait.new.sink.contents c.loop-lines.answers c.send_before_wait.new.answers c.loop-lines.machine i.progress c.in_ok-send_before_wait.ensures.sent.ok)
           (answers_next (to_come c.loop-lines.lines c.loop-lines.source) (to_come c.next.new.self c.next.new.source) c.in_ok-next.next c.next.new.self.line c.line.result.now c.loop-lines.machine c.answer-reply.new.machine (text_of c.answer-reply.result) c.line.ensures.line c.in_default.not-End n.next a)
           s.sent.ok;
-      end = n.asked.end;
-      turns = omega (arith, i.turns, n.asked.turns);
-      allowed = n.asked.allowed ∙ i.allowed;
-      within = n.asked.within;
-      ends = omega (arith, i.ends, n.asked.ends);
-      reader = omega (arith, i.reader, n.asked.failures);
+      end = n.source_calls.end;
+      turns = omega (arith, i.turns, n.source_calls.turns);
+      allowed = n.source_calls.allowed ∙ i.allowed;
+      within = n.source_calls.within;
+      ends = omega (arith, i.ends, n.source_calls.ends);
+      reader = omega (arith, i.reader, n.source_calls.failures);
       writer = omega (arith, i.writer, b.failures, s.sent.failures);
       room = s.room;
     }
@@ -77,10 +77,10 @@ returns-in_err-send g c =
           (answers_next (to_come c.loop-lines.lines c.loop-lines.source) (to_come c.next.new.self c.next.new.source) c.in_ok-next.next c.next.new.self.line c.line.result.now c.loop-lines.machine c.answer-reply.new.machine (text_of c.answer-reply.result) c.line.ensures.line c.in_default.not-End n.next a)
           s.err;
       memory = λ e. absurd (writer_is_not_memory _ refl e);
-      reader = omega (arith, i.reader, n.asked.failures);
+      reader = omega (arith, i.reader, n.source_calls.failures);
       writer = omega (arith, i.writer, b.failures, s.failures);
       end = tt;
-      within = omega (arith, i.turns, i.allowed, n.asked.turns, n.asked.within, n.asked.allowed);
+      within = omega (arith, i.turns, i.allowed, n.source_calls.turns, n.source_calls.within, n.source_calls.allowed);
       limit = λ e. absurd (writer_is_not_turns _ refl e);
     }
 
@@ -90,7 +90,7 @@ returns-in_err-next g c =
     let p = err_from_is_err_and result c.from_residual-in_err-next.ensures.1 in
     let i = c.loop-lines.invariant in
     let b = c.in_ok-send_before_wait.ensures.sent in
-    let n = c.next.ensures.asked in
+    let n = c.next.ensures.source_calls in
     let fault = c.in_err-next.field-0.0 in
     let told : result ≡ Err (fault_of_read fault) = p.1 ∙ ap Err p.2 in
     record {
@@ -103,7 +103,7 @@ returns-in_err-next g c =
       within = omega (arith, i.turns, i.allowed, n.turns, n.within, n.allowed);
       limit = λ t.
           let at = n.limit (turns_told fault result c.next.result told c.in_err-next.was t) in
-          (omega (arith, i.turns, i.allowed, n.turns, n.allowed, at), omega (arith, i.ends, n.ends, ap bit c.in_err-next.ensures.asked.stays));
+          (omega (arith, i.turns, i.allowed, n.turns, n.allowed, at), omega (arith, i.ends, n.ends, ap bit c.in_err-next.ensures.source_calls.stays));
     }
 
 pub returns-in_err-flush : goal.returns-in_err-flush
@@ -117,10 +117,10 @@ returns-in_err-flush g c =
       answered = tt;
       begun = cut_off c.args.source.now.remaining (to_come c.loop-lines.lines c.loop-lines.source) c.args.sink.now.contents c.send_before_wait.new.sink.contents c.flush.new.sink.contents c.send_before_wait.new.answers c.loop-lines.machine (sends c.args.source.now.remaining (to_come c.loop-lines.lines c.loop-lines.source) c.args.sink.now.contents c.loop-lines.sink.contents c.send_before_wait.new.sink.contents c.loop-lines.answers c.send_before_wait.new.answers c.loop-lines.machine i.progress c.in_ok-send_before_wait.ensures.sent.ok) s.err;
       memory = λ e. absurd (writer_is_not_memory _ refl e);
-      reader = omega (arith, i.reader, n.asked.failures);
+      reader = omega (arith, i.reader, n.source_calls.failures);
       writer = omega (arith, i.writer, b.failures, s.failures);
       end = tt;
-      within = omega (arith, i.turns, i.allowed, n.asked.turns, n.asked.within, n.asked.allowed);
+      within = omega (arith, i.turns, i.allowed, n.source_calls.turns, n.source_calls.within, n.source_calls.allowed);
       limit = λ e. absurd (writer_is_not_turns _ refl e);
     }
 
@@ -137,10 +137,10 @@ returns-in-End g c =
           (nothing_left (to_come c.loop-lines.lines c.loop-lines.source) (to_come c.next.new.self c.next.new.source) c.in_ok-next.next c.next.new.self.line c.in-End.is n.next);
       begun = tt;
       memory = λ e. absurd (done_has_no_fault _ _ _ refl e);
-      reader = omega (arith, i.reader, n.asked.failures);
+      reader = omega (arith, i.reader, n.source_calls.failures);
       writer = omega (arith, i.writer, b.failures, s.buffered.failures);
-      end = omega (arith, i.ends, n.asked.ends, ap bit (n.goes_on.over c.in-End.is));
-      within = omega (arith, i.turns, i.allowed, n.asked.turns, n.asked.within, n.asked.allowed);
+      end = omega (arith, i.ends, n.source_calls.ends, ap bit (n.goes_on.over c.in-End.is));
+      within = omega (arith, i.turns, i.allowed, n.source_calls.turns, n.source_calls.within, n.source_calls.allowed);
       limit = λ e. absurd (done_has_no_fault _ _ _ refl e);
     }
 

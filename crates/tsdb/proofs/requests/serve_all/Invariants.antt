@@ -1,5 +1,5 @@
 use Rattle.std.proofs.Common.{◌≤◌}
-use Rattle.tsdb.specs.Requests.{WentBy}
+use Rattle.tsdb.specs.ServedRequests.{WentBy}
 use Rattle.tsdb.proofs.requests.serve_all.Given as goal
 
 abbrev pub invariant-loop-stream : goal.invariant-loop-stream

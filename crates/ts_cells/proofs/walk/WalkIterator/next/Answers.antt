@@ -1,5 +1,5 @@
 use Rattle.std.proofs.Common.{rules, ◌≡◌, ◌∷◌, sym, ◌∙◌, ap}
-use Rattle.ts_cells.specs.Walks.{KeptCell, walk_left}
+use Rattle.ts_cells.specs.Walks.{CellWithPart, walk_left}
 use Rattle.ts_cells.proofs.walk.WalkIterator.next.Goals as goal
 
 pub lend-requires : goal.lend-requires
@@ -11,11 +11,11 @@ invariant_of-self g c = (c.self.invariant.0, (c.in_ok-rows.ensures.inside c.self
 pub returns-clause-steps : goal.returns-clause-steps
 returns-clause-steps g c =
     sym c.self.view_is ∙ c.in_ok-rows.ensures.found c.self.inside.lanes.now
-    ∙ ap (λ (k : KeptCell g.row.P.Denot). k ∷ walk_left c.self.inside.lanes.now c.self.inside.order.now c.in_ok-rows.rows.now c.in_ok-rows.found.left.now) (sym c.lend.ensures)
+    ∙ ap (λ (k : CellWithPart g.row.P.Denot). k ∷ walk_left c.self.inside.lanes.now c.self.inside.order.now c.in_ok-rows.rows.now c.in_ok-rows.found.left.now) (sym c.lend.ensures)
 
 pub returns-clause-goes : goal.returns-clause-goes
 returns-clause-goes g c =
     let steps : c.args.self.now ≡ c.lend.result ∷ walk_left c.self.inside.lanes.now c.self.inside.order.now c.in_ok-rows.rows.now c.in_ok-rows.found.left.now =
     sym c.self.view_is ∙ c.in_ok-rows.ensures.found c.self.inside.lanes.now
-    ∙ ap (λ (k : KeptCell g.row.P.Denot). k ∷ walk_left c.self.inside.lanes.now c.self.inside.order.now c.in_ok-rows.rows.now c.in_ok-rows.found.left.now) (sym c.lend.ensures) in
+    ∙ ap (λ (k : CellWithPart g.row.P.Denot). k ∷ walk_left c.self.inside.lanes.now c.self.inside.order.now c.in_ok-rows.rows.now c.in_ok-rows.found.left.now) (sym c.lend.ensures) in
     search rules

@@ -3,7 +3,7 @@ use Rattle.ts_core.specs.text.Texts.{lent_pairs}
 use Rattle.ts_line.specs.Parts.{tag_texts}
 use Rattle.ts_line.specs.Sorting.{rise}
 use Rattle.ts_line.proofs.SortingLemmas.{in_order, in_order_set}
-use Rattle.ts_line.proofs.NamesTold.{named_as}
+use Rattle.ts_line.proofs.NameFacts.{named_as}
 use Rattle.ts_line.proofs.line.Line.tags_by_key.Goals as goal
 
 pub returns-then-rise-clause-value : goal.returns-then-rise-clause-value

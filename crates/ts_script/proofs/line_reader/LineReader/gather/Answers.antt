@@ -21,8 +21,8 @@ returns-then-take_chunk-clause-goes_on g c =
       less = λ some. omega (arith, t.less, i.less, ap bit c.if-take_chunk.true);
     }
 
-pub returns-then-take_chunk-clause-asked : goal.returns-then-take_chunk-clause-asked
-returns-then-take_chunk-clause-asked g c =
+pub returns-then-take_chunk-clause-source_calls : goal.returns-then-take_chunk-clause-source_calls
+returns-then-take_chunk-clause-source_calls g c =
     let t = c.take_chunk.ensures.taken in
     let i = c.loop-self.invariant in
     let going : c.take_chunk.new.self.ahead.ended ≡ false = t.ended ∙ i.going in
@@ -40,11 +40,11 @@ returns-then-take_chunk-clause-asked g c =
 pub read_on-requires-clause-empty : goal.read_on-requires-clause-empty
 read_on-requires-clause-empty g c = c.take_chunk.ensures.taken.buffered ∙ after-whole c.loop-self.self.ahead.buffered (sym c.take_chunk.ensures.taken.found ∙ c.if-take_chunk.false)
 
-pub returns-in_err-read_on-clause-asked : goal.returns-in_err-read_on-clause-asked
-returns-in_err-read_on-clause-asked g c =
+pub returns-in_err-read_on-clause-source_calls : goal.returns-in_err-read_on-clause-source_calls
+returns-in_err-read_on-clause-source_calls g c =
     let p = err_from_is_err_and c.from_residual.result c.from_residual.ensures.1 in
     let t = c.take_chunk.ensures.taken in
-    let s = c.in_err-read_on.ensures.asked in
+    let s = c.in_err-read_on.ensures.source_calls in
     let i = c.loop-self.invariant in
     rw (p.1, p.2) record {
       end = s.end;
@@ -61,7 +61,7 @@ pub returns-then-not-branch-clause-next : goal.returns-then-not-branch-clause-ne
 returns-then-not-branch-clause-next g c =
     let t = c.take_chunk.ensures.taken in
     let f = c.in_ok-read_on.ensures.read in
-    let s = c.in_ok-read_on.ensures.asked in
+    let s = c.in_ok-read_on.ensures.source_calls in
     let so = c.loop-self.invariant.so_far in
     let m = more_told (to_come c.args.self.now c.args.source.now) c.loop-self.self c.take_chunk.new.self c.read_on.new.self c.loop-self.source c.read_on.new.source so.0 so.1 (sym t.found ∙ c.if-take_chunk.false) c.take_chunk.ensures.line t.buffered f.bytes f.line f.long in
     last_told c.args.self.now c.args.self.now c.read_on.new.self c.args.source.now c.read_on.new.source c.last.result m.0 refl m.1 (s.end (flipped _ _ f.more c.if-not-branch.true)) c.last.ensures
@@ -76,10 +76,10 @@ returns-then-not-branch-clause-goes_on g c =
       less = λ some. omega (arith, t.less, f.less, i.less);
     }
 
-pub returns-then-not-branch-clause-asked : goal.returns-then-not-branch-clause-asked
-returns-then-not-branch-clause-asked g c =
+pub returns-then-not-branch-clause-source_calls : goal.returns-then-not-branch-clause-source_calls
+returns-then-not-branch-clause-source_calls g c =
     let t = c.take_chunk.ensures.taken in
-    let s = c.in_ok-read_on.ensures.asked in
+    let s = c.in_ok-read_on.ensures.source_calls in
     let i = c.loop-self.invariant in
     let going : c.take_chunk.new.self.ahead.ended ≡ false = t.ended ∙ i.going in
     record {
@@ -95,7 +95,7 @@ returns-then-not-branch-clause-asked g c =
 
 pub loop-self-smaller : goal.loop-self-smaller
 loop-self-smaller g c =
-    let s = c.in_ok-read_on.ensures.asked in
+    let s = c.in_ok-read_on.ensures.source_calls in
     let t = c.take_chunk.ensures.taken in
     omega (arith, c.in_ok-read_on.ensures.read.turn, t.turns, s.within, s.allowed, t.limit, c.loop-self.invariant.allowed)
 
@@ -103,7 +103,7 @@ pub loop-self-preserved : goal.loop-self-preserved
 loop-self-preserved g c =
     let t = c.take_chunk.ensures.taken in
     let f = c.in_ok-read_on.ensures.read in
-    let s = c.in_ok-read_on.ensures.asked in
+    let s = c.in_ok-read_on.ensures.source_calls in
     let i = c.loop-self.invariant in
     let going : c.read_on.new.self.ahead.ended ≡ false = flipped_back _ _ f.more c.if-not-branch.false in
     record {

@@ -1,7 +1,7 @@
 use Rattle.std.proofs.Common.{ap, sym, subst, ◌∙◌, List, map, arith}
 use Rattle.std.specs.List.{AllByRecursion}
 use Rattle.ts_store.specs.image.ColumnsListed.{ListsFirst}
-use Rattle.ts_store.specs.image.Saving.{SavedSeries, saved_key}
+use Rattle.ts_store.specs.image.SavedContent.{SavedSeries, saved_key}
 use Rattle.ts_store.proofs.image.ListedColumns.{keys_bare, lists_bare, list_step}
 use Rattle.ts_store.proofs.image.saved_series.list_columns.Goals as goal
 

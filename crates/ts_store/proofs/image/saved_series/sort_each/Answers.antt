@@ -1,7 +1,7 @@
 use Rattle.std.proofs.Common.{◌≡◌, ◌<◌, ◌∙◌, List, length, refl, ap, sym, subst, arith, IsPermutation}
 use Rattle.ts_core.specs.facts.Facts.{Column}
 use Rattle.ts_store.specs.image.ColumnsListed.{ListsFirst}
-use Rattle.ts_store.specs.image.Saving.{SavedSeries, saved_key, SavesColumns}
+use Rattle.ts_store.specs.image.SavedContent.{SavedSeries, saved_key, SavesColumns}
 use Rattle.ts_store.proofs.image.ListedColumns.{keys_set, series_sorted, sorted_more, left_more, left_next}
 use Rattle.ts_store.proofs.image.saved_series.sort_each.Goals as goal
 

@@ -1,7 +1,7 @@
 use Rattle.std.proofs.Common.{◌≡◌, length, map, take, drop}
 use Rattle.std.specs.List.{AllByRecursion}
 use Rattle.ts_store.specs.image.ColumnsListed.{ListsFirst}
-use Rattle.ts_store.specs.image.Saving.{saved_key, SavesColumns}
+use Rattle.ts_store.specs.image.SavedContent.{saved_key, SavesColumns}
 use Rattle.ts_store.proofs.image.saved_series.sort_each.Given as goal
 
 abbrev pub invariant-loop-series : goal.invariant-loop-series

@@ -4,7 +4,7 @@ use Rattle.std.specs.FinMap as finmap
 use Rattle.ts_raw.specs.Columns.{PointMap, ColumnState}
 use Rattle.ts_raw.specs.PlainColumns.{IsRising}
 use Rattle.ts_raw.proofs.ColumnLaws.{points-rising}
-use Rattle.ts_store.specs.store.ColumnsKept.{no_column}
+use Rattle.ts_store.specs.store.ColumnStates.{no_column}
 use Rattle.ts_store.proofs.write.ColumnsAside.{points_at}
 use Rattle.ts_store.proofs.read.column_reads.all_points.Goals as goal
 

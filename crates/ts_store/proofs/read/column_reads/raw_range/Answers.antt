@@ -3,7 +3,7 @@ use Rattle.std.proofs.lemmas.List.{get_or_default}
 use Rattle.ts_raw.specs.Columns.{ColumnState, points_within}
 use Rattle.ts_raw.specs.PlainColumns.{IsRising}
 use Rattle.ts_raw.proofs.ColumnLaws.{within-rising}
-use Rattle.ts_store.specs.store.ColumnsKept.{no_column}
+use Rattle.ts_store.specs.store.ColumnStates.{no_column}
 use Rattle.ts_store.proofs.write.ColumnsAside.{points_at}
 use Rattle.ts_store.proofs.read.column_reads.raw_range.Goals as goal
 

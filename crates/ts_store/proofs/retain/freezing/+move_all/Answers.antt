@@ -3,7 +3,7 @@ use Rattle.std.specs.List.{AllByRecursion}
 use Rattle.std.specs.FinMap as finmap
 use Rattle.ts_core.specs.settings.Settings.{Rule}
 use Rattle.ts_core.specs.moves.StoreMoves.{all_moved, points_below}
-use Rattle.ts_store.specs.store.ColumnsKept.{no_column}
+use Rattle.ts_store.specs.store.ColumnStates.{no_column}
 use Rattle.ts_store.specs.rollup.Rollups.{RollupState, cells_of}
 use Rattle.ts_store.specs.retain.RollupSteps.{facts_left}
 use Rattle.ts_store.proofs.retain.RollupMoves.{none_frozen, all_moved-none, all_moved-more}

@@ -5,7 +5,7 @@ use Rattle.std.proofs.lemmas.List.{get_or_default}
 use Rattle.ts_core.specs.moves.StoreMoves.{frozen_points, points_below}
 use Rattle.ts_core.proofs.lists.ListSteps.{length-filter}
 use Rattle.ts_raw.specs.Columns.{ColumnState}
-use Rattle.ts_store.specs.store.ColumnsKept.{no_column}
+use Rattle.ts_store.specs.store.ColumnStates.{no_column}
 use Rattle.ts_store.specs.write.LivePuts.{IsOver}
 use Rattle.ts_store.specs.rollup.Rollups.{RollupState, lane_at}
 use Rattle.ts_store.specs.retain.RollupSteps.{FreezesFit, facts_left}

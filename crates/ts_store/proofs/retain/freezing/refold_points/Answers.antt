@@ -7,7 +7,7 @@ use Rattle.ts_core.specs.store.Marks.{index_of}
 use Rattle.ts_core.specs.store.StoreData.{CellMap}
 use Rattle.ts_core.specs.moves.StoreMoves.{points_below, refolded, refolded_points}
 use Rattle.ts_cells.specs.Grids.{cell_at}
-use Rattle.ts_store.specs.store.ColumnsKept.{no_column}
+use Rattle.ts_store.specs.store.ColumnStates.{no_column}
 use Rattle.ts_store.specs.rollup.Rollups.{RollupState, lane_at, lane_under, corrected_in}
 use Rattle.ts_store.specs.retain.RollupSteps.{facts_left}
 use Rattle.ts_store.proofs.retain.PointsFrozen.{lanes_stay}

@@ -3,7 +3,7 @@ use Rattle.std.specs.FinMap as finmap
 use Rattle.ts_core.specs.facts.Facts.{Column}
 use Rattle.ts_core.specs.lists.Numbered.{IsAt}
 use Rattle.ts_core.specs.moves.StoreMoves.{points_below}
-use Rattle.ts_store.specs.store.ColumnsKept.{no_column}
+use Rattle.ts_store.specs.store.ColumnStates.{no_column}
 use Rattle.ts_store.specs.write.LivePuts.{IsOver}
 use Rattle.ts_store.specs.rollup.Rollups.{lane_at, with_frozen}
 use Rattle.ts_store.specs.retain.RollupSteps.{facts_left}

@@ -6,7 +6,7 @@ use Rattle.ts_core.specs.settings.Settings.{Rule}
 use Rattle.ts_core.specs.store.StoreStates.{ColumnPoints, facts_of}
 use Rattle.ts_raw.specs.Columns.{ColumnState}
 use Rattle.ts_store.specs.image.BuildingParts.{AreFilledBut}
-use Rattle.ts_store.specs.store.ColumnsKept.{no_column, with_points, point_maps}
+use Rattle.ts_store.specs.store.ColumnStates.{no_column, with_points, point_maps}
 use Rattle.ts_store.specs.rollup.Rollups.{AreRollups, cells_of}
 use Rattle.ts_store.proofs.image.ColumnsInTurn.{column-there, turn-dropped, some-points}
 use Rattle.ts_store.proofs.read.ColumnsReads.{with_points-length, facts-length}

@@ -2,7 +2,7 @@ use Rattle.std.proofs.Common.{◌≡◌, List, length, drop}
 use Rattle.ts_core.specs.facts.Facts.{Column}
 use Rattle.ts_core.specs.store.StoreStates.{facts_of}
 use Rattle.ts_store.specs.image.BuildingParts.{AreIdle, KeepFrozen, AreFilledBut}
-use Rattle.ts_store.specs.store.ColumnsKept.{with_points, point_maps}
+use Rattle.ts_store.specs.store.ColumnStates.{with_points, point_maps}
 use Rattle.ts_store.specs.rollup.Rollups.{AreRollups, cells_of}
 use Rattle.ts_store.specs.retain.RollupSteps.{with_frozen_all}
 use Rattle.ts_store.proofs.rollup.cells_filled.add_all_points.Given as goal

@@ -6,7 +6,7 @@ use Rattle.ts_core.specs.settings.Settings.{Rule}
 use Rattle.ts_core.specs.store.StoreStates.{ColumnPoints, facts_at, facts_of}
 use Rattle.ts_raw.specs.Columns.{ColumnState}
 use Rattle.ts_store.specs.image.BuildingParts.{MakesCells}
-use Rattle.ts_store.specs.store.ColumnsKept.{no_column, with_points, point_maps}
+use Rattle.ts_store.specs.store.ColumnStates.{no_column, with_points, point_maps}
 use Rattle.ts_store.specs.write.LinesPut.{OfEachRule}
 use Rattle.ts_store.specs.rollup.Rollups.{AreRollups, cells_of}
 use Rattle.ts_store.proofs.rollup.CellsCreated.{all-made-none, all-made-then}

@@ -6,8 +6,8 @@ use Rattle.ts_core.specs.settings.SettingsFaults.{added_fault}
 use Rattle.ts_core.specs.store.StoreData.{StoreData}
 use Rattle.ts_core.specs.facts.Times.{IsTime}
 use Rattle.ts_core.proofs.lists.Results.{on_any_err}
-use Rattle.ts_store.specs.store.ColumnsKept.{Held}
-use Rattle.ts_store.specs.retain.OpenRuns.{kept_data}
+use Rattle.ts_store.specs.store.ColumnStates.{StoreContent}
+use Rattle.ts_store.specs.retain.OpenRuns.{data_of_parts}
 use Rattle.ts_store.specs.rules.RuleRollups.{IsRollupOf}
 use Rattle.ts_store.specs.rules.RulesChanged.{RuleComes}
 use Rattle.ts_store.proofs.rules.RulesAdded.{added_wide, rule_is_added}
@@ -21,7 +21,7 @@ rollup_of-requires-clause-interval g c =
 pub returns-in_err-add_rollup-clause-err : goal.returns-in_err-add_rollup-clause-err
 returns-in_err-add_rollup-clause-err g c =
     let before = c.self.inside in
-    on_any_err c.from_residual-in_err-add_rollup.result (ap (λ (h : Held). kept_data before.settings before.marks before.accepted h before.run) c.in_err-add_rollup.ensures.err ∙ c.self.view_is)
+    on_any_err c.from_residual-in_err-add_rollup.result (ap (λ (h : StoreContent). data_of_parts before.settings before.marks before.accepted h before.run) c.in_err-add_rollup.ensures.err ∙ c.self.view_is)
 
 pub invariant_of-self-2 : goal.invariant_of-self-2
 invariant_of-self-2 g c =
@@ -51,5 +51,5 @@ returns-clause-ok g c =
     c.in_ok-push.ensures.ok
     ∙ ap (λ (z : ℤ). record { raw = c.in_ok-marks.marks.raw; lows = c.in_ok-marks.marks.lows ++ z ∷ [] }) same
     ∙ ap (λ (m : Marks). record { raw = m.raw; lows = m.lows ++ c.args.low ∷ [] }) c.in_ok-marks.ensures in
-    subst (λ (k : StoreData). RuleComes k (kept_data c.add_rule.new.self c.push.new.self before.accepted c.add_rollup.new.self before.run) r c.args.low) c.self.view_is
+    subst (λ (k : StoreData). RuleComes k (data_of_parts c.add_rule.new.self c.push.new.self before.accepted c.add_rollup.new.self before.run) r c.args.low) c.self.view_is
     (rule_is_added before.settings before.marks before.accepted before.facts before.run r c.args.low c.in_ok-rollup.rollup c.add_rule.new.self c.push.new.self c.add_rollup.new.self c.self.invariant well mark low (subst (λ (z : ℤ). IsRollupOf before.facts r z c.in_ok-rollup.rollup) same c.in_ok-rollup.ensures) settings marks c.in_ok-add_rollup.ensures.ok).1

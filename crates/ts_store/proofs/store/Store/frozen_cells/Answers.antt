@@ -3,7 +3,7 @@ use Rattle.ts_core.specs.settings.Settings.{Rule}
 use Rattle.ts_core.specs.store.StoreStates.{column_of}
 use Rattle.ts_core.specs.store.StoreData.{StoreData}
 use Rattle.std.specs.FinMap as finmap
-use Rattle.ts_store.specs.image.Saving.{frozen_from}
+use Rattle.ts_store.specs.image.SavedContent.{frozen_from}
 use Rattle.ts_store.proofs.image.FrozenShown.{store_near, cells_at_rule}
 use Rattle.ts_store.proofs.store.Store.frozen_cells.Goals as goal
 

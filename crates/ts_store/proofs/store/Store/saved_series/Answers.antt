@@ -1,7 +1,7 @@
 use Rattle.std.proofs.Common.{map, subst, IfOk}
 use Rattle.ts_core.specs.store.StoreStates.{column_of}
 use Rattle.ts_core.specs.store.StoreData.{StoreData}
-use Rattle.ts_store.specs.image.Saving.{SavesSeries}
+use Rattle.ts_store.specs.image.SavedContent.{SavesSeries}
 use Rattle.ts_store.proofs.store.Store.saved_series.Goals as goal
 
 pub returns : goal.returns

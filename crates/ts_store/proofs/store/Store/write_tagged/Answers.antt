@@ -9,7 +9,7 @@ use Rattle.ts_line.specs.Names.{AreKeys}
 use Rattle.ts_line.specs.Parts.{LinePart, Parts, fact_of, field_text, line_facts}
 use Rattle.ts_store.specs.write.LinesInColumns.{PutsLine, GrowsForLine}
 use Rattle.ts_store.specs.write.LinesPut.{Accepts, Leaves}
-use Rattle.ts_store.specs.retain.OpenRuns.{IsKept, kept_data}
+use Rattle.ts_store.specs.retain.OpenRuns.{IsSoundStore, data_of_parts}
 use Rattle.ts_store.specs.write.Refusals.{write_fault}
 use Rattle.ts_store.specs.write.LivePuts.{StayLive}
 use Rattle.ts_store.specs.rollup.Rollups.{AreRollups, cells_of}
@@ -76,7 +76,7 @@ returns-in_err-put_line g c =
       taken = λ none.
           inr (
             p.1 ∙ ap Err p.2,
-            subst (λ (k : StoreData). Leaves k (kept_data before.settings before.marks before.accepted c.put_line.new.self before.run) line) c.self.view_is
+            subst (λ (k : StoreData). Leaves k (data_of_parts before.settings before.marks before.accepted c.put_line.new.self before.run) line) c.self.view_is
                 (left_by before.settings before.marks before.accepted before.facts c.put_line.new.self before.run line c.self.invariant grows),
           );
     }
@@ -100,7 +100,7 @@ invariant_of-self-2 g c =
     let welcome = not_refused before.marks.raw before.facts.series before.accepted line none in
     let many : length c.fields.result.now ≡ length (line_facts line) = ap (λ (l : List (LinePart × ℤ)). length l) c.fields.ensures.value ∙ sym (length-map line.fields (fact_of line)) in
     let put : PutsLine before.settings.rules before.marks.lows before.facts c.put_line.new.self line = subst (λ (ls : List ℤ). PutsLine before.settings.rules ls before.facts c.put_line.new.self line) c.lows.ensures (subst (λ (rs : List Rule). PutsLine rs c.lows.result.now before.facts c.put_line.new.self line) c.rules.ensures.value c.in_ok-put_line.ensures.ok) in
-    subst (λ (n : ℕ). IsKept (kept_data before.settings before.marks (before.accepted + n) c.put_line.new.self before.run) c.put_line.new.self before.run) (sym many)
+    subst (λ (n : ℕ). IsSoundStore (data_of_parts before.settings before.marks (before.accepted + n) c.put_line.new.self before.run) c.put_line.new.self before.run) (sym many)
     (kept_accepted before.settings before.marks before.accepted before.facts c.put_line.new.self before.run line c.self.invariant welcome.registers c.requires.named (subst (λ (l : List (LinePart × ℤ)). AreKeys (map field_text l)) c.fields.ensures.value c.fields.ensures.named) put welcome.few)
 
 pub returns : goal.returns
@@ -114,8 +114,8 @@ returns g c =
     let taken = taken_from before.marks.raw line welcome.late put.taken in
     record {
       ok =
-          subst (λ (n : ℕ). Accepts c.args.self.now (kept_data before.settings before.marks (before.accepted + n) c.put_line.new.self before.run) line) (sym many)
-          (subst (λ (k : StoreData). Accepts k (kept_data before.settings before.marks (before.accepted + length (line_facts line)) c.put_line.new.self before.run) line) c.self.view_is
+          subst (λ (n : ℕ). Accepts c.args.self.now (data_of_parts before.settings before.marks (before.accepted + n) c.put_line.new.self before.run) line) (sym many)
+          (subst (λ (k : StoreData). Accepts k (data_of_parts before.settings before.marks (before.accepted + length (line_facts line)) c.put_line.new.self before.run) line) c.self.view_is
           (accepted_by before.settings before.marks before.accepted before.facts c.put_line.new.self before.run line c.self.invariant put taken welcome.few));
       refused = search rules;
       taken = search rules;

@@ -1,10 +1,10 @@
 use Rattle.std.proofs.Common.{◌≡◌, ◌<◌, ◌∙◌, ℕ, List, ap, subst, length, get_or, refl, arith}
 use Rattle.ts_core.specs.settings.Settings.{Rule}
 use Rattle.ts_core.specs.store.StoreData.{StoreData, rules_of, state_of}
-use Rattle.ts_core.specs.store.Views.{seen_of}
-use Rattle.ts_store.specs.retain.OpenRuns.{kept_data}
+use Rattle.ts_core.specs.store.Views.{view_state_of}
+use Rattle.ts_store.specs.retain.OpenRuns.{data_of_parts}
 use Rattle.ts_store.specs.store.SizedStores.{IsSized}
-use Rattle.ts_store.specs.read.Seats.{cells_at}
+use Rattle.ts_store.specs.read.ViewResults.{view_cells_at}
 use Rattle.ts_store.proofs.read.ShownCells.{rules-length, store_ruled, store_shows}
 use Rattle.ts_store.proofs.store.StoreView.cell_walk.Goals as goal
 
@@ -27,7 +27,7 @@ cell_walk-requires g c =
     let inside = c.self.inside in
     let there : c.args.rule < length inside.settings.rules =
     inside_settings c.args.self.now c.args.rule (length inside.settings.rules) (subst IsSized c.self.view_is c.self.invariant.sized) c.requires (ap (λ (k : StoreData). length k.settings.rules) c.self.view_is) in
-    store_ruled (kept_data inside.settings inside.marks inside.accepted inside.facts inside.run) inside.facts inside.run c.args.rule c.index-rules-rule.result c.self.invariant refl refl there
+    store_ruled (data_of_parts inside.settings inside.marks inside.accepted inside.facts inside.run) inside.facts inside.run c.args.rule c.index-rules-rule.result c.self.invariant refl refl there
     (c.index-rules-rule.is ∙ ap (λ (rs : List Rule). get_or rs c.args.rule c.index-rules-rule.result) c.rules.ensures.value)
 
 pub returns : goal.returns
@@ -38,4 +38,4 @@ returns g c =
     c.cell_walk.ensures
     ∙ store_shows inside.settings inside.marks inside.accepted inside.facts inside.run c.args.rule c.index-rules-rule.result c.args.from.now c.args.to.now c.self.invariant there
     (c.index-rules-rule.is ∙ ap (λ (rs : List Rule). get_or rs c.args.rule c.index-rules-rule.result) c.rules.ensures.value)
-    ∙ ap (λ (k : StoreData). cells_at (seen_of (state_of k)).rules c.args.rule c.args.from.now c.args.to.now) c.self.view_is
+    ∙ ap (λ (k : StoreData). view_cells_at (view_state_of (state_of k)).rules c.args.rule c.args.from.now c.args.to.now) c.self.view_is

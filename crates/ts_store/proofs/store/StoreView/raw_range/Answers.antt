@@ -3,7 +3,7 @@ use Rattle.std.proofs.lemmas.Option.{get_or_from_slice_get}
 use Rattle.ts_core.specs.store.StoreStates.{ColumnPoints}
 use Rattle.ts_core.specs.store.StoreData.{StoreData}
 use Rattle.ts_store.specs.read.PointsRead.{points_between, AreLatestOf, AreRawOf}
-use Rattle.ts_store.specs.read.Seats.{no_points, points_at}
+use Rattle.ts_store.specs.read.ViewResults.{no_points, points_at}
 use Rattle.ts_store.proofs.read.RawReads.{raw_between}
 use Rattle.ts_store.proofs.store.Stands.{range_stands}
 use Rattle.ts_store.proofs.store.StoreView.raw_range.Goals as goal

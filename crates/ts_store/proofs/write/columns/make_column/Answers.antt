@@ -4,7 +4,7 @@ use Rattle.std.proofs.lemmas.Option.{get_or_from_slice_get}
 use Rattle.ts_core.specs.facts.Facts.{Column}
 use Rattle.ts_raw.specs.Columns.{ColumnState}
 use Rattle.ts_raw.specs.Indexed.{Indexed, IsSoundIndex, no_series, column_in}
-use Rattle.ts_store.specs.store.ColumnsKept.{no_column, IsColumnFor}
+use Rattle.ts_store.specs.store.ColumnStates.{no_column, IsColumnFor}
 use Rattle.ts_store.specs.rollup.Rollups.{RollupState, AreRollups, HaveNext, with_next, cells_of}
 use Rattle.ts_store.proofs.rollup.RollupsGrow.{rollups-length, rollups_kept, cells_kept, rollups_made, cells_made, ready_to_make, made_behind}
 use Rattle.ts_store.proofs.write.columns.make_column.Goals as goal

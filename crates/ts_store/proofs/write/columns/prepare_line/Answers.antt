@@ -10,7 +10,7 @@ use Rattle.ts_core.specs.lists.Members.{AllDistinct}
 use Rattle.ts_line.specs.Parts.{LinePart, Parts, field_text, fact_of, series_of, line_facts}
 use Rattle.ts_raw.specs.Columns.{ColumnState}
 use Rattle.ts_raw.specs.Indexed.{Indexed, column_in}
-use Rattle.ts_store.specs.store.ColumnsKept.{no_column, point_maps, columns_in, with_points, with_point_aside, AreAside, MayGrow, IsHeld}
+use Rattle.ts_store.specs.store.ColumnStates.{no_column, point_maps, columns_in, with_points, with_point_aside, AreAside, MayGrow, IsSoundContent}
 use Rattle.ts_store.specs.write.LinesInColumns.{SetsAside}
 use Rattle.ts_store.specs.write.Registered.{MakesAll, MakesFirst}
 use Rattle.ts_store.proofs.write.ColumnsAside.{grown_aside, made_next, first_made, next_aside, facts_next, column_is}
@@ -19,7 +19,7 @@ use Rattle.ts_store.proofs.write.columns.prepare_line.Goals as goal
 
 -- what a refusal leaves
 refused : {E : Type 0} (p : Parts) (before : Indexed) (states : List ColumnState) (after : Indexed) (states' : List ColumnState) (ns : List ℕ) (r : Result (Unit {0}) E) (e : E) → r ≡ Err e
-    → MakesFirst (columns_in before states) (columns_in after states') (line_facts p) → IsHeld after states' → after.series ≡ before.series → SetsAside p before states after states' ns r
+    → MakesFirst (columns_in before states) (columns_in after states') (line_facts p) → IsSoundContent after states' → after.series ≡ before.series → SetsAside p before states after states' ns r
 refused {E} p before states after states' ns r e is made held series =
     subst (λ (q : Result (Unit {0}) E). SetsAside p before states after states' ns q) (sym is) (record { aside = tt; taken = tt; all = tt; made = made; held = held; series = series })
 

@@ -1,6 +1,6 @@
 use Rattle.std.proofs.Common.{rules, ◌≡◌, ◌∙◌, suc, length, ap, sym, subst, arith, SFits, w64, to_z, of_z, to_z-of_z}
 use Rattle.std.specs.List.{AllByRecursion}
-use Rattle.ts_store.specs.store.ColumnsKept.{with_points, point_maps}
+use Rattle.ts_store.specs.store.ColumnStates.{with_points, point_maps}
 use Rattle.ts_store.specs.rollup.Rollups.{RollupState, cells_of}
 use Rattle.ts_store.proofs.write.PointsPut.{next_ready, line_puts, none_puts, none_committed, lanes_then, wide_still}
 use Rattle.ts_store.proofs.retain.RollupExpiry.{same_lanes}

@@ -2,7 +2,7 @@ use Rattle.std.proofs.Common.{rules, ◌≡◌, ◌∙◌, ◌≤ℤ◌, suc, po
 use Rattle.std.specs.List.{AllByRecursion}
 use Rattle.ts_core.specs.settings.Settings.{Rule}
 use Rattle.ts_core.specs.store.StoreStates.{facts_of}
-use Rattle.ts_store.specs.store.ColumnsKept.{with_points, point_maps}
+use Rattle.ts_store.specs.store.ColumnStates.{with_points, point_maps}
 use Rattle.ts_store.specs.rollup.Rollups.{RollupState, cells_of}
 use Rattle.ts_store.proofs.write.PointsPut.{none_put, nowhere_put, all_put-more, lanes_more}
 use Rattle.ts_store.proofs.retain.RollupExpiry.{same_lanes}

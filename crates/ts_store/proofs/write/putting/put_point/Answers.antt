@@ -1,7 +1,7 @@
 use Rattle.std.proofs.Common.{rules, ◌≡◌, ◌∙◌, None, sym, subst, length, set, SFits, w64, to_z, of_z, to_z-of_z}
 use Rattle.std.specs.List.{AllByRecursion}
 use Rattle.ts_core.specs.store.StoreStates.{facts_of}
-use Rattle.ts_store.specs.store.ColumnsKept.{with_points, point_maps}
+use Rattle.ts_store.specs.store.ColumnStates.{with_points, point_maps}
 use Rattle.ts_store.specs.rollup.Rollups.{RollupState, lane_at}
 use Rattle.ts_store.proofs.write.PointsPut.{ready_aside, now_committed, unrolled_put, inside_each}
 use Rattle.ts_store.proofs.retain.RollupExpiry.{same_lanes}

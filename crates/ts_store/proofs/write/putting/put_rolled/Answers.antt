@@ -4,7 +4,7 @@ use Rattle.std.proofs.lemmas.List.{length-set}
 use Rattle.ts_core.specs.store.StoreStates.{facts_of}
 use Rattle.ts_core.specs.moves.StoreMoves.{put_cells}
 use Rattle.ts_raw.specs.Columns.{ColumnState}
-use Rattle.ts_store.specs.store.ColumnsKept.{no_column, committed, with_points, point_maps}
+use Rattle.ts_store.specs.store.ColumnStates.{no_column, committed, with_points, point_maps}
 use Rattle.ts_store.specs.write.LivePuts.{IsPut}
 use Rattle.ts_store.specs.read.PointsRead.{number_of_points}
 use Rattle.ts_store.specs.rollup.Rollups.{RollupState, cells_of}

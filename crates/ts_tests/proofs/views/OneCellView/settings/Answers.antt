@@ -1,5 +1,5 @@
 use Rattle.std.proofs.Common.{◌≡◌, ◌∙◌, List, [], ◌∷◌, ap, refl, map}
-use Rattle.ts_store.specs.read.Seats.{SeenCell}
+use Rattle.ts_store.specs.read.ViewResults.{SeenCell}
 use Rattle.ts_tests.proofs.views.OneCellView.settings.Goals as goal
 use Rattle.ts_core.specs.store.StoreStates.{RuleCells, rule_of}
 

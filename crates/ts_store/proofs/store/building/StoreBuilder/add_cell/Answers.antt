@@ -3,7 +3,7 @@ use Rattle.std.specs.FinMap as finmap
 use Rattle.ts_core.specs.store.Cells.{Cell}
 use Rattle.ts_core.specs.store.StoreStates.{column_of}
 use Rattle.ts_cells.specs.Grids.{cell_at, lane_named}
-use Rattle.ts_store.specs.image.Building.{Built, cells_at, with_cell}
+use Rattle.ts_store.specs.image.Building.{Built, cell_map_at, with_cell}
 use Rattle.ts_store.specs.rollup.Rollups.{cells_of}
 use Rattle.ts_store.proofs.image.BuildersKept.{order_cell-either, built_cell, built_same, with_one}
 use Rattle.ts_store.proofs.image.PartsBuilt.{ok_then, err_then}
@@ -19,7 +19,7 @@ add_cell-requires-clause-rule g c =
 
 pub add_cell-requires-clause-absent : goal.add_cell-requires-clause-absent
 add_cell-requires-clause-absent g c =
-    subst (λ (b : Built). finmap.get (cells_at b.cells c.args.rule) (cell_at c.args.index.now (lane_named c.args.field.now c.args.group.now)) ≡ None) (sym c.self.view_is) c.requires.absent
+    subst (λ (b : Built). finmap.get (cell_map_at b.cells c.args.rule) (cell_at c.args.index.now (lane_named c.args.field.now c.args.group.now)) ≡ None) (sym c.self.view_is) c.requires.absent
 
 pub invariant_of-self : goal.invariant_of-self
 invariant_of-self g c =

@@ -2,7 +2,7 @@ use Rattle.std.proofs.Common.{◌≡◌, ◌<◌, ◌∙◌, ◌++◌, [], ◌�
 use Rattle.ts_core.specs.lists.Members.{Among}
 use Rattle.ts_store.specs.image.Building.{Built, with_series}
 use Rattle.ts_store.specs.image.BuildingParts.{built_of}
-use Rattle.ts_store.specs.store.ColumnsKept.{Held}
+use Rattle.ts_store.specs.store.ColumnStates.{StoreContent}
 use Rattle.ts_store.proofs.image.BuildersKept.{order_series-either, built_series}
 use Rattle.ts_store.proofs.image.PartsBuilt.{ok_then, err_then}
 use Rattle.ts_store.proofs.store.building.StoreBuilder.add_series.Goals as goal
@@ -28,4 +28,4 @@ returns-clause-ok g c =
 pub returns-clause-err : goal.returns-clause-err
 returns-clause-err g c =
     let i = c.self.inside in
-    err_then c.add_series.result c.add_series.ensures.err (λ (e : c.add_series.new.self ≡ i.facts). ap (λ (h : Held). built_of i.settings i.marks i.running i.accepted h i.passed.items) e ∙ c.self.view_is)
+    err_then c.add_series.result c.add_series.ensures.err (λ (e : c.add_series.new.self ≡ i.facts). ap (λ (h : StoreContent). built_of i.settings i.marks i.running i.accepted h i.passed.items) e ∙ c.self.view_is)

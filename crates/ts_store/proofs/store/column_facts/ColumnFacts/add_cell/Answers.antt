@@ -5,8 +5,8 @@ use Rattle.ts_core.specs.store.Cells.{Cell}
 use Rattle.ts_core.specs.store.StoreStates.{CellParts, column_of}
 use Rattle.ts_core.specs.store.StoreData.{CellMap}
 use Rattle.ts_cells.specs.Grids.{cell_at, lane_named}
-use Rattle.ts_store.specs.image.Building.{cells_at}
-use Rattle.ts_store.specs.store.ColumnsKept.{Held}
+use Rattle.ts_store.specs.image.Building.{cell_map_at}
+use Rattle.ts_store.specs.store.ColumnStates.{StoreContent}
 use Rattle.ts_store.specs.rollup.Rollups.{RollupState, AreRollups, cells_of}
 use Rattle.ts_store.proofs.image.PartsBuilt.{ok_then, err_then, cells-set, cells-at, cells-stay, rollups-set}
 use Rattle.ts_store.proofs.store.column_facts.ColumnFacts.add_cell.Goals as goal
@@ -15,14 +15,14 @@ pub add_cell-requires : goal.add_cell-requires
 add_cell-requires g c =
     let q : Cell = cell_at c.args.index.now (lane_named c.args.field.now c.args.group.now) in
     let us : List RollupState = c.self.inside.rollups.items in
-    let shown : us ≡ c.args.self.now.rollups = ap (λ (h : Held). h.rollups) c.self.view_is in
+    let shown : us ≡ c.args.self.now.rollups = ap (λ (h : StoreContent). h.rollups) c.self.view_is in
     let within : c.args.rule < length us = let e = ap (λ (xs : List RollupState). length xs) shown in omega (arith, e, c.requires.rule) in
-    record { absent = ap (λ (m : CellMap). finmap.get m q) (sym (cells-at us c.args.rule c.index_mut.result.now within c.index_mut.ensures.value) ∙ ap (λ (xs : List RollupState). cells_at (cells_of xs) c.args.rule) shown) ∙ c.requires.absent }
+    record { absent = ap (λ (m : CellMap). finmap.get m q) (sym (cells-at us c.args.rule c.index_mut.result.now within c.index_mut.ensures.value) ∙ ap (λ (xs : List RollupState). cell_map_at (cells_of xs) c.args.rule) shown) ∙ c.requires.absent }
 
 pub returns-clause-rollups : goal.returns-clause-rollups
 returns-clause-rollups g c = λ rules h.
     let us : List RollupState = c.self.inside.rollups.items in
-    let shown : us ≡ c.args.self.now.rollups = ap (λ (h : Held). h.rollups) c.self.view_is in
+    let shown : us ≡ c.args.self.now.rollups = ap (λ (h : StoreContent). h.rollups) c.self.view_is in
     rollups-set rules (map column_of c.args.self.now.columns) us c.args.rule c.index_mut.result.now c.add_cell.new.self c.index_mut.ensures.value c.add_cell.ensures.made c.add_cell.ensures.lanes
     (subst (AreRollups rules (map column_of c.args.self.now.columns)) (sym shown) h)
 
@@ -32,17 +32,17 @@ returns-clause-ok g c =
     let x : CellParts = record { frozen = c.args.frozen; live = empty_aggregate } in
     let us : List RollupState = c.self.inside.rollups.items in
     let n = c.args.rule in
-    let shown : us ≡ c.args.self.now.rollups = ap (λ (h : Held). h.rollups) c.self.view_is in
+    let shown : us ≡ c.args.self.now.rollups = ap (λ (h : StoreContent). h.rollups) c.self.view_is in
     let within : n < length us = let e = ap (λ (xs : List RollupState). length xs) shown in omega (arith, e, c.requires.rule) in
     ok_then c.add_cell.result c.add_cell.ensures.ok
     (λ (made : c.add_cell.new.self.grid.cells ≡ finmap.insert c.index_mut.result.now.grid.cells q x).
     cells-set us n c.add_cell.new.self
     ∙ ap (λ (m : CellMap). set (cells_of us) n m) (made ∙ ap (λ (m : CellMap). finmap.insert m q x) (sym (cells-at us n c.index_mut.result.now within c.index_mut.ensures.value)))
-    ∙ ap (λ (xs : List RollupState). set (cells_of xs) n (finmap.insert (cells_at (cells_of xs) n) q x)) shown)
+    ∙ ap (λ (xs : List RollupState). set (cells_of xs) n (finmap.insert (cell_map_at (cells_of xs) n) q x)) shown)
 
 pub returns-clause-err : goal.returns-clause-err
 returns-clause-err g c =
     let us : List RollupState = c.self.inside.rollups.items in
-    let shown : us ≡ c.args.self.now.rollups = ap (λ (h : Held). h.rollups) c.self.view_is in
+    let shown : us ≡ c.args.self.now.rollups = ap (λ (h : StoreContent). h.rollups) c.self.view_is in
     err_then c.add_cell.result c.add_cell.ensures.err
     (λ (same : c.add_cell.new.self.grid.cells ≡ c.index_mut.result.now.grid.cells). cells-stay us c.args.rule c.index_mut.result.now c.add_cell.new.self c.index_mut.ensures.value same ∙ ap cells_of shown)

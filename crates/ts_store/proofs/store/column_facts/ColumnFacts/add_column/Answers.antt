@@ -6,7 +6,7 @@ use Rattle.ts_core.specs.store.StoreStates.{ColumnPoints, column_of}
 use Rattle.ts_core.proofs.lists.Results.{on_any_err}
 use Rattle.ts_raw.specs.Columns.{ColumnState}
 use Rattle.ts_raw.specs.Indexed.{Indexed}
-use Rattle.ts_store.specs.store.ColumnsKept.{Held, IsHeld, columns_in}
+use Rattle.ts_store.specs.store.ColumnStates.{StoreContent, IsSoundContent, columns_in}
 use Rattle.ts_store.specs.rollup.Rollups.{RollupState, AreRollups, cells_of}
 use Rattle.ts_store.proofs.store.ColumnsLemmas.{names_held}
 use Rattle.ts_store.proofs.image.PartsBuilt.{column_held, column_within, column_added, column_refused, columns_refused, its_absent}
@@ -20,7 +20,7 @@ make_column-requires-clause-rollups g c =
     let index : Indexed = c.self.inside.index in
     let ss : List ColumnState = c.self.inside.columns.items in
     let rs = c.args.rules.now in
-    let shown : AreRollups rs (map column_of (columns_in index ss)) c.self.inside.rollups.items = subst (λ (h : Held). AreRollups rs (map column_of h.columns) h.rollups) (sym c.self.view_is) c.requires.rollups in
+    let shown : AreRollups rs (map column_of (columns_in index ss)) c.self.inside.rollups.items = subst (λ (h : StoreContent). AreRollups rs (map column_of h.columns) h.rollups) (sym c.self.view_is) c.requires.rollups in
     subst (AreRollups rs index.columns) (sym c.as_mut_slice.ensures.value) (subst (λ (cs : List Column). AreRollups rs cs c.self.inside.rollups.items) (names_held index ss c.self.invariant.each) shown)
 
 -- ---- no memory
@@ -31,7 +31,7 @@ invariant_of-self g c = column_refused c.self.inside.index c.make_column.new.ind
 pub returns-in_err-column-clause-err : goal.returns-in_err-column-clause-err
 returns-in_err-column-clause-err g c =
     on_any_err c.from_residual.result
-    (columns_refused c.self.inside.index c.make_column.new.index c.self.inside.columns.items c.make_column.new.columns.items c.in_err-column.ensures.column.kept ∙ ap (λ (h : Held). h.columns) c.self.view_is)
+    (columns_refused c.self.inside.index c.make_column.new.index c.self.inside.columns.items c.make_column.new.columns.items c.in_err-column.ensures.column.kept ∙ ap (λ (h : StoreContent). h.columns) c.self.view_is)
 
 pub returns-in_err-column-clause-rollups : goal.returns-in_err-column-clause-rollups
 returns-in_err-column-clause-rollups g c =
@@ -39,7 +39,7 @@ returns-in_err-column-clause-rollups g c =
     let after : Indexed = c.make_column.new.index in
     let counted = c.self.inside.rollups.ok.0 in
     let long : length vs ≡ c.self.inside.rollups.len = cc (c.make_column.auto.rollups, c.as_mut_slice.ensures.value, counted) in
-    let held : IsHeld after c.make_column.new.columns.items =
+    let held : IsSoundContent after c.make_column.new.columns.items =
     column_refused c.self.inside.index after c.self.inside.columns.items c.make_column.new.columns.items c.self.invariant c.in_err-column.ensures.column.kept (c.in_err-column.ensures.column.sound c.self.invariant.sound) in
     subst (AreRollups c.args.rules.now (map column_of (columns_in after c.make_column.new.columns.items))) (sym (with_items_is c.self.inside.rollups vs long))
     (subst (λ (cs : List Column). AreRollups c.args.rules.now cs vs) (sym (names_held after c.make_column.new.columns.items held.each)) c.in_err-column.ensures.rollups)
@@ -49,7 +49,7 @@ returns-in_err-column-clause-cells g c =
     let vs : List RollupState = c.make_column.new.rollups in
     let counted = c.self.inside.rollups.ok.0 in
     let long : length vs ≡ c.self.inside.rollups.len = cc (c.make_column.auto.rollups, c.as_mut_slice.ensures.value, counted) in
-    ap cells_of (with_items_is c.self.inside.rollups vs long) ∙ c.in_err-column.ensures.cells ∙ ap cells_of c.as_mut_slice.ensures.value ∙ ap (λ (h : Held). cells_of h.rollups) c.self.view_is
+    ap cells_of (with_items_is c.self.inside.rollups vs long) ∙ c.in_err-column.ensures.cells ∙ ap cells_of c.as_mut_slice.ensures.value ∙ ap (λ (h : StoreContent). cells_of h.rollups) c.self.view_is
 
 -- ---- the column is made
 
@@ -66,7 +66,7 @@ index_mut-requires g c =
 pub invariant_of-self-2 : goal.invariant_of-self-2
 invariant_of-self-2 g c =
     let ss' : List ColumnState = c.make_column.new.columns.items in
-    subst (λ (k : ℕ). IsHeld c.make_column.new.index (set ss' k c.of.result)) (sym c.number.ensures)
+    subst (λ (k : ℕ). IsSoundContent c.make_column.new.index (set ss' k c.of.result)) (sym c.number.ensures)
     (column_held _ c.self.inside.index c.make_column.new.index c.self.inside.columns.items ss' c.args.series c.in_ok-column.column c.args.field.now c.self.invariant
     (its_absent c.self.inside.index c.self.inside.columns.items c.self.inside.rollups.items c.args.self.now c.args.series c.args.field.now c.self.invariant c.self.view_is c.requires.registered c.requires.absent)
     c.of.result c.in_ok-column.ensures.column)
@@ -77,12 +77,12 @@ returns-clause-ok g c = λ s at.
     let after : Indexed = c.make_column.new.index in
     let ss' : List ColumnState = c.make_column.new.columns.items in
     let x : ColumnPoints = record { column = record { series = s; field = c.args.field.now }; points = c.args.points.items } in
-    let at' : IsAt index.series c.args.series s = subst (λ (h : Held). IsAt h.series c.args.series s) (sym c.self.view_is) at in
+    let at' : IsAt index.series c.args.series s = subst (λ (h : StoreContent). IsAt h.series c.args.series s) (sym c.self.view_is) at in
     ap (λ (k : ℕ). columns_in after (set ss' k c.of.result)) c.number.ensures
     ∙ column_added _ index after c.self.inside.columns.items ss' c.args.series c.in_ok-column.column c.args.field.now c.self.invariant
     (its_absent index c.self.inside.columns.items c.self.inside.rollups.items c.args.self.now c.args.series c.args.field.now c.self.invariant c.self.view_is c.requires.registered c.requires.absent)
     c.of.result s c.args.points.items at' c.of.ensures.entries c.in_ok-column.ensures.column
-    ∙ ap (λ (h : Held). h.columns ++ x ∷ []) c.self.view_is
+    ∙ ap (λ (h : StoreContent). h.columns ++ x ∷ []) c.self.view_is
 
 pub returns-clause-rollups : goal.returns-clause-rollups
 returns-clause-rollups g c =
@@ -91,8 +91,8 @@ returns-clause-rollups g c =
     let ss' : List ColumnState = c.make_column.new.columns.items in
     let counted = c.self.inside.rollups.ok.0 in
     let long : length vs ≡ c.self.inside.rollups.len = cc (c.make_column.auto.rollups, c.as_mut_slice.ensures.value, counted) in
-    let held : IsHeld after (set ss' c.number.result c.of.result) =
-    subst (λ (k : ℕ). IsHeld after (set ss' k c.of.result)) (sym c.number.ensures)
+    let held : IsSoundContent after (set ss' c.number.result c.of.result) =
+    subst (λ (k : ℕ). IsSoundContent after (set ss' k c.of.result)) (sym c.number.ensures)
     (column_held _ c.self.inside.index after c.self.inside.columns.items ss' c.args.series c.in_ok-column.column c.args.field.now c.self.invariant
     (its_absent c.self.inside.index c.self.inside.columns.items c.self.inside.rollups.items c.args.self.now c.args.series c.args.field.now c.self.invariant c.self.view_is c.requires.registered c.requires.absent)
     c.of.result c.in_ok-column.ensures.column) in
@@ -104,4 +104,4 @@ returns-clause-cells g c =
     let vs : List RollupState = c.make_column.new.rollups in
     let counted = c.self.inside.rollups.ok.0 in
     let long : length vs ≡ c.self.inside.rollups.len = cc (c.make_column.auto.rollups, c.as_mut_slice.ensures.value, counted) in
-    ap cells_of (with_items_is c.self.inside.rollups vs long) ∙ c.in_ok-column.ensures.cells ∙ ap cells_of c.as_mut_slice.ensures.value ∙ ap (λ (h : Held). cells_of h.rollups) c.self.view_is
+    ap cells_of (with_items_is c.self.inside.rollups vs long) ∙ c.in_ok-column.ensures.cells ∙ ap cells_of c.as_mut_slice.ensures.value ∙ ap (λ (h : StoreContent). cells_of h.rollups) c.self.view_is

@@ -3,7 +3,7 @@ use Rattle.ts_core.specs.facts.Facts.{Series}
 use Rattle.ts_core.specs.lists.Members.{Among}
 use Rattle.ts_core.specs.lists.Numbered.{IsAt}
 use Rattle.ts_raw.specs.Indexed.{Indexed}
-use Rattle.ts_store.specs.store.ColumnsKept.{Held, held_of}
+use Rattle.ts_store.specs.store.ColumnStates.{StoreContent, content_of}
 use Rattle.ts_store.proofs.image.PartsBuilt.{series_added, series_refused}
 use Rattle.ts_store.proofs.store.column_facts.ColumnFacts.add_series.Goals as goal
 use Rattle.ts_store.proofs.store.column_facts.ColumnFacts.add_series.Goals.{in-Ok, in-Err}
@@ -22,13 +22,13 @@ returns-clause-ok g c =
     let ss = c.self.inside.columns.items in
     let us = c.self.inside.rollups.items in
     let s : Series = c.args.key.now in
-    let absent : Among s index.series → ⊥ = subst (λ (h : Held). Among s h.series → ⊥) (sym c.self.view_is) c.requires.absent in
-    let more : Held → Held = λ h. record { series = h.series ++ s ∷ []; columns = h.columns; rollups = h.rollups } in
+    let absent : Among s index.series → ⊥ = subst (λ (h : StoreContent). Among s h.series → ⊥) (sym c.self.view_is) c.requires.absent in
+    let more : StoreContent → StoreContent = λ h. record { series = h.series ++ s ∷ []; columns = h.columns; rollups = h.rollups } in
     elim c.match-register.branch [
       | in-Ok w ↦
-          subst (λ r. OnOk r (held_of after ss us ≡ more c.args.self.now)) (sym w.result-is)
+          subst (λ r. OnOk r (content_of after ss us ≡ more c.args.self.now)) (sym w.result-is)
           (series_added index after ss us c.register.result s w.in-Ok.series w.in-Ok.is absent c.register.ensures.registered c.register.ensures.columns ∙ ap more c.self.view_is)
-      | in-Err w ↦ subst (λ r. OnOk r (held_of after ss us ≡ more c.args.self.now)) (sym w.result-is) tt
+      | in-Err w ↦ subst (λ r. OnOk r (content_of after ss us ≡ more c.args.self.now)) (sym w.result-is) tt
     ]
 
 pub returns-clause-err : goal.returns-clause-err
@@ -38,8 +38,8 @@ returns-clause-err g c =
     let ss = c.self.inside.columns.items in
     let us = c.self.inside.rollups.items in
     elim c.match-register.branch [
-      | in-Ok w ↦ subst (λ r. OnErr r (held_of after ss us ≡ c.args.self.now)) (sym w.result-is) tt
+      | in-Ok w ↦ subst (λ r. OnErr r (content_of after ss us ≡ c.args.self.now)) (sym w.result-is) tt
       | in-Err w ↦
-          subst (λ r. OnErr r (held_of after ss us ≡ c.args.self.now)) (sym w.result-is)
+          subst (λ r. OnErr r (content_of after ss us ≡ c.args.self.now)) (sym w.result-is)
           (series_refused index after ss us (subst (λ r. OnErr r (after.series ≡ index.series)) w.in-Err.is c.register.ensures.registered.kept) c.register.ensures.columns ∙ c.self.view_is)
     ]

@@ -2,16 +2,16 @@ use Rattle.std.proofs.Common.{◌≡◌, ◌∙◌, List, length, ap, ap₂, sym
 use Rattle.std.specs.Vec.{with_items}
 use Rattle.std.proofs.lemmas.List.{with_items_is}
 use Rattle.ts_cells.proofs.ExpiryLemmas.{on_true, on_false}
-use Rattle.ts_store.specs.store.ColumnsKept.{Held, columns_in}
+use Rattle.ts_store.specs.store.ColumnStates.{StoreContent, columns_in}
 use Rattle.ts_store.specs.rollup.Rollups.{RollupState, cells_of}
-use Rattle.ts_store.specs.retain.RollupSteps.{with_frozen_all, held_with}
+use Rattle.ts_store.specs.retain.RollupSteps.{with_frozen_all, content_with_cells}
 use Rattle.ts_store.specs.retain.WholeRuns.{AreAbove, FirstLoses}
 use Rattle.ts_store.proofs.store.column_facts.ColumnFacts.expire.Given.{Over}
 use Rattle.ts_store.proofs.store.column_facts.ColumnFacts.expire.Goals as goal
 
 -- the rollups that were there
 rollups : (g : Over) (c : goal.After-self-1 g) → c.as_mut_slice.result.now ≡ c.args.self.now.rollups
-rollups g c = c.as_mut_slice.ensures.value ∙ ap (λ (h : Held). h.rollups) c.self.view_is
+rollups g c = c.as_mut_slice.ensures.value ∙ ap (λ (h : StoreContent). h.rollups) c.self.view_is
 
 -- those that are there now
 written : (g : Over) (c : goal.After-self-1 g) → (with_items c.self.inside.rollups c.expire_first.new.rollups).items ≡ c.expire_first.new.rollups
@@ -33,7 +33,7 @@ returns-clause-lanes g c =
     let after : List RollupState = (with_items c.self.inside.rollups c.expire_first.new.rollups).items in
     let is : after ≡ c.expire_first.new.rollups = written g c in
     let lanes : after ≡ with_frozen_all (cells_of after) before = is ∙ c.expire_first.ensures.lanes ∙ ap₂ (λ us ss. with_frozen_all (cells_of us) ss) (sym is) c.as_mut_slice.ensures.value in
-    (λ i. record { series = c.self.inside.index.series; columns = columns_in c.self.inside.index c.self.inside.columns.items; rollups = lanes i }) ∙ ap (held_with (cells_of after)) c.self.view_is
+    (λ i. record { series = c.self.inside.index.series; columns = columns_in c.self.inside.index c.self.inside.columns.items; rollups = lanes i }) ∙ ap (content_with_cells (cells_of after)) c.self.view_is
 
 pub returns-clause-some : goal.returns-clause-some
 returns-clause-some g c =

@@ -8,7 +8,7 @@ use Rattle.ts_core.specs.store.StoreStates.{column_of, facts_of}
 use Rattle.ts_raw.specs.Columns.{ColumnState}
 use Rattle.ts_raw.specs.Indexed.{Indexed}
 use Rattle.ts_store.specs.image.BuildingParts.{AreIdle, FillsCells, KeepFrozen}
-use Rattle.ts_store.specs.store.ColumnsKept.{Held, IsHeld, held_of, columns_in}
+use Rattle.ts_store.specs.store.ColumnStates.{StoreContent, IsSoundContent, content_of, columns_in}
 use Rattle.ts_store.specs.read.PointsRead.{number_of_points}
 use Rattle.ts_store.specs.rollup.Rollups.{RollupState, AreRollups, cells_of}
 use Rattle.ts_store.specs.retain.RollupSteps.{with_frozen_all}
@@ -19,10 +19,10 @@ use Rattle.ts_store.proofs.rollup.RulesFilled.{Makes, Adds, all_fill}
 use Rattle.ts_store.proofs.store.column_facts.ColumnFacts.fill_cells.Goals as goal
 
 -- each rollup has as many columns as there are
-wide : (rules : List Rule) (index : Indexed) (ss lent : List ColumnState) (us : List RollupState) (held : Held) → IsHeld index ss → held_of index ss us ≡ held → lent ≡ ss → AreRollups rules (map column_of held.columns) held.rollups
+wide : (rules : List Rule) (index : Indexed) (ss lent : List ColumnState) (us : List RollupState) (held : StoreContent) → IsSoundContent index ss → content_of index ss us ≡ held → lent ≡ ss → AreRollups rules (map column_of held.columns) held.rollups
     → AllByRecursion (λ (s : RollupState). length s.lanes ≡ length lent) us
 wide rules index ss lent us held kept is same rollups =
-    let shown : AreRollups rules (map column_of (columns_in index ss)) us = subst (λ (h : Held). AreRollups rules (map column_of h.columns) h.rollups) (sym is) rollups in
+    let shown : AreRollups rules (map column_of (columns_in index ss)) us = subst (λ (h : StoreContent). AreRollups rules (map column_of h.columns) h.rollups) (sym is) rollups in
     wide_of rules index.columns (length lent) us (subst (λ (cs : List Column). AreRollups rules cs us) (names_held index ss kept.each) shown) (ap (λ (xs : List ColumnState). length xs) same ∙ kept.each)
 
 pub make_all_cells-requires-clause-each : goal.make_all_cells-requires-clause-each
@@ -44,7 +44,7 @@ add_all_points-requires-clause-each g c =
 pub add_all_points-requires-clause-few : goal.add_all_points-requires-clause-few
 add_all_points-requires-clause-few g c =
     let ss : List ColumnState = c.self.inside.columns.items in
-    let all : length (facts_of c.args.self.now.columns) ≡ number_of_points ss = ap (λ (h : Held). length (facts_of h.columns)) (sym c.self.view_is) ∙ facts-length c.self.inside.index.columns ss c.self.invariant.each in
+    let all : length (facts_of c.args.self.now.columns) ≡ number_of_points ss = ap (λ (h : StoreContent). length (facts_of h.columns)) (sym c.self.view_is) ∙ facts-length c.self.inside.index.columns ss c.self.invariant.each in
     let lent = ap number_of_points c.as_slice-columns.ensures.value in
     omega (arith, all, lent, c.requires.few)
 
@@ -68,8 +68,8 @@ returns g c =
     let make : Makes rs lows vs ss us = subst (λ (xs : List ColumnState). Makes rs lows vs xs us) lent (subst (Makes rs lows vs c.as_slice-columns.result.now) c.as_mut_slice.ensures.value c.in_ok-make_all_cells.ensures.cells) in
     let frozen : KeepFrozen (cells_of vs) (cells_of ws) = subst (λ (xs : List RollupState). KeepFrozen (cells_of xs) (cells_of ws)) between c.add_all_points.ensures.frozen in
     let add : Adds rs ws ss vs = subst (λ (xs : List ColumnState). Adds rs ws xs vs) lent (subst (Adds rs ws c.as_slice-columns.result.now) between c.add_all_points.ensures.live) in
-    let rollups : AreRollups rs (map column_of (columns_in index ss)) us = subst (λ (h : Held). AreRollups rs (map column_of h.columns) h.rollups) (sym c.self.view_is) c.requires.rollups in
-    let idle : AreIdle (cells_of us) = subst (λ (h : Held). AreIdle (cells_of h.rollups)) (sym c.self.view_is) c.requires.idle in
-    let filled : FillsCells rs lows (held_of index ss us) (held_of index ss ws) = all_fill rs lows index ss us vs ws c.self.invariant c.requires.lows rollups idle one two make frozen add in
-    subst (λ (h : Held). FillsCells rs lows h (held_of index ss (with_items (with_items c.self.inside.rollups vs) ws).items)) c.self.view_is
-    (subst (λ (xs : List RollupState). FillsCells rs lows (held_of index ss us) (held_of index ss xs)) (sym (with_items_is (with_items c.self.inside.rollups vs) ws longer)) filled)
+    let rollups : AreRollups rs (map column_of (columns_in index ss)) us = subst (λ (h : StoreContent). AreRollups rs (map column_of h.columns) h.rollups) (sym c.self.view_is) c.requires.rollups in
+    let idle : AreIdle (cells_of us) = subst (λ (h : StoreContent). AreIdle (cells_of h.rollups)) (sym c.self.view_is) c.requires.idle in
+    let filled : FillsCells rs lows (content_of index ss us) (content_of index ss ws) = all_fill rs lows index ss us vs ws c.self.invariant c.requires.lows rollups idle one two make frozen add in
+    subst (λ (h : StoreContent). FillsCells rs lows h (content_of index ss (with_items (with_items c.self.inside.rollups vs) ws).items)) c.self.view_is
+    (subst (λ (xs : List RollupState). FillsCells rs lows (content_of index ss us) (content_of index ss xs)) (sym (with_items_is (with_items c.self.inside.rollups vs) ws longer)) filled)

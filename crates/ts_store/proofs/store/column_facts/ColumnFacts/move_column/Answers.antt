@@ -9,10 +9,10 @@ use Rattle.ts_core.specs.store.StoreStates.{column_of, facts_of}
 use Rattle.ts_core.specs.moves.StoreMoves.{all_moved, points_below}
 use Rattle.ts_raw.specs.Columns.{ColumnState}
 use Rattle.ts_core.specs.lists.Numbered.{IsAt}
-use Rattle.ts_store.specs.store.ColumnsKept.{Held, point_maps, held_of, no_column}
+use Rattle.ts_store.specs.store.ColumnStates.{StoreContent, point_maps, content_of, no_column}
 use Rattle.ts_store.specs.read.PointsRead.{number_of_points}
 use Rattle.ts_store.specs.rollup.Rollups.{RollupState, AreRollups, cells_of}
-use Rattle.ts_store.specs.retain.RollupSteps.{FreezeFit, facts_left, held_moved, with_frozen_all}
+use Rattle.ts_store.specs.retain.RollupSteps.{FreezeFit, facts_left, content_moved, with_frozen_all}
 use Rattle.ts_store.proofs.store.ColumnsLemmas.{names_held}
 use Rattle.ts_store.proofs.read.ColumnsReads.{facts-length, with_points-length}
 use Rattle.ts_store.proofs.write.PointsPut.{wide_of}
@@ -22,7 +22,7 @@ use Rattle.ts_store.proofs.store.column_facts.ColumnFacts.move_column.Goals as g
 pub move_all-requires-clause-column : goal.move_all-requires-clause-column
 move_all-requires-clause-column g c =
     let ss : List ColumnState = c.self.inside.columns.items in
-    let shown = ap (λ (h : Held). length h.columns) c.self.view_is in
+    let shown = ap (λ (h : StoreContent). length h.columns) c.self.view_is in
     let many = with_points-length c.self.inside.index.columns (point_maps ss) (length-map ss (λ (s : ColumnState). s.points) ∙ c.self.invariant.each) in
     let lent = ap length c.as_slice-columns.ensures.value in
     omega (arith, c.requires.column, shown, many, c.self.invariant.each, lent)
@@ -31,22 +31,22 @@ pub move_all-requires-clause-each : goal.move_all-requires-clause-each
 move_all-requires-clause-each g c =
     let ss : List ColumnState = c.self.inside.columns.items in
     let lent = ap length c.as_slice-columns.ensures.value in
-    let same : c.args.self.now.rollups ≡ c.as_mut_slice.result.now = sym (c.as_mut_slice.ensures.value ∙ ap (λ (h : Held). h.rollups) c.self.view_is) in
-    let names : length (map column_of c.args.self.now.columns) ≡ length c.self.inside.index.columns = ap (λ (h : Held). length (map column_of h.columns)) (sym c.self.view_is) ∙ ap length (names_held c.self.inside.index ss c.self.invariant.each) in
+    let same : c.args.self.now.rollups ≡ c.as_mut_slice.result.now = sym (c.as_mut_slice.ensures.value ∙ ap (λ (h : StoreContent). h.rollups) c.self.view_is) in
+    let names : length (map column_of c.args.self.now.columns) ≡ length c.self.inside.index.columns = ap (λ (h : StoreContent). length (map column_of h.columns)) (sym c.self.view_is) ∙ ap length (names_held c.self.inside.index ss c.self.invariant.each) in
     subst (AllByRecursion (λ (s : RollupState). length s.lanes ≡ length c.as_slice-columns.result.now)) same
     (wide_of c.args.rules.now (map column_of c.args.self.now.columns) (length c.as_slice-columns.result.now) c.args.self.now.rollups c.requires.rollups (lent ∙ c.self.invariant.each ∙ sym names))
 
 pub move_all-requires-clause-few : goal.move_all-requires-clause-few
 move_all-requires-clause-few g c =
     let ss : List ColumnState = c.self.inside.columns.items in
-    let all : length (facts_of c.args.self.now.columns) ≡ number_of_points ss = ap (λ (h : Held). length (facts_of h.columns)) (sym c.self.view_is) ∙ facts-length c.self.inside.index.columns ss c.self.invariant.each in
+    let all : length (facts_of c.args.self.now.columns) ≡ number_of_points ss = ap (λ (h : StoreContent). length (facts_of h.columns)) (sym c.self.view_is) ∙ facts-length c.self.inside.index.columns ss c.self.invariant.each in
     let lent = ap number_of_points c.as_slice-columns.ensures.value in
     omega (arith, all, lent, c.requires.few)
 
 pub index_mut-requires : goal.index_mut-requires
 index_mut-requires g c =
     let ss : List ColumnState = c.self.inside.columns.items in
-    let shown = ap (λ (h : Held). length h.columns) c.self.view_is in
+    let shown = ap (λ (h : StoreContent). length h.columns) c.self.view_is in
     let many = with_points-length c.self.inside.index.columns (point_maps ss) (length-map ss (λ (s : ColumnState). s.points) ∙ c.self.invariant.each) in
     omega (arith, c.requires.column, shown, many, c.self.invariant.each)
 
@@ -59,10 +59,10 @@ returns g c =
     let n = c.args.column in
     let rs = c.args.rules.now in
     let mark = c.args.mark in
-    let shown = ap (λ (h : Held). length h.columns) c.self.view_is in
+    let shown = ap (λ (h : StoreContent). length h.columns) c.self.view_is in
     let many = with_points-length c.self.inside.index.columns (point_maps ss) (length-map ss (λ (s : ColumnState). s.points) ∙ c.self.invariant.each) in
-    let rollups : AreRollups rs (map column_of (held_of c.self.inside.index ss us).columns) us =
-    subst (λ (h : Held). AreRollups rs (map column_of h.columns) h.rollups) (sym c.self.view_is) c.requires.rollups in
+    let rollups : AreRollups rs (map column_of (content_of c.self.inside.index ss us).columns) us =
+    subst (λ (h : StoreContent). AreRollups rs (map column_of h.columns) h.rollups) (sym c.self.view_is) c.requires.rollups in
     let counted = c.self.inside.rollups.ok.0 in
     let long : length vs ≡ c.self.inside.rollups.len = cc (c.move_all.auto.rollups, c.as_mut_slice.ensures.value, counted) in
     let written : (with_items c.self.inside.rollups vs).items ≡ vs = with_items_is c.self.inside.rollups vs long in
@@ -75,8 +75,8 @@ returns g c =
     → vs ≡ with_frozen_all (all_moved rs d (points_below mark (finmap.entries (get_or c.as_slice-columns.result.now n no_column).points)) (facts_left mark d cs c.as_slice-columns.result.now) (cells_of ws)) ws)
     c.as_mut_slice.ensures.value c.move_all.ensures) in
     λ s at fit.
-    ap (λ (ws : List RollupState). held_of c.self.inside.index (set ss n c.drop_below.new.self) ws) written
-    ∙ subst (λ (h : Held). IsAt h.columns n s → FreezeFit rs s.column (points_below mark s.points) (cells_of h.rollups) → held_of c.self.inside.index (set ss n c.drop_below.new.self) vs ≡ held_moved rs s mark h) c.self.view_is
+    ap (λ (ws : List RollupState). content_of c.self.inside.index (set ss n c.drop_below.new.self) ws) written
+    ∙ subst (λ (h : StoreContent). IsAt h.columns n s → FreezeFit rs s.column (points_below mark s.points) (cells_of h.rollups) → content_of c.self.inside.index (set ss n c.drop_below.new.self) vs ≡ content_moved rs s mark h) c.self.view_is
     (λ at fit.
     held_moves c.self.inside.index ss us vs rs mark n x c.drop_below.new.self c.self.invariant (omega (arith, c.requires.column, shown, many, c.self.invariant.each)) c.index_mut.ensures.value c.drop_below.ensures.kept rollups moved
     s at fit) at fit

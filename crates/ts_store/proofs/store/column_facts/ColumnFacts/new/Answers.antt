@@ -1,7 +1,7 @@
 use Rattle.std.proofs.Common.{◌∙◌, List, length, ap, sym, subst}
 use Rattle.ts_core.specs.lists.Members.{Among, AllDistinct}
 use Rattle.ts_core.specs.facts.Facts.{Series, Column}
-use Rattle.ts_store.specs.store.ColumnsKept.{point_maps, with_points}
+use Rattle.ts_store.specs.store.ColumnStates.{point_maps, with_points}
 use Rattle.ts_store.proofs.store.column_facts.ColumnFacts.new.Goals as goal
 
 pub invariant_of-result : goal.invariant_of-result

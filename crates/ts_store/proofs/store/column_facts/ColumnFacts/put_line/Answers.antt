@@ -15,7 +15,7 @@ use Rattle.ts_core.specs.lists.Numbered.{Gains}
 use Rattle.ts_core.proofs.lists.Results.{on_any_err}
 use Rattle.ts_store.specs.write.LinesInColumns.{GrowsForLine}
 use Rattle.ts_store.specs.write.Registered.{MayGain, MakesFirst, with_columns, new_columns}
-use Rattle.ts_store.specs.store.ColumnsKept.{Held, IsHeld, held_of, columns_in, with_points, point_maps, AreAside}
+use Rattle.ts_store.specs.store.ColumnStates.{StoreContent, IsSoundContent, content_of, columns_in, with_points, point_maps, AreAside}
 use Rattle.ts_store.proofs.write.ColumnsAside.{ready_of, numbers_distinct, line_columns, all_committed-length, same_facts}
 use Rattle.std.specs.List.{AllByRecursion}
 use Rattle.ts_core.specs.store.StoreData.{CellMap, AreLive}
@@ -39,24 +39,24 @@ none_made : (columns : List ColumnPoints) (facts : List Fact) → MakesFirst col
 none_made columns facts = record { made = []; others = new_columns (map column_of columns) facts; order = refl; columns = sym (append-nil columns) }
 
 -- the index is still one of the columns when a series is registered
-still_held : (before after : Indexed) (states : List ColumnState) → IsSoundIndex after → after.columns ≡ before.columns → IsHeld before states → IsHeld after states
+still_held : (before after : Indexed) (states : List ColumnState) → IsSoundIndex after → after.columns ≡ before.columns → IsSoundContent before states → IsSoundContent after states
 still_held before after states sound same held = record { sound = sound; each = held.each ∙ sym (ap length same) }
 
 -- its columns still have their lanes
-still_rollups : (rules : List Rule) (old : Held) (before after : Indexed) (states : List ColumnState) (us : List RollupState) → held_of before states us ≡ old → after.columns ≡ before.columns → IsHeld before states
+still_rollups : (rules : List Rule) (old : StoreContent) (before after : Indexed) (states : List ColumnState) (us : List RollupState) → content_of before states us ≡ old → after.columns ≡ before.columns → IsSoundContent before states
     → AreRollups rules (map column_of old.columns) old.rollups → AreRollups rules after.columns us
 still_rollups rules old before after states us was same held have =
     subst (λ (cs : List Column). AreRollups rules cs us) (names_held before states held.each ∙ sym same)
-    (subst (λ (h : Held). AreRollups rules (map column_of h.columns) h.rollups) (sym was) have)
+    (subst (λ (h : StoreContent). AreRollups rules (map column_of h.columns) h.rollups) (sym was) have)
 
 -- what is left without memory
-grown : (rules : List Rule) (lows : List ℤ) (p : Parts) (key : Series) (old : Held) (before between after : Indexed) (states states' : List ColumnState) (us us' us'' : List RollupState) → key ≡ series_of p → held_of before states us ≡ old
+grown : (rules : List Rule) (lows : List ℤ) (p : Parts) (key : Series) (old : StoreContent) (before between after : Indexed) (states states' : List ColumnState) (us us' us'' : List RollupState) → key ≡ series_of p → content_of before states us ≡ old
     → MayGain before.series between.series key → between.columns ≡ before.columns → after.series ≡ between.series → MakesFirst (columns_in between states) (columns_in after states') (line_facts p)
-    → IsHeld after states' → us'' ≡ us' → AreRollups rules after.columns us' → HaveRoom rules lows [] (cells_of us) (cells_of us')
-    → OfEachRule (GainsCells (line_facts p)) rules lows (cells_of us) (cells_of us') → (cells_of us' ≡ cells_of us) ⊎ AllByRecursion (MayBeTaken least_time) (line_facts p) → GrowsForLine rules lows old (held_of after states' us'') p
+    → IsSoundContent after states' → us'' ≡ us' → AreRollups rules after.columns us' → HaveRoom rules lows [] (cells_of us) (cells_of us')
+    → OfEachRule (GainsCells (line_facts p)) rules lows (cells_of us) (cells_of us') → (cells_of us' ≡ cells_of us) ⊎ AllByRecursion (MayBeTaken least_time) (line_facts p) → GrowsForLine rules lows old (content_of after states' us'') p
 grown rules lows p key old before between after states states' us us' us'' named was gains same series made held is rollups rooms cells taken =
-    subst (λ (h : Held). GrowsForLine rules lows h (held_of after states' us'') p) was
-    (subst (λ (vs : List RollupState). GrowsForLine rules lows (held_of before states us) (held_of after states' vs) p) (sym is) (record {
+    subst (λ (h : StoreContent). GrowsForLine rules lows h (content_of after states' us'') p) was
+    (subst (λ (vs : List RollupState). GrowsForLine rules lows (content_of before states us) (content_of after states' vs) p) (sym is) (record {
       series = subst (λ (xs : List Series). MayGain before.series xs (series_of p)) (sym series) (subst (MayGain before.series between.series) named gains);
       columns = subst (λ (cs : List Column). MakesFirst (with_points cs (point_maps states)) (columns_in after states') (line_facts p)) same made;
       known = known_of after states' us' held;
@@ -103,7 +103,7 @@ put_points-requires-clause-few g c =
     let ss : List ColumnState = c.prepare_line.new.columns.items in
     let ns : List ℕ = c.prepare_line.new.touched.items in
     let before : columns_in c.register.new.self c.self.inside.columns.items ≡ c.args.self.now.columns =
-    ap (λ (xs : List Column). with_points xs (point_maps c.self.inside.columns.items)) c.register.ensures.columns ∙ ap (λ (h : Held). h.columns) c.self.view_is in
+    ap (λ (xs : List Column). with_points xs (point_maps c.self.inside.columns.items)) c.register.ensures.columns ∙ ap (λ (h : StoreContent). h.columns) c.self.view_is in
     let made : with_points cs (point_maps ss) ≡ with_columns c.args.self.now.columns (new_columns (map column_of c.args.self.now.columns) (line_facts p)) =
     c.in_ok-prepare_line.ensures.line.all ∙ ap (λ (b : List ColumnPoints). with_columns b (new_columns (map column_of b) (line_facts p))) before in
     let same : facts_of (with_points cs (point_maps ss)) ≡ facts_of c.args.self.now.columns = ap facts_of made ∙ same_facts c.args.self.now.columns (new_columns (map column_of c.args.self.now.columns) (line_facts p)) in
@@ -141,14 +141,14 @@ returns-clause-ok g c =
     let written : (with_items (with_items (with_items c.self.inside.rollups us) vs) ws).items ≡ ws = with_items_is (with_items (with_items c.self.inside.rollups us) vs) ws yet in
     let aside = c.in_ok-prepare_line.ensures.line.aside in
     let before : columns_in c.register.new.self c.self.inside.columns.items ≡ old =
-    ap (λ (xs : List Column). with_points xs (point_maps c.self.inside.columns.items)) c.register.ensures.columns ∙ ap (λ (h : Held). h.columns) c.self.view_is in
+    ap (λ (xs : List Column). with_points xs (point_maps c.self.inside.columns.items)) c.register.ensures.columns ∙ ap (λ (h : StoreContent). h.columns) c.self.view_is in
     let made : with_points cs (point_maps ss) ≡ with_columns old (new_columns (map column_of old) (line_facts p)) =
     c.in_ok-prepare_line.ensures.line.all ∙ ap (λ (b : List ColumnPoints). with_columns b (new_columns (map column_of b) (line_facts p))) before in
     let rooms : HaveRoom rs lows (line_facts p) (cells_of c.args.self.now.rollups) (cells_of vs) = line_rooms rs lows cs ss p c.time.result ns (cells_of c.args.self.now.rollups) us vs c.prepare_line.ensures.rollups aside c.time.ensures
-    (c.prepare_line.ensures.cells ∙ ap cells_of (c.as_mut_slice.ensures.value ∙ ap (λ (h : Held). h.rollups) c.self.view_is))
+    (c.prepare_line.ensures.cells ∙ ap cells_of (c.as_mut_slice.ensures.value ∙ ap (λ (h : StoreContent). h.rollups) c.self.view_is))
     (c.in_ok-make_rooms.ensures.ok ∙ (λ i. roomed_under rs lows c.time.result (c.as_slice.ensures.value i) (lent i))) in
     let gains' : OfEachRule (GainsCells (line_facts p)) rs lows (cells_of c.args.self.now.rollups) (cells_of vs) = line_gains rs lows cs ss p c.time.result ns (cells_of c.args.self.now.rollups) us vs c.prepare_line.ensures.rollups aside c.time.ensures
-    (c.prepare_line.ensures.cells ∙ ap cells_of (c.as_mut_slice.ensures.value ∙ ap (λ (h : Held). h.rollups) c.self.view_is))
+    (c.prepare_line.ensures.cells ∙ ap cells_of (c.as_mut_slice.ensures.value ∙ ap (λ (h : StoreContent). h.rollups) c.self.view_is))
     (all_gained rs lows c.time.result ns us vs (c.in_ok-make_rooms.ensures.ok ∙ (λ i. roomed_under rs lows c.time.result (c.as_slice.ensures.value i) (lent i)))) in
     let have : AreRollups rs cs vs = rollups_stay rs cs us vs c.prepare_line.ensures.rollups (subst (λ (xs : List RollupState). KeepLanes xs vs) lent c.make_rooms.ensures.lanes) in
     let live : AreLive (with_points cs (point_maps ss)) rs (cells_of vs) =
@@ -165,7 +165,7 @@ returns-clause-ok g c =
     (subst (λ (xs : List RollupState). PutsFacts rs (with_points cs (point_maps ss)) (cells_of xs) (with_points cs (point_maps c.put_points.new.columns.items)) (cells_of ws) (line_facts p)) lent' puts)) in
     record {
       series = subst (λ (xs : List Series). Gains c.args.self.now.series xs (series_of p)) (sym c.prepare_line.ensures.line.series)
-          (subst (λ (xs : List Series). Gains xs c.register.new.self.series (series_of p)) (ap (λ (h : Held). h.series) c.self.view_is) gains);
+          (subst (λ (xs : List Series). Gains xs c.register.new.self.series (series_of p)) (ap (λ (h : StoreContent). h.series) c.self.view_is) gains);
       roomy = cells_of vs;
       facts = facts;
       taken = c.in_ok-prepare_line.ensures.line.taken;

@@ -7,7 +7,7 @@ use Rattle.ts_core.specs.store.StoreStates.{facts_of}
 use Rattle.ts_raw.specs.Columns.{ColumnState}
 use Rattle.ts_raw.specs.Indexed.{Indexed}
 use Rattle.ts_store.specs.image.BuildingParts.{KeepFrozen}
-use Rattle.ts_store.specs.store.ColumnsKept.{Held}
+use Rattle.ts_store.specs.store.ColumnStates.{StoreContent}
 use Rattle.ts_store.specs.read.PointsRead.{number_of_points}
 use Rattle.ts_store.specs.rules.RuleRollups.{IsRollupOf}
 use Rattle.ts_store.specs.rollup.Rollups.{RollupState, cells_of}
@@ -54,7 +54,7 @@ add_all_points-requires-clause-each g c =
 pub add_all_points-requires-clause-few : goal.add_all_points-requires-clause-few
 add_all_points-requires-clause-few g c =
     let ss : List ColumnState = c.self.inside.columns.items in
-    let all : length (facts_of c.args.self.now.columns) ≡ number_of_points ss = ap (λ (h : Held). length (facts_of h.columns)) (sym c.self.view_is) ∙ facts-length c.self.inside.index.columns ss c.self.invariant.each in
+    let all : length (facts_of c.args.self.now.columns) ≡ number_of_points ss = ap (λ (h : StoreContent). length (facts_of h.columns)) (sym c.self.view_is) ∙ facts-length c.self.inside.index.columns ss c.self.invariant.each in
     let lent = ap number_of_points c.as_slice-columns.ensures.value in
     omega (arith, all, lent, c.requires.few)
 
@@ -100,5 +100,5 @@ returns g c =
     let many : length ws ≡ 1 = longer ∙ counted ∙ ap (λ (xs : List RollupState). length xs) single in
     let last : ws ≡ c.pop.new.self.items ++ t ∷ [] =
     sym (with_items_is (with_items c.in_ok-rollups.rollups vs) ws longer) ∙ c.pop.ensures.items ∙ ap (λ (o : Option RollupState). c.pop.new.self.items ++ option_to_list o) c.unwrap.ensures in
-    subst (λ (h : Held). IsRollupOf h r low t) c.self.view_is
+    subst (λ (h : StoreContent). IsRollupOf h r low t) c.self.view_is
     (alone_made index ss c.self.inside.rollups.items r low s t vs ws c.self.invariant c.in_ok-rollup_over.ensures one two make frozen add (alone ws c.pop.new.self.items t many last))

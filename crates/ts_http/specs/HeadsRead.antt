@@ -1,0 +1,59 @@
+-- Reading a head and a body from a reader, by the bytes that came. (Own rules.)
+use Rattle.std.specs.Prelude.{◌≡◌, ℕ, ◌+◌, ◌≤◌, ◌<◌, Bool, List, [], ◌++◌, length, take, drop, Option, Some, None, unwrap_or, Result, IfOk}
+use Rattle.std.specs.Bool.{OnTrue, OnFalse}
+use Rattle.std.specs.Io.KnownBytes.{Consumes, IsAtEnd}
+use Rattle.httparse.specs.Grammar.{RequestHead, NeverHasRequest}
+use Rattle.httparse.specs.Spans.{IsRequestAt, IsRequestOf, IsRequestWithin, RequestOverflows, RequestExceeds}
+use Rattle.httparse.specs.declared.spans.HeaderSpan.{HeaderSpan}
+use Rattle.ts_core.specs.facts.Facts.{Text}
+use Rattle.ts_core.specs.io.Devices.{Input, one_if_err}
+use Rattle.ts_http.specs.Heads.{Nothing, Fault, IsWholeHead, IsUnfinishedHead, ReadsHead, head_limit, field_limit}
+use Rattle.ts_http.specs.declared.head.HeadFault.TheVariants.{EndsEarly, TooLarge, Malformed}
+use Rattle.ts_http.specs.declared.head.HeadRead.{HeadRead}
+use Rattle.ts_http.specs.declared.head.HeadRead.TheVariants as read
+
+-- all bytes of a request: those that came, and those that are left, if known
+abbrev pub request_of : Text → Input → Text
+request_of came left = came ++ unwrap_or left.remaining []
+
+-- one read into a buffer, after its first `count` bytes
+pub record IsReadBehind {E : Type 0} (old : Input) (count : ℕ) (room : Text) (result : Result ℕ E) (room' : Text) (new : Input) : Type 0 where
+  pub size : length room' ≡ length room
+  pub kept : take count room' ≡ take count room
+  pub within : IfOk result (λ n. count + n ≤ length room)
+  pub came : IfOk result (λ n. (got : Text) × (take (count + n) room' ≡ take count room ++ got) × (length got ≡ n) × Consumes old.remaining new.remaining got)
+  pub end : IfOk result (λ n. n ≡ 0 → IsAtEnd new.remaining)
+  pub failures : new.failures ≡ old.failures + one_if_err result
+  pub turns : new.turns ≡ old.turns + 1
+
+-- the outcome is one of reading the request's head, of which these bytes came
+abbrev pub TellsHead : Text → Text → List HeaderSpan → HeadRead → Type 0
+TellsHead bytes came spans read.Nothing = ReadsHead bytes Nothing
+TellsHead bytes came spans (read.Fault fault) = ReadsHead bytes (Fault fault)
+TellsHead bytes came spans (read.Whole found) =
+    IsRequestWithin came spans found × ((head : RequestHead) × IsRequestAt came spans found head × IsWholeHead bytes head (drop found.len bytes))
+
+-- a head is read into a buffer, whose first bytes are the request's
+pub record IsHeadRead {E : Type 0} (old : Input) (result : Result (ℕ × HeadRead) E) (room : Text) (spans : List HeaderSpan) (new : Input) : Type 0 where
+  pub within : IfOk result (λ r. r.0 ≤ length room)
+  pub bytes : IfOk result (λ r. Consumes old.remaining new.remaining (take r.0 room))
+  pub head : IfOk result (λ r. TellsHead (request_of (take r.0 room) new) (take r.0 room) spans r.1)
+  pub failures : new.failures ≡ old.failures + one_if_err result
+  pub turns : new.turns ≤ old.turns + head_limit
+
+-- the rest of a body is read, whose first `count` bytes are there; the result is whether it is whole
+pub record IsBodyRead {E : Type 0} (old : Input) (count : ℕ) (body : Text) (result : Result Bool E) (body' : Text) (new : Input) : Type 0 where
+  pub size : length body' ≡ length body
+  pub whole : IfOk result (λ whole. OnTrue whole ((got : Text) × (body' ≡ take count body ++ got) × Consumes old.remaining new.remaining got))
+  pub cut : IfOk result (λ whole. OnFalse whole ((got : Text) × (count + length got < length body) × Consumes old.remaining new.remaining got × IsAtEnd new.remaining))
+  pub failures : new.failures ≡ old.failures + one_if_err result
+  pub turns : new.turns + count ≤ old.turns + length body
+
+-- the outcome so far; none if the bytes may still become a head
+abbrev pub TellsFront : Text → List HeaderSpan → Option HeadRead → Type 0
+TellsFront came spans None = IsUnfinishedHead came
+TellsFront came spans (Some read.Nothing) = ⊥
+TellsFront came spans (Some (read.Whole found)) = IsRequestWithin came spans found × IsRequestOf came spans found
+TellsFront came spans (Some (read.Fault EndsEarly)) = ⊥
+TellsFront came spans (Some (read.Fault TooLarge)) = RequestExceeds field_limit came × RequestOverflows field_limit came
+TellsFront came spans (Some (read.Fault Malformed)) = NeverHasRequest came

@@ -1,6 +1,0 @@
--- Times in a query's range. (Own rule.)
-use Rattle.std.specs.Prelude.{ℤ, pos, negsuc, ◌≤ℤ◌}
-
--- a signed 64-bit number
-abbrev pub IsPlace : ℤ → Type 0
-IsPlace p = (negsuc 9223372036854775807 ≤ℤ p) × (p ≤ℤ pos 9223372036854775807)

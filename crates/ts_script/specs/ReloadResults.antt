@@ -1,0 +1,51 @@
+-- The effect of saving a store and loading it back. (Own rules.)
+use Rattle.std.specs.Prelude.{◌≡◌, ℕ, List}
+use Rattle.ts_core.specs.store.StoreData.{StoreData}
+use Rattle.ts_store.specs.image.SavedContent.{SavedSeries}
+use Rattle.ts_store.specs.store.SizedStores.{IsSized}
+use Rattle.ts_image.specs.declared.load_fault.LoadFault.{LoadFault}
+use Rattle.ts_image.specs.declared.load_fault.LoadFault.TheVariants as loading
+use Rattle.ts_image.specs.declared.save_fault.SaveFault.{SaveFault}
+use Rattle.ts_image.specs.declared.save_fault.SaveFault.TheVariants as saving
+use Rattle.ts_image.specs.declared.version.Version.TheVariants.{V2}
+use Rattle.ts_image.specs.Images.{image, image_text}
+use Rattle.ts_image.specs.Saving.{IsOrder, FitsImage, image_of}
+use Rattle.ts_image.specs.StoresMade.{IsStoreOf}
+use Rattle.ts_script.specs.declared.reloading.ReloadFault.{ReloadFault}
+use Rattle.ts_script.specs.declared.reloading.ReloadFault.TheVariants.{OutOfMemory, NotAccepted}
+
+-- the bytes are the image of the store
+pub record IsImageIn (k : StoreData) (bytes : List ℕ) : Type 0 where
+  pub order : List SavedSeries
+  pub ordered : IsOrder k order
+  pub fits : (image V2).fits (image_of k order)
+  pub text : bytes ≡ image_text V2 (image_of k order)
+
+-- the data of the store doesn't fit the form of images
+abbrev pub DoesNotFit : StoreData → Type 0
+DoesNotFit k = (order : List SavedSeries) × IsOrder k order × (FitsImage k order → ⊥)
+
+-- the new store is loaded from an image of the old one
+pub record IsReloadOf (old new : StoreData) : Type 0 where
+  pub order : List SavedSeries
+  pub ordered : IsOrder old order
+  pub sized : IsSized old
+  pub made : IsStoreOf (image_of old order) new
+
+-- ---- errors
+
+-- a vector takes all bytes that there is memory for
+abbrev pub save_failed : SaveFault → ReloadFault
+save_failed saving.Device = OutOfMemory
+save_failed saving.OutOfMemory = OutOfMemory
+save_failed saving.Unfit = NotAccepted
+
+-- a slice fails no read, and no slice needs 2^32 reads
+abbrev pub load_failed : LoadFault → ReloadFault
+load_failed loading.NotAnImage = NotAccepted
+load_failed loading.OtherVersion = NotAccepted
+load_failed (loading.Misshapen n) = NotAccepted
+load_failed loading.Contradiction = NotAccepted
+load_failed loading.Device = OutOfMemory
+load_failed loading.Turns = OutOfMemory
+load_failed loading.OutOfMemory = OutOfMemory

@@ -1,9 +1,0 @@
-use Rattle.std.proofs.Common.{filter, ◌∙◌, ap, rules}
-use Rattle.std.proofs.lemmas.Fn.{filter_same}
-use Rattle.ts_store.specs.read.Seats.{seat_has}
-use Rattle.ts_store.proofs.read.columns_seen.Columns.tested.Goals as goal
-
-pub returns : goal.returns
-returns g c =
-    filter_same _ (seat_has c.args.tag.now c.args.value.now) _ (λ x b f' k. search rules) _ _ c.retain.ensures.filtered
-    ∙ ap (filter (seat_has c.args.tag.now c.args.value.now)) c.in_ok-found.ensures
