@@ -24,8 +24,8 @@ fn make_room(cells: &mut Cells<Agg, Global>, index: i128) -> Result<(), AllocErr
 #[test]
 fn cells_are_removed_in_portions(rt: HostRuntime) -> Result<(), Fail> {
     let mut cells = Cells::new(rt.alloc());
-    for index in 0..300 {
-        make_room(&mut cells, index)?;
+    for index in 0_u32..300 {
+        make_room(&mut cells, i128::from(index))?;
     }
     for (low, removed) in [
         (i128::MIN, 0),
