@@ -13,8 +13,8 @@ use Rattle.tsdb.specs.declared.service.ServiceFault.{ServiceFault}
 use Rattle.tsdb.specs.declared.service.ServiceFault.TheVariants.{NoSettings, Settings as WrongSettings, Image, NoPort, NotSaved, OutOfMemory}
 
 -- a store that is loaded from the bytes of some file
-abbrev pub IsLoaded : StoreData → Type 0
-IsLoaded store = (source source' : Input) × LoadsStore source (2 ^ 32) (Ok store) source'
+abbrev pub IsFromImage : StoreData → Type 0
+IsFromImage store = (source source' : Input) × LoadsStore source (2 ^ 32) (Ok store) source'
 
 -- an empty store with the settings of a text
 abbrev pub IsNew : Text → StoreData → Type 0

@@ -1,7 +1,7 @@
 //! The file of a store's image: loaded before the first request, and saved so that a crash leaves the old image or the
 //! new one.
 ghost use Rattle.std.specs.Prelude.{◌≡◌, IfOk, IfSome};
-ghost use Rattle.tsdb.specs.Services.{IsLoaded};
+ghost use Rattle.tsdb.specs.Services.{IsFromImage};
 
 use std::alloc::{AllocError, Global};
 use std::fs::OpenFile;
@@ -17,7 +17,7 @@ pub fn load_image<R: Files + AllocGlobal>(
     rt: &R,
     image: &str,
 ) -> Result<Option<Store<Global>>, LoadFault>
-    ensures { IfOk result (λ found. IfSome found IsLoaded) }
+    ensures { IfOk result (λ found. IfSome found IsFromImage) }
 {
     match fs::open(rt, image) {
         Ok(file) => {

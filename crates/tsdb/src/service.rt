@@ -4,7 +4,7 @@ ghost use Rattle.ts_core.specs.facts.Facts.{Text};
 ghost use Rattle.ts_core.specs.settings.SettingsTexts.{settings_read};
 ghost use Rattle.ts_core.specs.declared.settings.settings_fault.SettingsError.TheVariants as errors;
 ghost use Rattle.ts_core.specs.declared.settings.settings_fault.SettingsFault.{SettingsFault};
-ghost use Rattle.tsdb.specs.Services.{IsLoaded, IsNew, service_status, service_line};
+ghost use Rattle.tsdb.specs.Services.{IsFromImage, IsNew, service_status, service_line};
 
 use crate::command_line::Service;
 use crate::image_file::load_image;
@@ -123,7 +123,7 @@ fn open_store<R: Files + AllocGlobal>(
     rt: &R,
     service: &Service<'_>,
 ) -> Result<Store<Global>, ServiceFault>
-    ensures { IfOk result (λ store. IsLoaded store ⊎ ((text : Text) × IsNew text store)) }
+    ensures { IfOk result (λ store. IsFromImage store ⊎ ((text : Text) × IsNew text store)) }
 {
     match load_image(rt, service.image) {
         Ok(Some(store)) => return Ok(store),
