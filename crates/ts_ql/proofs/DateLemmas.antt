@@ -1,21 +1,44 @@
--- One step of what texts in quotes tell.
-use Rattle.std.proofs.Common.{◌≡◌, ℕ, ◌+◌, ◌*◌, ◌-◌, ◌<◌, ◌≤◌, true, ◌&&◌, cond, ltb, length, get_or, drop, arith, refl, ap, ◌∙◌, leb, Some, None, ℤ, pos, to_z, w8, ◌-ℤ◌, ◌*ℤ◌}
-use Rattle.std.proofs.lemmas.List.{at_drop_more, at_drop_all}
+-- The digits and the calendar of timestamps.
+use Rattle.std.proofs.Common.{◌≡◌, ℕ, ◌<◌, ◌≤◌, true, false, not, ◌==◌, eqb, ◌&&◌, [], ◌∷◌, length, arith, refl, ap, ◌∙◌, leb, Some, ℤ, pos, to_z, w8, ◌-ℤ◌, ◌*ℤ◌}
+use Rattle.std.specs.Prelude.{IsAscii}
 use Rattle.std.specs.Char.{is_ascii_digit}
-use Rattle.ts_core.specs.facts.Facts.{Text}
 use Rattle.std.specs.Int.{w16}
+use Rattle.std.specs.List.{list_all}
+use Rattle.std.specs.Str.{IsUtf8}
+use Rattle.std.proofs.lemmas.Bool.{and_parts, le-leb}
+use Rattle.std.proofs.lemmas.Bool.Decides.{nat_tests}
 use Rattle.std.proofs.lemmas.Int.{ints, to_z_pos}
-use Rattle.std.proofs.lemmas.Bool.{le-leb}
+use Rattle.std.proofs.lemmas.Str.{IsUtf8-from_ascii}
+use Rattle.std.proofs.lemmas.Str.Ascii.{IsAscii-nil, IsAscii-cons}
 use Rattle.jiff_core.specs.Calendar.{IsDate, days_in_month, days_from_civil}
-use Rattle.ts_ql.specs.Dates.{digits_after, is_date, midnight}
+use Rattle.ts_core.specs.facts.Facts.{Text}
+use Rattle.ts_core.specs.text.Numbers.{are_digits, is_number}
+use Rattle.ts_ql.specs.Dates.{is_date, midnight}
 
-pub digits_step : (n : ℕ) (text : Text) (i : ℕ) → i < length text
-    → digits_after n (drop i text) ≡ cond (is_ascii_digit (get_or text i 0) && ltb (n * 10 + (get_or text i 0 - 48)) 18446744073709551616)
-    (digits_after (n * 10 + (get_or text i 0 - 48)) (drop (i + 1) text)) None
-digits_step n text i lt = at_drop_more (digits_after n) text i 0 lt
+-- ---- digits
 
-pub digits_past : (n : ℕ) (text : Text) (i : ℕ) → length text ≤ i → digits_after n (drop i text) ≡ Some n
-digits_past n text i le = at_drop_all (digits_after n) text i le
+digit_is_small : (b : ℕ) → is_ascii_digit b ≡ true → b < 128
+digit_is_small b e = grind (arith, nat_tests)
+
+digits_are_ascii : (text : Text) → list_all is_ascii_digit text ≡ true → IsAscii text
+digits_are_ascii [] e = IsAscii-nil
+digits_are_ascii (b ∷ bs) e =
+    let p = and_parts (is_ascii_digit b) (list_all is_ascii_digit bs) e in
+    IsAscii-cons b bs (digit_is_small b p.0) (digits_are_ascii bs p.1)
+
+pub digits_are_utf8 : (text : Text) → are_digits text ≡ true → IsUtf8 text
+digits_are_utf8 text e =
+    IsUtf8-from_ascii text (digits_are_ascii text (and_parts (not (length text == 0)) (list_all is_ascii_digit text) e).1)
+
+digit_is_no_minus : (b : ℕ) → is_ascii_digit b ≡ true → (b == 45) ≡ false
+digit_is_no_minus b e = grind (arith, nat_tests)
+
+pub digits_are_number : (text : Text) → are_digits text ≡ true → is_number text ≡ true
+unfolding is_number
+digits_are_number [] e = e
+digits_are_number (b ∷ bs) e =
+    let all = (and_parts (not (length (b ∷ bs) == 0)) (list_all is_ascii_digit (b ∷ bs)) e).1 in
+    rw (digit_is_no_minus b (and_parts (is_ascii_digit b) (list_all is_ascii_digit bs) all).0) e
 
 -- ---- the calendar
 

@@ -1,20 +1,15 @@
 -- Timestamps in quotes, in UTC.
 -- (InfluxData 1.8, InfluxQL reference, dates & times: YYYY-MM-DD, YYYY-MM-DD HH:MM:SS.nnnnnnnnn, RFC 3339. Own rule: Z
 -- or none.)
-use Rattle.std.specs.Prelude.{ℕ, ℤ, pos, ◌+◌, ◌-◌, ◌*◌, ◌+ℤ◌, ◌*ℤ◌, [], ◌∷◌, length, drop, take, slice_index, slice_range, Bool, ◌&&◌, ◌||◌, ◌==◌, nat_lt, nat_le, if◌then◌else◌, Option, Some, None, option_and_then, option_map}
-use Rattle.std.specs.Char.{is_ascii_digit}
+use Rattle.std.specs.Prelude.{ℕ, ℤ, pos, ◌+◌, ◌-◌, ◌*◌, ◌+ℤ◌, ◌*ℤ◌, length, drop, take, slice_index, slice_range, Bool, ◌&&◌, ◌||◌, ◌==◌, nat_lt, nat_le, if◌then◌else◌, Option, Some, None, option_and_then, option_map, unsigned_abs}
 use Rattle.jiff_core.specs.Calendar.{days_in_month, days_from_civil}
 use Rattle.ts_core.specs.facts.Facts.{Text}
+use Rattle.ts_core.specs.text.Numbers.{are_digits, whole_of}
 use Rattle.ts_ql.specs.Literals.{within}
 
--- digits that continue the number n; none if a byte is no digit, or past 64 bits
-abbrev pub digits_after : ℕ → Text → Option ℕ
-digits_after n [] = Some n
-digits_after n (b ∷ bs) =
-    if is_ascii_digit b && nat_lt (n * 10 + (b - 48)) 18446744073709551616 then digits_after (n * 10 + (b - 48)) bs else None
-
+-- the number of one or more digits, if it has 63 bits
 unfoldable pub digits : Text → Option ℕ
-digits text = digits_after 0 text
+digits text = if are_digits text then option_map unsigned_abs (whole_of text) else None
 
 -- ---- dates
 

@@ -3,24 +3,20 @@ ghost use Rattle.std.specs.Prelude.{◌≡◌, ◌≤ℤ◌, pos, neg_ℤ, IfSom
 ghost use Rattle.ts_ql.specs.Dates.{digits, midnight, date_of, place_value, fraction, clock_nanos, time_of_day, without_zone, timestamp_of};
 
 use jiff::civil::{Date, date};
-use ts_core::with_digit;
+use ts_core::{are_digits, whole};
 
-/// Parses decimal digits. Returns `None` for any other byte and for a value over 64 bits.
-#[tactic(auto, using(crate::proofs::DateLemmas::digits_step, crate::proofs::DateLemmas::digits_past), unfolding(crate::specs::Dates::digits))]
+/// Parses one or more digits. Returns `None` for any other text, and for a number over 63 bits.
+#[tactic(auto, unfolding(crate::specs::Dates::digits))]
 fn digits(text: &[u8]) -> Option<u64>
     ensures { result ≡ digits text.now }
 {
-    let mut number = 0u64;
-    let mut at = 0;
-    while at < text.len() {
-        let byte = text[at];
-        if !byte.is_ascii_digit() {
-            return None;
-        }
-        number = with_digit(number, byte - b'0')?;
-        at += 1;
+    if !are_digits(text) {
+        return None;
     }
-    Some(number)
+    let Ok(text) = str::from_utf8(text) else {
+        unreachable!()
+    };
+    Some(whole(text)?.unsigned_abs())
 }
 
 /// Returns midnight of a day, in nanoseconds of the Unix epoch; `None` if the calendar has no such day.
