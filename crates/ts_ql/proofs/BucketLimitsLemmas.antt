@@ -5,10 +5,10 @@ use Rattle.ts_core.specs.facts.Times.{least_time}
 use Rattle.ts_core.specs.queries.Queries.{Query}
 use Rattle.ts_core.specs.queries.Answers.{at_least_none, numbers_from, bucket_in}
 use Rattle.ts_core.proofs.lists.Comparisons.{lt_from}
+use Rattle.ts_core.specs.declared.aggregates.bucket.Buckets.{Buckets}
 use Rattle.ts_ql.specs.declared.query.Span.{Span}
 use Rattle.ts_ql.specs.BucketLimits.{IsLimited}
 use Rattle.ts_ql.specs.QueryFaults.{Fault}
-use Rattle.ts_ql.specs.Selects.{Buckets}
 use Rattle.ts_ql.specs.Statements.{first_start, buckets_between, span_fault}
 
 length_numbers : (k : ℤ) (n : ℕ) → length (numbers_from k n) ≡ n
@@ -65,13 +65,3 @@ limited q start span one range from to none =
       few = few_if (int_lt q.from q.to) (bucket_in q q.from) (bucket_in q (q.to -ℤ pos 1))
           (λ t. let far = (inside (some (lt_from q.from q.to t))).1 in subst (λ (z : ℤ). buckets_between z q.to b <ℤ pos 10000) (sym from) (subst (λ (z : ℤ). buckets_between span.from z b <ℤ pos 10000) (sym to) far));
     }
-
--- the limits are of the range and the buckets alone
-pub limited_as : (p q : Query) → p.from ≡ q.from → p.to ≡ q.to → p.interval ≡ q.interval → p.offset ≡ q.offset → IsLimited p → IsLimited q
-limited_as p q from to interval offset l =
-    let at : (a b i o : ℤ) → Query = λ a b i o. record { measurement = q.measurement; field = q.field; conditions = q.conditions; from = a; to = b; interval = i; offset = o; group_tags = q.group_tags } in
-    let here : IsLimited (at p.from p.to p.interval p.offset) = record { query = record { interval = l.query.interval; range = l.query.range }; start = l.start; few = l.few } in
-    subst (λ (z : ℤ). IsLimited (at q.from q.to q.interval z)) offset
-    (subst (λ (z : ℤ). IsLimited (at q.from q.to z p.offset)) interval
-    (subst (λ (z : ℤ). IsLimited (at q.from z p.interval p.offset)) to
-    (subst (λ (z : ℤ). IsLimited (at z p.to p.interval p.offset)) from here)))

@@ -2,6 +2,7 @@
 use Rattle.std.proofs.Common.{◌≡◌, inl, inr, ℤ, pos, List, [], ◌∷◌, ◌++◌, Bool, true, false, Option, Some, None, Result, Ok, Err, map, refl, sym, ap, ◌∙◌, subst}
 use Rattle.std.specs.Prelude.{codes, int_le, if◌then◌else◌}
 use Rattle.std.specs.Option.{unwrap_or}
+use Rattle.ts_core.specs.declared.aggregates.bucket.Buckets.{Buckets}
 use Rattle.ts_ql.specs.declared.state.State.{State}
 use Rattle.ts_ql.specs.declared.state.State.TheVariants as states
 use Rattle.ts_ql.specs.declared.token.Kind.{Kind}
@@ -14,7 +15,7 @@ use Rattle.ts_ql.specs.Laws.{Reach, Reads}
 use Rattle.ts_ql.specs.Literals.{is_word, literal, text_spelled}
 use Rattle.ts_ql.specs.Meanings.{buckets_of, offset_by, after_dimension}
 use Rattle.ts_ql.specs.Reading.{Progress, Advance, with_builder, in_groups}
-use Rattle.ts_ql.specs.Selects.{Select, Buckets, of_interval, moved, with_text}
+use Rattle.ts_ql.specs.Selects.{Select, of_interval, moved, with_text}
 use Rattle.ts_ql.specs.Productions.{literal_fault, again_fault, interval_fault, interval_fault_of, spell_offset, spell_tag_type}
 use Rattle.ts_ql.specs.Tokens.{Lexeme}
 use Rattle.ts_ql.specs.Words.{is_time}

@@ -5,6 +5,7 @@ use Rattle.std.specs.Option.{unwrap_or}
 use Rattle.ts_core.specs.facts.Facts.{Text}
 use Rattle.ts_core.specs.declared.queries.value.Function.{Function}
 use Rattle.ts_core.specs.declared.queries.fill.Fill.TheVariants as fills
+use Rattle.ts_core.specs.declared.aggregates.bucket.Buckets.{Buckets}
 use Rattle.ts_ql.specs.declared.moment.Comparison.{Comparison}
 use Rattle.ts_ql.specs.declared.state.State.{State}
 use Rattle.ts_ql.specs.declared.state.State.TheVariants as states
@@ -16,7 +17,7 @@ use Rattle.ts_ql.specs.Ranges.{bounded}
 use Rattle.ts_ql.specs.Literals.{literal}
 use Rattle.ts_ql.specs.Meanings.{field_after, projection_of, after_call, after_calls, after_from, total_after, changed_all, instant_value, after_cond, after_filter, buckets_of, offset_by, after_dimension, after_dimensions, after_group, fill_of, after_fill, statement_meaning, ending_queries}
 use Rattle.ts_ql.specs.Reading.{Progress}
-use Rattle.ts_ql.specs.Selects.{Select, Buckets, moved}
+use Rattle.ts_ql.specs.Selects.{Select, moved}
 use Rattle.ts_ql.specs.Productions.{field_fault, literal_fault, interval_fault, change_fault, type_word, spell_type, spell_alias, spell_call, spell_calls, spell_from, kind_of_measure, spell_changes, spell_instant, kind_of_comparison, spell_tag_type, equality, spell_cond, spell_filter, spell_signed, spell_offset, spell_dimension, spell_dimensions, spell_group, spell_option, spell_fill, spell_statement, spell_ending}
 use Rattle.ts_ql.specs.Statements.{Meaning}
 use Rattle.ts_ql.specs.Tokens.{Lexeme}

@@ -96,6 +96,10 @@ told_more names columns i c name lt is told other new e =
 pub wider : (z : ℤ) → FitsSigned w64 z → FitsSigned w128 z
 wider z f = omega (arith, ints)
 
+-- the bucket of a time near the epoch has an index near 0
+pub near_bound : (index time : ℤ) → unsigned_abs time ≤ 2 ^ 64 → unsigned_abs index ≤ unsigned_abs time + 2 ^ 64 → unsigned_abs index ≤ 2 ^ 66
+near_bound index time near h = omega arith
+
 pub far_cast : (a b : ℤ) → unsigned_abs a ≤ 2 ^ 66 → unsigned_abs b ≤ 2 ^ 66 → to_z w128 (of_z w128 (to_z w128 (of_z w128 a) -ℤ to_z w128 (of_z w128 b))) ≡ a -ℤ b
 far_cast a b ba bb =
     let fa : FitsSigned w128 a = omega (arith, ints) in

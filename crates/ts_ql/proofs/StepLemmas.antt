@@ -9,6 +9,7 @@ use Rattle.ts_ql.specs.declared.state.State.{State}
 use Rattle.ts_ql.specs.declared.state.State.TheVariants as states
 use Rattle.ts_core.specs.declared.queries.fill.Fill.TheVariants as fills
 use Rattle.ts_core.specs.declared.queries.value.Function.{Function}
+use Rattle.ts_core.specs.declared.aggregates.bucket.Buckets.{Buckets}
 use Rattle.ts_ql.specs.declared.token.Kind.{Kind}
 use Rattle.ts_ql.specs.declared.token.Kind.TheVariants as kinds
 use Rattle.ts_ql.specs.Dates.{timestamp_of}
@@ -20,7 +21,7 @@ use Rattle.ts_ql.specs.MomentSteps.{moment_at, moment_step, based, later_by, ear
 use Rattle.ts_ql.specs.declared.state.Clause.{Clause}
 use Rattle.ts_ql.specs.declared.state.Clause.TheVariants as clauses
 use Rattle.ts_ql.specs.Reading.{BuilderResult, finish_time_step, in_selection, in_filter, in_moment, in_groups, in_filling, clause_of, builder_at, builder_step, group_alone, fill_alone, clause_at, next_clause, is_end, may_end, Progress, Advance, begun_at, begun, after_end, ended_with, ended, with_builder, clause_or, continued, placed_at, after_finishing_time, step, is_done}
-use Rattle.ts_ql.specs.Selects.{Buckets, Select, with_text, of_interval}
+use Rattle.ts_ql.specs.Selects.{Select, with_text, of_interval}
 use Rattle.ts_ql.specs.SelectSteps.{Selected, select_at, select_step, with_function, with_call_field, with_default}
 use Rattle.ts_ql.specs.Statements.{statement_query}
 use Rattle.ts_ql.specs.Tokenizing.{is_end_of_text}

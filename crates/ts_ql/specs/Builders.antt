@@ -4,7 +4,7 @@ use Rattle.ts_ql.specs.declared.filling.Filling.{Filling}
 use Rattle.ts_ql.specs.declared.moment.Moment.{Moment}
 use Rattle.ts_ql.specs.declared.moment.Range.{Range}
 use Rattle.ts_ql.specs.declared.statement.StatementBuilder.{StatementBuilder}
-use Rattle.ts_ql.specs.GroupSteps.{Grouped, grouped, empty_groups, no_fill}
+use Rattle.ts_ql.specs.GroupSteps.{Grouped, empty_groups, no_fill}
 use Rattle.ts_ql.specs.MomentSteps.{no_moment}
 use Rattle.ts_ql.specs.Ranges.{unbounded}
 use Rattle.ts_ql.specs.SelectSteps.{Selected, selected, empty_selection}
@@ -26,7 +26,7 @@ builder_state d = record {
   filter = filtered d.filter;
   moment = d.moment;
   range = d.range;
-  groups = grouped d.groups;
+  groups = d.groups;
   filling = d.filling;
 }
 

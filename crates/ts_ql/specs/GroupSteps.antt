@@ -1,11 +1,11 @@
 -- Effect of each token in GROUP BY and FILL.
 -- (InfluxData 1.8, InfluxQL: the GROUP BY clause, GROUP BY time intervals, the offset interval, fill().)
-use Rattle.std.specs.Prelude.{ℕ, ℤ, pos, int_le, List, [], true, false, Option, Some, None, Result, Ok, Err, if◌then◌else◌, codes}
+use Rattle.std.specs.Prelude.{ℕ, ℤ, pos, ◌≤ℤ◌, int_le, List, [], true, false, Option, Some, None, IfSome, Result, Ok, Err, if◌then◌else◌, codes}
 use Rattle.ts_core.specs.facts.Facts.{Text}
 use Rattle.ts_core.specs.declared.queries.fill.Fill.{Fill}
 use Rattle.ts_core.specs.declared.queries.fill.Fill.TheVariants as fills
-use Rattle.ts_ql.specs.Selects.{texts, Buckets, with_text, of_interval, moved}
-use Rattle.ts_ql.specs.declared.groups.Groups.{Groups}
+use Rattle.ts_core.specs.declared.aggregates.bucket.Buckets.{Buckets}
+use Rattle.ts_ql.specs.Selects.{with_text, of_interval, moved}
 use Rattle.ts_ql.specs.declared.filling.Filling.{Filling}
 use Rattle.ts_ql.specs.declared.state.State.{State}
 use Rattle.ts_ql.specs.declared.state.State.TheVariants as states
@@ -22,8 +22,9 @@ pub record Grouped : Type 0 where
   pub first : ℕ
   pub tags : List Text
 
-abbrev pub grouped : {A : Type 0} → Groups A → Grouped
-grouped g = record { buckets = g.buckets; first = g.first; tags = texts g.tags.keys }
+-- an interval is at least 1 nanosecond
+abbrev pub HasInterval : Option Buckets → Type 0
+HasInterval buckets = IfSome buckets (λ b. pos 1 ≤ℤ b.interval)
 
 abbrev pub empty_groups : Grouped
 empty_groups = record { buckets = None; first = 0; tags = [] }

@@ -5,6 +5,7 @@ use Rattle.std.specs.Option.{unwrap_or}
 use Rattle.ts_core.specs.facts.Facts.{Text}
 use Rattle.ts_core.specs.facts.Times.{least_time, greatest_time}
 use Rattle.ts_core.specs.declared.queries.value.Function.{Function}
+use Rattle.ts_core.specs.declared.aggregates.bucket.Buckets.{Buckets}
 use Rattle.ts_ql.specs.declared.moment.Comparison.{Comparison}
 use Rattle.ts_ql.specs.declared.moment.Comparison.TheVariants as comparisons
 use Rattle.ts_ql.specs.declared.token.Kind.{Kind}
@@ -13,7 +14,7 @@ use Rattle.ts_ql.specs.QueryFaults.{Fault, OutOfRange, TooManyStatements, unsupp
 use Rattle.ts_ql.specs.Grammar.{Keyword, Word, Name, Tag, Time, Of, Item, Any, This, Examine, FieldType, Field, Integer, Call, FromClause, Measurement, Subquery, Measure, Count, Duration, Base, Number, Negative, Quoted, Now, Change, Instant, Cond, Compare, Match, Group, And, Signed, Dimension, Every, ByTag, GroupBy, FillOption, NullOption, NoneOption, PreviousOption, NumberOption, Statement, Ending, Stop, Close, Next, Script}
 use Rattle.ts_ql.specs.Literals.{literal}
 use Rattle.ts_ql.specs.Meanings.{no_meaning, base_start, base_value, total_after, after_call, after_calls, after_from, after_filter, after_dimension, statement_meaning, signed_start, signed_value}
-use Rattle.ts_ql.specs.Selects.{Select, Buckets}
+use Rattle.ts_ql.specs.Selects.{Select}
 use Rattle.ts_ql.specs.Statements.{Meaning, statement_query}
 use Rattle.ts_ql.specs.Tokens.{Lexeme}
 use Rattle.ts_ql.specs.Words.{function_called, named}

@@ -4,6 +4,7 @@ use Rattle.std.specs.Prelude.{ℤ, pos, int_le, List, [], ◌∷◌, map, Option
 use Rattle.std.specs.declared.cmp.Ordering.{Ordering}
 use Rattle.std.specs.declared.cmp.Ordering.TheVariants as orders
 use Rattle.ts_core.specs.facts.Facts.{Text, text_cmp}
+use Rattle.ts_core.specs.declared.aggregates.bucket.Buckets.{Buckets}
 use Rattle.ts_core.specs.declared.queries.fill.Fill.{Fill}
 use Rattle.ts_core.specs.declared.queries.value.Function.{Function}
 use Rattle.ts_core.specs.declared.queries.value.Function.TheVariants.{Count, Sum, Min, Max, First, Last, Mean}
@@ -19,12 +20,7 @@ function_name First = codes "first"
 function_name Last = codes "last"
 function_name Mean = codes "mean"
 
--- time buckets: an interval of at least 1 nanosecond, and an offset
-pub record Buckets : Type 0 where
-  pub interval : ℤ
-  pub offset : ℤ
-
--- buckets of this interval, if it is at least 1 nanosecond
+-- the buckets of this interval, if it is at least 1 nanosecond
 abbrev pub of_interval : ℤ → Option Buckets
 of_interval interval = if int_le (pos 1) interval then Some (record { interval = interval; offset = pos 0 }) else None
 

@@ -1,18 +1,19 @@
 -- The query of a complete statement.
 -- (InfluxData 1.8, InfluxQL: time syntax, GROUP BY time intervals. Own rules: a lower bound, at most 10,000 buckets.)
-use Rattle.std.specs.Prelude.{ℕ, ℤ, pos, ◌+ℤ◌, ◌-ℤ◌, ◌*ℤ◌, int_le, int_lt, List, [], ◌∷◌, Bool, false, ◌||◌, Option, Some, None, Result, Ok, Err, if◌then◌else◌, codes, bytes_eq}
+use Rattle.std.specs.Prelude.{ℕ, ℤ, pos, ◌+ℤ◌, ◌-ℤ◌, int_le, int_lt, List, [], ◌∷◌, Bool, false, ◌||◌, Option, Some, None, Result, Ok, Err, if◌then◌else◌, codes, bytes_eq}
 use Rattle.std.specs.Int.{int_max}
 use Rattle.std.specs.Option.{unwrap_or}
 use Rattle.std.specs.List.{list_any}
-use Rattle.ts_core.specs.aggregates.Buckets.{bucket_of}
+use Rattle.ts_core.specs.aggregates.Buckets.{bucket_of, bucket_start}
 use Rattle.ts_core.specs.declared.queries.fill.Fill.{Fill}
 use Rattle.ts_core.specs.facts.Facts.{Text}
 use Rattle.ts_core.specs.queries.Queries.{Condition}
 use Rattle.ts_core.specs.facts.Times.{least_time}
+use Rattle.ts_core.specs.declared.aggregates.bucket.Buckets.{Buckets}
 use Rattle.ts_ql.specs.declared.moment.Range.{Range}
 use Rattle.ts_ql.specs.declared.query.Span.{Span}
 use Rattle.ts_ql.specs.QueryFaults.{Fault, OutOfProfile, NoLowerBound, RepeatedColumn, TooManyBuckets, BucketBeforeLeastTime}
-use Rattle.ts_ql.specs.Selects.{Projection, Select, Buckets}
+use Rattle.ts_ql.specs.Selects.{Projection, Select}
 
 -- some column has this name
 abbrev pub has_column : Text → List Projection → Bool
@@ -40,7 +41,7 @@ range_end now from None = int_max from (now +ℤ pos 1)
 range_end now from (Some upper) = int_max from upper
 
 abbrev pub first_start : ℤ → Buckets → ℤ
-first_start from b = (bucket_of from b.interval b.offset *ℤ b.interval) +ℤ b.offset
+first_start from b = bucket_start (bucket_of from b.interval b.offset) b.interval b.offset
 
 -- index of the last bucket minus index of the first
 abbrev pub buckets_between : ℤ → ℤ → Buckets → ℤ

@@ -1,8 +1,11 @@
 //! Parser of the GROUP BY clause: the interval with its offset, and the tags.
 ghost use Rattle.std.specs.Prelude.{◌≡◌, IfOk, false};
+ghost use Rattle.std.specs.List.Sorted.{IsStrictlySortedBy};
+ghost use Rattle.ts_core.specs.facts.Facts.{text_cmp};
 ghost use Rattle.ts_ql.specs.QueryFaults.{GivesWith};
-ghost use Rattle.ts_ql.specs.GroupSteps.{grouped, empty_groups, item_at, with_interval, with_offset, group_step};
+ghost use Rattle.ts_ql.specs.GroupSteps.{HasInterval, empty_groups, item_at, with_interval, with_offset, group_step};
 ghost use Rattle.ts_ql.specs.Literals.{literal};
+ghost use Rattle.ts_ql.specs.Selects.{texts};
 ghost use Rattle.ts_ql.specs.Tokens.{lexeme};
 
 use crate::fault::{ParseError, QlFaultKind};
@@ -12,85 +15,33 @@ use crate::token::{Kind, Token};
 use std::alloc::{AllocError, Allocator};
 use std::collections::BTreeSet;
 use std::marker::Model;
-
-/// Time buckets, in nanoseconds.
-#[derive(Clone, Copy, Debug)]
-pub(crate) struct Buckets {
-    interval: i64,
-    offset: i64,
-}
-
-impl Model for Buckets {
-    ghost use Rattle.std.specs.Prelude.{◌≤ℤ◌, pos};
-    ghost use Rattle.ts_ql.specs.Selects.{Buckets as BucketsValue};
-
-    ghost Value = { BucketsValue };
-
-    ghost view = { λ b. record { interval = b.interval; offset = b.offset } };
-
-    ghost invariant = { λ b. pos 1 ≤ℤ b.interval };
-
-    ghost inverse = { λ v. record { interval = v.interval; offset = v.offset } };
-}
-
-impl Buckets {
-    ghost use Rattle.std.specs.Prelude.{◌≡◌, ◌≤ℤ◌, pos};
-    ghost use Rattle.ts_ql.specs.Selects.{of_interval};
-
-    /// Creates buckets of this interval with offset 0; returns `None` if the interval is less than 1 nanosecond.
-    pub(crate) fn new(interval: i64) -> Option<Buckets>
-        ensures { result ≡ of_interval interval }
-    {
-        if interval >= 1 {
-            Some(Buckets {
-                interval,
-                offset: 0,
-            })
-        } else {
-            None
-        }
-    }
-
-    /// Returns the buckets with another offset.
-    fn with_offset(self, offset: i64) -> Buckets
-        ensures { result ≡ record self { offset = offset } }
-    {
-        Buckets {
-            interval: self.interval,
-            offset,
-        }
-    }
-
-    /// Returns the length of a bucket.
-    pub(crate) fn interval(self) -> i64
-        ensures value { result ≡ self.interval }
-        ensures some { pos 1 ≤ℤ result }
-    {
-        self.interval
-    }
-
-    /// Returns the offset of the bucket grid from the Unix epoch.
-    pub(crate) fn offset(self) -> i64
-        ensures { result ≡ self.offset }
-    {
-        self.offset
-    }
-}
+use ts_core::Buckets;
 
 /// Builder of the GROUP BY clause.
 #[derive(Drop)]
 pub(crate) struct Groups<A: Allocator> {
-    pub buckets: Option<Buckets>,
+    buckets: Option<Buckets>,
     /// Offset in the text of the first token of the bucket offset.
-    pub first: usize,
+    first: usize,
     /// Group tags, a sorted set.
-    pub tags: BTreeSet<String<A>, A>,
+    tags: BTreeSet<String<A>, A>,
+}
+
+impl<A: Allocator> Model for Groups<A> {
+    ghost use Rattle.ts_ql.specs.GroupSteps.{Grouped, HasInterval};
+    ghost use Rattle.ts_ql.specs.Selects.{texts};
+
+    ghost Value = { Grouped };
+
+    ghost view = { λ g. record { buckets = g.buckets; first = g.first; tags = texts g.tags.keys } };
+
+    ghost invariant = { λ g. HasInterval g.buckets };
 }
 
 impl<A: Allocator + Copy> Groups<A> {
     /// Creates the builder without buckets or tags.
     pub(crate) fn new(alloc: A) -> Groups<A>
-        ensures { grouped result ≡ empty_groups }
+        ensures { result ≡ empty_groups }
     {
         Groups {
             buckets: None,
@@ -101,7 +52,7 @@ impl<A: Allocator + Copy> Groups<A> {
 
     /// Consumes the column that an item begins with; returns the next state. Fails at a second `time`.
     fn take_column<'a>(&mut self, alloc: A, token: &Token<'a>) -> Result<State, ParseError<'a>>
-        ensures { GivesWith result (grouped self.new) (item_at (lexeme token.now) (grouped self.old)) }
+        ensures { GivesWith result self.new (item_at (lexeme token.now) self.old) }
     {
         if token.is_time() {
             return match self.buckets {
@@ -116,15 +67,18 @@ impl<A: Allocator + Copy> Groups<A> {
 
     /// Consumes the interval; returns the next state. Fails with `OutOfRange`.
     fn take_interval<'a>(&mut self, token: &Token<'a>) -> Result<State, ParseError<'a>>
-        ensures { GivesWith result (grouped self.new) (with_interval (lexeme token.now) (grouped self.old) (literal false token.now.text.now)) }
+        ensures { GivesWith result self.new (with_interval (lexeme token.now) self.old (literal false token.now.text.now)) }
     {
-        if let Some(interval) = literal(false, token.text) {
-            if let Some(buckets) = Buckets::new(interval) {
-                self.buckets = Some(buckets);
-                return Ok(State::IntervalEnd);
+        match literal(false, token.text) {
+            Some(interval) if interval >= 1 => {
+                self.buckets = Some(Buckets {
+                    interval,
+                    offset: 0,
+                });
+                Ok(State::IntervalEnd)
             }
+            _ => Err(ParseError::Fault(QlFaultKind::OutOfRange.at(token.start))),
         }
-        Err(ParseError::Fault(QlFaultKind::OutOfRange.at(token.start)))
     }
 
     /// Consumes the bucket offset, whose first token is at `first`; returns the next state. Fails with `OutOfRange` at
@@ -135,12 +89,12 @@ impl<A: Allocator + Copy> Groups<A> {
         negative: bool,
         token: &Token<'a>,
     ) -> Result<State, ParseError<'a>>
-        ensures { GivesWith result (grouped self.new) (with_offset first (grouped self.old) (literal negative token.now.text.now)) }
+        ensures { GivesWith result self.new (with_offset first self.old (literal negative token.now.text.now)) }
     {
         match literal(negative, token.text) {
             Some(offset) => {
                 self.buckets = match self.buckets {
-                    Some(buckets) => Some(buckets.with_offset(offset)),
+                    Some(buckets) => Some(Buckets { offset, ..buckets }),
                     None => None,
                 };
                 Ok(State::OffsetEnd)
@@ -157,7 +111,7 @@ impl<A: Allocator + Copy> Groups<A> {
         state: State,
         token: &Token<'a>,
     ) -> Result<State, ParseError<'a>>
-        ensures { GivesWith result (grouped self.new) (group_step state (lexeme token.now) (grouped self.old)) }
+        ensures { GivesWith result self.new (group_step state (lexeme token.now) self.old) }
     {
         match (state, token.kind) {
             (State::GroupBy, Kind::Keyword) if is_word(token.text, "by") => Ok(State::Item),
@@ -179,10 +133,20 @@ impl<A: Allocator + Copy> Groups<A> {
         }
     }
 
+    /// Returns the buckets, or `None` without `time(..)`.
+    pub(crate) fn buckets(&self) -> Option<Buckets>
+        ensures value { result ≡ self.now.buckets }
+        ensures interval { HasInterval result }
+    {
+        self.buckets
+    }
+
     /// Returns the tags in byte order, without duplicates.
     pub(crate) fn into_tags(self, alloc: A) -> Result<Vec<String<A>, A>, AllocError>
-        ensures { IfOk result (λ tags. tags.items ≡ self.tags.keys) }
+        ensures value { IfOk result (λ tags. texts tags.items ≡ self.tags) }
+        ensures order { IfOk result (λ tags. IsStrictlySortedBy text_cmp (texts tags.items)) }
     {
+        let _order = self.tags.iter();
         self.tags.into_iter().collect(alloc)
     }
 }

@@ -1,7 +1,6 @@
 //! Turns a complete statement into a query.
-ghost use Rattle.std.specs.Prelude.{◌≡◌, ◌≤ℤ◌, ◌≤◌, ◌^◌, IfOk, IfSome, false, int_le, int_lt, pos, unsigned_abs, [], option_map, string_bytes};
+ghost use Rattle.std.specs.Prelude.{◌≡◌, ◌≤ℤ◌, IfOk, IfSome, false, int_le, int_lt, pos, [], option_map, string_bytes};
 ghost use Rattle.std.specs.Option.{unwrap_or};
-ghost use Rattle.ts_core.specs.aggregates.Buckets.{bucket_of};
 ghost use Rattle.ts_core.specs.facts.Times.{least_time};
 ghost use Rattle.ts_ql.specs.BucketLimits.{IsLimited};
 ghost use Rattle.ts_ql.specs.QueryFaults.{Gives, GivesWith, option_as_fault};
@@ -14,7 +13,7 @@ ghost use Rattle.ts_ql.specs.Builders.{builder_state, empty_builder, meaning};
 use crate::fault::{ParseError, QlFault, QlFaultKind};
 use crate::filling::Filling;
 use crate::filter::{Filter, after_term};
-use crate::groups::{Buckets, Groups};
+use crate::groups::Groups;
 use crate::moment::{Moment, Range};
 use crate::query::{Projection, Query, QueryParts, Span};
 use crate::selection::Selection;
@@ -22,7 +21,7 @@ use crate::state::{Clause, State};
 use crate::token::{Kind, Token};
 use std::alloc::{AllocError, Allocator};
 use std::collections::BTreeSet;
-use ts_core::{Bucket, Time};
+use ts_core::{Buckets, Time};
 
 /// Builder of a statement.
 #[derive(Drop)]
@@ -68,39 +67,28 @@ fn span_of(range: &Range, now: Time) -> Option<Span>
     })
 }
 
-/// Returns the bucket that contains a nanosecond.
-fn bucket_at(at: i128, buckets: Buckets) -> Bucket
-    requires { unsigned_abs at ≤ 2 ^ 64 }
-    ensures index { result.index ≡ bucket_of at buckets.interval buckets.offset }
-    ensures start { result.start ≡ first_start at buckets }
-    ensures bound { unsigned_abs result.index ≤ 2 ^ 66 }
-{
-    let buckets = ts_core::Buckets {
-        interval: buckets.interval(),
-        offset: buckets.offset(),
-    };
-    buckets.bucket(at)
-}
-
 /// Returns true if the first bucket of a range starts before the least time.
 fn starts_early(span: &Span, buckets: Buckets) -> bool
+    requires { pos 1 ≤ℤ buckets.interval }
     ensures { result ≡ int_lt (first_start span.now.from buckets) least_time }
 {
-    bucket_at(i128::from(span.from), buckets).start < -9_223_372_036_854_775_806
+    buckets.bucket(i128::from(span.from)).start < -9_223_372_036_854_775_806
 }
 
 /// Returns true if a non-empty range has more than 10,000 buckets.
 fn has_too_many(span: &Span, buckets: Buckets) -> bool
+    requires { pos 1 ≤ℤ buckets.interval }
     ensures { result ≡ int_le (pos 10000) (buckets_between span.now.from span.now.to buckets) }
 {
-    let first = bucket_at(i128::from(span.from), buckets);
-    let last = bucket_at(i128::from(span.to) - 1, buckets);
-    last.index - first.index >= 10_000
+    let first = buckets.index(i128::from(span.from));
+    let last = buckets.index(i128::from(span.to) - 1);
+    last - first >= 10_000
 }
 
 /// Checks the buckets of a range. Returns `BucketBeforeLeastTime` or `TooManyBuckets`, or `None` if they are valid.
 #[tactic(auto, unfolding(crate::specs::Statements::span_fault))]
 fn span_fault<'a>(start: usize, buckets: Buckets, span: &Span) -> Option<QlFault<'a>>
+    requires { pos 1 ≤ℤ buckets.interval }
     ensures { option_as_fault result ≡ span_fault start buckets span.now }
 {
     if span.to <= span.from {
@@ -153,13 +141,12 @@ impl<A: Allocator + Copy> StatementBuilder<A> {
         if repeats(alloc, self.selection.columns.as_slice())? {
             return Err(ParseError::Fault(QlFaultKind::RepeatedColumn.at(start)));
         }
-        let Some(buckets) = self.groups.buckets else {
+        let Some(buckets) = self.groups.buckets() else {
             return Err(ParseError::Fault(QlFaultKind::OutOfProfile("GROUP BY time").at(start)));
         };
         let Some(span) = span_of(&self.range, now) else {
             return Err(ParseError::Fault(QlFaultKind::NoLowerBound.at(start)));
         };
-        let _interval = buckets.interval();
         match span_fault(start, buckets, &span) {
             Some(fault) => Err(ParseError::Fault(fault)),
             None => Ok(self.over(alloc, buckets, span)?),
@@ -175,9 +162,7 @@ impl<A: Allocator + Copy> StatementBuilder<A> {
         let mut selection = self.selection;
         let filter = self.filter;
         let field = or_empty(alloc, selection.field.take());
-        let groups = self.groups;
-        let _order = groups.tags.iter();
-        let tags = groups.into_tags(alloc)?;
+        let tags = self.groups.into_tags(alloc)?;
         Ok(Query::new(QueryParts {
             columns: selection.columns,
             fill: self.filling.fill,
@@ -186,8 +171,8 @@ impl<A: Allocator + Copy> StatementBuilder<A> {
             conditions: filter.conditions,
             from: span.from,
             to: span.to,
-            interval: buckets.interval(),
-            offset: buckets.offset(),
+            interval: buckets.interval,
+            offset: buckets.offset,
             group_tags: tags,
         }))
     }
