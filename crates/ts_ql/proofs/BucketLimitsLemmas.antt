@@ -29,7 +29,7 @@ few_if : (b : Bool) (k l : ℤ) → (b ≡ true → (l -ℤ k) <ℤ pos 10000) �
 few_if true k l h = few_from k l (h refl)
 few_if false k l h = omega arith
 
--- what none of the tests found
+-- if no test found a fault, the two tests of buckets failed
 none_found : (empty early many : Bool) (f g : Fault) → cond empty None (cond early (Some f) (cond many (Some g) None)) ≡ None → empty ≡ false → (early ≡ false) × (many ≡ false)
 none_found true early many f g e h = cc
 none_found false true many f g e h = cc
@@ -45,14 +45,14 @@ not_le x y h = grind (arith, ints)
 le_not : (x y : ℤ) → y <ℤ x → int_le x y ≡ false
 le_not x y h = grind (arith, ints)
 
--- a range that isn't empty, and is at no fault
+-- a non-empty range without a fault is within the limits
 within : (start : ℕ) (b : Buckets) (span : Span) → span_fault start b span ≡ None → span.from <ℤ span.to → (least_time ≤ℤ first_start span.from b) × (buckets_between span.from span.to b <ℤ pos 10000)
 unfolding span_fault
 within start b span e some =
     let tests = none_found (int_le span.to span.from) (int_lt (first_start span.from b) least_time) (int_le (pos 10000) (buckets_between span.from span.to b)) _ _ e (le_not span.to span.from some) in
     (not_lt (first_start span.from b) least_time tests.0, not_le (pos 10000) (buckets_between span.from span.to b) tests.1)
 
--- a query over a span that is at no fault
+-- a query over a range without a fault is within the limits
 pub limited : (q : Query) (start : ℕ) (span : Span) → pos 1 ≤ℤ q.interval → span.from ≤ℤ span.to → q.from ≡ span.from → q.to ≡ span.to
     → span_fault start (record { interval = q.interval; offset = q.offset }) span ≡ None → IsLimited q
 limited q start span one range from to none =

@@ -1,4 +1,4 @@
--- The places where a clause or a statement may end: what each rest spells leads on.
+-- States in which a clause or a statement may end: the next token of a rest leads to the remaining rest.
 use Rattle.std.proofs.Common.{◌≡◌, ℤ, ◌<◌, List, [], ◌∷◌, Bool, true, false, Option, Some, None, arith, refl, sym, ap, subst}
 use Rattle.ts_ql.specs.declared.state.State.{State}
 use Rattle.ts_ql.specs.declared.state.State.TheVariants as states

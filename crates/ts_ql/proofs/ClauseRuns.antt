@@ -1,4 +1,4 @@
--- The places where a clause or a statement may end: what each token leads to, and what each rest spells.
+-- States in which a clause or a statement may end: the step of each token, and the tokens of each rest.
 use Rattle.std.proofs.Common.{◌≡◌, inr, ℤ, List, [], ◌∷◌, ◌++◌, Bool, true, false, ◌&&◌, Some, None, Ok, map, arith, refl, sym, ap, ◌∙◌, subst}
 use Rattle.std.specs.Prelude.{codes, if◌then◌else◌}
 use Rattle.ts_ql.specs.declared.state.State.{State}
@@ -39,7 +39,7 @@ item_ends now s = record { rest = λ e. ([], (None, e)); suits = λ e. tt; left_
 abbrev pub fill_ends : (now : ℤ) (s : Progress) → EndsAt now s states.AfterFill
 fill_ends now s = record { rest = λ e. e; suits = λ e. tt; left_same = λ e. refl; said_same = λ e. refl }
 
--- ---- the step at such a place, with a token of that kind
+-- ---- the step in such a state, by the kind of the token
 
 abbrev pub continued_by : ℤ → Progress → State → Lexeme → Kind → Advance
 continued_by now s p t k = if may_end p && is_end k then ended now k (at p s) else clause_or now t (at p s) (clause_at p k t.text)

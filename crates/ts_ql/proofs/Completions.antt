@@ -1,4 +1,4 @@
--- At each place the text may go on to its end.
+-- From each state a text can be completed.
 use Rattle.std.proofs.Common.{◌≡◌, ℕ, zero, suc, ℤ, [], ◌∷◌, true, false, Some, None, refl, arith}
 use Rattle.std.specs.Prelude.{codes}
 use Rattle.ts_core.specs.facts.Facts.{Text}

@@ -10,7 +10,7 @@ use Rattle.ts_core.proofs.aggregates.BucketsOrder.{bucket_same, bucket_is, one_m
 use Rattle.ts_core.proofs.lists.Comparisons.{lt_true}
 use Rattle.ts_ql.specs.BucketLimits.{IsLimited}
 
--- each moment of a range lies in its first bucket, where that is as long as the range
+-- each time of a range is in its first bucket if that is as long as the range
 pub in_first : (a b i t : ℤ) → i ≡ b -ℤ a → a ≤ℤ t → t <ℤ b → bucket_of t i a ≡ pos 0
 in_first a b i t e from before =
     let one : pos 1 ≤ℤ i = omega (arith, ints) in
@@ -22,7 +22,7 @@ in_first a b i t e from before =
 pub first_start : (i a : ℤ) → bucket_start (pos 0) i a ≡ a
 first_start i a = let none : pos 0 *ℤ i ≡ pos 0 = zero-*ℤ i in omega (arith, ints)
 
--- what there is to be known of a query whose one bucket is its range
+-- a query whose range is its one bucket
 pub record IsOneBucket (q : Query) : Type 0 where
   pub some : q.from <ℤ q.to
   pub interval : q.interval ≡ q.to -ℤ q.from

@@ -1,4 +1,4 @@
--- What a text in quotes tells, and what a literal counts, is small beside 128 bits.
+-- Timestamps and literals are far smaller than 128 bits.
 use Rattle.std.proofs.Common.{◌≡◌, ℕ, zero, suc, ◌+◌, ◌-◌, ◌*◌, ◌<◌, ◌≤◌, ◌^◌, ℤ, pos, neg_ℤ, ◌+ℤ◌, ◌-ℤ◌, ◌*ℤ◌, unsigned_abs, Bool, true, false, ◌&&◌, ◌||◌, Option, Some, None, arith, refl, length}
 use Rattle.std.specs.Prelude.{⊤, if◌then◌else◌, nat_lt, nat_le, ◌==◌, option_and_then, drop, take, slice_range, slice_index}
 use Rattle.std.proofs.lemmas.Bool.{leb-true, ltb-true}
@@ -8,7 +8,7 @@ use Rattle.ts_core.specs.facts.Facts.{Text}
 use Rattle.ts_ql.specs.Dates.{digits, midnight, date_of, fraction, place_value, clock_nanos, time_of_day, without_zone, later, timestamp_of}
 use Rattle.ts_ql.specs.Literals.{within, magnitude, literal}
 
--- what holds of a value, if there is one
+-- P of the value, if there is one
 abbrev pub Holds : {A : Type 0} → (A → Type 0) → Option A → Type 0
 Holds {A} P None = ⊤
 Holds {A} P (Some x) = P x

@@ -60,7 +60,7 @@ same_pos m n e = cc
 less_nothing : (x : ℤ) → x -ℤ pos 0 ≡ x
 less_nothing x = omega (arith, ints)
 
--- what jiff gives for a date of the calendar
+-- the nanoseconds that jiff computes for a date are those of its midnight
 pub midnight_read : (year month day : ℕ) (y y0 : ℤ) (m d m0 d0 : ℕ) (r : ℤ) → year ≤ 9999 → month ≤ 12 → day ≤ 31
     → IsDate (to_z w16 year) (to_z w8 month) (to_z w8 day)
     → y ≡ to_z w16 year → pos m ≡ to_z w8 month → pos d ≡ to_z w8 day → y0 ≡ pos 1970 → pos m0 ≡ pos 1 → pos d0 ≡ pos 1

@@ -1,4 +1,4 @@
--- The ends of statements and the beginnings of clauses: what each token leads to, and what each rest spells.
+-- Ends of statements and beginnings of clauses: the step of each token, and the tokens of each rest.
 use Rattle.std.proofs.Common.{◌≡◌, inl, inr, ℤ, ◌+◌, ◌<◌, List, [], ◌∷◌, ◌++◌, Bool, true, false, Option, Some, None, Result, Ok, Err, map, arith, refl, sym, ap, ◌∙◌, subst, append_assoc}
 use Rattle.std.proofs.lemmas.Bool.{eqb-false}
 use Rattle.std.proofs.lemmas.List.{map-append}
@@ -24,7 +24,7 @@ use Rattle.ts_core.proofs.store.LowIndices.{not_zero}
 
 -- ---- the end of a statement
 
--- a place where a statement may end: its rests that are endings
+-- a state in which a statement may end, with its rests that are endings
 pub record EndsAt (now : ℤ) (s : Progress) (p : State) : Type 0 where
   pub rest : Ending → Rest p
   pub suits : (e : Ending) → SuitsAt p (at p s) (rest e)
@@ -35,7 +35,7 @@ pub record EndsAt (now : ℤ) (s : Progress) (p : State) : Type 0 where
 abbrev after : Progress → Kind → Select → Progress
 after s k query = record s { state = after_end k; builder = empty_builder; queries = s.queries ++ query ∷ [] }
 
--- what is said by one statement more
+-- the queries with one more statement
 said_more : (s : Progress) (query : Select) (rest : List (Result Select Fault)) → map Ok s.queries ++ Ok query ∷ rest ≡ map Ok (s.queries ++ query ∷ []) ++ rest
 said_more s query rest =
     sym (ap (λ (qs : List (Result Select Fault)). qs ++ rest) (map-append Ok s.queries (query ∷ [])) ∙ append_assoc (map Ok s.queries) (Ok query ∷ []) rest)
@@ -207,11 +207,11 @@ begun_answers now s t sound =
 abbrev begun_steps : Progress → Lexeme → Kind → Advance
 begun_steps s t k = begun_at k t (at states.Statement (fresh s))
 
--- the statement, begun by the token
+-- the statement that the token begins
 abbrev selected_by : Lexeme → Statement → Statement
 selected_by t st = record st { select = t }
 
--- what a statement spells after SELECT
+-- the tokens of a statement after SELECT
 abbrev behind_select : ℤ → Progress → Statement → Ending → List Item
 behind_select now s st e =
     left_at states.Function now (record (at states.Function (fresh s)) { count = s.count + 1; start = st.select.start })

@@ -1,4 +1,4 @@
--- FILL: what each token leads to, and what each rest spells.
+-- FILL: the step of each token, and the tokens of each rest.
 use Rattle.std.proofs.Common.{◌≡◌, inl, inr, ℤ, pos, List, ◌∷◌, ◌++◌, Bool, true, false, Option, Some, None, Ok, Err, map, refl, sym, ap, subst}
 use Rattle.std.specs.Prelude.{codes, if◌then◌else◌}
 use Rattle.std.specs.Option.{unwrap_or}
@@ -129,7 +129,7 @@ negative_leads now s t r ts reach (Some n) v w =
 negative_leads now s t r ts reach None v w =
     failed (literal_fault s.builder.filling.first (literal true t.text)) (numbered_ending now s r (unwrap_or (literal true t.text) (pos 0))) ts reach (OutOfRange s.builder.filling.first) (ap (literal_fault s.builder.filling.first) v) w
 
--- the step with a token of that kind
+-- the step by the kind of the token
 abbrev pub fill_steps : Progress → State → Lexeme → Kind → Advance
 fill_steps s p t k = filled s p (fill_at p k t s.builder.filling)
 

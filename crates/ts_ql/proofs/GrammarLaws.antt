@@ -1,4 +1,4 @@
--- The machine reads what the grammar spells, and nothing else; and where it stops is the first fault.
+-- The machine reads exactly the texts of the grammar, and stops at the first fault of any other.
 use Rattle.std.proofs.Common.{◌≡◌, ◌⊎◌, inl, inr, ℤ, List, [], ◌∷◌, ◌++◌, map, Bool, true, false, Some, None, Result, Ok, Err, refl, sym, ap, ◌∙◌, subst, append_assoc, arith}
 use Rattle.std.proofs.lemmas.List.{append-nil}
 use Rattle.ts_ql.specs.declared.state.State.{State}
@@ -26,7 +26,7 @@ use Rattle.ts_ql.proofs.Steps.{at, Answer, Faulty, Leads, IsPending, IsPendingAt
 
 -- ---- from trees to the machine
 
--- where the tokens end, the machine is at a rest, or at the fault
+-- at the end of the tokens the machine is in a state with a rest, or at the fault
 abbrev Met : ℤ → Reach → List (Result Select Fault) → Advance → Type 0
 Met now reach said r =
     ((n : Progress) × (q : Rest n.state) × (r ≡ Ok n) × Stands reach n × (said ≡ all_said now n q)) ⊎ ((f : Fault) × (reach ≡ At f) × (r ≡ Err f))
@@ -49,7 +49,7 @@ tree_meets now script ts reach v = run_meets ts now start_progress (Some (script
 
 -- ---- from the machine to trees
 
--- whatever may follow the state may follow the tokens, in some tree
+-- each rest of the state follows the tokens in some tree
 record Viable (now : ℤ) (s : Progress) (read : List Lexeme) : Type 0 where
   sound : Sound s
   grows : (q : Rest s.state) → Suits s q → (script : Script)
@@ -117,7 +117,7 @@ says_by : (now : ℤ) (ts : List Lexeme) (queries : List Select) (w : Says now t
 says_by now ts queries w (inl m) = (m.0, m.2, oks_same m.0.queries queries (sym (done_said m.0.state now m.0 m.1 m.3) ∙ sym m.4 ∙ w.2))
 says_by now ts queries w (inr m) = let other : Whole ≡ At m.0 = m.1 in absurd cc
 
--- who says queries is read as them
+-- tokens that mean queries are read as these
 pub says_only : (now : ℤ) (ts : List Lexeme) (queries : List Select) → Says now ts queries → (s : Progress) × (run now start_progress ts ≡ Ok s) × (s.queries ≡ queries)
 says_only now ts queries w = says_by now ts queries w (tree_meets now w.0 ts Whole w.1)
 
@@ -206,7 +206,7 @@ examined now s front t f other runs refused (script, inl v) =
 examined now s front t f other runs refused (script, inr v) =
     examined_with now (script_queries now script) f other (run now start_progress (front ++ t ∷ [])) (run_refused now s front t f runs refused) (tree_meets now script (front ++ t ∷ []) (At other) v)
 
--- a fault of what has been read is one of some tree
+-- a fault of the tokens so far is one of some tree
 faulty : (now : ℤ) (s : Progress) (front : List Lexeme) (t : Lexeme) (f : Fault) → Viable now s front → Faulty now s t f → HasFault now front t f
 faulty now s front t f w (q, suits, inl v) =
     let tree = w.grows q suits in

@@ -1,4 +1,4 @@
--- GROUP BY: what each token leads to, and what each rest spells.
+-- GROUP BY: the step of each token, and the tokens of each rest.
 use Rattle.std.proofs.Common.{◌≡◌, inl, inr, ℤ, pos, List, [], ◌∷◌, ◌++◌, Bool, true, false, Option, Some, None, Result, Ok, Err, map, refl, sym, ap, ◌∙◌, subst}
 use Rattle.std.specs.Prelude.{codes, int_le, if◌then◌else◌}
 use Rattle.std.specs.Option.{unwrap_or}
@@ -26,21 +26,21 @@ use Rattle.ts_ql.proofs.WhereRuns.{time_is_name}
 abbrev pub grouping : Progress → State → Grouping → Advance
 grouping s p step = with_builder (at p s) (in_groups s.builder step)
 
--- what is left after an interval that makes these buckets, and what is said with it
+-- the rest after an interval of these buckets: its tokens and its queries
 abbrev pub every_left : ℤ → Progress → Option Signed × DimensionTail → Option Buckets → List Item
 every_left now s r b = spell_offset r.0 (Any (Of kinds.Close) ∷ left_dimensions now s (with_buckets (meaning s.builder) (offset_by b r.0)) r.1)
 
 abbrev pub every_said : ℤ → Progress → Option Signed × DimensionTail → Option Buckets → List (Result Select Fault)
 every_said now s r b = map Ok s.queries ++ said_dimensions now s (with_buckets (meaning s.builder) (offset_by b r.0)) r.1
 
--- what is left after an offset, and what is said with it
+-- the rest after an offset: its tokens and its queries
 abbrev pub moved_left : ℤ → Progress → DimensionTail → ℤ → List Item
 moved_left now s r n = Any (Of kinds.Close) ∷ left_dimensions now s (with_buckets (meaning s.builder) (moved n s.builder.groups.buckets)) r
 
 abbrev pub moved_said : ℤ → Progress → DimensionTail → ℤ → List (Result Select Fault)
 moved_said now s r n = map Ok s.queries ++ said_dimensions now s (with_buckets (meaning s.builder) (moved n s.builder.groups.buckets)) r
 
--- a number, or 0 where it is out of its range
+-- a number, or 0 if it is out of range
 abbrev pub or_zero : Option ℤ → ℤ
 or_zero o = unwrap_or o (pos 0)
 
@@ -180,7 +180,7 @@ group_answers now s p k t e = inr refl
 
 -- ---- from trees
 
--- the step with a token of that kind
+-- the step by the kind of the token
 abbrev pub group_steps : Progress → State → Lexeme → Kind → Advance
 group_steps s p t k = grouping s p (grouping_at p k t s.builder.groups)
 
@@ -196,7 +196,7 @@ name_begins kinds.Word t g is = refl
 name_begins kinds.QuotedName t g is = refl
 name_begins k t g is = absurd (cc)
 
--- what an item begins with: the column of time or a tag
+-- the step of the name that begins an item: the time column or a tag
 abbrev pub items : Progress → Lexeme → Bool → Advance
 items s t b = grouping s states.Item (if b then time_item t s.builder.groups s.builder.groups.buckets
     else Ok (states.AfterTag, record s.builder.groups { tags = with_text (text_spelled t.text) s.builder.groups.tags }))

@@ -1,4 +1,4 @@
--- One step of a walk over bytes.
+-- One step of each loop over bytes.
 use Rattle.std.proofs.Common.{◌≡◌, ℕ, ◌+◌, ◌<◌, ◌≤◌, Bool, true, false, cond, eqb, length, get_or, drop, arith, refl, suc, add-one, ◌⊎◌, inl, inr, ◌∙◌, ap, ltb, ◌++◌, Option, Some, None}
 use Rattle.std.proofs.lemmas.List.{at_drop_more, at_drop_all, get_or-drop, get_or_past}
 use Rattle.std.proofs.lemmas.Str.{IsCharBoundary-after_ascii, IsCharBoundary-past_char, IsUtf8-drop}
@@ -38,7 +38,7 @@ in_ascii Space byte e = space_ascii byte e
 in_ascii Name byte e = name_ascii byte e
 in_ascii Digit byte e = digit_ascii byte e
 
--- what the byte at hand makes of the walk to a closing quote
+-- one step of the search for a closing quote, by its byte
 abbrev pub closing_at : ℕ → Bool → ℕ → ℕ → Text → Option ℕ
 closing_at quote true at b bs = cond (is_escape_byte b) (closing quote false (at + 1) bs) None
 closing_at quote false at b bs = cond (eqb b quote) (Some at) (closing quote (eqb b 92) (at + 1) bs)
@@ -57,7 +57,7 @@ closing_past quote false at text i le = at_drop_all (closing quote false at) tex
 abbrev pub unit_at : Text → ℕ → ℕ
 unit_at text i = unit_len (get_or text i 0) (get_or text (i + 1) 0)
 
--- what the byte at hand makes of the walk over a duration
+-- one step over a duration, by its byte
 abbrev pub parts_at : ℕ → Bool → ℕ → Text → ℕ → ℕ
 parts_at last counting at text i =
     cond (is_ascii_digit (get_or text i 0)) (parts_end last true (at + 1) (drop (i + 1) text))

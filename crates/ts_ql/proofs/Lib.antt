@@ -1,4 +1,4 @@
--- What a text says, by the grammar: the theorems, and then the lemmas that they rest on.
+-- The meaning of a text by the grammar: the theorems, then their lemmas.
 pub mod TextLaws
 pub mod GrammarLaws
 pub mod MachineAnswers
@@ -21,11 +21,11 @@ pub mod RunLemmas
 pub mod WordLemmas
 pub mod TokenEnds
 pub mod ReadingLemmas
--- What literals count.
+-- Values of literals.
 pub mod MagnitudeLaws
 pub mod LiteralLemmas
 pub mod DateLemmas
--- No sum of moments leaves 128 bits.
+-- Sums of moments fit 128 bits.
 pub mod SumBounds
 pub mod DateBounds
 -- Tokens, clauses, statements, and the texts of faults.

@@ -1,4 +1,4 @@
--- One step of what literals mean.
+-- One step over a literal.
 use Rattle.std.proofs.Common.{◌≡◌, ℕ, ◌+◌, ◌*◌, ◌-◌, ◌<◌, ◌≤◌, Bool, true, false, cond, [], ◌∷◌, ◌++◌, length, get_or, drop, arith, refl, sym, ◌∙◌, Option, Some, None, append-nil, append_assoc}
 use Rattle.std.proofs.lemmas.List.{at_drop_more}
 use Rattle.std.proofs.lemmas.Str.{chars_past_char}
@@ -47,7 +47,7 @@ at_least total number (b ∷ bs) =
 pub none_within : (limit n : ℕ) → limit ≤ n → None ≡ within limit n
 none_within limit n le = rw (le-ltb n limit le) refl
 
--- past the limit with one digit more
+-- one more digit exceeds the limit
 pub digit_past : (total number limit : ℕ) (text : Text) (i whole : ℕ) → i < length text → units_added_up total number (drop i text) ≡ whole
     → is_ascii_digit (get_or text i 0) ≡ true → (number * 10 + (get_or text i 0 - 48) < limit → ⊥) → None ≡ within limit whole
 digit_past total number limit text i whole lt is digit past =
@@ -56,7 +56,7 @@ digit_past total number limit text i whole lt is digit past =
     let low = at_least total (number * 10 + (get_or text i 0 - 48)) (drop (i + 1) text) in
     none_within limit whole (omega arith)
 
--- past the limit with one number more
+-- one more number exceeds the limit
 pub unit_past : (total number limit : ℕ) (text : Text) (i whole : ℕ) → i < length text → units_added_up total number (drop i text) ≡ whole
     → is_ascii_digit (get_or text i 0) ≡ false → (total + number * nanoseconds_of_unit (get_or text i 0) (get_or text (i + 1) 0) < limit → ⊥) → None ≡ within limit whole
 unit_past total number limit text i whole lt is digit past =
@@ -67,7 +67,7 @@ unit_past total number limit text i whole lt is digit past =
 
 -- ---- texts
 
--- what is spelled after these bytes, from a text on
+-- these bytes, then the text with its escapes resolved
 abbrev pub spelled_on : Text → Bool → Text → Text
 spelled_on before escaped text = before ++ encode_utf8_all (characters_spelled escaped (chars text))
 

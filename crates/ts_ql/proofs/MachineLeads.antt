@@ -1,4 +1,4 @@
--- What each rest spells leads on, at each place of the machine.
+-- In each state of the machine, the next token of a rest leads to the remaining rest.
 use Rattle.std.proofs.Common.{◌≡◌, ℕ, ℤ, ◌<◌, List, [], ◌∷◌, Bool, true, false, Option, Some, None, Ok, Err, arith, refl, sym, ap, ◌∙◌, subst}
 use Rattle.std.proofs.lemmas.Bool.{eqb-true, eqb-false}
 use Rattle.std.specs.Prelude.{⊤, ◌==◌}
@@ -122,7 +122,7 @@ closing_ends now s p (Outside [] tail) t ts reach v = group_ends now s p tail.0 
 closing_ends now s p (Inside (c ∷ cs) closing) t ts reach v = subst (EndsMoment s) (sym v.0.0) refl
 closing_ends now s p (Inside [] closing) t ts reach v = subst (EndsMoment s) (sym v.0) refl
 
--- whatever follows the moment's end follows the moment
+-- each token that follows the moment's end follows the moment
 unsettle_leads : (now : ℤ) (s : Progress) (q : Closing) (ts : List Lexeme) (reach : Reach) (b : Bool) (r : Advance) (w : (c : Closing) → Rest (behind_term b))
     → Leads now (at (behind_term b) (settled_state s)) (w q) ts reach r → all_said now (at (behind_term b) (settled_state s)) (w q) ≡ all_said now (at states.AfterMoment s) ([], q)
     → Leads now (at states.AfterMoment s) ([], q) ts reach r

@@ -1,4 +1,4 @@
--- Comparisons with time: what each token leads to, and what each rest spells; and the end of a moment.
+-- Comparisons with time: the step of each token, the tokens of each rest, and the end of a moment.
 use Rattle.std.proofs.Common.{◌≡◌, inl, inr, ℕ, ℤ, pos, List, [], ◌∷◌, ◌++◌, Bool, true, false, Option, Some, None, Result, Ok, Err, map, refl, sym, ap, subst}
 use Rattle.std.specs.Prelude.{codes, int_le, ◌&&◌, if◌then◌else◌}
 use Rattle.std.specs.Option.{unwrap_or}
@@ -29,7 +29,7 @@ use Rattle.ts_ql.proofs.Steps.{at, Answer, Leads, passes, fails, passed, failed,
 abbrev pub timing : Progress → State → Timing → Advance
 timing s p step = with_builder (at p s) (in_moment s.builder step)
 
--- the step with a token of that kind
+-- the step by the kind of the token
 abbrev pub moment_steps : ℤ → Progress → State → Lexeme → Kind → Advance
 moment_steps now s p t k = timing s p (moment_at now p k t s.builder.moment)
 
@@ -41,7 +41,7 @@ closings n = (closing_of n, closing_levels n)
 
 -- ---- values and sums
 
--- what changes a moment that has a value
+-- the change of a moment by a duration
 abbrev pub by_value : Bool → Lexeme → Change
 by_value less t = record { less = less; by = t }
 
@@ -262,7 +262,7 @@ negative_leads now s t m r ts reach suits (Some n) v w =
 negative_leads now s t m r ts reach suits None v w =
     failed (literal_fault s.builder.moment.first (literal true t.text)) (left_changes now s s.builder.moment.first (unwrap_or (literal true t.text) (pos 0)) r) ts reach (OutOfRange s.builder.moment.first) (ap (literal_fault s.builder.moment.first) v) w
 
--- what a rest at `Moment` that begins so leads to
+-- the step at `Moment` with the first token of such a rest
 abbrev pub MomentLeads : ℤ → Progress → Base → List Change × Closing → Lexeme → List Lexeme → Reach → Kind → Type 0
 MomentLeads now s base r t ts reach k = Leads now (at states.Moment s) (record { base = base; changes = r.0 }, r.1) ts reach (moment_steps now s states.Moment t k)
 
@@ -343,7 +343,7 @@ pub change_leads : (now : ℤ) (s : Progress) (c : Change) (cs : List Change) (c
     → Leads now (at states.AfterMoment s) (c ∷ cs, closing) ts reach (timing s states.AfterMoment (moment_at now states.AfterMoment t.kind t s.builder.moment))
 change_leads now s c cs closing t ts reach suits w = change_leads_at now s c.less c.by cs closing t ts reach suits w
 
--- what is examined of a change, and what follows it
+-- the check of a change, and the tokens after it
 abbrev pub examined_change : ℤ → Progress → Bool → Lexeme → List Change × Closing → List Item
 examined_change now s less t r =
     Examine (change_fault (by_value less t)) ∷ left_changes now s s.builder.moment.first (total_after s.builder.moment.total (by_value less t)) r

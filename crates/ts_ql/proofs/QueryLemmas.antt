@@ -22,7 +22,7 @@ pub same : (f : Fill) (cs ds : List Projection) (m n v w : Text) (ks ls : List C
 same f cs ds m n v w ks ls a b c d i j o p gs hs e1 e2 e3 e4 e5 e6 e7 e8 e9 =
     λ k. made f (e1 k) (e2 k) (e3 k) (e4 k) (e5 k) (e6 k) (e7 k) (e8 k) (e9 k)
 
--- a number that fits, as it is stored
+-- a number that fits is stored as itself
 pub read : (z v : ℤ) → FitsSigned w64 z → z ≡ v → to_z w64 (of_z w64 z) ≡ v
 read z v f e = to_z-of_z w64 z f ∙ e
 

@@ -1,4 +1,4 @@
--- What may follow at each place of the machine: the rest of a tree, what it spells, and what its statements say.
+-- The rests at each state: the part of a tree after it, with its tokens and the queries of its statements.
 use Rattle.std.proofs.Common.{◌≡◌, ℕ, ℤ, pos, ◌+◌, ◌<◌, List, [], ◌∷◌, ◌++◌, map, Bool, true, false, Option, Some, None, Result, Ok}
 use Rattle.std.specs.Prelude.{codes, ⊤}
 use Rattle.std.specs.Option.{unwrap_or}
@@ -45,7 +45,7 @@ pub data Closing : Type 0 where
   Outside : List Cond → GroupTail → Closing
   Inside : List Cond → Closing → Closing
 
--- how many parentheses are open
+-- the number of open parentheses
 abbrev pub levels : Closing → ℕ
 levels (Outside cs tail) = 0
 levels (Inside cs closing) = levels closing + 1
@@ -58,7 +58,7 @@ abbrev pub spell_conds : ℤ → ℕ → List Cond → List Item → List Item
 spell_conds now depth [] rest = rest
 spell_conds now depth (c ∷ cs) rest = Any (Keyword (codes "and")) ∷ spell_cond now depth c (spell_conds now depth cs rest)
 
--- ---- what the rests spell, of a statement that begins at `start` as the `n`th
+-- ---- tokens of the rests of a statement, which is the `n`th and begins at `start`
 
 abbrev pub left_ending : ℤ → Progress → Meaning → Ending → List Item
 left_ending now s p ending = spell_ending now s.count s.start p ending
@@ -86,7 +86,7 @@ left_closing now s p (Outside cs tail) = spell_conds now 0 cs (left_group now s 
 left_closing now s p (Inside cs closing) =
     spell_conds now (levels closing + 1) cs (Any (Of kinds.Close) ∷ left_closing now s (after_conds now p cs) closing)
 
--- ---- what the statements of the rests say
+-- ---- queries of the rests of a statement
 
 abbrev pub said_fill : ℤ → Progress → Meaning → FillTail → List (Result Select Fault)
 said_fill now s p tail = ending_queries now s.start (after_fill p tail.0) tail.1
@@ -110,7 +110,7 @@ abbrev pub said_closing : ℤ → Progress → Meaning → Closing → List (Res
 said_closing now s p (Outside cs tail) = said_group now s (after_conds now p cs) tail
 said_closing now s p (Inside cs closing) = said_closing now s (after_conds now p cs) closing
 
--- ---- the rest at each place
+-- ---- the rest at each state
 
 -- from inside an aggregate on
 abbrev pub ClosedTail : Type 0
@@ -162,7 +162,7 @@ Rest states.FillClose = Ending
 Rest states.AfterFill = Ending
 Rest states.Done = ⊤
 
--- ---- what has been said with the rest of a clause
+-- ---- the meaning of a statement, extended by the rest of a clause
 
 abbrev pub with_call_field : Meaning → Lexeme → Meaning
 with_call_field p l = record p { field = field_after p.field l }
@@ -182,7 +182,7 @@ with_buckets p b = record p { buckets = b }
 abbrev pub with_option : Meaning → FillOption → Meaning
 with_option p option = record p { fill = fill_of option }
 
--- ---- what the rest at each place spells
+-- ---- tokens of the rest at each state
 
 abbrev pub left_closed : ℤ → Progress → Meaning → ClosedTail → List Item
 left_closed now s p tail = spell_alias tail.0 (left_select now s (with_column p s.builder.selection.function tail.0) tail.1)
@@ -282,7 +282,7 @@ left_at states.FillClose now s r = Any (Of kinds.Close) ∷ left_ending now s (m
 left_at states.AfterFill now s r = left_ending now s (meaning s.builder) r
 left_at states.Done now s r = []
 
--- ---- what the statements say, with the rest at each place
+-- ---- queries of the statements, with the rest at each state
 
 abbrev pub said_closed : ℤ → Progress → Meaning → ClosedTail → List (Result Select Fault)
 said_closed now s p tail = said_select now s (with_column p s.builder.selection.function tail.0) tail.1
@@ -360,14 +360,14 @@ said_at states.FillClose now s r = said_ending now s (meaning s.builder) r
 said_at states.AfterFill now s r = said_ending now s (meaning s.builder) r
 said_at states.Done now s r = []
 
--- what is left at a state, and what all statements say with it
+-- the tokens of a rest, and the queries of all statements with it
 abbrev pub left : ℤ → (s : Progress) → Rest s.state → List Item
 left now s r = left_at s.state now s r
 
 abbrev pub all_said : ℤ → (s : Progress) → Rest s.state → List (Result Select Fault)
 all_said now s r = map Ok s.queries ++ said_at s.state now s r
 
--- ---- what holds at each place
+-- ---- invariants of each state
 
 -- no parenthesis is open before WHERE and after it; a statement begins with nothing read
 abbrev pub SoundAt : State → Progress → Type 0

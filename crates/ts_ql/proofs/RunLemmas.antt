@@ -40,7 +40,7 @@ run-append_err now s xs ys f e = run-append now s xs ys ∙ ap (run_then (λ (m 
 
 -- ---- the token at fault
 
--- the tokens up to one run, and it is refused
+-- the machine takes the tokens before one, and refuses that one
 pub record IsRefused (now : ℤ) (s : Progress) (ts : List Lexeme) (f : Fault) : Type 0 where
   pub front : List Lexeme
   pub token : Lexeme
@@ -85,12 +85,12 @@ abbrev pub finished : Advance → Result (List Select) Fault
 finished (Ok s) = Ok s.queries
 finished (Err fault) = Err fault
 
--- what runs through has read the text
+-- a run without a fault has read the text
 abbrev Finishes : Advance → Type 0
 Finishes (Ok s) = is_done s.state ≡ true
 Finishes (Err fault) = Unit {0}
 
--- what is read and what runs are the same, and have read the text
+-- the result of the text is that of the run, which has read the text
 abbrev Agrees : Result (List Select) Fault → Advance → Type 0
 Agrees said after = (said ≡ finished after) × Finishes after
 

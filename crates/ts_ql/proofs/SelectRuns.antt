@@ -1,4 +1,4 @@
--- SELECT and FROM: what each token leads to, and what each rest spells.
+-- SELECT and FROM: the step of each token, and the tokens of each rest.
 use Rattle.std.proofs.Common.{◌≡◌, inl, inr, ℤ, List, [], ◌∷◌, ◌++◌, Bool, true, false, Option, Some, None, Ok, Err, map, refl, sym, ap, ◌∙◌, subst}
 use Rattle.std.specs.Prelude.{codes, if◌then◌else◌, ◌||◌, bytes_eq}
 use Rattle.std.specs.Option.{unwrap_or}
@@ -28,7 +28,7 @@ use Rattle.ts_ql.proofs.WordLemmas.{another_word}
 abbrev pub selecting : Progress → State → Selecting → Advance
 selecting s p step = with_builder (at p s) (in_selection s.builder step)
 
--- the step with a token of that kind
+-- the step by the kind of the token
 abbrev pub select_steps : Progress → State → Lexeme → Kind → Advance
 select_steps s p t k = selecting s p (select_at p k t s.builder.selection)
 

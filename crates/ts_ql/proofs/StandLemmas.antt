@@ -16,7 +16,7 @@ use Rattle.ts_ql.proofs.Steps.{at, Stands, passed, failed}
 use Rattle.ts_ql.proofs.MachineAnswers.{bounding, moment_fault}
 use Rattle.ts_ql.proofs.MomentRuns.{unsettled_back}
 
--- ---- what begins with a token
+-- ---- spellings that begin with a token
 
 abbrev Starts : List Item → Type 0
 Starts [] = ⊥

@@ -1,4 +1,4 @@
--- Columns of one name, and how far two buckets are apart.
+-- Columns of the same name, and the distance of two buckets.
 use Rattle.std.proofs.Common.{◌≡◌, ℕ, ◌+◌, ◌<◌, ◌≤◌, ◌^◌, ◌||◌, Bool, true, false, Bor, List, [], ◌∷◌, length, get_or, drop, ap, sym, arith, ℤ, ◌-ℤ◌, unsigned_abs, codes, bytes_eq, FitsSigned, w64, to_z, of_z, ◌∙◌, refl}
 use Rattle.std.proofs.lemmas.Int.{ints, to_z-of_z}
 use Rattle.std.specs.Int.{w128}
@@ -27,7 +27,7 @@ has_name names text = list_any (λ (name : Bor Text). is_eq (text_cmp text name.
 abbrev pub met : List (Bor Text) → List Projection → Bool
 met names columns = list_any (λ (c : Projection). has_name names c.name) columns
 
--- what is left to be told from this place on, after the names of the columns before it
+-- whether names repeat is decided by the names before an index and the columns from it on
 abbrev pub IsToldFrom : List (Bor Text) → List Projection → ℕ → Type 0
 IsToldFrom names columns i = (met names (drop i columns) || repeats (drop i columns)) ≡ repeats columns
 

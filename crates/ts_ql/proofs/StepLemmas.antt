@@ -31,7 +31,7 @@ use Rattle.ts_ql.specs.Words.{function_called, is_time, named}
 
 -- ---- within a statement
 
--- the place afterwards is the end of all exactly after a token of the kind at the end of a text
+-- the next state is `Done` exactly if the token is the end of the text
 abbrev Moves : {X : Type 0} → Kind → Result (State × X) Fault → Type 0
 Moves k (Ok p) = is_done p.0 ≡ is_end_of_text k
 Moves k (Err fault) = Unit {0}

@@ -1,5 +1,5 @@
--- To be shown of each step of the machine: where a token leads on, the rest after it is a rest here. Where it does not,
--- the tokens so far are at fault, or the token cannot come there. A token that a rest spells leads on to the remaining rest.
+-- The theorem of each step. If a token leads to another state, each rest there is a rest here after the token. If not,
+-- the tokens so far have a fault, or the token is unexpected. The first token of a rest leads to the remaining rest.
 use Rattle.std.proofs.Common.{◌≡◌, ◌⊎◌, ℤ, List, [], ◌∷◌, true, Option, Some, None, Ok, Err, refl, ap, ◌∙◌, subst}
 use Rattle.std.specs.Prelude.{⊤}
 use Rattle.ts_ql.specs.Grammar.{Item, Examine}
@@ -12,7 +12,7 @@ use Rattle.ts_ql.specs.Reading.{Progress, Advance, is_done}
 use Rattle.ts_ql.specs.Tokens.{Lexeme}
 use Rattle.ts_ql.proofs.Rests.{Rest, left, all_said, Sound, Suits}
 
--- the state at a place
+-- the progress with another state
 abbrev pub at : State → Progress → Progress
 at p s = record s { state = p }
 
@@ -25,7 +25,7 @@ Back now s n t =
     × ((ts : List Lexeme) (reach : Reach) → Reads (left now n r) ts reach → Reads (left now s q) (t ∷ ts) reach)
     × (all_said now s q ≡ all_said now n r)
 
--- with some rest, what has been read is at fault, without the token or with it
+-- with some rest, the tokens so far have this fault, without the token or with it
 abbrev pub Faulty : ℤ → Progress → Lexeme → Fault → Type 0
 Faulty now s t f =
     (q : Rest s.state) × Suits s q × (Reads (left now s q) [] (At f) ⊎ Reads (left now s q) (t ∷ []) (At f))
@@ -42,7 +42,7 @@ Leads now s q ts reach (Ok n) =
     (r : Rest n.state) × Suits n r × Reads (left now n r) ts reach × (all_said now s q ≡ all_said now n r)
 Leads now s q ts reach (Err f) = (ts ≡ []) × (reach ≡ At f)
 
--- a moment that waits for its end isn't a valid time
+-- the moment before its end isn't a valid time
 abbrev pub IsPendingAt : State → Progress → Fault → Type 0
 IsPendingAt states.AfterMoment s f = moment_time s.builder.moment ≡ Err f
 IsPendingAt state s f = ⊥
@@ -56,7 +56,7 @@ Stands Within s = ⊤
 Stands Whole s = is_done s.state ≡ true
 Stands (At f) s = IsPending s f
 
--- ---- reading past what is examined
+-- ---- checks between tokens
 
 pub passes : (e : Option Fault) (rest : List Item) (ts : List Lexeme) (reach : Reach) → e ≡ None → Reads rest ts reach → Reads (Examine e ∷ rest) ts reach
 passes None rest ts reach same w = w

@@ -24,7 +24,7 @@ use Rattle.ts_ql.specs.Tokens.{Lexeme}
 use Rattle.ts_ql.specs.WhereSteps.{Filtering, where_step}
 use Rattle.ts_ql.proofs.DateBounds.{Holds, IsNear, moment_told_near, literal_near}
 
--- where the moment and the sum before a token have a bound, the sum after it has one that is little more
+-- if the sum before a token has a bound, the sum after it has a slightly larger one
 abbrev pub Follows : ℤ → ℤ → ℤ → Type 0
 Follows now old new = (bound : ℕ) → unsigned_abs now ≤ bound → unsigned_abs old ≤ bound → unsigned_abs new ≤ bound + 2 ^ 102
 

@@ -1,4 +1,4 @@
--- What the machine reads of a text is what the text says by the grammar, or its first fault.
+-- The machine reads a text as the queries that it means by the grammar, or finds its first fault.
 use Rattle.std.proofs.Common.{◌≡◌, ◌⊎◌, inl, inr, ℕ, ℤ, ◌<◌, ◌≤◌, List, length, nat_lt, Bool, true, false, Result, Ok, Err, refl, sym, ap, ◌∙◌, subst}
 use Rattle.std.proofs.lemmas.Bool.{ltb-false}
 use Rattle.ts_core.specs.facts.Facts.{Text}
@@ -77,7 +77,7 @@ decided now text = record {
   one_fault = λ f other told also. one_err f other (queries_of now text) (faulty_as now text f told) (faulty_as now text other also);
 }
 
--- ---- the same of what was returned
+-- ---- the same for the result of a call
 
 tells : {X : Type 0} (view : X → List Select) (now : ℤ) (text : Text) (r : Result X ParseError) → (r ≡ Err errors.OutOfMemory → length text ≤ 65536) → Gives view r (queries_of now text) → Tells view now text r
 tells {X} view now text (Ok x) short e = text_says now text (view x) e

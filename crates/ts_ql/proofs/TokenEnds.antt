@@ -199,7 +199,7 @@ kind_same : (kind : Kind) (raw : Text) → is_end_of_text (kind_of kind raw) ≡
 kind_same kinds.Word raw = cond_both (is_keyword raw) kinds.Keyword kinds.Word (λ k. is_end_of_text k ≡ false) (λ e. refl) (λ e. refl)
 kind_same kind raw = refl
 
--- the first token from a place on ends after the place and in the text, or it's the last
+-- the first token from an offset on ends after the offset and in the text, or it's the last
 pub token_within : (text : Text) (from : ℕ) → from ≤ length text → (token_at text from).end ≤ length text
 unfolding token_at
 token_within text from le =

@@ -1,4 +1,4 @@
--- The conditions on tags and the parentheses of WHERE: what each token leads to, and what each rest spells.
+-- Tag conditions and parentheses of WHERE: the step of each token, and the tokens of each rest.
 use Rattle.std.proofs.Common.{◌≡◌, inl, inr, ℕ, ℤ, ◌+◌, ◌-◌, ◌<◌, List, [], ◌∷◌, ◌++◌, Bool, true, false, Some, None, Result, Ok, Err, map, arith, refl, sym, ap, ◌∙◌, subst}
 use Rattle.std.proofs.lemmas.Bool.{lt-ltb, eqb-true, eqb-false}
 use Rattle.std.specs.Prelude.{codes, nat_lt, ◌==◌, if◌then◌else◌}
@@ -121,7 +121,7 @@ type_answers : (now : ℤ) (s : Progress) (t : Lexeme) → t.kind ≡ kinds.Word
 type_answers now s t e true is = (tt, λ r suits. (r, suits, (λ ts reach w. ((e, is), w)), refl))
 type_answers now s t e false is = inr refl
 
--- AND after a term outside of all parentheses, and inside of some
+-- AND after a term, outside of parentheses or inside
 and_back : (now : ℤ) (s : Progress) (t : Lexeme) → t.kind ≡ kinds.Keyword → is_word (codes "and") t.text ≡ true → s.builder.filter.depth ≡ 0
     → (c : Cond) (closing : Closing) → s.builder.filter.depth ≡ levels closing
     → Behind now (at states.AfterTerm s) t (spell_cond now (levels closing) c (left_closing now s (after_cond now (meaning s.builder) c) closing))
@@ -181,7 +181,7 @@ where_answers now s p k t e sound = inr refl
 
 -- ---- from trees
 
--- the step with a token of that kind
+-- the step by the kind of the token
 abbrev pub where_steps : Progress → State → Lexeme → Kind → Advance
 where_steps s p t k = filtering s p (where_at p k t s.builder.filter)
 
