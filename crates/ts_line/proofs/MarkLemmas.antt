@@ -37,7 +37,7 @@ pub with_marked : (marks : List Bool) (fields : List (LinePart × ℤ)) (f : Lin
 with_marked marks [] f all mark = (mark, tt)
 with_marked marks (g ∷ gs) f all mark = with_by marks g f gs (bytes_eq g.0.text f.0.text) refl all.0 all.1 (with_marked marks gs f all.1 mark)
 
--- one mark more
+-- one more slot is set
 kept : (marks : List Bool) (slot i : ℕ) → get_or marks i false ≡ true → get_or (set marks slot true) i false ≡ true
 kept [] slot i mark = mark
 kept (x ∷ xs) zero zero mark = refl
@@ -71,15 +71,7 @@ pub unmarked_key : (marks : List Bool) (key : Text) (tags : List (LinePart × Li
 unmarked_key marks key [] bare all = refl
 unmarked_key marks key (g ∷ gs) bare all = key_by marks key g gs (bytes_eq g.0.text key) refl bare all.0 (unmarked_key marks key gs bare all.1)
 
--- one mark more, and one tag more
-keys_kept : (marks : List Bool) (slot : ℕ) (tags : List (LinePart × LinePart)) → AreKeysMarked marks tags → AreKeysMarked (set marks slot true) tags
+-- another slot is set
+pub keys_kept : (marks : List Bool) (slot : ℕ) (tags : List (LinePart × LinePart)) → AreKeysMarked marks tags → AreKeysMarked (set marks slot true) tags
 keys_kept marks slot [] all = tt
 keys_kept marks slot (g ∷ gs) all = (kept marks slot (slot_of g.0.text) all.0, keys_kept marks slot gs all.1)
-
-key_more : (marks : List Bool) (tags : List (LinePart × LinePart)) (t : LinePart × LinePart) → AreKeysMarked marks tags → Mark marks t.0.text → AreKeysMarked marks (tags ++ t ∷ [])
-key_more marks [] t all mark = (mark, tt)
-key_more marks (g ∷ gs) t all mark = (all.0, key_more marks gs t all.1 mark)
-
-pub push_key_marked : (marks : List Bool) (t : LinePart × LinePart) (tags : List (LinePart × LinePart)) → slot_of t.0.text < length marks → AreKeysMarked marks tags → AreKeysMarked (set marks (slot_of t.0.text) true) (tags ++ t ∷ [])
-push_key_marked marks t tags lt all =
-    key_more (set marks (slot_of t.0.text) true) tags t (keys_kept marks (slot_of t.0.text) tags all) (marked_at marks (slot_of t.0.text) lt)

@@ -24,7 +24,3 @@ fault_is put (Err g) f e = let is : g ≡ f = cc in ap Err is
 pub was_fault : {X Y : Type 0} (put : X → Y) (q : Result (X × ℕ) LineFault) (e : ReadLineError) → FailsIfRoom e (put_by put q) → FailsIfRoom e q
 was_fault put q errors.OutOfMemory h = tt
 was_fault put q (errors.Fault f) h = fault_is put q f h
-
-pub put_fault : {X Y : Type 0} (put : X → Y) (q : Result (X × ℕ) LineFault) (e : ReadLineError) → FailsIfRoom e q → FailsIfRoom e (put_by put q)
-put_fault put q errors.OutOfMemory h = tt
-put_fault put q (errors.Fault f) h = rw h refl

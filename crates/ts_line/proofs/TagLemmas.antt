@@ -1,5 +1,5 @@
 -- Steps of the loop over tags.
-use Rattle.std.proofs.Common.{◌≡◌, ℕ, suc, ◌+◌, ◌-◌, ◌≤◌, ◌<◌, nat_le, false, eqb, List, [], ◌∷◌, ◌++◌, length, slice_index, bytes_eq, codes, Result, Ok, Err, refl, sym, ◌∙◌, arith}
+use Rattle.std.proofs.Common.{◌≡◌, ℕ, suc, ◌+◌, ◌-◌, ◌≤◌, false, eqb, List, [], ◌∷◌, ◌++◌, length, slice_index, Result, Ok, Err, refl, sym, ◌∙◌, arith}
 use Rattle.std.proofs.lemmas.Bool.Decides.{nat_tests}
 use Rattle.ts_line.specs.declared.fault.LineFault.{LineFault}
 use Rattle.ts_core.specs.facts.Facts.{Text}
@@ -7,7 +7,7 @@ use Rattle.ts_line.specs.Parts.{LinePart}
 use Rattle.ts_line.specs.declared.fault.ReadLineError.{ReadLineError}
 use Rattle.ts_line.specs.declared.fault.ReadLineError.TheVariants as errors
 use Rattle.ts_line.specs.ReadSteps.{FailsIfRoom}
-use Rattle.ts_line.specs.TagParts.{pair_at, has_key, next_tag, tags_at}
+use Rattle.ts_line.specs.TagParts.{next_tag, tags_at}
 
 pub tag_taken : (n : ℕ) (before : List (LinePart × LinePart)) (line : Text) (at : ℕ) (t : LinePart × LinePart) (end : ℕ) (total : Result (List (LinePart × LinePart) × ℕ) LineFault) → n ≤ 64 → slice_index line at ≡ 44
     → next_tag before line (at + 1) ≡ Ok (t, end) → tags_at (65 - n) before line at ≡ total → tags_at (65 - (n + 1)) (before ++ t ∷ []) line end ≡ total
@@ -37,11 +37,3 @@ pub tag_fails : (n : ℕ) (before : List (LinePart × LinePart)) (line : Text) (
     → FailsIfRoom e (next_tag before line (at + 1)) → tags_at (65 - n) before line at ≡ total → FailsIfRoom e total
 tag_fails n before line at errors.OutOfMemory total le comma read so_far = tt
 tag_fails n before line at (errors.Fault f) total le comma read so_far = tag_failed n before line at f total le comma read so_far
-
--- a pair whose key is new and not reserved is the next tag
-pub plain_tag : (before : List (LinePart × LinePart)) (line : Text) (at : ℕ) (t : (LinePart × LinePart) × ℕ) → pair_at line at ≡ Ok t → length before < 64
-    → bytes_eq t.0.0.text (codes "time") ≡ false → has_key before t.0.0.text ≡ false → next_tag before line at ≡ Ok t
-unfolding next_tag
-plain_tag before line at t read few other new =
-    let room : nat_le 64 (length before) ≡ false = grind (arith, nat_tests) in
-    rw (read, room, other, new) refl

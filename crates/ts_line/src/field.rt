@@ -1,13 +1,14 @@
 //! Parses the fields of a line: 1 to 256. A repeated name takes its last value.
-ghost use Rattle.std.specs.Prelude.{◌≡◌, ◌<◌, length, [], Ok, IfOk, IfSome, OnOk};
+ghost use Rattle.std.specs.Prelude.{◌≡◌, ◌<◌, length, [], IfOk, IfSome, OnOk};
 ghost use Rattle.std.specs.Str.{IsCharBoundary};
 ghost use Rattle.ts_line.specs.ReadSteps.{GivesIfRoom};
 ghost use Rattle.ts_line.specs.NameMarks.{AreMarked};
 ghost use Rattle.ts_line.specs.Fields.{next_field, offset_from, with_field, fields_at};
 ghost use Rattle.ts_line.specs.StepsPut.{PutsNextField};
+ghost use Rattle.ts_line.specs.Values.{value_begun_at};
 
-use crate::fault::{LineFaultKind, ReadLineError};
-use crate::line::{Field, Part};
+use crate::fault::{LineFault, LineFaultKind, ReadLineError};
+use crate::line::Field;
 use crate::mark::slot_of;
 use crate::part::part_at;
 use crate::scan::{Stops, end_at};
@@ -22,27 +23,21 @@ const FIELD_LIMIT: usize = 256;
 /// Initial capacity of the field list.
 const FIELDS_AT_FIRST: usize = 16;
 
-/// Parses the field at `start` if its name has no escape and its value is an integer of at most 19 digits: the fast
-/// path. Returns the field and the offset after it, or `None` for anything else.
-#[tactic(auto, using(crate::proofs::PieceLemmas::plain_text), unfolding(crate::specs::Fields::next_field))]
-fn plain<'a, A: Allocator>(line: &'a str, start: usize) -> Option<(Field<'a, A>, usize)>
-    requires { IsCharBoundary line.now start }
-    ensures value { IfSome result (λ x. next_field line.now start ≡ Ok x) }
-    ensures boundary { IfSome result (λ x. IsCharBoundary line.now x.1) }
+/// Parses the value at `at` of the field at `start`; returns it and the offset after it. A short integer, as most values
+/// are, is read in one pass.
+fn value_at(start: usize, line: &str, at: usize) -> Result<(i64, usize), LineFault>
+    requires { IsCharBoundary line.now at }
+    ensures value { result ≡ value_begun_at start line.now at }
+    ensures boundary { IfOk result (λ x. IsCharBoundary line.now x.1) }
 {
-    let name_end = end_at(line, start, Stops::Equals);
-    if name_end.has_escape || name_end.at == start || byte_at(line, name_end.at) != b'=' {
-        return None;
+    match short_integer(line, at) {
+        Some(read) => Ok(read),
+        None => value_begun_at(start, line, at),
     }
-    let name = &line[start..name_end.at];
-    if name == "time" {
-        return None;
-    }
-    let (value, end) = short_integer(line, after(line, name_end.at))?;
-    Some((Field::new(Part::plain(start, name), value), end))
 }
 
-/// Parses the field at `start`; returns it and the offset after it.
+/// Parses the field at `start`; returns it and the offset after it. Allocates only for escapes. Fails with `BadField`,
+/// `ReservedKey` or an error of the value.
 #[tactic(auto, unfolding(crate::specs::Fields::next_field))]
 fn next<'a, A: Allocator + Copy>(
     alloc: A,
@@ -53,16 +48,16 @@ fn next<'a, A: Allocator + Copy>(
     ensures value { GivesIfRoom (λ x. x) result (next_field line.now start) }
     ensures boundary { IfOk result (λ x. IsCharBoundary line.now x.1) }
 {
-    let key_end = end_at(line, start, Stops::Equals);
-    if key_end.at == start || byte_at(line, key_end.at) != b'=' {
+    let name_end = end_at(line, start, Stops::Equals);
+    if name_end.at == start || byte_at(line, name_end.at) != b'=' {
         return Err(ReadLineError::Fault(LineFaultKind::BadField.at(start)));
     }
-    let key = part_at(alloc, line, start, key_end, Stops::Equals)?;
-    if key.text() == "time" {
+    let name = part_at(alloc, line, start, name_end, Stops::Equals)?;
+    if name.text() == "time" {
         return Err(ReadLineError::Fault(LineFaultKind::ReservedKey.at(start)));
     }
-    let (value, end) = value_begun_at(start, line, after(line, key_end.at))?;
-    Ok((Field::new(key, value), end))
+    let (value, end) = value_at(start, line, after(line, name_end.at))?;
+    Ok((Field::new(name, value), end))
 }
 
 /// Returns the index of the field with this name (linear search).
@@ -95,25 +90,6 @@ fn put<'a, A: Allocator>(
     Ok(())
 }
 
-/// Parses any field at `start` and inserts it; returns the offset after it. This is the slow path of `put_next`.
-#[cold]
-fn put_any<'a, A: Allocator + Copy>(
-    alloc: A,
-    fields: &mut Vec<Field<'a, A>, A>,
-    marks: &mut [bool; 64],
-    line: &'a str,
-    start: usize,
-) -> Result<usize, ReadLineError>
-    requires boundary { IsCharBoundary line.now start }
-    requires marked { AreMarked marks.old fields.old.items }
-    ensures { PutsNextField fields.old.items fields.new.items marks.new line.now start result }
-{
-    let (field, end) = next(alloc, line, start)?;
-    marks[slot_of(field.name().text())] = true;
-    put(fields, field)?;
-    Ok(end)
-}
-
 /// Parses the field at `start`, inserts it into `fields` and returns the offset after it. `marks` is a filter over the
 /// names so far: an unset slot means a new name.
 fn put_next<'a, A: Allocator + Copy>(
@@ -127,15 +103,15 @@ fn put_next<'a, A: Allocator + Copy>(
     requires marked { AreMarked marks.old fields.old.items }
     ensures { PutsNextField fields.old.items fields.new.items marks.new line.now start result }
 {
-    if let Some((field, end)) = plain(line, start) {
-        let slot = slot_of(field.name().text());
-        if !marks[slot] {
-            marks[slot] = true;
-            fields.push(field)?;
-            return Ok(end);
-        }
+    let (field, end) = next(alloc, line, start)?;
+    let slot = slot_of(field.name().text());
+    if marks[slot] {
+        put(fields, field)?;
+    } else {
+        marks[slot] = true;
+        fields.push(field)?;
     }
-    put_any(alloc, fields, marks, line, start)
+    Ok(end)
 }
 
 /// Parses the comma-separated fields from `start`; returns them and the offset after the last. Fails with `OverLimit`

@@ -45,13 +45,6 @@ impl<'a, A: Allocator> Part<'a, A> {
         Part { start, raw, text }
     }
 
-    /// Creates a part without escapes: its text is its bytes.
-    pub(crate) fn plain(start: usize, raw: &'a str) -> Self
-        ensures { result ≡ record { start = start; raw = raw.now; text = raw.now } }
-    {
-        Part::new(start, raw, CowStr::Borrowed(raw))
-    }
-
     /// Returns the byte offset of the part in the line.
     pub fn start(&self) -> usize
         ensures { result ≡ self.now.start }

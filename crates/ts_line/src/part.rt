@@ -14,6 +14,7 @@ use std::borrow::CowStr;
 use ts_core::after;
 
 /// Returns the part of the line from `start` to `end`. Allocates only if it has an escape.
+#[inline]
 pub fn part_at<'a, A: Allocator>(
     alloc: A,
     line: &'a str,
