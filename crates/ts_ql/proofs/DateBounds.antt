@@ -4,9 +4,10 @@ use Rattle.std.specs.Prelude.{⊤, if◌then◌else◌, nat_lt, nat_le, ◌==◌
 use Rattle.std.proofs.lemmas.Bool.{leb-true, ltb-true}
 use Rattle.std.proofs.lemmas.Int.{ints, unsigned_abs-mul}
 use Rattle.jiff_core.specs.Calendar.{is_leap_year, days_in_month, days_of_years, days_of_months, day_count, days_from_civil}
+use Rattle.ts_core.specs.facts.Durations.{in_64_bits}
 use Rattle.ts_core.specs.facts.Facts.{Text}
 use Rattle.ts_ql.specs.Dates.{digits, midnight, date_of, fraction, place_value, clock_nanos, time_of_day, without_zone, later, timestamp_of}
-use Rattle.ts_ql.specs.Literals.{within, magnitude, literal}
+use Rattle.ts_ql.specs.Literals.{magnitude, literal}
 
 -- P of the value, if there is one
 abbrev pub Holds : {A : Type 0} → (A → Type 0) → Option A → Type 0
@@ -102,15 +103,15 @@ date_near text =
 abbrev IsShort : ℕ → Type 0
 IsShort n = n ≤ 2 ^ 65
 
-within_short : (n : ℕ) (b : Bool) → nat_lt n 18446744073709551616 ≡ b → Holds IsShort (if b then Some n else None)
-within_short n true e = let lt : n < 18446744073709551616 = ltb-true n 18446744073709551616 e in omega arith
+within_short : (n : ℕ) (b : Bool) → nat_lt n (2 ^ 64) ≡ b → Holds IsShort (if b then Some n else None)
+within_short n true e = let lt : n < 2 ^ 64 = ltb-true n (2 ^ 64) e in omega arith
 within_short n false e = tt
 
 fraction_by : (text : Text) (none point : Bool) → Holds IsShort (if none then Some 0
-    else if point then option_and_then (λ n. within 18446744073709551616 (n * place_value (length text - 1))) (digits (drop 1 text)) else None)
+    else if point then option_and_then (λ n. in_64_bits (n * place_value (length text - 1))) (digits (drop 1 text)) else None)
 fraction_by text true point = omega arith
 fraction_by text false true =
-    holds_then IsShort (digits (drop 1 text)) _ (λ n. within_short (n * place_value (length text - 1)) (nat_lt (n * place_value (length text - 1)) 18446744073709551616) refl)
+    holds_then IsShort (digits (drop 1 text)) _ (λ n. within_short (n * place_value (length text - 1)) (nat_lt (n * place_value (length text - 1)) (2 ^ 64)) refl)
 fraction_by text false false = tt
 
 fraction_short : (text : Text) → Holds IsShort (fraction text)
@@ -163,15 +164,15 @@ moment_told_near text = told_by_length text (nat_le (length text) 10) (slice_ind
 
 -- ---- literals
 
-negative_near : (n : ℕ) (b : Bool) → nat_le n 9223372036854775808 ≡ b → Holds IsNear (if b then Some (neg_ℤ (pos n)) else None)
-negative_near n true e = let le : n ≤ 9223372036854775808 = leb-true n 9223372036854775808 e in omega (arith, ints)
+negative_near : (n : ℕ) (b : Bool) → nat_le n (2 ^ 63) ≡ b → Holds IsNear (if b then Some (neg_ℤ (pos n)) else None)
+negative_near n true e = let le : n ≤ 2 ^ 63 = leb-true n (2 ^ 63) e in omega (arith, ints)
 negative_near n false e = tt
 
-positive_near : (n : ℕ) (b : Bool) → nat_lt n 9223372036854775808 ≡ b → Holds IsNear (if b then Some (pos n) else None)
-positive_near n true e = let lt : n < 9223372036854775808 = ltb-true n 9223372036854775808 e in omega (arith, ints)
+positive_near : (n : ℕ) (b : Bool) → nat_lt n (2 ^ 63) ≡ b → Holds IsNear (if b then Some (pos n) else None)
+positive_near n true e = let lt : n < 2 ^ 63 = ltb-true n (2 ^ 63) e in omega (arith, ints)
 positive_near n false e = tt
 
 pub literal_near : (negative : Bool) (text : Text) → Holds IsNear (literal negative text)
 unfolding literal
-literal_near true text = negative_near (magnitude text) (nat_le (magnitude text) 9223372036854775808) refl
-literal_near false text = positive_near (magnitude text) (nat_lt (magnitude text) 9223372036854775808) refl
+literal_near true text = negative_near (magnitude text) (nat_le (magnitude text) (2 ^ 63)) refl
+literal_near false text = positive_near (magnitude text) (nat_lt (magnitude text) (2 ^ 63)) refl

@@ -1,5 +1,5 @@
 -- The digits and the calendar of timestamps.
-use Rattle.std.proofs.Common.{◌≡◌, ℕ, ◌<◌, ◌≤◌, true, false, not, ◌==◌, eqb, ◌&&◌, [], ◌∷◌, length, arith, refl, ap, ◌∙◌, leb, Some, ℤ, pos, to_z, w8, ◌-ℤ◌, ◌*ℤ◌}
+use Rattle.std.proofs.Common.{◌≡◌, ℕ, ◌<◌, ◌≤◌, true, false, not, ◌==◌, ◌&&◌, [], ◌∷◌, length, arith, refl, ap, ◌∙◌, leb, Some, ℤ, pos, to_z, w8, ◌-ℤ◌, ◌*ℤ◌}
 use Rattle.std.specs.Prelude.{IsAscii}
 use Rattle.std.specs.Char.{is_ascii_digit}
 use Rattle.std.specs.Int.{w16}

@@ -1,5 +1,5 @@
 -- One step over a literal.
-use Rattle.std.proofs.Common.{◌≡◌, ℕ, ◌+◌, ◌*◌, ◌-◌, ◌<◌, ◌≤◌, Bool, true, false, cond, [], ◌∷◌, ◌++◌, length, get_or, drop, arith, refl, sym, ◌∙◌, Option, Some, None, append-nil, append_assoc}
+use Rattle.std.proofs.Common.{◌≡◌, ℕ, ◌+◌, ◌*◌, ◌-◌, ◌<◌, ◌≤◌, ◌^◌, Bool, true, false, cond, [], ◌∷◌, ◌++◌, length, get_or, drop, arith, refl, sym, ◌∙◌, Option, Some, None, append-nil, append_assoc}
 use Rattle.std.proofs.lemmas.List.{at_drop_more}
 use Rattle.std.proofs.lemmas.Str.{chars_past_char}
 use Rattle.std.specs.Char.{is_ascii_digit}
@@ -7,9 +7,10 @@ use Rattle.std.specs.Char.{encode_utf8}
 use Rattle.std.specs.Str.{encode_utf8_all, chars, IsUtf8}
 use Rattle.std.proofs.lemmas.Bool.{le-ltb, eq-eqb, ne_eqb}
 use Rattle.std.proofs.Math.Nat.{mul-le-mul_left}
+use Rattle.ts_core.specs.facts.Durations.{in_64_bits}
 use Rattle.ts_core.specs.facts.Facts.{Text}
 use Rattle.ts_ql.proofs.LexingLemmas.{next_byte}
-use Rattle.ts_ql.specs.Literals.{units_added_up, within, escape, characters_spelled}
+use Rattle.ts_ql.specs.Literals.{units_added_up, escape, characters_spelled}
 use Rattle.ts_core.specs.declared.facts.time_unit.TimeUnit.{TimeUnit}
 use Rattle.ts_core.specs.facts.TimeUnits.{unit_begun}
 use Rattle.ts_core.proofs.facts.DurationSteps.{unit_counts}
@@ -44,26 +45,26 @@ at_least total number (b ∷ bs) =
     let some = mul-le-mul_left number (unit_some b (get_or bs 0 0)) in
     least_by (is_ascii_digit b) (total + number) (units_added_up total (number * 10 + (b - 48)) bs) (units_added_up (total + number * nanoseconds_of_unit b (get_or bs 0 0)) 0 bs) (omega arith) (omega arith)
 
-pub none_within : (limit n : ℕ) → limit ≤ n → None ≡ within limit n
-none_within limit n le = rw (le-ltb n limit le) refl
+none_fits : (n : ℕ) → 2 ^ 64 ≤ n → None ≡ in_64_bits n
+none_fits n le = rw (le-ltb n (2 ^ 64) le) refl
 
--- one more digit exceeds the limit
-pub digit_past : (total number limit : ℕ) (text : Text) (i whole : ℕ) → i < length text → units_added_up total number (drop i text) ≡ whole
-    → is_ascii_digit (get_or text i 0) ≡ true → (number * 10 + (get_or text i 0 - 48) < limit → ⊥) → None ≡ within limit whole
-digit_past total number limit text i whole lt is digit past =
+-- one more digit exceeds 64 bits
+pub digit_past : (total number : ℕ) (text : Text) (i whole : ℕ) → i < length text → units_added_up total number (drop i text) ≡ whole
+    → is_ascii_digit (get_or text i 0) ≡ true → (number * 10 + (get_or text i 0 - 48) < 2 ^ 64 → ⊥) → None ≡ in_64_bits whole
+digit_past total number text i whole lt is digit past =
     let step = added_up_step total number text i lt in
     let here = rw digit at step in
     let low = at_least total (number * 10 + (get_or text i 0 - 48)) (drop (i + 1) text) in
-    none_within limit whole (omega arith)
+    none_fits whole (omega arith)
 
--- one more number exceeds the limit
-pub unit_past : (total number limit : ℕ) (text : Text) (i whole : ℕ) → i < length text → units_added_up total number (drop i text) ≡ whole
-    → is_ascii_digit (get_or text i 0) ≡ false → (total + number * nanoseconds_of_unit (get_or text i 0) (get_or text (i + 1) 0) < limit → ⊥) → None ≡ within limit whole
-unit_past total number limit text i whole lt is digit past =
+-- one more number exceeds 64 bits
+pub unit_past : (total number : ℕ) (text : Text) (i whole : ℕ) → i < length text → units_added_up total number (drop i text) ≡ whole
+    → is_ascii_digit (get_or text i 0) ≡ false → (total + number * nanoseconds_of_unit (get_or text i 0) (get_or text (i + 1) 0) < 2 ^ 64 → ⊥) → None ≡ in_64_bits whole
+unit_past total number text i whole lt is digit past =
     let step = added_up_step total number text i lt in
     let here = rw digit at step in
     let low = at_least (total + number * nanoseconds_of_unit (get_or text i 0) (get_or text (i + 1) 0)) 0 (drop (i + 1) text) in
-    none_within limit whole (omega arith)
+    none_fits whole (omega arith)
 
 -- ---- texts
 

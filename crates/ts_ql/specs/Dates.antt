@@ -3,9 +3,9 @@
 -- or none.)
 use Rattle.std.specs.Prelude.{ℕ, ℤ, pos, ◌+◌, ◌-◌, ◌*◌, ◌+ℤ◌, ◌*ℤ◌, length, drop, take, slice_index, slice_range, Bool, ◌&&◌, ◌||◌, ◌==◌, nat_lt, nat_le, if◌then◌else◌, Option, Some, None, option_and_then, option_map, unsigned_abs}
 use Rattle.jiff_core.specs.Calendar.{days_in_month, days_from_civil}
+use Rattle.ts_core.specs.facts.Durations.{in_64_bits}
 use Rattle.ts_core.specs.facts.Facts.{Text}
 use Rattle.ts_core.specs.text.Numbers.{are_digits, whole_of}
-use Rattle.ts_ql.specs.Literals.{within}
 
 -- the number of one or more digits, if it has 63 bits
 unfoldable pub digits : Text → Option ℕ
@@ -44,7 +44,7 @@ unfoldable pub fraction : Text → Option ℕ
 fraction text =
     if length text == 0 then Some 0
     else if slice_index text 0 == 46 && nat_le 2 (length text) && nat_le (length text) 10
-    then option_and_then (λ n. within 18446744073709551616 (n * place_value (length text - 1))) (digits (drop 1 text))
+    then option_and_then (λ n. in_64_bits (n * place_value (length text - 1))) (digits (drop 1 text))
     else None
 
 abbrev pub clock_nanos : ℕ → ℕ → ℕ → ℕ → Option ℕ

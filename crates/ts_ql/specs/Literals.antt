@@ -1,9 +1,10 @@
 -- Values of literals: numbers, durations and strings.
 -- (InfluxData 1.8, InfluxQL reference, literals: integers, durations, strings. Own rule: the four escapes, and the
 -- ranges.)
-use Rattle.std.specs.Prelude.{ℕ, ℤ, pos, neg_ℤ, ◌+◌, ◌-◌, ◌*◌, [], ◌∷◌, List, Bool, true, false, nat_lt, nat_le, ◌==◌, if◌then◌else◌, Option, Some, None, slice_index, encode_utf8_all}
+use Rattle.std.specs.Prelude.{ℕ, ℤ, ◌+◌, ◌-◌, ◌*◌, [], ◌∷◌, List, Bool, true, false, ◌==◌, if◌then◌else◌, Option, slice_index, encode_utf8_all}
 use Rattle.std.specs.Char.{is_ascii_digit}
 use Rattle.std.specs.Str.{chars, str_eq_ignore_ascii_case}
+use Rattle.ts_core.specs.facts.Durations.{counted_up, counted_down}
 use Rattle.ts_core.specs.facts.Facts.{Text}
 use Rattle.ts_ql.specs.DurationUnits.{nanoseconds_of_unit}
 
@@ -21,14 +22,9 @@ units_added_up total number (b ∷ bs) =
 unfoldable pub magnitude : Text → ℕ
 magnitude text = units_added_up 0 0 text
 
--- ---- ranges
-
-abbrev pub within : ℕ → ℕ → Option ℕ
-within limit n = if nat_lt n limit then Some n else None
-
 abbrev pub signed : Bool → ℕ → Option ℤ
-signed true n = if nat_le n 9223372036854775808 then Some (neg_ℤ (pos n)) else None
-signed false n = if nat_lt n 9223372036854775808 then Some (pos n) else None
+signed true n = counted_down n
+signed false n = counted_up n
 
 -- the value of a literal with or without a minus, if it fits in 64 bits
 unfoldable pub literal : Bool → Text → Option ℤ

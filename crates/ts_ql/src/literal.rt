@@ -2,7 +2,8 @@
 ghost use Rattle.std.specs.Prelude.{◌≡◌, ◌-◌, ◌<◌, IfOk, pos, string_bytes};
 ghost use Rattle.std.specs.Char.{is_ascii_digit};
 ghost use Rattle.std.specs.Str.{str_eq_ignore_ascii_case};
-ghost use Rattle.ts_ql.specs.Literals.{magnitude, within, literal, escape, text_spelled};
+ghost use Rattle.ts_core.specs.facts.Durations.{in_64_bits};
+ghost use Rattle.ts_ql.specs.Literals.{magnitude, literal, escape, text_spelled};
 ghost use Rattle.ts_ql.specs.DurationUnits.{nanoseconds_of_unit};
 
 use crate::unit::nanoseconds_of_unit;
@@ -12,7 +13,7 @@ use ts_core::{byte_at, with_digit, with_units};
 /// Returns the value of an integer, or of a duration in nanoseconds; `None` from 2^64 on.
 #[tactic(auto, unfolding(crate::specs::Literals::magnitude))]
 pub(crate) fn magnitude(text: &str) -> Option<u64>
-    ensures { result ≡ within 18446744073709551616 (magnitude text.now) }
+    ensures { result ≡ in_64_bits (magnitude text.now) }
 {
     let bytes = text.as_bytes();
     let mut total = 0u64;
