@@ -18,7 +18,7 @@ use Rattle.ts_store.specs.image.BuildingParts.{built_of, IsInOrder, FillsCells}
 use Rattle.ts_store.specs.store.CellCounts.{HoldFew, live_count}
 use Rattle.ts_store.specs.store.ColumnStates.{StoreContent}
 use Rattle.ts_store.specs.write.LinesPut.{OfEachRule, PutsCells}
-use Rattle.ts_store.specs.retain.OpenRuns.{Run, opened, unflagged, waiting_in, data_of_parts, IsWithin, IsSoundStore}
+use Rattle.ts_store.specs.retain.OpenRuns.{Run, run_of, unflagged, waiting_in, data_of_parts, IsWithin, IsSoundStore}
 use Rattle.ts_store.specs.rollup.Rollups.{RollupState, AreRollups, cells_of}
 use Rattle.ts_store.specs.store.SizedStores.{IsSizedRule}
 use Rattle.ts_store.proofs.retain.RollupMoves.{rollups_with}
@@ -70,15 +70,15 @@ waiting-none (c ∷ cs) (true ∷ ws) h = absurd (true≢false h.0)
 waiting-none (c ∷ cs) (false ∷ ws) h = waiting-none cs ws h.1
 
 waiting-built : (running : Bool) (columns : List ColumnPoints) (passed : List Bool) → length passed ≡ length columns → (running ≡ false → AllByRecursion (λ (w : Bool). w ≡ false) (map not passed))
-    → waiting_in (opened running 0 (length columns) passed) columns ≡ waiting_of columns (map not passed)
+    → waiting_in (run_of running 0 (length columns) passed) columns ≡ waiting_of columns (map not passed)
 waiting-built true columns passed e idle = ap (λ (xs : List ColumnPoints). unflagged passed (map column_of xs)) (take-length columns) ∙ waiting-flagged columns passed e
 waiting-built false columns passed e idle = waiting-none columns (map not passed) (idle refl)
 
-running-built : (running : Bool) (next end : ℕ) (passed : List Bool) → is_some (opened running next end passed) ≡ running
+running-built : (running : Bool) (next end : ℕ) (passed : List Bool) → is_some (run_of running next end passed) ≡ running
 running-built true next end passed = refl
 running-built false next end passed = refl
 
-within-built : (running : Bool) (columns : List ColumnPoints) (passed : List Bool) → IsWithin (opened running 0 (length columns) passed) columns
+within-built : (running : Bool) (columns : List ColumnPoints) (passed : List Bool) → IsWithin (run_of running 0 (length columns) passed) columns
 within-built true columns passed = (omega arith, omega arith)
 within-built false columns passed = tt
 
@@ -87,7 +87,7 @@ within-built false columns passed = tt
 module _ (settings : Settings) (marks : Marks) (running : Bool) (count : ℕ) (held after : StoreContent) (passed : List Bool) (order : IsInOrder settings held passed) (well : settings_fault settings ≡ None) (can : IsBuildable (built_of settings marks running count held passed))
     (fills : FillsCells settings.rules marks.lows held after) where
   abbrev run : Option Run
-  run = opened running 0 (length after.columns) passed
+  run = run_of running 0 (length after.columns) passed
 
   same_columns : after.columns ≡ held.columns
   same_columns = ap (λ (h : StoreContent). h.columns) fills.others

@@ -13,7 +13,7 @@ use Rattle.ts_core.specs.store.StoreStates.{ColumnPoints}
 use Rattle.ts_raw.specs.Columns.{PointMap, points_within}
 use Rattle.ts_core.specs.lists.Numbered.{IsAt, numbers_where_from, numbers_where}
 use Rattle.ts_store.specs.store.ColumnStates.{with_points}
-use Rattle.ts_store.specs.read.ViewResults.{ColumnRef, no_points, column_refs_from, column_refs_where, column_ref_in, points_at, column_ref_has, IsNamed, AreWhole}
+use Rattle.ts_store.specs.read.ViewResults.{ColumnRef, no_points, column_refs_from, column_refs_where, column_ref_in, points_at, column_ref_has, IsNamed, AreAllNamed}
 
 -- ---- which columns
 
@@ -96,7 +96,7 @@ named_as_first m f m' f' cs n among names =
     (sym (same_text-eq c.series.measurement m parts.0) ∙ sym named.measurement_is, sym (same_text-eq c.field f parts.1) ∙ sym named.field_is)
 
 -- those that the index finds by a tag are those of all that a filter leaves
-pub tagged_column_refs : (cs : List Column) (ids found : List ℕ) (n : ℕ) (m f tag value : Text) → AreWhole cs ids → Among n ids → ((c : Column) → IsAt cs n c → IsNamed m f c)
+pub tagged_column_refs : (cs : List Column) (ids found : List ℕ) (n : ℕ) (m f tag value : Text) → AreAllNamed cs ids → Among n ids → ((c : Column) → IsAt cs n c → IsNamed m f c)
     → found ≡ numbers_where (is_tagged m f tag value) cs → map (column_ref_in cs) found ≡ filter (column_ref_has tag value) (map (column_ref_in cs) ids)
 tagged_column_refs cs ids found n m f tag value whole among names is =
     let same = named_as_first whole.measurement whole.field m f cs n (subst (λ (ns : List ℕ). Among n ns) whole.are among) names in

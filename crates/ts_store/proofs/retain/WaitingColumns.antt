@@ -9,7 +9,7 @@ use Rattle.std.proofs.lemmas.Option.{none-some, same_Some}
 use Rattle.ts_core.specs.facts.Facts.{Column}
 use Rattle.ts_core.specs.lists.Numbered.{IsAt}
 use Rattle.ts_core.specs.store.StoreStates.{ColumnPoints, column_of}
-use Rattle.ts_store.specs.retain.OpenRuns.{Run, run_over, unflagged, waiting_in, IsWithin, TakesFirst, ArePassed, opened}
+use Rattle.ts_store.specs.retain.OpenRuns.{Run, run_over, unflagged, waiting_in, IsWithin, TakesFirst, ArePassed, run_of}
 
 -- ---- elements without a flag
 
@@ -85,11 +85,11 @@ none_waits next end bs cs l =
 
 -- ---- the first is taken
 
-pub is_open : (running : Bool) (next end : ℕ) (bs : List Bool) → is_some (opened running next end bs) ≡ true → running ≡ true
+pub is_open : (running : Bool) (next end : ℕ) (bs : List Bool) → is_some (run_of running next end bs) ≡ true → running ≡ true
 is_open true next end bs e = refl
 is_open false next end bs e = e
 
-pub takes_one : (running : Bool) (next end : ℕ) (bs : List Bool) (n : ℕ) → running ≡ true → next ≤ n → n < end → get_or bs n false ≡ false → ArePassed bs next n → TakesFirst (opened running next end bs) (opened running (n + 1) end bs) (Some n)
+pub takes_one : (running : Bool) (next end : ℕ) (bs : List Bool) (n : ℕ) → running ≡ true → next ≤ n → n < end → get_or bs n false ≡ false → ArePassed bs next n → TakesFirst (run_of running next end bs) (run_of running (n + 1) end bs) (Some n)
 takes_one false next end bs n runs low high flag all = absurd (true≢false (sym runs))
 takes_one true next end bs n runs low high flag all =
     let to : next + (n - next) ≡ n = omega (arith, low) in
@@ -103,7 +103,7 @@ takes_one true next end bs n runs low high flag all =
       running = refl;
     }
 
-pub takes_none : (running : Bool) (next end : ℕ) (bs : List Bool) → running ≡ true → ArePassed bs next end → TakesFirst (opened running next end bs) (opened running end end bs) None
+pub takes_none : (running : Bool) (next end : ℕ) (bs : List Bool) → running ≡ true → ArePassed bs next end → TakesFirst (run_of running next end bs) (run_of running end end bs) None
 takes_none false next end bs runs all = absurd (true≢false (sym runs))
 takes_none true next end bs runs all = record {
   first = tt;

@@ -65,7 +65,7 @@ pub record IsNamed (measurement field : Text) (c : Column) : Type 0 where
   pub field_is : field ≡ c.field
 
 -- all columns of one measurement and one field
-pub record AreWhole (columns : List Column) (ns : List ℕ) : Type 0 where
+pub record AreAllNamed (columns : List Column) (ns : List ℕ) : Type 0 where
   pub measurement : Text
   pub field : Text
   pub are : ns ≡ numbers_where (is_of measurement field) columns
@@ -73,4 +73,4 @@ pub record AreWhole (columns : List Column) (ns : List ℕ) : Type 0 where
 -- columns of an index, all those of one measurement and one field if `whole` says so
 pub record AreColumns (columns : List Column) (ns : List ℕ) (whole : Bool) : Type 0 where
   pub there : AllByRecursion (λ n. n < length columns) ns
-  pub all : whole ≡ true → AreWhole columns ns
+  pub all : whole ≡ true → AreAllNamed columns ns

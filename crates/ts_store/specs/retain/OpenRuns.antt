@@ -58,8 +58,8 @@ abbrev pub ArePassed : List Bool → ℕ → ℕ → Type 0
 ArePassed passed from to = (n : ℕ) → from ≤ n → n < to → get_or passed n false ≡ true
 
 -- a run of these parts, if it is open
-abbrev pub opened : Bool → ℕ → ℕ → List Bool → Option Run
-opened running next end passed = if running then Some (record { next = next; end = end; passed = passed }) else None
+abbrev pub run_of : Bool → ℕ → ℕ → List Bool → Option Run
+run_of running next end passed = if running then Some (record { next = next; end = end; passed = passed }) else None
 
 abbrev pub coded_run : Coded Run
 coded_run = code_by (ℕ × (ℕ × List Bool)) (coded× coded_ℕ (coded× coded_ℕ (coded_list coded_bool))) (λ r. (r.next, (r.end, r.passed))) (λ p. record { next = p.0; end = p.1.0; passed = p.1.1 }) (λ _. refl)

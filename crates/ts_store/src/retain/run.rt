@@ -1,6 +1,6 @@
 //! The retention run of a store: the columns that it still has to move.
 ghost use Rattle.std.specs.Prelude.{◌≡◌, ◌↔◌, IsTrue, ◌≤◌, ◌<◌, true, false, get_or, is_some, Some, None, MatchOption};
-ghost use Rattle.ts_store.specs.retain.OpenRuns.{ArePassed, IsToMove, TakesFirst, opened, run_over};
+ghost use Rattle.ts_store.specs.retain.OpenRuns.{ArePassed, IsToMove, TakesFirst, run_of, run_over};
 
 use std::alloc::Allocator;
 use std::marker::Model;
@@ -30,13 +30,13 @@ pub(crate) struct Run<A: Allocator> {
 impl<A: Allocator> Model for Run<A> {
     ghost use Rattle.std.specs.Prelude.{Option};
     ghost use Rattle.std.specs.Coded.{coded_option};
-    ghost use Rattle.ts_store.specs.retain.OpenRuns.{Run as RunValue, coded_run, opened};
+    ghost use Rattle.ts_store.specs.retain.OpenRuns.{Run as RunValue, coded_run, run_of};
 
     ghost Value = { Option RunValue };
 
     ghost coded = { coded_option coded_run };
 
-    ghost view = { λ r. opened r.running r.next r.end r.passed.items };
+    ghost view = { λ r. run_of r.running r.next r.end r.passed.items };
 }
 
 impl<A: Allocator> Run<A> {
@@ -54,7 +54,7 @@ impl<A: Allocator> Run<A> {
 
     /// Creates a run over this many columns, open or not, of which those with a true flag count as moved.
     pub(crate) fn over(running: bool, columns: usize, passed: Vec<bool, A>) -> Run<A>
-        ensures { result ≡ opened running 0 columns passed.items }
+        ensures { result ≡ run_of running 0 columns passed.items }
     {
         Run {
             running,
