@@ -1,5 +1,5 @@
 -- A store with one more rule: its invariant, and what it stands for.
-use Rattle.std.proofs.Common.{◌≡◌, ◌≤ℤ◌, ◌+ℤ◌, ◌≤◌, ◌^◌, ℕ, ℤ, pos, List, [], ◌∷◌, ◌++◌, length, map, Option, Some, None, Result, Ok, Err, IfSome, is_some, refl, sym, ◌∙◌, ap, subst, inl, inr, unsigned_abs, FitsSigned, true≢false, arith}
+use Rattle.std.proofs.Common.{◌≡◌, ◌≤ℤ◌, ◌≤◌, ◌^◌, ℕ, ℤ, pos, List, [], ◌∷◌, ◌++◌, length, map, Option, Some, None, Result, Ok, Err, IfSome, is_some, refl, sym, ◌∙◌, ap, subst, inl, inr, unsigned_abs, FitsSigned, true≢false, arith}
 use Rattle.std.specs.Int.{w64}
 use Rattle.std.specs.FinMap as finmap
 use Rattle.std.specs.List.{AllByRecursion}
@@ -20,10 +20,11 @@ use Rattle.ts_core.specs.lists.Changes.{or_else}
 use Rattle.ts_core.specs.store.StoreStates.{ColumnPoints, RuleCells, column_of, facts_of}
 use Rattle.ts_core.specs.store.StoreData.{CellMap, StoreData, no_parts, rule_cells, rules_of}
 use Rattle.ts_core.specs.moves.RuleMoves.{IsEven, rule_added}
-use Rattle.ts_core.proofs.aggregates.BucketsOrder.{bucket_le, bucket_is, bucket_of-start}
+use Rattle.ts_core.proofs.aggregates.BucketsOrder.{bucket_le, bucket_of-start}
 use Rattle.ts_core.proofs.aggregates.IndicesFit.{indices_fit}
 use Rattle.ts_core.proofs.lists.ListSteps.{length-filter}
-use Rattle.ts_core.proofs.store.LowIndices.{first_from-is}
+use Rattle.ts_core.proofs.store.LowIndices.{first_from-is, first_near}
+use Rattle.ts_core.proofs.store.RulesCome.{all_last}
 use Rattle.ts_core.proofs.settings.RuleLaws.{with_rule-fault}
 use Rattle.ts_core.proofs.moves.RulesMove.{rule_comes, lives_push, left_added, even_added}
 use Rattle.ts_core.proofs.settings.SettingsLaws.{settings_are}
@@ -38,10 +39,6 @@ use Rattle.ts_store.specs.rules.RulesChanged.{RuleComes, AddsRule}
 use Rattle.ts_store.specs.store.SizedStores.{IsSizedRule}
 
 -- ---- lists that are one longer
-
-all_last : {X : Type 0} (P : X → Type 0) (xs : List X) (x : X) → AllByRecursion P (xs ++ x ∷ []) → P x
-all_last P [] x a = a.0
-all_last P (y ∷ ys) x a = all_last P ys x a.1
 
 rollups_push : (rs : List Rule) (cs : List Column) (ss : List RollupState) (r : Rule) (s : RollupState) → AreRollups rs cs ss → HaveLanes r s.grid.lanes cs s.lanes → AreRollups (rs ++ r ∷ []) cs (ss ++ s ∷ [])
 rollups_push [] cs [] r s h one = (one, tt)
@@ -93,11 +90,6 @@ first_least r mark w time =
     let starts = (first_from-is r mark w).starts in
     let before : least_time ≤ℤ bucket_start (first_from r mark) r.interval r.offset = (let a = time.not_before in omega (arith, ints, a, starts)) in
     subst (λ k. index_of r least_time ≤ℤ k) (bucket_of-start (first_from r mark) r.interval r.offset w) (bucket_le least_time (bucket_start (first_from r mark) r.interval r.offset) r.interval r.offset w before)
-
-first_most : (r : Rule) (mark : ℤ) → pos 1 ≤ℤ r.interval → first_from r mark ≤ℤ (index_of r mark +ℤ pos 1)
-first_most r mark w =
-    (first_from-is r mark w).first (index_of r mark +ℤ pos 1)
-    (let b = (bucket_is mark r.interval r.offset w).before_end in let h : mark ≤ℤ bucket_start (index_of r mark +ℤ pos 1) r.interval r.offset = omega (arith, ints, b) in h)
 
 -- ---- the store
 
@@ -165,7 +157,7 @@ module _ (settings : Settings) (marks : Marks) (n : ℕ) (held : StoreContent) (
         rules = sized_push (IsSizedRule marks.raw (facts_of held.columns)) settings.rules marks.lows (cells_of held.rollups) r low cells kept.sized.lows kept.sized.cells
             (record {
               least = first_least r marks.raw wide mark;
-              most = first_most r marks.raw wide;
+              most = first_near r marks.raw wide;
               there = λ f a rolled above. key_there cells (cell_of r f) (λ none. rollup.fresh.there f a rolled above none);
             }) kept.sized.rules;
       };

@@ -1,7 +1,6 @@
 -- Inventories after steps of a run: columns stay, and so do the cells from the low indices on.
 use Rattle.std.proofs.Common.{◌≡◌, ◌⊎◌, ⊎_elim, ℕ, zero, suc, ℤ, ◌+◌, ◌-◌, ◌≤ℤ◌, int_lt, true, false, List, [], ◌∷◌, length, map, filter, refl, sym, ◌∙◌, ap, ap₂, subst, inl, inr, arith, cond, Some, None}
 use Rattle.std.specs.FinMap as finmap
-use Rattle.std.specs.FinMap.{len-empty, len-entries}
 use Rattle.std.proofs.Math.Nat.{eq-or-lt_of_le}
 use Rattle.std.proofs.lemmas.List.{nil_from_length}
 use Rattle.std.proofs.lemmas.Option.{none-some, same_Some}
@@ -9,13 +8,14 @@ use Rattle.ts_core.specs.lists.Members.{Among}
 use Rattle.ts_core.specs.lists.Numbered.{IsAt}
 use Rattle.ts_core.specs.facts.Facts.{Column, Fact}
 use Rattle.ts_core.specs.settings.Settings.{Rule, Settings}
-use Rattle.ts_core.specs.store.Cells.{Cell, cell_cmp}
+use Rattle.ts_core.specs.store.Cells.{Cell}
 use Rattle.ts_core.specs.moves.Runs.{turns_of, turns_left, steps_left}
-use Rattle.ts_core.specs.store.StoreStates.{CellParts, facts_of}
+use Rattle.ts_core.specs.store.StoreStates.{facts_of}
 use Rattle.ts_core.specs.store.StoreData.{CellMap, StoreData, state_of, rules_of, new_data}
 use Rattle.ts_core.specs.moves.StoreMoves.{all_moved, points_below, kept_points, run_ended}
 use Rattle.ts_core.proofs.lists.Comparisons.{lt_not}
 use Rattle.ts_core.proofs.lists.MembersLemmas.{Among-filter_stays}
+use Rattle.ts_core.proofs.moves.StoreNew.{no_keys}
 use Rattle.ts_core.proofs.moves.MovesStand.{keys_once, key_there, key_not}
 use Rattle.ts_core.proofs.moves.StepStands.{keys_column}
 use Rattle.ts_store.specs.store.Inventories.{Inventory, inventory_of, new_inventory, OfRules, expired_in, Expires, FirstExpires, turns_in, steps_in, StepsTo, LeavesFrom, LeavesRecent}
@@ -30,9 +30,6 @@ abbrev pub all_keys : List CellMap → List (List Cell)
 all_keys ms = map (λ (m : CellMap). finmap.keys m) ms
 
 -- ---- a new store
-
-no_keys : finmap.keys (finmap.empty {X = CellParts} {R = cell_cmp}) ≡ []
-no_keys = ap (map (λ (e : Cell × CellParts). e.0)) (nil_from_length _ (sym (len-entries (finmap.empty {X = CellParts} {R = cell_cmp})) ∙ len-empty cell_cmp CellParts))
 
 none_keys : (rs : List Rule) → all_keys (map (λ (r : Rule). finmap.empty) rs) ≡ map (λ (r : Rule). []) rs
 none_keys [] = refl

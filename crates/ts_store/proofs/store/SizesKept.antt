@@ -1,5 +1,5 @@
 -- The plain facts about a store's data hold of a new store, and each move keeps them.
-use Rattle.std.proofs.Common.{◌≡◌, ℕ, ℤ, pos, ◌+ℤ◌, ◌-ℤ◌, ◌<◌, ◌+◌, ◌≤◌, ◌≤ℤ◌, ◌^◌, Bool, true, false, cond, suc, List, [], ◌∷◌, ◌++◌, length, filter, map, refl, sym, ◌∙◌, ap, subst, inl, inr, ⊎_elim, None, arith}
+use Rattle.std.proofs.Common.{◌≡◌, ℕ, ℤ, pos, ◌+ℤ◌, ◌+◌, ◌≤◌, ◌≤ℤ◌, ◌^◌, suc, List, [], ◌∷◌, ◌++◌, length, filter, map, refl, sym, ◌∙◌, ap, subst, inl, inr, ⊎_elim, None, arith}
 use Rattle.std.specs.Int.{int_max}
 use Rattle.std.specs.Int.Signed.{≤ℤ_refl}
 use Rattle.std.specs.FinMap as finmap
@@ -20,7 +20,8 @@ use Rattle.ts_core.specs.moves.StoreMoves.{PutsFacts, HaveRoom, Expired, put_cel
 use Rattle.ts_core.proofs.settings.SettingsLaws.{settings_wide, settings_are}
 use Rattle.ts_core.proofs.aggregates.BucketsOrder.{bucket_le}
 use Rattle.ts_core.proofs.store.StateLemmas.{le_trans, int_max-left, int_max-right}
-use Rattle.ts_core.proofs.store.LowIndices.{not_zero}
+use Rattle.ts_core.proofs.store.LowIndices.{kept_since-le}
+use Rattle.ts_core.proofs.lists.ListSteps.{length-filter}
 use Rattle.ts_core.proofs.lists.MembersLemmas.{Among-left, Among-right, Among-append, Among-filter_was, AllDistinct-filter}
 use Rattle.ts_core.proofs.store.Moves.{is_left}
 use Rattle.ts_core.proofs.store.RunSteps.{facts_of-left, columns_of-left}
@@ -62,28 +63,10 @@ puts-length : (rs : List Rule) (before : List ColumnPoints) (ms : List CellMap) 
 puts-length rs before ms after ns [] p = ap (λ (xs : List CellMap). length xs) p.1
 puts-length rs before ms after ns (f ∷ fs) p = puts-length rs p.0 (put_cells rs f (facts_of p.0) ms) after ns fs p.2 ∙ put-length rs f (facts_of p.0) ms
 
-length-left : (p : Fact → Bool) (fs : List Fact) → length (filter p fs) ≤ length fs
-length-left p [] = omega arith
-length-left p (f ∷ fs) =
-    let rest = length-left p fs in
-    elim (p f) as (λ b. length (cond b (f ∷ filter p fs) (filter p fs)) ≤ length (f ∷ fs)) [ true ↦ omega (arith, rest) | false ↦ omega (arith, rest) ]
-
 -- ---- numbers
 
 next : (i : ℤ) → i ≤ℤ (i +ℤ pos 1)
 next i = omega (arith, ints)
-
--- a longer duration keeps from an earlier time on
-kept_since-is : (n : ℕ) (now : ℤ) → 0 < n → kept_since n now ≡ now -ℤ pos n
-kept_since-is n now h = ap (λ b. cond b least_time (now -ℤ pos n)) (not_zero n h)
-
-further : (long short : ℕ) (now : ℤ) → short ≤ long → (now -ℤ pos long) ≤ℤ (now -ℤ pos short)
-further long short now h = omega (arith, ints)
-
-kept_since-le : (long short : ℕ) (now : ℤ) → 0 < short → short ≤ long → kept_since long now ≤ℤ kept_since short now
-kept_since-le long short now h k =
-    subst (λ x. x ≤ℤ kept_since short now) (sym (kept_since-is long now (omega arith)))
-    (subst (λ x. (now -ℤ pos long) ≤ℤ x) (sym (kept_since-is short now h)) (further long short now k))
 
 -- the greater of two numbers near another
 max_near : (low x i j : ℤ) → low ≤ℤ (i +ℤ pos 1) → i ≤ℤ j → x ≤ℤ (j +ℤ pos 1) → int_max low x ≤ℤ (j +ℤ pos 1)
@@ -274,7 +257,7 @@ sized_moved k c ps rest s =
     record {
       settings = s.settings;
       accepted = s.accepted;
-      facts = let most = length-left (is_left c mark) (facts_of k.columns) in let all = s.facts in omega (arith, fewer, most, all);
+      facts = let most = length-filter (is_left c mark) (facts_of k.columns) in let all = s.facts in omega (arith, fewer, most, all);
       series = s.series;
       columns = subst AllDistinct (sym names) s.columns;
       named = s.named;
