@@ -1,7 +1,6 @@
 //! Reads: the view that a query has, with its columns, points and cells.
 
 mod cell_walk;
-pub(crate) mod column_reads;
 mod view;
 mod view_columns;
 

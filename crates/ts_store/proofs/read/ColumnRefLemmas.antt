@@ -1,19 +1,20 @@
 -- Columns that are lent by number are those of the index, and the points of one of them are its points.
-use Rattle.std.proofs.Common.{◌≡◌, ℕ, zero, suc, ℤ, ◌+◌, ◌<◌, Bool, ◌&&◌, true, false, cond, filter, List, [], ◌∷◌, length, replicate, map, get_or, refl, sym, ◌∙◌, ap, ap₂, subst, arith}
+use Rattle.std.proofs.Common.{◌≡◌, ℕ, zero, suc, ◌+◌, ◌<◌, Bool, ◌&&◌, true, false, cond, filter, List, [], ◌∷◌, length, replicate, map, get_or, refl, sym, ◌∙◌, ap, ap₂, subst, arith}
 use Rattle.std.specs.List.{AllByRecursion}
 use Rattle.std.specs.FinMap as finmap
 use Rattle.std.proofs.lemmas.Bool.{and_parts}
-use Rattle.std.proofs.lemmas.List.{length-replicate}
+use Rattle.std.proofs.lemmas.List.{length-map, length-replicate}
 use Rattle.ts_core.specs.lists.Members.{Among}
 use Rattle.ts_core.specs.facts.Facts.{Text, same_text, Column, is_of}
 use Rattle.ts_core.proofs.facts.Ids.{same_text-eq}
 use Rattle.ts_raw.specs.Tagged.{has_tag, is_tagged}
 use Rattle.ts_raw.proofs.RisingLemmas.{numbered_from}
 use Rattle.ts_core.specs.store.StoreStates.{ColumnPoints}
-use Rattle.ts_raw.specs.Columns.{PointMap, points_within}
+use Rattle.ts_raw.specs.Columns.{PointMap, ColumnState}
 use Rattle.ts_core.specs.lists.Numbered.{IsAt, numbers_where_from, numbers_where}
-use Rattle.ts_store.specs.store.ColumnStates.{with_points}
-use Rattle.ts_store.specs.read.ViewResults.{ColumnRef, no_points, column_refs_from, column_refs_where, column_ref_in, points_at, column_ref_has, IsNamed, AreAllNamed}
+use Rattle.ts_store.specs.store.ColumnStates.{with_points, point_maps}
+use Rattle.ts_store.specs.read.ViewResults.{ColumnRef, no_points, column_refs_from, column_refs_where, column_ref_in, column_ref_has, IsNamed, AreAllNamed}
+use Rattle.ts_store.proofs.read.ColumnsReads.{with_points-length}
 
 -- ---- which columns
 
@@ -105,15 +106,18 @@ tagged_column_refs cs ids found n m f tag value whole among names is =
 
 -- ---- which points
 
-pub points-at : (cs : List Column) (ms : List PointMap) (n : ℕ) (a b : ℤ) → length ms ≡ length cs → n < length cs → points_at (with_points cs ms) n a b ≡ points_within (get_or ms n finmap.empty) a b
-points-at [] ms n a b l there = absurd (omega (arith, there))
-points-at (c ∷ cs) [] n a b l there = absurd (omega (arith, l))
-points-at (c ∷ cs) (m ∷ ms) zero a b l there = refl
-points-at (c ∷ cs) (m ∷ ms) (suc n) a b l there = points-at cs ms n a b (omega (arith, l)) (omega (arith, there))
+pub shown-length : (cs : List Column) (ss : List ColumnState) (shown : List ColumnPoints) → with_points cs (point_maps ss) ≡ shown → length ss ≡ length cs → length shown ≡ length ss
+shown-length cs ss shown is each = ap length (sym is) ∙ with_points-length cs (point_maps ss) (length-map ss (λ (s : ColumnState). s.points) ∙ each) ∙ sym each
 
--- all of them
-pub points-there : (cs : List Column) (ms : List PointMap) (n : ℕ) → length ms ≡ length cs → n < length cs → (get_or (with_points cs ms) n no_points).points ≡ finmap.entries (get_or ms n finmap.empty)
-points-there [] ms n l there = absurd (omega (arith, there))
-points-there (c ∷ cs) [] n l there = absurd (omega (arith, l))
-points-there (c ∷ cs) (m ∷ ms) zero l there = refl
-points-there (c ∷ cs) (m ∷ ms) (suc n) l there = points-there cs ms n (omega (arith, l)) (omega (arith, there))
+points_there : (cs : List Column) (ss : List ColumnState) (n : ℕ) (s : ColumnState) → length ss ≡ length cs → n < length ss → s ≡ get_or ss n s → finmap.entries s.points ≡ (get_or (with_points cs (point_maps ss)) n no_points).points
+points_there cs [] n s l there at = absurd (omega (arith, there))
+points_there [] (t ∷ ss) n s l there at = absurd (omega (arith, l))
+points_there (c ∷ cs) (t ∷ ss) zero s l there at = ap (λ (x : ColumnState). finmap.entries x.points) at
+points_there (c ∷ cs) (t ∷ ss) (suc n) s l there at = points_there cs ss n s (omega (arith, l)) (omega (arith, there)) at
+
+-- a column's points are those that are shown
+pub points_shown : (cs : List Column) (ss : List ColumnState) (shown : List ColumnPoints) (n : ℕ) (s : ColumnState) → with_points cs (point_maps ss) ≡ shown → length ss ≡ length cs → n < length shown → s ≡ get_or ss n s
+    → finmap.entries s.points ≡ (get_or shown n no_points).points
+points_shown cs ss shown n s is each there at =
+    let many = shown-length cs ss shown is each in
+    points_there cs ss n s each (omega (arith, there, many)) at ∙ ap (λ (all : List ColumnPoints). (get_or all n no_points).points) is

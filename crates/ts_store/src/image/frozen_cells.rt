@@ -49,18 +49,9 @@ impl<'a, A: Allocator> Model for FrozenCells<'a, A> {
     ghost view = { λ w. frozen_left w.left };
 }
 
-impl<'a, A: Allocator> FrozenCells<'a, A> {
-    /// Skips the cells of an iterator whose frozen part is empty.
-    pub(crate) fn of(left: Walk<'a, Parts<Agg>, A>) -> FrozenCells<'a, A>
-        ensures { result ≡ frozen_left left.entry }
-    {
-        FrozenCells { left }
-    }
-}
-
 impl<A: Allocator + Copy> ColumnFacts<A> {
-    /// Returns an iterator over the cells of a rule that have frozen facts, from bucket `low` on, ordered by index, field
-    /// and group. `number` is the index of the rule in the settings.
+    /// Returns an iterator over the cells of a rule that have frozen facts, from bucket `low` on, ordered by index,
+    /// field and group. `number` is the index of the rule in the settings.
     pub(crate) fn frozen_cells(
         &self,
         rule: &Rule<A>,
@@ -70,7 +61,9 @@ impl<A: Allocator + Copy> ColumnFacts<A> {
         requires { HasNearCells self.now rule.now number }
         ensures { result ≡ frozen_from low.now (rollup_at self.now.rollups number).grid.cells }
     {
-        FrozenCells::of(self.rollups[number].walk(low, &i128::MAX))
+        FrozenCells {
+            left: self.rollups[number].walk(low, &i128::MAX),
+        }
     }
 }
 

@@ -2,7 +2,7 @@
 ghost use Rattle.std.specs.Prelude.{◌≡◌, ◌+◌, ◌≤◌, ◌^◌, map, string_bytes};
 ghost use Rattle.std.specs.Iterator.{YieldsFirst, item_count};
 ghost use Rattle.ts_core.specs.store.StoreStates.{total_in};
-ghost use Rattle.ts_store.specs.read.LiveCells.{walked_cells, cells_of_rule, AreWhole, IsRuled};
+ghost use Rattle.ts_store.specs.read.LiveCells.{cells_of_rule, IsRuled};
 
 use crate::store::column_facts::ColumnFacts;
 use std::alloc::Allocator;
@@ -161,16 +161,6 @@ impl<'a, A: Allocator> CellWalk<'a, A> {
             left: CellsSource::Lent(SliceCells { cells, given: 0 }),
         }
     }
-
-    /// Creates an iterator over the cells of a rollup.
-    fn of(left: Walk<'a, Parts<Agg>, A>) -> CellWalk<'a, A>
-        requires { AreWhole left }
-        ensures { result ≡ walked_cells left.entry }
-    {
-        CellWalk {
-            left: CellsSource::Rollup(RollupCells { left }),
-        }
-    }
 }
 
 impl<A: Allocator + Copy> ColumnFacts<A> {
@@ -187,7 +177,10 @@ impl<A: Allocator + Copy> ColumnFacts<A> {
         requires { IsRuled self.now rule.now number }
         ensures { result ≡ cells_of_rule self.now rule.now number from.now to.now }
     {
-        CellWalk::of(self.rollups[number].walk(from, to))
+        let left = self.rollups[number].walk(from, to);
+        CellWalk {
+            left: CellsSource::Rollup(RollupCells { left }),
+        }
     }
 }
 

@@ -14,7 +14,6 @@ ghost use Rattle.ts_store.specs.rollup.Rollups.{new_rollup, AreRollups, cells_of
 ghost use Rattle.ts_core.specs.store.StoreStates.{column_of};
 
 use crate::read::Columns;
-use crate::read::column_reads::{all_points, held_points, raw_points, raw_range};
 use crate::rollup::{Rollup, new_rollups};
 use crate::write::columns::prepare_line;
 use crate::write::putting::put_points;
@@ -23,7 +22,7 @@ use std::alloc::{AllocError, Allocator};
 use std::marker::Model;
 use ts_core::{KeyRef, Rule};
 use ts_line::Line;
-use ts_raw::{ColumnId, Index, PlainColumn, Points, SERIES_LIMIT};
+use ts_raw::{Column as _, ColumnId, Index, PlainColumn, Points, SERIES_LIMIT};
 
 /// Type of a store's columns. Storing them in another way is a change of this line.
 pub(crate) type StoredColumn<A> = PlainColumn<A>;
@@ -128,7 +127,11 @@ impl<A: Allocator + Copy> ColumnFacts<A> {
         requires { length (facts_in self.now.columns) ≤ 2 ^ 62 }
         ensures { result ≡ length (facts_in self.now.columns) }
     {
-        raw_points(self.columns.as_slice())
+        let mut count = 0;
+        for column in &self.columns {
+            count += column.live() as u64;
+        }
+        count
     }
 
     /// Returns the number of points in memory, which may include up to 256 removed ones per column.
@@ -137,7 +140,11 @@ impl<A: Allocator + Copy> ColumnFacts<A> {
         ensures all { length (facts_in self.now.columns) ≤ result }
         ensures few_more { result ≤ length (facts_in self.now.columns) + 256 * length self.now.columns }
     {
-        held_points(self.columns.as_slice())
+        let mut count = 0;
+        for column in &self.columns {
+            count += column.held() as u64;
+        }
+        count
     }
 
     /// Returns the columns of a measurement and a field, in creation order.
@@ -154,7 +161,7 @@ impl<A: Allocator + Copy> ColumnFacts<A> {
         ensures rising { IsRising result }
         ensures timed { AreTimed result }
     {
-        raw_range(self.columns.as_slice(), column.number(), from, to)
+        self.columns[column.number()].range(from, to)
     }
 
     /// Returns all points of a column, ordered by time.
@@ -164,6 +171,6 @@ impl<A: Allocator + Copy> ColumnFacts<A> {
         ensures rising { IsRising result }
         ensures timed { AreTimed result }
     {
-        all_points(self.columns.as_slice(), column.number())
+        self.columns[column.number()].all()
     }
 }

@@ -5,6 +5,5 @@ use Rattle.ts_store.proofs.store.column_facts.ColumnFacts.frozen_cells.Goals as 
 
 pub returns : goal.returns
 returns g c =
-    c.of.ensures
-    ∙ facts_frozen c.args.self.now c.args.rule.now c.args.number c.index.result.now c.args.low.now (pos 170141183460469231731687303715884105727) c.walk.result c.requires (omega (arith, ints))
+    facts_frozen c.args.self.now c.args.rule.now c.args.number c.index.result.now c.args.low.now (pos 170141183460469231731687303715884105727) c.walk.result c.requires (omega (arith, ints))
     (c.index.ensures ∙ (λ i. get_or (c.self.view_is i).rollups c.args.number c.index.result.now)) c.walk.ensures.entries

@@ -1,29 +1,38 @@
-use Rattle.std.proofs.Common.{◌≡◌, ◌∙◌, length, ap, sym, arith}
+use Rattle.std.proofs.Common.{rules, ◌≡◌, ◌∙◌, length, ap, sym, arith}
+use Rattle.std.specs.FinMap as finmap
+use Rattle.std.proofs.lemmas.List.{take_all}
+use Rattle.std.proofs.lemmas.List.Sums.{sum_by_more_le}
 use Rattle.ts_core.specs.store.StoreStates.{facts_of}
-use Rattle.ts_store.specs.store.ColumnStates.{StoreContent, point_maps}
-use Rattle.std.proofs.lemmas.List.{length-map}
 use Rattle.ts_raw.specs.Columns.{ColumnState}
+use Rattle.ts_store.specs.store.ColumnStates.{StoreContent}
 use Rattle.ts_store.specs.read.PointsRead.{number_of_points}
-use Rattle.ts_store.proofs.read.ColumnsReads.{facts-length, with_points-length}
+use Rattle.ts_store.proofs.read.ColumnsReads.{facts-length}
 use Rattle.ts_store.proofs.store.column_facts.ColumnFacts.held_points.Goals as goal
 
-pub held_points-requires : goal.held_points-requires
-held_points-requires g c =
-    let e : length (facts_of c.args.self.now.columns) ≡ number_of_points c.self.inside.columns.items =
+pub overflow_add-count : goal.overflow_add-count
+overflow_add-count g c =
+    let all : length (facts_of c.args.self.now.columns) ≡ number_of_points c.self.inside.columns.items =
     ap (λ (h : StoreContent). length (facts_of h.columns)) (sym c.self.view_is) ∙ facts-length c.self.inside.index.columns c.self.inside.columns.items c.self.invariant.each in
-    rw c.as_slice.ensures.value (omega (arith, e, c.requires))
+    let lent = ap number_of_points c.deref-column-items.ensures.value in
+    let more = sum_by_more_le (λ (s : ColumnState). finmap.len s.points) c.deref-column-items.result.now c.loop-column.column-index c.column-item.result c.loop-column-test.true in
+    let held : c.held.result ≡ finmap.len c.column-item.result.points = search rules in
+    let one = held ∙ ap (λ (s : ColumnState). finmap.len s.points) c.column-item.is in
+    omega (arith, all, lent, more, one, c.loop-column.invariant, c.requires)
 
 pub returns-clause-all : goal.returns-clause-all
 returns-clause-all g c =
-    let e : length (facts_of c.args.self.now.columns) ≡ number_of_points c.self.inside.columns.items =
+    let all : length (facts_of c.args.self.now.columns) ≡ number_of_points c.self.inside.columns.items =
     ap (λ (h : StoreContent). length (facts_of h.columns)) (sym c.self.view_is) ∙ facts-length c.self.inside.index.columns c.self.inside.columns.items c.self.invariant.each in
-    let same = ap number_of_points c.as_slice.ensures.value in
-    omega (arith, e, same, c.held_points.ensures.all)
+    let done : c.loop-column.count ≡ number_of_points c.deref-column-items.result.now =
+    c.loop-column.invariant ∙ ap number_of_points (take_all c.loop-column.column-index c.deref-column-items.result.now (omega (arith, c.loop-column-test.false))) in
+    let lent = ap number_of_points c.deref-column-items.ensures.value in
+    omega (arith, all, done, lent)
 
 pub returns-clause-few_more : goal.returns-clause-few_more
 returns-clause-few_more g c =
-    let e : length (facts_of c.args.self.now.columns) ≡ number_of_points c.self.inside.columns.items =
+    let all : length (facts_of c.args.self.now.columns) ≡ number_of_points c.self.inside.columns.items =
     ap (λ (h : StoreContent). length (facts_of h.columns)) (sym c.self.view_is) ∙ facts-length c.self.inside.index.columns c.self.inside.columns.items c.self.invariant.each in
-    let same = ap number_of_points c.as_slice.ensures.value in
-    let columns : length c.as_slice.result.now ≡ length c.args.self.now.columns = ap length c.as_slice.ensures.value ∙ c.self.invariant.each ∙ sym (with_points-length c.self.inside.index.columns (point_maps c.self.inside.columns.items) (length-map c.self.inside.columns.items (λ (s : ColumnState). s.points) ∙ c.self.invariant.each)) ∙ ap (λ (h : StoreContent). length h.columns) c.self.view_is in
-    omega (arith, e, same, columns, c.held_points.ensures.few_more)
+    let done : c.loop-column.count ≡ number_of_points c.deref-column-items.result.now =
+    c.loop-column.invariant ∙ ap number_of_points (take_all c.loop-column.column-index c.deref-column-items.result.now (omega (arith, c.loop-column-test.false))) in
+    let lent = ap number_of_points c.deref-column-items.ensures.value in
+    omega (arith, all, done, lent)

@@ -1,27 +1,20 @@
-use Rattle.std.proofs.Common.{◌<◌, ◌∙◌, ap, sym, get_or, length, arith}
-use Rattle.std.specs.FinMap as finmap
-use Rattle.std.proofs.lemmas.List.{length-map}
-use Rattle.ts_raw.specs.Columns.{ColumnState}
-use Rattle.ts_store.specs.store.ColumnStates.{StoreContent, point_maps}
-use Rattle.ts_store.specs.read.ViewResults.{no_points}
-use Rattle.ts_store.proofs.read.ColumnsReads.{with_points-length}
-use Rattle.ts_store.proofs.read.ColumnRefLemmas.{points-there}
+use Rattle.std.proofs.Common.{◌∙◌, ap, sym, subst, get_or, arith}
+use Rattle.ts_raw.specs.PlainColumns.{IsRising}
+use Rattle.ts_raw.proofs.ColumnLaws.{points-rising}
+use Rattle.ts_store.specs.store.ColumnStates.{StoreContent}
+use Rattle.ts_store.proofs.read.ColumnRefLemmas.{shown-length, points_shown}
 use Rattle.ts_store.proofs.store.column_facts.ColumnFacts.points_of.Goals as goal
+
+pub index-requires : goal.index-requires
+index-requires g c =
+    let many = shown-length c.self.inside.index.columns c.self.inside.columns.items c.args.self.now.columns (ap (λ (h : StoreContent). h.columns) c.self.view_is) c.self.invariant.each in
+    omega (arith, c.requires, c.number.ensures, many)
 
 pub returns-clause-points : goal.returns-clause-points
 returns-clause-points g c =
-    let ss = c.self.inside.columns.items in
-    let cs = c.self.inside.index.columns in
-    let each = length-map ss (λ (s : ColumnState). s.points) ∙ c.self.invariant.each in
-    let there : c.args.column < length cs = omega (arith, c.requires, ap (λ (h : StoreContent). length h.columns) c.self.view_is, with_points-length cs (point_maps ss) each) in
-    c.all_points.ensures.points
-    ∙ (λ i. finmap.entries (get_or (point_maps (c.as_slice.ensures.value i)) (c.number.ensures i) finmap.empty))
-    ∙ sym (points-there cs (point_maps ss) c.args.column each there)
-    ∙ ap (λ (h : StoreContent). (get_or h.columns c.args.column no_points).points) c.self.view_is
+    c.all.ensures.points
+    ∙ points_shown c.self.inside.index.columns c.self.inside.columns.items c.args.self.now.columns c.args.column c.index.result.now (ap (λ (h : StoreContent). h.columns) c.self.view_is) c.self.invariant.each c.requires
+    (c.index.ensures ∙ ap (λ n. get_or c.self.inside.columns.items n c.index.result.now) c.number.ensures)
 
-pub all_points-requires : goal.all_points-requires
-all_points-requires g c =
-    let ss = c.self.inside.columns.items in
-    let shown = ap (λ (h : StoreContent). length h.columns) c.self.view_is in
-    let many = with_points-length c.self.inside.index.columns (point_maps ss) (length-map ss (λ (s : ColumnState). s.points) ∙ c.self.invariant.each) in
-    omega (arith, c.requires, c.number.ensures, ap length c.as_slice.ensures.value, shown, many, c.self.invariant.each)
+pub returns-clause-rising : goal.returns-clause-rising
+returns-clause-rising g c = subst IsRising (sym c.all.ensures.points) (points-rising c.index.result.now.points)

@@ -1,29 +1,24 @@
-use Rattle.std.proofs.Common.{◌<◌, ◌∙◌, ap, sym, rules, SFits, w64, to_z-of_z, get_or, length, arith}
-use Rattle.std.specs.FinMap as finmap
-use Rattle.std.proofs.lemmas.List.{length-map}
-use Rattle.ts_raw.specs.Columns.{ColumnState, points_within}
-use Rattle.ts_store.specs.store.ColumnStates.{StoreContent, point_maps}
-use Rattle.ts_store.specs.read.ViewResults.{points_at}
-use Rattle.ts_store.proofs.read.ColumnsReads.{with_points-length}
-use Rattle.ts_store.proofs.read.ColumnRefLemmas.{points-at}
+use Rattle.std.proofs.Common.{◌∙◌, ap, sym, subst, rules, SFits, w64, to_z-of_z, get_or, arith}
+use Rattle.ts_raw.specs.PlainColumns.{IsRising}
+use Rattle.ts_raw.proofs.ColumnLaws.{within-rising}
+use Rattle.ts_store.specs.store.ColumnStates.{StoreContent}
+use Rattle.ts_store.specs.read.PointsRead.{points_between}
+use Rattle.ts_store.proofs.read.ColumnRefLemmas.{shown-length, points_shown}
 use Rattle.ts_store.proofs.store.column_facts.ColumnFacts.raw_range.Goals as goal
+
+pub index-requires : goal.index-requires
+index-requires g c =
+    let many = shown-length c.self.inside.index.columns c.self.inside.columns.items c.args.self.now.columns (ap (λ (h : StoreContent). h.columns) c.self.view_is) c.self.invariant.each in
+    omega (arith, c.requires, c.number.ensures, many)
 
 pub returns-clause-points : goal.returns-clause-points
 returns-clause-points g c =
-    let ss = c.self.inside.columns.items in
-    let cs = c.self.inside.index.columns in
-    let each = length-map ss (λ (s : ColumnState). s.points) ∙ c.self.invariant.each in
-    let there : c.args.column < length cs = omega (arith, c.requires, ap (λ (h : StoreContent). length h.columns) c.self.view_is, with_points-length cs (point_maps ss) each) in
+    let points =
+    points_shown c.self.inside.index.columns c.self.inside.columns.items c.args.self.now.columns c.args.column c.index.result.now (ap (λ (h : StoreContent). h.columns) c.self.view_is) c.self.invariant.each c.requires
+    (c.index.ensures ∙ ap (λ n. get_or c.self.inside.columns.items n c.index.result.now) c.number.ensures) in
     let from : SFits w64 c.args.from = search rules in
     let to : SFits w64 c.args.to = search rules in
-    c.raw_range.ensures.points
-    ∙ (λ i. points_within (get_or (point_maps (c.as_slice.ensures.value i)) (c.number.ensures i) finmap.empty) (to_z-of_z from i) (to_z-of_z to i))
-    ∙ sym (points-at cs (point_maps ss) c.args.column c.args.from c.args.to each there)
-    ∙ ap (λ (h : StoreContent). points_at h.columns c.args.column c.args.from c.args.to) c.self.view_is
+    c.range.ensures.points ∙ (λ i. points_between (to_z-of_z from i) (to_z-of_z to i) (points i))
 
-pub raw_range-requires : goal.raw_range-requires
-raw_range-requires g c =
-    let ss = c.self.inside.columns.items in
-    let shown = ap (λ (h : StoreContent). length h.columns) c.self.view_is in
-    let many = with_points-length c.self.inside.index.columns (point_maps ss) (length-map ss (λ (s : ColumnState). s.points) ∙ c.self.invariant.each) in
-    omega (arith, c.requires, c.number.ensures, ap length c.as_slice.ensures.value, shown, many, c.self.invariant.each)
+pub returns-clause-rising : goal.returns-clause-rising
+returns-clause-rising g c = subst IsRising (sym c.range.ensures.points) (within-rising c.index.result.now.points _ _)
