@@ -11,3 +11,4 @@ pub mod TurnsLeft
 pub mod CountsMoved
 -- RollupSteps: the steps of a run
 pub mod Refolds
+pub mod MarkReached

@@ -2,4 +2,5 @@
 
 mod column_moves;
 pub(crate) mod freezing;
+mod points_below;
 pub(crate) mod run;

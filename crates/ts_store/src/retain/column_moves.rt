@@ -1,4 +1,4 @@
-//! What a step of a run does to columns and cells.
+//! The steps of a run: moves a column, and removes cells below low indices.
 ghost use Rattle.std.specs.Prelude.{◌≡◌, ◌<◌, ◌≤◌, ◌^◌, pos, ◌≤ℤ◌, length, map};
 ghost use Rattle.std.specs.Bool.{OnTrue, OnFalse};
 ghost use Rattle.std.specs.List.{AllByRecursion};
@@ -17,8 +17,7 @@ use std::alloc::Allocator;
 use ts_core::{Rule, Time};
 use ts_raw::Column as _;
 
-/// Removes cells of the first rule that has some below its low index: 256, or all where there are fewer. It answers whether there were
-/// any.
+/// Removes up to 256 cells below the low index of the first rule that has such cells. Returns true if there were any.
 fn expire_first<A: Allocator + Copy>(rollups: &mut [Rollup<A>], lows: &[i128]) -> bool
     ensures lanes { rollups.new ≡ with_frozen_all (cells_of rollups.new) rollups.old }
     ensures some { OnTrue result (FirstLoses lows.now (cells_of rollups.old) (cells_of rollups.new)) }
@@ -45,8 +44,8 @@ impl<A: Allocator + Copy> ColumnFacts<A> {
         self.columns.len()
     }
 
-    /// Moves a column: its points below the mark are frozen under each rule, and leave it, and the live parts of their cells are
-    /// what is left. It takes no memory.
+    /// Moves a column: freezes its points below the mark under each rule, folds the live parts of their cells again
+    /// without them, and removes them. Only the removal searches for the mark. Does not allocate.
     pub(crate) fn move_column(&mut self, rules: &[Rule<A>], column: usize, mark: Time)
         requires intervals { AllByRecursion (λ r. pos 1 ≤ℤ r.interval) rules.now }
         requires rollups { AreRollups rules.now (map column_of self.old.columns) self.old.rollups }
@@ -59,8 +58,8 @@ impl<A: Allocator + Copy> ColumnFacts<A> {
         self.columns[column].drop_below(mark);
     }
 
-    /// Removes cells below a low index, of the first rule that has such: 256, or all where there are fewer. It answers whether
-    /// there were any. It takes no memory.
+    /// Removes up to 256 cells below the low index of the first rule that has such cells. Returns true if there were
+    /// any. Does not allocate.
     pub(crate) fn expire(&mut self, lows: &[i128]) -> bool
         ensures lanes { self.new ≡ content_with_cells (cells_of self.new.rollups) self.old }
         ensures some { OnTrue result (FirstLoses lows.now (cells_of self.old.rollups) (cells_of self.new.rollups)) }

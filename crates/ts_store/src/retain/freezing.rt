@@ -12,12 +12,12 @@ ghost use Rattle.ts_store.specs.write.LivePuts.{IsOver};
 ghost use Rattle.ts_store.specs.read.PointsRead.{number_of_points};
 ghost use Rattle.ts_store.specs.retain.RollupSteps.{FreezesFit, FreezeFit, facts_left, with_frozen_all};
 
+use crate::retain::points_below::PointsBelow;
 use crate::rollup::Rollup;
 use crate::rollup::live_parts::lane_left;
 use crate::store::column_facts::StoredColumn;
 use std::alloc::Allocator;
 use ts_core::{Agg, Partial, Rule, Time, index_of};
-use ts_raw::{Column as _, Points};
 
 /// Freezes points of a column under a rule. Points of one bucket mostly follow one another, so it folds them first and
 /// merges them into the cell at once.
@@ -25,7 +25,7 @@ fn freeze_points<A: Allocator + Copy>(
     rule: &Rule<A>,
     rollup: &mut Rollup<A>,
     column: usize,
-    points: Points<'_>,
+    points: PointsBelow<'_>,
 )
     requires interval { pos 1 ≤ℤ rule.now.interval }
     requires column { column < length rollup.old.lanes }
@@ -76,7 +76,7 @@ fn refold_points<A: Allocator + Copy>(
         return;
     };
     let mut last = None;
-    for (time, _) in columns[column].below(mark) {
+    for (time, _) in PointsBelow::of(&columns[column], mark) {
         let index = index_of(rule, i128::from(time.nanos()));
         if !is_last(&last, &index) {
             let live = lane_left(rule, rollup, columns, lane, &index, column, mark);
@@ -102,7 +102,12 @@ fn move_points<A: Allocator + Copy>(
     ensures { (cs : List Column) (c : Column) → IsOver rule.now cs columns.now rollup.old → IsAt cs column c → FreezesFit rule.now c (points_below mark (finmap.entries (get_or columns.now column no_column).points)) rollup.old.grid.cells → rollup.new ≡ with_frozen (moved_cells rule.now c (points_below mark (finmap.entries (get_or columns.now column no_column).points)) (facts_left mark c cs columns.now) rollup.old.grid.cells) rollup.old }
 {
     if rollup.rolls(column) {
-        freeze_points(rule, rollup, column, columns[column].below(mark));
+        freeze_points(
+            rule,
+            rollup,
+            column,
+            PointsBelow::of(&columns[column], mark),
+        );
         refold_points(rule, rollup, columns, column, mark);
     }
 }
