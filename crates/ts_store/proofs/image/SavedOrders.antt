@@ -1,7 +1,9 @@
 -- Lists that a sort put in the order of distinct keys.
 use Rattle.std.proofs.Common.{◌≡◌, ◌≢◌, suc, ◌+◌, Bool, true, false, List, [], ◌∷◌, map, get_or, refl, sym, ◌∙◌, ap, subst, inl, inr, arith, true≢false, Ordering, Less, Equal, Greater, is_lt, is_eq}
-use Rattle.std.specs.Prelude.{IsPermutation}
-use Rattle.std.specs.Ordering.{ordering_reverse}
+use Rattle.std.specs.Prelude.{IsPermutation, String}
+use Rattle.std.specs.Ordering.{ordering_reverse, ordering_then}
+use Rattle.std.specs.Cmp.Lexicographic.{slice_cmp}
+use Rattle.std.specs.String.{string_cmp}
 use Rattle.std.specs.List.{AllByRecursion, All, IsDistinct}
 use Rattle.std.specs.List.Sorted.{IsSortedBy, IsSortedByKey}
 use Rattle.std.specs.Cmp.{IsTotalOrder, IsStrictWeakOrder}
@@ -15,8 +17,19 @@ use Rattle.std.proofs.lemmas.Map.Lookups.{CmpEqualImpliesEq}
 use denote.Param.Members.{Mut}
 use denote.Ref.{Bor}
 use Rattle.ts_core.specs.lists.Members.{Among, AllDistinct}
+use Rattle.ts_core.specs.facts.Facts.{tag_cmp}
+use Rattle.ts_core.specs.text.Texts.{owned_pairs}
 use Rattle.ts_core.proofs.facts.Ids.{equal_of}
 use Rattle.ts_store.specs.image.SavedContent.{AreRising}
+
+-- ---- tags in order
+
+-- owned tags are in the order of their texts
+pub tags_ordered : {A : Type 0} (xs ys : List (String A × String A)) → slice_cmp (λ x y. ordering_then (string_cmp x.0 y.0) (string_cmp x.1 y.1)) xs ys ≡ slice_cmp tag_cmp (owned_pairs xs) (owned_pairs ys)
+tags_ordered [] [] = refl
+tags_ordered [] (y ∷ ys) = refl
+tags_ordered (x ∷ xs) [] = refl
+tags_ordered (x ∷ xs) (y ∷ ys) = ap (ordering_then (ordering_then (string_cmp x.0 y.0) (string_cmp x.1 y.1))) (tags_ordered xs ys)
 
 -- ---- what is moved
 

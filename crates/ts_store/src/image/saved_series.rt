@@ -1,12 +1,10 @@
 //! Series and columns in the order of an image.
 ghost use Rattle.std.specs.Prelude.{◌≡◌, ◌<◌, length, map, IfOk, OnOk, IsPermutation, IsSortedByKey};
-ghost use Rattle.std.specs.Cmp.Lexicographic.{slice_cmp};
 ghost use Rattle.std.specs.List.{AllByRecursion};
 ghost use Rattle.ts_core.specs.lists.Members.{AllDistinct};
 ghost use Rattle.ts_core.specs.lists.Numbered.{IsAt};
-ghost use Rattle.ts_core.specs.facts.Facts.{Column, text_cmp, tag_cmp, series_cmp};
+ghost use Rattle.ts_core.specs.facts.Facts.{Column, text_cmp, series_cmp};
 ghost use Rattle.ts_core.specs.store.StoreStates.{column_of};
-ghost use Rattle.ts_core.specs.text.Texts.{owned_pairs};
 ghost use Rattle.ts_store.specs.image.ColumnsListed.{without_columns, with_column, ListsColumns};
 ghost use Rattle.ts_store.specs.image.SavedContent.{saved_field, saved_key, SavesColumns, SavesSeries};
 
@@ -51,35 +49,12 @@ impl<'a, A: Allocator> Model for SavedSeries<'a, A> {
     ghost view = { λ s. record { series = s.key.now; columns = s.columns.items } };
 }
 
-/// Compares two lists of tags lexicographically, each tag by its key and then by its value.
-fn compare_tags<A: Allocator>(
-    tags: &[(String<A>, String<A>)],
-    others: &[(String<A>, String<A>)],
-) -> Ordering
-    ensures { result ≡ slice_cmp tag_cmp (owned_pairs tags.now) (owned_pairs others.now) }
-{
-    match (tags.split_first(), others.split_first()) {
-        (None, None) => Ordering::Equal,
-        (None, Some(_)) => Ordering::Less,
-        (Some(_), None) => Ordering::Greater,
-        (Some((tag, tags)), Some((other, others))) => {
-            match tag.0.as_str().cmp(other.0.as_str()) {
-                Ordering::Equal => match tag.1.as_str().cmp(other.1.as_str()) {
-                    Ordering::Equal => compare_tags(tags, others),
-                    order => order,
-                },
-                order => order,
-            }
-        }
-    }
-}
-
 /// Compares two keys: by measurement, then by tags.
 fn compare_keys<A: Allocator + Copy>(key: &Key<A>, other: &Key<A>) -> Ordering
     ensures { result ≡ series_cmp key.now other.now }
 {
     match key.measurement().cmp(other.measurement()) {
-        Ordering::Equal => compare_tags(key.tags(), other.tags()),
+        Ordering::Equal => key.tags().cmp(&other.tags()),
         order => order,
     }
 }

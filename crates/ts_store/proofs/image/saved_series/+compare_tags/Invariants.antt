@@ -1,5 +1,0 @@
-use Rattle.std.proofs.Common.{length}
-use Rattle.ts_store.proofs.image.saved_series.+compare_tags.Given as goal
-
-abbrev pub decreases-compare_tags : goal.decreases-compare_tags
-decreases-compare_tags g l = length l.tags.now
