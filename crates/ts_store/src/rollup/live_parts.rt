@@ -12,7 +12,7 @@ use ts_cells::LaneId;
 use ts_core::{Agg, Partial, Rule, Time};
 use ts_raw::{Column, Points};
 
-/// An aggregate with points merged in.
+/// Merges points into an aggregate, and returns it.
 fn with_points(total: Agg, points: Points<'_>) -> Agg
     requires { total.count + length points ≤ 2 ^ 62 }
     ensures { result ≡ merged total (aggregate_of_points points.entry) }
@@ -24,7 +24,7 @@ fn with_points(total: Agg, points: Points<'_>) -> Agg
     all
 }
 
-/// An aggregate with points from a mark on merged in.
+/// Merges the points at or above a mark into an aggregate, and returns it.
 fn with_points_since(total: Agg, points: Points<'_>, mark: Time) -> Agg
     requires { total.count + length (points_since mark points) ≤ 2 ^ 62 }
     ensures { result ≡ merged total (aggregate_of_points (points_since mark points.entry)) }
@@ -38,7 +38,7 @@ fn with_points_since(total: Agg, points: Points<'_>, mark: Time) -> Agg
     all
 }
 
-/// What the points of a lane's columns in a bucket add up to.
+/// Returns the aggregate of a bucket's points in the columns of a lane.
 pub(crate) fn lane_total<A: Allocator + Copy>(
     rule: &Rule<A>,
     rollup: &Rollup<A>,
@@ -61,7 +61,7 @@ pub(crate) fn lane_total<A: Allocator + Copy>(
     total
 }
 
-/// The same, where of one column only the points from a mark on count.
+/// Does the same, but leaves out the points of one column below a mark.
 pub(crate) fn lane_left<A: Allocator + Copy>(
     rule: &Rule<A>,
     rollup: &Rollup<A>,
