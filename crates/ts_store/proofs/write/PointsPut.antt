@@ -1,5 +1,5 @@
 -- A point that was aside is put into its column: which value was there, and what the cells of all rules then are.
-use Rattle.std.proofs.Common.{◌≡◌, ℕ, zero, suc, ℤ, ◌+◌, ◌<◌, ◌≤◌, ◌^◌, Bool, true, false, true≢false, cond, List, [], ◌∷◌, length, map, set, get_or, Option, Some, None, refl, sym, ◌∙◌, ap, ap₂, subst, ⊎_elim, arith, slice_get, IsSome, IfSome, drop}
+use Rattle.std.proofs.Common.{◌≡◌, ℕ, zero, suc, ℤ, ◌+◌, ◌<◌, ◌≤◌, ◌^◌, Bool, true, false, true≢false, cond, List, [], ◌∷◌, length, map, set, get_or, Option, Some, None, refl, sym, ◌∙◌, ap, ap₂, subst, ◌⊎◌, inl, inr, ⊎_elim, arith, slice_get, IsSome, IfSome, drop}
 use Rattle.std.specs.List.{AllByRecursion}
 use Rattle.std.specs.Bool.{OnFalse}
 use Rattle.std.specs.Option.{is_some}
@@ -235,7 +235,7 @@ next_ready ss ss' n ns ns' e is ready few =
       r.2,
     )
 
-pub line_puts : (rs : List Rule) (cs : List Column) (ss ss' : List ColumnState) (n : ℕ) (ns ns' : List ℕ) (x : LinePart × ℤ) (xs xs' : List (LinePart × ℤ)) (time value : ℤ) (after : List ColumnPoints) (us us' : List RollupState) (ends : List CellMap) (fs : List Fact)
+line_puts : (rs : List Rule) (cs : List Column) (ss ss' : List ColumnState) (n : ℕ) (ns ns' : List ℕ) (x : LinePart × ℤ) (xs xs' : List (LinePart × ℤ)) (time value : ℤ) (after : List ColumnPoints) (us us' : List RollupState) (ends : List CellMap) (fs : List Fact)
     → ns' ≡ n ∷ ns → xs' ≡ x ∷ xs → value ≡ x.1 → ss' ≡ set ss n (committed (get_or ss n no_column)) → us' ≡ with_frozen_all (cells_of us') us → (Among n ns → ⊥)
     → AreOfFields time xs' fs → length ss ≡ length cs → AllDistinct cs → AreRollups rs cs us → AreAside cs ss ns' fs → AreLive (with_points cs (point_maps ss)) rs (cells_of us)
     → ((f : Fact) → f.time ≡ time → f.value ≡ value → AreAside cs ss (n ∷ []) (f ∷ []) → cells_of us' ≡ put_cells rs f (facts_of (with_points cs (point_maps ss'))) (cells_of us))
@@ -251,11 +251,32 @@ line_puts rs cs ss ss' n ns ns' x xs xs' time value after us us' ends (f ∷ fs)
     (λ lives. others fs of.2 (ap length is ∙ length-set ss n s ∙ each) (subst (AreRollups rs cs) (sym lanes) (rollups_with rs cs (cells_of us') us have))
     (subst (λ (ys : List ColumnState). AreAside cs ys ns fs) (sym is) (aside_others cs ss ns fs n s away put.2)) lives)
 
+-- the facts of columns and fields, which are aside, bring columns and cells to an end
+abbrev pub PutsRest : List Rule → ℤ → List ℕ → List (LinePart × ℤ) → List Column → List ColumnState → List RollupState → List ColumnPoints → List CellMap → Type 0
+PutsRest rs time ns xs cs ss us after ends = (gs : List Fact) → AreOfFields time xs gs → length ss ≡ length cs → AreRollups rs cs us → AreAside cs ss ns gs → AreLive (with_points cs (point_maps ss)) rs (cells_of us)
+    → PutsFacts rs (with_points cs (point_maps ss)) (cells_of us) after ends gs
+
 -- nothing is aside
-pub none_puts : (rs : List Rule) (cs : List Column) (ss : List ColumnState) (ns : List ℕ) (columns : List ColumnPoints) (ms : List CellMap) (fs : List Fact) → length ns ≡ 0 → AreAside cs ss ns fs → PutsFacts rs columns ms columns ms fs
+none_puts : (rs : List Rule) (cs : List Column) (ss : List ColumnState) (ns : List ℕ) (columns : List ColumnPoints) (ms : List CellMap) (fs : List Fact) → length ns ≡ 0 → AreAside cs ss ns fs → PutsFacts rs columns ms columns ms fs
 none_puts rs cs ss [] columns ms [] e a = (refl, refl)
 none_puts rs cs ss [] columns ms (f ∷ fs) e a = absurd a
 none_puts rs cs ss (n ∷ ns) columns ms fs e a = absurd (let z : ⊥ = omega arith in z)
+
+-- the next of them is put, and then the others
+pub rest_put : (rs : List Rule) (time : ℤ) (cs : List Column) (ss ss' : List ColumnState) (us us' : List RollupState) (n : ℕ) (ns ns' : List ℕ) (x : LinePart × ℤ) (xs xs' : List (LinePart × ℤ)) (value : ℤ) (after : List ColumnPoints) (ends : List CellMap)
+    → ns' ≡ n ∷ ns → xs' ≡ x ∷ xs → value ≡ x.1 → ss' ≡ set ss n (committed (get_or ss n no_column)) → us' ≡ with_frozen_all (cells_of us') us → (Among n ns → ⊥) → AllDistinct cs
+    → ((f : Fact) → f.time ≡ time → f.value ≡ value → length ss ≡ length cs → AreRollups rs cs us → AreAside cs ss (n ∷ []) (f ∷ []) → AreLive (with_points cs (point_maps ss)) rs (cells_of us) → cells_of us' ≡ put_cells rs f (facts_of (with_points cs (point_maps ss'))) (cells_of us))
+    → PutsRest rs time ns xs cs ss' us' after ends → PutsRest rs time ns' xs' cs ss us after ends
+rest_put rs time cs ss ss' us us' n ns ns' x xs xs' value after ends e d v is lanes away once one others = λ gs fields each have aside live.
+    line_puts rs cs ss ss' n ns ns' x xs xs' time value after us us' ends gs e d v is lanes away fields each once have aside live (λ f at of first. one f at of each have first live) others
+
+-- none are left
+pub none_left : {X Y : Type 0} (xs : List X) (ys : List Y) → length ys ≡ length xs → (xs ≡ []) ⊎ (ys ≡ []) → length xs ≡ 0
+none_left xs ys same (inl e) = ap length e
+none_left xs ys same (inr e) = sym same ∙ ap length e
+
+pub rest_done : (rs : List Rule) (time : ℤ) (ns : List ℕ) (xs : List (LinePart × ℤ)) (cs : List Column) (ss : List ColumnState) (us : List RollupState) → length ns ≡ 0 → PutsRest rs time ns xs cs ss us (with_points cs (point_maps ss)) (cells_of us)
+rest_done rs time ns xs cs ss us e = λ gs fields each have aside live. none_puts rs cs ss ns (with_points cs (point_maps ss)) (cells_of us) gs e aside
 
 pub none_committed : (ss : List ColumnState) (ns : List ℕ) → length ns ≡ 0 → ss ≡ all_committed ss ns
 none_committed ss [] e = refl

@@ -1,4 +1,4 @@
-//! Facts that are put into columns, and then into the cells of rules.
+//! Commits the staged points of a line to their columns, and adds them to the cells of rules.
 ghost use Rattle.std.specs.Prelude.{◌≡◌, ◌+◌, ◌<◌, ◌≤◌, ◌^◌, pos, ◌≤ℤ◌, List, [], ◌∷◌, length, get_or, set};
 ghost use Rattle.std.specs.Bool.{OnFalse};
 ghost use Rattle.std.specs.List.{AllByRecursion};
@@ -32,8 +32,8 @@ fn is_rolled<A: Allocator + Copy>(rollups: &[Rollup<A>], column: usize) -> bool
     }
 }
 
-/// Puts a fact, which is in its column already, into the cell of its bucket, where the rule rolls the column up and the cell is
-/// there. `old` is the value in whose place it was put.
+/// Adds a fact, which is in its column already, to the cell of its bucket, if the rule rolls the column up and the cell
+/// exists. `old` is the value that the fact replaced.
 fn put_under<A: Allocator + Copy>(
     rule: &Rule<A>,
     rollup: &mut Rollup<A>,
@@ -68,7 +68,7 @@ fn put_under<A: Allocator + Copy>(
     rollup.correct(&index, lane, live);
 }
 
-/// The same under each rule.
+/// Does the same under each rule.
 fn put_under_all<A: Allocator + Copy>(
     rules: &[Rule<A>],
     rollups: &mut [Rollup<A>],
@@ -93,7 +93,7 @@ fn put_under_all<A: Allocator + Copy>(
     }
 }
 
-/// Puts in what is aside in a column, a point of this time and value, and corrects the cells of the rules.
+/// Commits the staged point of a column, which has this time and value, and corrects the cells of the rules.
 fn put_rolled<A: Allocator + Copy>(
     columns: &mut Vec<StoredColumn<A>, A>,
     rules: &[Rule<A>],
@@ -115,8 +115,8 @@ fn put_rolled<A: Allocator + Copy>(
     put_under_all(rules, rollups, columns.as_slice(), column, time, value, old);
 }
 
-/// Puts in what is aside in a column: a point of this time and value. If no rule rolls the column up,
-/// asks nothing else of it.
+/// Commits the staged point of a column, which has this time and value. Searches for the value that it replaces only if
+/// a rule rolls the column up.
 fn put_point<A: Allocator + Copy>(
     columns: &mut Vec<StoredColumn<A>, A>,
     rules: &[Rule<A>],
@@ -140,7 +140,8 @@ fn put_point<A: Allocator + Copy>(
     }
 }
 
-/// Puts in what is aside in the columns of these numbers: points of this time with the values of fields. It takes no memory.
+/// Commits the staged points of the columns with these ids: points of this time with the values of fields. Does not
+/// allocate.
 pub(crate) fn put_points<A: Allocator + Copy, L: Allocator>(
     columns: &mut Vec<StoredColumn<A>, A>,
     rules: &[Rule<A>],
@@ -158,10 +159,7 @@ pub(crate) fn put_points<A: Allocator + Copy, L: Allocator>(
     ensures lanes { rollups.new ≡ with_frozen_all (cells_of rollups.new) rollups.old }
     ensures cells { (cs : List Column) (fs : List Fact) → AreOfFields time fields.now fs → length columns.old.items ≡ length cs → AllDistinct cs → AreRollups rules.now cs rollups.old → AreAside cs columns.old.items numbers.now fs → AreLive (with_points cs (point_maps columns.old.items)) rules.now (cells_of rollups.old) → PutsFacts rules.now (with_points cs (point_maps columns.old.items)) (cells_of rollups.old) (with_points cs (point_maps columns.new.items)) (cells_of rollups.new) fs }
 {
-    if let Some((number, numbers)) = numbers.split_first() {
-        if let Some((field, fields)) = fields.split_first() {
-            put_point(columns, rules, rollups, *number, time, field.value());
-            put_points(columns, rules, rollups, numbers, fields, time);
-        }
+    for (number, field) in numbers.iter().zip(fields) {
+        put_point(columns, rules, rollups, *number, time, field.value());
     }
 }
