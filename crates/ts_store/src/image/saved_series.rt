@@ -188,24 +188,14 @@ fn sort_all<A: Allocator + Copy>(all: &mut [SavedSeries<'_, A>], index: &Index<A
     sort_by_key(all);
 }
 
-/// Lists the series of an index in the order of their keys, each with its columns in the order of their fields.
-fn sorted_series<'a, A: Allocator + Copy>(
-    alloc: A,
-    index: &'a Index<A>,
-) -> Result<Vec<SavedSeries<'a, A>, A>, AllocError>
-    ensures { IfOk result (λ all. SavesSeries index.now.series index.now.columns all.items) }
-{
-    let mut all = listed_series(alloc, index)?;
-    list_columns(&mut all, index)?;
-    sort_all(all.as_mut_slice(), index);
-    Ok(all)
-}
-
 impl<A: Allocator + Copy> ColumnFacts<A> {
     /// Lists the registered series in the order of their keys, each with its columns in the order of their fields.
     pub(crate) fn saved_series(&self, alloc: A) -> Result<Vec<SavedSeries<'_, A>, A>, AllocError>
         ensures { IfOk result (λ all. SavesSeries self.now.series (map column_of self.now.columns) all.items) }
     {
-        sorted_series(alloc, &self.index)
+        let mut all = listed_series(alloc, &self.index)?;
+        list_columns(&mut all, &self.index)?;
+        sort_all(all.as_mut_slice(), &self.index);
+        Ok(all)
     }
 }
