@@ -25,7 +25,7 @@ filter-before points t i f l =
     (λ k d m n. f.1 k d (omega arith) n)
     (omega arith))
 
-drop-before : (points : List (ℤ × ℤ)) (mark : ℤ) (i : ℕ) → IsStartOf mark points i → i ≤ length points → drop i points ≡ filter (λ (p : ℤ × ℤ). int_le mark p.0) points
+pub drop-before : (points : List (ℤ × ℤ)) (mark : ℤ) (i : ℕ) → IsStartOf mark points i → i ≤ length points → drop i points ≡ filter (λ (p : ℤ × ℤ). int_le mark p.0) points
 drop-before points mark i f l =
     sym (filter-rest (λ (p : ℤ × ℤ). int_le mark p.0) points i
     (λ k d m n. below_mark mark (slice_index_or points k d).0 (f.0 k d m n))

@@ -62,7 +62,7 @@ fn put_among<A: Allocator>(points: &mut Vec<(Time, i64), A>, point: (Time, i64))
 }
 
 /// Inserts a point, replacing the point with its time. Appends it if it comes after all others.
-fn put_point<A: Allocator>(points: &mut Vec<(Time, i64), A>, point: (Time, i64))
+pub(crate) fn put_point<A: Allocator>(points: &mut Vec<(Time, i64), A>, point: (Time, i64))
     requires rising { IsRising points.old.items }
     requires room { vec_len points.old < vec_capacity points.old }
     ensures { points.new.items ≡ put int_cmp point.0 point.1 points.old.items }

@@ -1,0 +1,290 @@
+-- A block that is encoded anew, with a point inserted or replaced.
+use Rattle.std.proofs.Common.{◌≡◌, ◌≢◌, ℕ, zero, suc, ◌+◌, ◌-◌, ◌<◌, ◌≤◌, ℤ, ◌<ℤ◌, ◌≤ℤ◌, int_cmp, int_lt, true, false, Bool, ◌&&◌, is_lt, cond, T, Less, Equal, Greater, Ordering, List, [], ◌∷◌, ◌++◌, length, map, take, drop, get_or, set, insert, append_assoc, append-nil, length-append, length-drop, length-take, min, option_to_list, Some, None, Option, drop-cons, refl, sym, ◌∙◌, ap, subst, arith}
+use Rattle.std.proofs.lemmas.Int.{ints}
+use Rattle.std.proofs.lemmas.List.{take-append-drop, drop-append-le, drop-drop, length-take-le}
+use Rattle.std.specs.Int.{w64}
+use Rattle.std.specs.Prelude.{FitsSigned}
+use Rattle.std.specs.List.{concat, AllByRecursion}
+use Rattle.std.specs.Cmp.{int_cmp_total}
+use Rattle.std.specs.FinMap.{put}
+use Rattle.std.specs.FinMap.Entries.{below_all, by_order}
+use Rattle.ts_core.proofs.lists.Places.{both_of}
+use Rattle.ts_core.specs.facts.Times.{IsTime}
+use Rattle.ts_block.specs.Blocks.{times_of, values_of, AreLater, ArePoints, AreValues, last_of}
+use Rattle.ts_block.specs.Appending.{last_time}
+use Rattle.ts_raw.specs.declared.mark.Mark.{Mark}
+use Rattle.ts_raw.specs.Columns.{AreTimed}
+use Rattle.ts_raw.specs.PlainColumns.{IsRising}
+use Rattle.ts_raw.specs.CodedPoints.{points_at, coded_points, blocks_at, IsMark, AreBlocks, AreMarks, numbered}
+use Rattle.ts_raw.specs.Rewriting.{IsEncoded, AreEncodable, blocks_of, marks_replaced}
+use Rattle.ts_raw.specs.declared.rewriting.Rewritten.{Rewritten}
+use Rattle.ts_raw.proofs.PointMaps.{rising-put, timed-put}
+use Rattle.ts_raw.proofs.CutLemmas.{is_rising_behind, timed_behind, timed_first}
+use Rattle.ts_raw.proofs.BlockLists.{mark_stays, take_next}
+
+-- ---- points that make a block
+
+and_T : (a b : Bool) → T a → T b → T (a && b)
+and_T true b p q = q
+and_T false b p q = absurd p
+
+less_T : (x y : ℤ) → x <ℤ y → T (is_lt (int_cmp x y))
+less_T x y h = let e : int_cmp x y ≡ Less = grind (arith, ints) in subst (λ o. T (is_lt o)) (sym e) tt
+
+T_less : (x y : ℤ) → T (is_lt (int_cmp x y)) → x <ℤ y
+T_less x y h = grind (arith, ints, h)
+
+below_later : (t u : ℤ) (ps : List (ℤ × ℤ)) → t <ℤ u → AreLater u (times_of ps) → T (below_all int_cmp t ps)
+below_later t u [] l h = tt
+below_later t u (p ∷ ps) l h = let a = h.0 in and_T _ _ (less_T t p.0 (omega (arith, ints))) (below_later t p.0 ps (omega (arith, ints)) h.2)
+
+rising_later : (u : ℤ) (ps : List (ℤ × ℤ)) → AreLater u (times_of ps) → IsRising ps
+rising_later u [] h = tt
+rising_later u (p ∷ ps) h = and_T _ _ (below_first p ps h.2) (rising_later p.0 ps h.2)
+  where
+    below_first : (p : ℤ × ℤ) (ps : List (ℤ × ℤ)) → AreLater p.0 (times_of ps) → T (below_all int_cmp p.0 ps)
+    below_first p [] h = tt
+    below_first p (q ∷ ps) h = let a = h.0 in and_T _ _ (less_T p.0 q.0 h.0) (below_later p.0 q.0 ps h.0 h.2)
+
+pub rising_of : (ps : List (ℤ × ℤ)) → ArePoints ps → IsRising ps
+rising_of [] h = absurd h
+rising_of (p ∷ []) h = tt
+rising_of (p ∷ q ∷ ps) h = and_T _ _ (and_T _ _ (less_T p.0 q.0 h.2.0) (below_later p.0 q.0 ps h.2.0 h.2.2)) (rising_later p.0 (q ∷ ps) h.2)
+
+timed_later : (u : ℤ) (ps : List (ℤ × ℤ)) → AreLater u (times_of ps) → AreTimed ps
+timed_later u [] h = tt
+timed_later u (p ∷ ps) h = (h.1, timed_later p.0 ps h.2)
+
+pub timed_of : (ps : List (ℤ × ℤ)) → ArePoints ps → AreTimed ps
+timed_of [] h = absurd h
+timed_of (p ∷ ps) h = (h.1, timed_later p.0 ps h.2)
+
+later_of : (t : ℤ) (ps : List (ℤ × ℤ)) → T (below_all int_cmp t ps) → IsRising ps → AreTimed ps → AreLater t (times_of ps)
+later_of t [] b s h = tt
+later_of t (p ∷ ps) b s h = (T_less t p.0 (both_of _ _ b).0, h.0, later_of p.0 ps (both_of _ _ s).0 (both_of _ _ s).1 h.1)
+
+pub are_points : (ps : List (ℤ × ℤ)) → 0 < length ps → length ps ≤ 256 → IsRising ps → AreTimed ps → AreValues (values_of ps) → ArePoints ps
+are_points [] some few s h v = absurd (omega arith)
+are_points (p ∷ ps) some few s h v = (omega arith, h.0, later_of p.0 ps (both_of _ _ s).0 (both_of _ _ s).1 h.1, v)
+
+pub values_in : (ps : List (ℤ × ℤ)) → ArePoints ps → AreValues (values_of ps)
+values_in [] h = absurd h
+values_in (p ∷ ps) h = h.3
+
+pub values_put : (t v : ℤ) (ps : List (ℤ × ℤ)) → AreValues (values_of ps) → FitsSigned w64 v → AreValues (values_of (put int_cmp t v ps))
+values_put t v [] h f = (f, tt)
+values_put t v (x ∷ ps) h f =
+    elim (int_cmp t x.0) as (λ r. AreValues (values_of (by_order r ((t, v) ∷ x ∷ ps) ((x.0, v) ∷ ps) (x ∷ put int_cmp t v ps)))) [
+      | Less ↦ (f, h)
+      | Equal ↦ (f, h.1)
+      | Greater ↦ (h.0, values_put t v ps h.1 f)
+    ]
+
+pub length_put : (t v : ℤ) (ps : List (ℤ × ℤ)) → (length (put int_cmp t v ps) ≤ length ps + 1) × (0 < length (put int_cmp t v ps)) × (length ps ≤ length (put int_cmp t v ps))
+length_put t v [] = (omega arith, omega arith, omega arith)
+length_put t v (x ∷ ps) =
+    elim (int_cmp t x.0) as (λ r. (length (by_order r ((t, v) ∷ x ∷ ps) ((x.0, v) ∷ ps) (x ∷ put int_cmp t v ps)) ≤ suc (length ps) + 1) × (0 < length (by_order r ((t, v) ∷ x ∷ ps) ((x.0, v) ∷ ps) (x ∷ put int_cmp t v ps))) × (suc (length ps) ≤ length (by_order r ((t, v) ∷ x ∷ ps) ((x.0, v) ∷ ps) (x ∷ put int_cmp t v ps)))) [
+      | Less ↦ (omega arith, omega arith, omega arith)
+      | Equal ↦ (omega arith, omega arith, omega arith)
+      | Greater ↦ let a = length_put t v ps in (let b = a.0 in omega arith, omega arith, let d = a.2 in omega arith)
+    ]
+
+pub values_drop : (k : ℕ) (ps : List (ℤ × ℤ)) → AreValues (values_of ps) → AreValues (values_of (drop k ps))
+values_drop zero ps h = h
+values_drop (suc k) [] h = h
+values_drop (suc k) (p ∷ ps) h = values_drop k ps h.1
+
+pub values_take : (k : ℕ) (ps : List (ℤ × ℤ)) → AreValues (values_of ps) → AreValues (values_of (take k ps))
+values_take zero ps h = tt
+values_take (suc k) [] h = tt
+values_take (suc k) (p ∷ ps) h = (h.0, values_take k ps h.1)
+
+-- ---- a point is put among the points of its block alone
+
+pub put_after : (t v : ℤ) (xs ys : List (ℤ × ℤ)) → AllByRecursion (λ (q : ℤ × ℤ). q.0 <ℤ t) xs → put int_cmp t v (xs ++ ys) ≡ xs ++ put int_cmp t v ys
+put_after t v [] ys h = refl
+put_after t v (x ∷ xs) ys h =
+    let l = h.0 in
+    let e : int_cmp t x.0 ≡ Greater = grind (arith, ints, l) in
+    ap (λ r. by_order r ((t, v) ∷ x ∷ (xs ++ ys)) ((x.0, v) ∷ (xs ++ ys)) (x ∷ put int_cmp t v (xs ++ ys))) e ∙ ap (λ (z : List (ℤ × ℤ)). x ∷ z) (put_after t v xs ys h.1)
+
+put_before : (t v : ℤ) (u : ℤ) (ps : List (ℤ × ℤ)) (ys : List (ℤ × ℤ)) → t ≤ℤ last_of u (times_of ps) → (w : ℤ) → put int_cmp t v ((u, w) ∷ (ps ++ ys)) ≡ put int_cmp t v ((u, w) ∷ ps) ++ ys
+put_before t v u [] ys h w =
+    elim (int_cmp t u) as (λ r. int_cmp t u ≡ r → by_order r ((t, v) ∷ (u, w) ∷ ys) ((u, v) ∷ ys) ((u, w) ∷ put int_cmp t v ys) ≡ by_order r ((t, v) ∷ (u, w) ∷ []) ((u, v) ∷ []) ((u, w) ∷ put int_cmp t v []) ++ ys) [
+      | Less ↦ λ e. refl
+      | Equal ↦ λ e. refl
+      | Greater ↦ λ e. absurd (grind (arith, ints, h, e))
+    ] refl
+put_before t v u (p ∷ ps) ys h w =
+    elim (int_cmp t u) as (λ r. by_order r ((t, v) ∷ (u, w) ∷ p ∷ (ps ++ ys)) ((u, v) ∷ p ∷ (ps ++ ys)) ((u, w) ∷ put int_cmp t v (p ∷ (ps ++ ys))) ≡ by_order r ((t, v) ∷ (u, w) ∷ p ∷ ps) ((u, v) ∷ p ∷ ps) ((u, w) ∷ put int_cmp t v (p ∷ ps)) ++ ys) [
+      | Less ↦ refl
+      | Equal ↦ refl
+      | Greater ↦ ap (λ (z : List (ℤ × ℤ)). (u, w) ∷ z) (put_before t v p.0 ps ys h p.1)
+    ]
+
+-- the last time of points, of which the first ones may be left out
+last_dropped : (k : ℕ) (p : ℤ × ℤ) (ps : List (ℤ × ℤ)) → k < length (p ∷ ps) → last_time (drop k (p ∷ ps)) ≡ last_time (p ∷ ps)
+last_dropped zero p ps l = refl
+last_dropped (suc k) p [] l = absurd (omega arith)
+last_dropped (suc k) p (q ∷ ps) l = last_dropped k q ps (omega arith)
+
+pub put_first : (t v : ℤ) (ps ys : List (ℤ × ℤ)) → 0 < length ps → t ≤ℤ last_time ps → put int_cmp t v (ps ++ ys) ≡ put int_cmp t v ps ++ ys
+put_first t v [] ys some h = absurd (omega arith)
+put_first t v (p ∷ ps) ys some h = put_before t v p.0 ps ys h p.1
+
+-- among three lists of points, of which the first are before it and the second reach it
+pub put_within : (t v : ℤ) (xs ps ys : List (ℤ × ℤ)) → AllByRecursion (λ (q : ℤ × ℤ). q.0 <ℤ t) xs → 0 < length ps → t ≤ℤ last_time ps → put int_cmp t v (xs ++ (ps ++ ys)) ≡ xs ++ (put int_cmp t v ps ++ ys)
+put_within t v xs ps ys less some reach = put_after t v xs (ps ++ ys) less ∙ ap (λ (z : List (ℤ × ℤ)). xs ++ z) (put_first t v ps ys some reach)
+
+pub last_after_drop : (k : ℕ) (ps : List (ℤ × ℤ)) → k < length ps → last_time (drop k ps) ≡ last_time ps
+last_after_drop k [] l = absurd (omega arith)
+last_after_drop k (p ∷ ps) l = last_dropped k p ps l
+
+-- ---- blocks that are counted anew
+
+module _ (bytes : List ℕ) where
+  pub numbered_marks : (before : ℕ) (ms : List Mark) → AreBlocks bytes ms → AreMarks bytes before (numbered bytes before ms)
+  numbered_marks before [] h = tt
+  numbered_marks before (m ∷ ms) h = (record { some = h.0.some; within = h.0.within; block = h.0.block; values_at = h.0.values_at; last_is = h.0.last_is }, refl, numbered_marks (before + length (points_at bytes m)) ms h.1)
+
+  pub numbered_blocks : (before : ℕ) (ms : List Mark) → blocks_at bytes (numbered bytes before ms) ≡ blocks_at bytes ms
+  numbered_blocks before [] = refl
+  numbered_blocks before (m ∷ ms) = ap (λ (x : List (List (ℤ × ℤ))). points_at bytes m ∷ x) (numbered_blocks (before + length (points_at bytes m)) ms)
+
+  pub numbered_push : (before : ℕ) (ms : List Mark) (m : Mark) → numbered bytes before (ms ++ m ∷ []) ≡ numbered bytes before ms ++ record { start = m.start; values = m.values; end = m.end; before = before + length (coded_points bytes ms); last = m.last } ∷ []
+  unfolding coded_points
+  numbered_push before [] m = ap (λ n. record { start = m.start; values = m.values; end = m.end; before = n; last = m.last } ∷ []) (let n : before ≡ before + 0 = omega arith in n)
+  numbered_push before (k ∷ ms) m =
+      ap (λ (x : List Mark). record { start = k.start; values = k.values; end = k.end; before = before; last = k.last } ∷ x)
+      (numbered_push (before + length (points_at bytes k)) ms m
+      ∙ ap (λ n. numbered bytes (before + length (points_at bytes k)) ms ++ record { start = m.start; values = m.values; end = m.end; before = n; last = m.last } ∷ [])
+      (let e = length-append (points_at bytes k) (coded_points bytes ms) in let n : before + length (points_at bytes k) + length (coded_points bytes ms) ≡ before + length (points_at bytes k ++ coded_points bytes ms) = omega arith in n))
+
+  pub numbered_length : (before : ℕ) (ms : List Mark) → length (numbered bytes before ms) ≡ length ms
+  numbered_length before [] = refl
+  numbered_length before (m ∷ ms) = ap suc (numbered_length (before + length (points_at bytes m)) ms)
+
+pub set_seam : (xs ys : List Mark) (y z : Mark) → set (xs ++ y ∷ ys) (length xs) z ≡ xs ++ z ∷ ys
+set_seam [] ys y z = refl
+set_seam (x ∷ xs) ys y z = ap (λ (q : List Mark). x ∷ q) (set_seam xs ys y z)
+
+pub insert_seam : (xs ys : List Mark) (z : Mark) → insert (xs ++ ys) (length xs) z ≡ xs ++ z ∷ ys
+insert_seam [] ys z = insert_first ys z
+  where
+    insert_first : (ys : List Mark) (z : Mark) → insert ys 0 z ≡ z ∷ ys
+    insert_first [] z = refl
+    insert_first (y ∷ ys) z = refl
+insert_seam (x ∷ xs) ys z = ap (λ (q : List Mark). x ∷ q) (insert_seam xs ys z)
+
+get_seam : (xs ys : List Mark) (y d : Mark) → get_or (xs ++ y ∷ ys) (length xs) d ≡ y
+get_seam [] ys y d = refl
+get_seam (x ∷ xs) ys y d = get_seam xs ys y d
+
+unfoldable pub with_before : ℕ → Mark → Mark
+with_before n m = record { start = m.start; values = m.values; end = m.end; before = n; last = m.last }
+
+module _ (bytes : List ℕ) (all cur : List Mark) (i total : ℕ) (d : Mark) (l : i < length all) (is : cur ≡ numbered bytes 0 (take i all) ++ drop i all) (t : total ≡ length (coded_points bytes (take i all))) where
+  abbrev done : List Mark
+  done = numbered bytes 0 (take i all)
+
+  size : length done ≡ i
+  size = numbered_length bytes 0 (take i all) ∙ length-take-le i all (omega arith)
+
+  seam : cur ≡ done ++ (get_or all i d ∷ drop (i + 1) all)
+  seam = is ∙ ap (λ (x : List Mark). done ++ x) (drop-cons all i d l ∙ ap (λ k. get_or all i d ∷ drop k all) (let n : suc i ≡ i + 1 = omega arith in n))
+
+  pub here : get_or cur i d ≡ get_or all i d
+  here = (λ j. get_or (seam j) (sym size j) d) ∙ get_seam done (drop (i + 1) all) (get_or all i d) d
+
+  pub numbered_next : set cur i (with_before total (get_or cur i d)) ≡ numbered bytes 0 (take (i + 1) all) ++ drop (i + 1) all
+  unfolding with_before
+  numbered_next =
+      let new : Mark = with_before total (get_or cur i d) in
+      let same : new ≡ with_before (0 + length (coded_points bytes (take i all))) (get_or all i d) = (λ j. with_before ((let n : total ≡ 0 + length (coded_points bytes (take i all)) = omega arith in n) j) (here j)) in
+      (λ j. set (seam j) (sym size j) new) ∙ set_seam done (drop (i + 1) all) (get_or all i d) new
+      ∙ ap (λ x. done ++ (x ∷ drop (i + 1) all)) same
+      ∙ sym (append_assoc done (with_before (0 + length (coded_points bytes (take i all))) (get_or all i d) ∷ []) (drop (i + 1) all))
+      ∙ ap (λ (x : List Mark). x ++ drop (i + 1) all) (sym (numbered_push bytes 0 (take i all) (get_or all i d)))
+      ∙ ap (λ (x : List Mark). numbered bytes 0 x ++ drop (i + 1) all) (sym (take_next all i d l))
+
+pub coded_join : (bytes : List ℕ) (xs ys : List Mark) → coded_points bytes (xs ++ ys) ≡ coded_points bytes xs ++ coded_points bytes ys
+unfolding coded_points
+coded_join bytes [] ys = refl
+coded_join bytes (m ∷ xs) ys = ap (λ (z : List (ℤ × ℤ)). points_at bytes m ++ z) (coded_join bytes xs ys) ∙ sym (append_assoc (points_at bytes m) (coded_points bytes xs) (coded_points bytes ys))
+
+pub coded_one : (bytes : List ℕ) (m : Mark) → coded_points bytes (m ∷ []) ≡ points_at bytes m
+unfolding coded_points
+coded_one bytes m = append-nil (points_at bytes m)
+
+pub count_next : (bytes : List ℕ) (all : List Mark) (i : ℕ) (d : Mark) → i < length all → length (coded_points bytes (take (i + 1) all)) ≡ length (coded_points bytes (take i all)) + length (points_at bytes (get_or all i d))
+count_next bytes all i d l =
+    ap (λ (x : List Mark). length (coded_points bytes x)) (take_next all i d l) ∙ ap length (coded_join bytes (take i all) (get_or all i d ∷ []))
+    ∙ length-append (coded_points bytes (take i all)) (coded_points bytes (get_or all i d ∷ [])) ∙ ap (λ (x : List (ℤ × ℤ)). length (coded_points bytes (take i all)) + length x) (coded_one bytes (get_or all i d))
+
+pub count_all : (bytes : List ℕ) (all : List Mark) (k : ℕ) → length (coded_points bytes (take k all)) ≤ length (coded_points bytes all)
+count_all bytes all k =
+    let a = ap (λ (x : List Mark). length (coded_points bytes x)) (take-append-drop k all) in
+    let b = ap length (coded_join bytes (take k all) (drop k all)) in
+    let c = length-append (coded_points bytes (take k all)) (coded_points bytes (drop k all)) in
+    omega arith
+
+-- ---- points that are encoded
+
+rising_first : (k : ℕ) (ps : List (ℤ × ℤ)) → IsRising ps → IsRising (take k ps)
+rising_first zero ps s = tt
+rising_first (suc k) [] s = tt
+rising_first (suc k) (p ∷ ps) s = let b = both_of _ _ s in and_T _ _ (below_first k p.0 ps b.0) (rising_first k ps b.1)
+  where
+    below_first : (k : ℕ) (t : ℤ) (ps : List (ℤ × ℤ)) → T (below_all int_cmp t ps) → T (below_all int_cmp t (take k ps))
+    below_first zero t ps h = tt
+    below_first (suc k) t [] h = tt
+    below_first (suc k) t (p ∷ ps) h = let b = both_of _ _ h in and_T _ _ b.0 (below_first k t ps b.1)
+
+pub encodable : (bytes : List ℕ) (m : Mark) (skip : ℕ) (t v : ℤ) → IsMark bytes m → IsTime t → FitsSigned w64 v → AreEncodable (put int_cmp t v (drop skip (points_at bytes m)))
+encodable bytes m skip t v h is f =
+    let ps : List (ℤ × ℤ) = points_at bytes m in
+    let rest : List (ℤ × ℤ) = drop skip ps in
+    let s = length_put t v rest in
+    record {
+      some = s.1;
+      few = let a = s.0 in let b = few_in ps h.block.points_are in let e = length-drop skip ps in omega arith;
+      rising = rising-put rest (is_rising_behind skip ps (rising_of ps h.block.points_are)) t v;
+      timed = timed-put rest (timed_behind skip ps (timed_of ps h.block.points_are)) t v is;
+      values = values_put t v rest (values_drop skip ps (values_in ps h.block.points_are)) f;
+    }
+  where
+    few_in : (ps : List (ℤ × ℤ)) → ArePoints ps → length ps ≤ 256
+    few_in [] h = omega arith
+    few_in (p ∷ ps) h = let a = h.0 in omega arith
+
+pub whole_points : (ps : List (ℤ × ℤ)) → AreEncodable ps → length ps ≤ 256 → ArePoints ps
+whole_points ps h few = are_points ps h.some few h.rising h.timed h.values
+
+pub front_points : (ps : List (ℤ × ℤ)) (k : ℕ) → AreEncodable ps → 0 < k → k ≤ 256 → k ≤ length ps → ArePoints (take k ps)
+front_points ps k h some few l =
+    let n = length-take-le k ps l in
+    are_points (take k ps) (omega arith) (omega arith) (rising_first k ps h.rising) (timed_first k ps h.timed) (values_take k ps h.values)
+
+pub back_points : (ps : List (ℤ × ℤ)) (k : ℕ) → AreEncodable ps → k < length ps → length ps ≤ k + 256 → ArePoints (drop k ps)
+back_points ps k h l few =
+    let n = length-drop k ps in
+    are_points (drop k ps) (omega arith) (omega arith) (is_rising_behind k ps h.rising) (timed_behind k ps h.timed) (values_drop k ps h.values)
+
+-- two blocks, the second encoded after the first
+pub two_blocks : (one two : List ℕ) (m n : Mark) (ps qs : List (ℤ × ℤ)) → IsEncoded one m ps → IsEncoded two n qs → take (length one) two ≡ one → AreBlocks two (m ∷ n ∷ []) × (coded_points two (m ∷ n ∷ []) ≡ ps ++ qs)
+unfolding coded_points
+two_blocks one two m n ps qs a b front =
+    let k = mark_stays one two m front a.mark in
+    ((k.0, (b.mark, tt)), (λ i. (k.1 ∙ a.points_are) i ++ (append-nil (points_at two n) ∙ b.points_are) i))
+
+pub set_replaced : (ms : List Mark) (at : ℕ) (x : Mark) → at < length ms → set ms at x ≡ take at ms ++ (x ∷ drop (at + 1) ms)
+set_replaced [] at x l = absurd (omega arith)
+set_replaced (m ∷ ms) zero x l = refl
+set_replaced (m ∷ ms) (suc at) x l = ap (λ (z : List Mark). m ∷ z) (set_replaced ms at x (omega arith)) ∙ ap (λ k. m ∷ (take at ms ++ (x ∷ drop k (m ∷ ms)))) (let n : suc (at + 1) ≡ suc at + 1 = omega arith in n)
+
+pub insert_replaced : (ms : List Mark) (at : ℕ) (x y : Mark) → at < length ms → insert (set ms at x) (at + 1) y ≡ take at ms ++ (x ∷ y ∷ drop (at + 1) ms)
+insert_replaced ms at x y l =
+    let front : List Mark = take at ms ++ (x ∷ []) in
+    let size : length front ≡ at + 1 = length-append (take at ms) (x ∷ []) ∙ ap (λ k. k + 1) (length-take-le at ms (omega arith)) in
+    let split : set ms at x ≡ front ++ drop (at + 1) ms = set_replaced ms at x l ∙ sym (append_assoc (take at ms) (x ∷ []) (drop (at + 1) ms)) in
+    (λ i. insert (split i) (sym size i) y) ∙ insert_seam front (drop (at + 1) ms) y ∙ append_assoc (take at ms) (x ∷ []) (y ∷ drop (at + 1) ms)

@@ -1,0 +1,54 @@
+use Rattle.std.proofs.Common.{◌≡◌, ℕ, List, [], ◌∷◌, ◌++◌, ◌+◌, length, vec_len, take, ◌∙◌, ap, sym, subst, refl, arith, is_ok, if◌then◌else◌}
+use Rattle.ts_core.specs.facts.Times.{IsTime}
+use Rattle.ts_block.specs.Appending.{EndsInBlock}
+use Rattle.ts_raw.specs.declared.mark.Mark.{Mark}
+use Rattle.ts_raw.specs.CodedPoints.{coded_points, blocks_at, IsCounted, OthersEndBy}
+use Rattle.ts_raw.proofs.PushLemmas.{all_within, others_from, started}
+use Rattle.ts_raw.proofs.appending.push_block.Given.{Over}
+use Rattle.ts_raw.proofs.appending.push_block.Goals.{After-unwrap}
+use Rattle.ts_raw.proofs.appending.push_block.Goals as goal
+
+mark : (g : Over) (c : After-unwrap g) → Mark
+mark g c = record { start = c.len-start.result; values = 9; end = c.len.result; before = c.args.total; last = c.args.point.now.0 }
+
+both : (g : Over) (c : After-unwrap g) → IsCounted c.begin.new.bytes.items (c.args.marks.now.items ++ mark g c ∷ []) (c.args.total + 1)
+    × (coded_points c.begin.new.bytes.items (c.args.marks.now.items ++ mark g c ∷ []) ≡ coded_points c.args.bytes.now.items c.args.marks.now.items ++ c.args.point.now ∷ [])
+    × (blocks_at c.begin.new.bytes.items (c.args.marks.now.items ++ mark g c ∷ []) ≡ blocks_at c.args.bytes.now.items c.args.marks.now.items ++ ((c.args.point.now ∷ []) ∷ []))
+unfolding mark
+both g c =
+    let bytes : List ℕ = c.args.bytes.now.items in
+    let new : List ℕ = c.begin.new.bytes.items in
+    let start : c.len-start.result ≡ length bytes = omega (arith, c.len-start.ensures, c.args.bytes.now.ok.0) in
+    let end : c.len.result ≡ length new = omega (arith, c.len.ensures, c.begin.new.bytes.ok.0) in
+    let valid : IsTime c.args.point.now.0 = subst IsTime c.nanos-valid.ensures.value c.nanos-valid.ensures.valid in
+    let same : take (length bytes) new ≡ bytes = ap (λ n. take n new) (let n : length bytes ≡ vec_len c.args.bytes.now = omega (arith, c.args.bytes.now.ok.0) in n) ∙ c.begin.ensures.before in
+    let block : EndsInBlock new c.len-start.result (c.len-start.result + 9) c.args.point.now.0 (c.args.point.now ∷ []) =
+    subst (λ n. EndsInBlock new n (n + 9) c.args.point.now.0 (c.args.point.now ∷ [])) (let n : vec_len c.args.bytes.now ≡ c.len-start.result = omega (arith, c.len-start.ensures) in n) c.begin.ensures.ends in
+    started bytes new c.args.marks.now.items (mark g c) c.args.total c.args.point.now c.requires.counted c.requires.later valid start refl refl end same block
+
+items : (g : Over) (c : After-unwrap g) → c.push.new.self.items ≡ c.args.marks.now.items ++ mark g c ∷ []
+unfolding mark
+items g c = c.push.ensures.items ∙ ap (λ r. if is_ok r then c.args.marks.now.items ++ mark g c ∷ [] else c.args.marks.now.items) c.unwrap.ensures
+
+pub returns-clause-counted : goal.returns-clause-counted
+returns-clause-counted g c =
+    let at = (goal.at.returns-clause-counted g c).After-unwrap in
+    subst (λ (ms : List Mark). IsCounted c.begin.new.bytes.items ms (c.args.total + 1)) (sym (items g at)) (both g at).0
+
+pub returns-clause-points : goal.returns-clause-points
+returns-clause-points g c =
+    let at = (goal.at.returns-clause-points g c).After-unwrap in
+    ap (coded_points c.begin.new.bytes.items) (items g at) ∙ (both g at).1
+
+pub returns-clause-blocks : goal.returns-clause-blocks
+returns-clause-blocks g c =
+    let at = (goal.at.returns-clause-blocks g c).After-unwrap in
+    ap (blocks_at c.begin.new.bytes.items) (items g at) ∙ (both g at).2
+
+pub returns-clause-others : goal.returns-clause-others
+returns-clause-others g c =
+    let at = (goal.at.returns-clause-others g c).After-unwrap in
+    let bytes : List ℕ = c.args.bytes.now.items in
+    let size : length bytes ≡ vec_len c.args.bytes.now = omega (arith, c.args.bytes.now.ok.0) in
+    subst (λ n. OthersEndBy n c.push.new.self.items) size
+    (subst (OthersEndBy (length bytes)) (sym (items g at)) (others_from (length bytes) c.args.marks.now.items (mark g at) (all_within bytes c.args.marks.now.items 0 c.requires.counted.coded.marked)))

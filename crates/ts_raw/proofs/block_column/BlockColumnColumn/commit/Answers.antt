@@ -1,0 +1,96 @@
+use Rattle.std.proofs.Common.{rules, ◌≡◌, ◌≤◌, ◌+◌, ℕ, ℤ, List, [], ◌∷◌, ◌++◌, length, drop, int_cmp, Option, Some, None, sym, ap, subst, ◌∙◌, arith, vec_capacity}
+use Rattle.std.specs.Cmp.{int_cmp_total}
+use Rattle.std.specs.FinMap as map
+use Rattle.ts_core.specs.facts.Times.{IsTime}
+use Rattle.ts_raw.specs.declared.mark.Mark.{Mark}
+use Rattle.ts_raw.specs.declared.staging.Staged.{Staged}
+use Rattle.ts_raw.specs.BlockColumns.{BlockState, IsColumn, IsStaged, IsStagedIfAny, CanCommit}
+use Rattle.ts_raw.specs.CodedPoints.{AreBlocks, CutFits, AllEndBefore, blocks_at, coded_points, numbered}
+use Rattle.ts_raw.specs.Rewriting.{IsRewritten, marks_replaced, cut_after}
+use Rattle.ts_raw.proofs.PointMaps.{from_sorted-put}
+use Rattle.ts_raw.proofs.CutLemmas.{is_rising_behind}
+use Rattle.ts_raw.proofs.PushLemmas.{coded_less}
+use Rattle.ts_raw.proofs.ColumnBlocks.{cut_within, appended_map, replaced_blocks, replaced_few, replaced_points, replaced_column}
+use Rattle.ts_raw.proofs.block_column.BlockColumnColumn.commit.Given.{Over}
+use Rattle.ts_raw.proofs.block_column.BlockColumnColumn.commit.Goals.{After-unwrap-staged, In-Some, After-replace-self-inside}
+use Rattle.ts_raw.proofs.block_column.BlockColumnColumn.commit.Goals as goal
+
+staged : (g : Over) (c : After-unwrap-staged g) → IsStaged c.self.inside.bytes.items c.self.inside.marks.items c.self.inside.total c.self.inside.cut (vec_capacity c.self.inside.bytes) (vec_capacity c.self.inside.marks) c.unwrap-staged.result
+staged g c =
+    let is : c.self.inside.staged ≡ Some c.unwrap-staged.result = sym c.take.ensures.value ∙ c.unwrap-staged.ensures in
+    subst (IsStagedIfAny c.self.inside.bytes.items c.self.inside.marks.items c.self.inside.total c.self.inside.cut (vec_capacity c.self.inside.bytes) (vec_capacity c.self.inside.marks)) is c.self.invariant.is_staged
+
+rewritten : (g : Over) (c : In-Some g) (s : IsStaged c.self.inside.bytes.items c.self.inside.marks.items c.self.inside.total c.self.inside.cut (vec_capacity c.self.inside.bytes) (vec_capacity c.self.inside.marks) c.unwrap-staged.result) → IsRewritten c.self.inside.bytes.items c.self.inside.marks.items c.self.inside.cut c.unwrap-staged.result.point c.in-Some.new
+rewritten g c s = subst (CanCommit c.self.inside.bytes.items c.self.inside.marks.items c.self.inside.cut (vec_capacity c.self.inside.bytes) c.unwrap-staged.result.point) c.in-Some.is s.can
+
+pub replace-self-inside-requires-clause-blocks : goal.replace-self-inside-requires-clause-blocks
+replace-self-inside-requires-clause-blocks g c =
+    let a = goal.at.replace-self-inside-requires-clause-blocks g c in
+    let bytes : List ℕ = c.self.inside.bytes.items in
+    let ms : List Mark = c.self.inside.marks.items in
+    let s = staged g a.After-unwrap-staged in
+    subst (λ (x : List ℕ). AreBlocks x (marks_replaced c.in-Some.new ms)) (sym c.as_slice.ensures.value) (replaced_blocks bytes ms c.self.inside.total c.self.inside.cut c.unwrap-staged.result.point c.in-Some.new c.self.invariant.counted c.self.invariant.cut_fits (rewritten g a.In-Some s))
+
+pub replace-self-inside-requires-clause-few : goal.replace-self-inside-requires-clause-few
+replace-self-inside-requires-clause-few g c =
+    let a = goal.at.replace-self-inside-requires-clause-few g c in
+    let bytes : List ℕ = c.self.inside.bytes.items in
+    let ms : List Mark = c.self.inside.marks.items in
+    let s = staged g a.After-unwrap-staged in
+    subst (λ (x : List ℕ). length (coded_points x (marks_replaced c.in-Some.new ms)) ≤ 18446744073709551615) (sym c.as_slice.ensures.value) (replaced_few bytes ms c.self.inside.total c.self.inside.cut c.unwrap-staged.result.point c.in-Some.new c.self.invariant.counted c.self.invariant.cut_fits (rewritten g a.In-Some s) s.countable)
+
+pub invariant_of-self : goal.invariant_of-self
+invariant_of-self g c = record {
+  counted = c.push_later-self-inside.ensures.counted;
+  others = c.push_later-self-inside.ensures.others;
+  cut_fits = c.push_later-self-inside.ensures.cut c.self.inside.cut c.self.invariant.cut_fits;
+  is_staged = subst (IsStagedIfAny c.push_later-self-inside.new.bytes.items c.push_later-self-inside.new.marks.items (c.self.inside.total + 1) c.self.inside.cut (vec_capacity c.push_later-self-inside.new.bytes) (vec_capacity c.push_later-self-inside.new.marks)) (sym c.take.ensures.after) tt;
+}
+
+marks_are : (g : Over) (c : After-replace-self-inside g) → c.replace-self-inside.new.marks.items ≡ numbered c.self.inside.bytes.items 0 (marks_replaced c.in-Some.new c.self.inside.marks.items)
+marks_are g c = c.replace-self-inside.ensures.marks ∙ ap (λ (x : List ℕ). numbered x 0 (marks_replaced c.in-Some.new c.self.inside.marks.items)) c.as_slice.ensures.value
+
+pub invariant_of-self-in-Some : goal.invariant_of-self-in-Some
+invariant_of-self-in-Some g c =
+    let a = goal.at.invariant_of-self-in-Some g c in
+    let bytes : List ℕ = c.self.inside.bytes.items in
+    let ms : List Mark = c.self.inside.marks.items in
+    let new : List Mark = marks_replaced c.in-Some.new ms in
+    let s = staged g a.After-unwrap-staged in
+    let valid : IsTime c.unwrap-staged.result.point.0 = search rules in
+    let size : c.len-self-inside.result ≡ length bytes = omega (arith, c.len-self-inside.ensures, c.self.inside.bytes.ok.0) in
+    let total : c.replace-self-inside.result ≡ length (coded_points bytes new) = c.replace-self-inside.ensures.total ∙ ap (λ (x : List ℕ). length (coded_points x new)) c.as_slice.ensures.value in
+    let capacity : ℕ = vec_capacity c.self.inside.bytes in
+    let marks_capacity : ℕ = vec_capacity c.replace-self-inside.new.marks in
+    let end : ℕ = c.len-self-inside.result in
+    let cut : ℕ = cut_after c.in-Some.new.at c.self.inside.cut in
+    let column = replaced_column bytes ms c.self.inside.total c.self.inside.cut c.unwrap-staged.result.point c.in-Some.new c.self.invariant.counted c.self.invariant.cut_fits (rewritten g a.In-Some s) capacity marks_capacity end valid size in
+    subst (IsColumn bytes c.replace-self-inside.new.marks.items c.replace-self-inside.result c.cut_left-self-inside.result end capacity marks_capacity) (sym c.take.ensures.after)
+    (subst (λ k. IsColumn bytes c.replace-self-inside.new.marks.items c.replace-self-inside.result k end capacity marks_capacity None) (sym c.cut_left-self-inside.ensures)
+    (subst (λ t. IsColumn bytes c.replace-self-inside.new.marks.items t cut end capacity marks_capacity None) (sym total)
+    (subst (λ (x : List Mark). IsColumn bytes x (length (coded_points bytes new)) cut end capacity marks_capacity None) (sym (marks_are g a.After-replace-self-inside)) column)))
+
+pub returns-in-None-clause-put : goal.returns-in-None-clause-put
+returns-in-None-clause-put g c =
+    let a = goal.at.returns-in-None-clause-put g c in
+    let bytes : List ℕ = c.self.inside.bytes.items in
+    let ms : List Mark = c.self.inside.marks.items in
+    let p : ℤ × ℤ = c.unwrap-staged.result.point in
+    let s = staged g a.After-unwrap-staged in
+    let can : CanCommit bytes ms c.self.inside.cut (vec_capacity c.self.inside.bytes) p None = subst (CanCommit bytes ms c.self.inside.cut (vec_capacity c.self.inside.bytes) p) c.in-None.is s.can in
+    rw (← c.self.view_is, ← c.take.ensures.value, c.unwrap-staged.ensures, c.push_later-self-inside.ensures.points)
+    (appended_map (coded_points bytes ms) c.self.inside.cut p c.self.invariant.counted.coded.rising (coded_less bytes p.0 ms 0 c.self.invariant.counted.coded.marked can.0) (cut_within bytes ms c.self.inside.cut c.self.invariant.cut_fits))
+
+pub returns-in-Some-clause-put : goal.returns-in-Some-clause-put
+returns-in-Some-clause-put g c =
+    let a = goal.at.returns-in-Some-clause-put g c in
+    let bytes : List ℕ = c.self.inside.bytes.items in
+    let ms : List Mark = c.self.inside.marks.items in
+    let cut : ℕ = c.self.inside.cut in
+    let p : ℤ × ℤ = c.unwrap-staged.result.point in
+    let s = staged g a.After-unwrap-staged in
+    let valid : IsTime p.0 = search rules in
+    let marks = marks_are g a.After-replace-self-inside in
+    rw (← c.self.view_is, ← c.take.ensures.value, c.unwrap-staged.ensures, c.cut_left-self-inside.ensures, marks)
+    (ap (map.from_sorted {R = int_cmp}) (replaced_points bytes ms c.self.inside.total cut p c.in-Some.new c.self.invariant.counted c.self.invariant.cut_fits (rewritten g a.In-Some s) valid)
+    ∙ from_sorted-put int_cmp_total (drop cut (coded_points bytes ms)) (is_rising_behind cut (coded_points bytes ms) c.self.invariant.counted.coded.rising) p.0 p.1)
