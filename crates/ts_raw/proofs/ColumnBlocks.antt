@@ -28,8 +28,8 @@ use Rattle.ts_raw.proofs.CutLemmas.{first_parts, first_bound, start_behind, is_r
 use Rattle.ts_raw.proofs.PointMaps.{rising-put, timed-put, from_sorted-nothing, from_sorted-put}
 use Rattle.ts_raw.proofs.PointRanges.{drop-before}
 use Rattle.ts_raw.proofs.PushLemmas.{none_counted, coded_less, all_within, others_by}
-use Rattle.ts_raw.proofs.BlockLists.{coded_concat, blocks_of_marks, mark_at, mark_stays, same_points}
-use Rattle.ts_raw.proofs.RewriteLemmas.{coded_join, coded_one, put_after, put_within, last_after_drop, length_put, numbered_marks, numbered_blocks, rising_of}
+use Rattle.ts_raw.proofs.BlockLists.{coded_concat, blocks_of_marks, mark_at, mark_stays, same_points, take_next}
+use Rattle.ts_raw.proofs.RewriteLemmas.{coded_join, coded_one, rising_first, put_after, put_within, last_after_drop, length_put, numbered_marks, numbered_blocks, rising_of}
 
 -- ---- the removed points are within the first block
 
@@ -491,3 +491,23 @@ pub appended_map : (ps : List (ℤ × ℤ)) (cut : ℕ) (p : ℤ × ℤ) → IsR
 appended_map ps cut p s h l =
     ap (map.from_sorted {R = int_cmp}) (drop-append-le cut ps (p ∷ []) l ∙ sym (put_after p.0 p.1 (drop cut ps) [] (all_dropped p.0 cut ps h)) ∙ ap (put int_cmp p.0 p.1) (append-nil (drop cut ps)))
     ∙ from_sorted-put int_cmp_total (drop cut ps) (is_rising_behind cut ps s) p.0 p.1
+
+rising_splits : (xs : List (ℤ × ℤ)) (x : ℤ × ℤ) → IsRising (xs ++ (x ∷ [])) → AllByRecursion (λ (q : ℤ × ℤ). q.0 <ℤ x.0) xs
+rising_splits [] x s = tt
+rising_splits (y ∷ xs) x s = (before y xs (both_of _ _ s).0, rising_splits xs x (both_of _ _ s).1)
+  where
+  less_of : (a b : ℤ) → T (is_lt (int_cmp a b)) → a <ℤ b
+  less_of a b h = grind (arith, ints, h)
+
+  before : (y : ℤ × ℤ) (xs : List (ℤ × ℤ)) → T (below_all int_cmp y.0 (xs ++ (x ∷ []))) → y.0 <ℤ x.0
+  before y [] h = less_of y.0 x.0 (both_of _ _ h).0
+  before y (z ∷ xs) h = before y xs (both_of _ _ h).1
+
+-- the next point of a list in the order of time
+pub next_map : (ps : List (ℤ × ℤ)) (i : ℕ) (d : ℤ × ℤ) → IsRising ps → i < length ps → map.insert (map.from_sorted {R = int_cmp} (take i ps)) (get_or ps i d).0 (get_or ps i d).1 ≡ map.from_sorted (take (i + 1) ps)
+next_map ps i d s l =
+    let x : ℤ × ℤ = get_or ps i d in
+    let next = take_next ps i d l in
+    let first : IsRising (take i ps ++ (x ∷ [])) = subst IsRising next (rising_first (i + 1) ps s) in
+    sym (from_sorted-put int_cmp_total (take i ps) (rising_first i ps s) x.0 x.1)
+    ∙ ap (map.from_sorted {R = int_cmp}) (ap (put int_cmp x.0 x.1) (sym (append-nil (take i ps))) ∙ put_after x.0 x.1 (take i ps) [] (rising_splits (take i ps) x first) ∙ sym next)

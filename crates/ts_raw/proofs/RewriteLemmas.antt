@@ -230,7 +230,7 @@ count_all bytes all k =
 
 -- ---- points that are encoded
 
-rising_first : (k : ℕ) (ps : List (ℤ × ℤ)) → IsRising ps → IsRising (take k ps)
+pub rising_first : (k : ℕ) (ps : List (ℤ × ℤ)) → IsRising ps → IsRising (take k ps)
 rising_first zero ps s = tt
 rising_first (suc k) [] s = tt
 rising_first (suc k) (p ∷ ps) s = let b = both_of _ _ s in and_T _ _ (below_first k p.0 ps b.0) (rising_first k ps b.1)

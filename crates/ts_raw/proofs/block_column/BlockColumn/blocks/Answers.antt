@@ -1,0 +1,30 @@
+use Rattle.std.proofs.Common.{◌≡◌, ℕ, ℤ, List, drop, sym, ap, subst, ◌∙◌, int_cmp}
+use Rattle.std.specs.FinMap as map
+use Rattle.std.specs.FinMap.{entries-from_sorted}
+use Rattle.ts_raw.specs.declared.mark.Mark.{Mark}
+use Rattle.ts_raw.specs.Columns.{ColumnState}
+use Rattle.ts_raw.specs.BlockColumns.{HoldPoints, texts_at}
+use Rattle.ts_raw.specs.CodedPoints.{AreMarks, coded_points, blocks_at}
+use Rattle.ts_raw.proofs.CutLemmas.{is_rising_behind}
+use Rattle.ts_raw.proofs.BlockLists.{coded_concat}
+use Rattle.ts_raw.proofs.ColumnBlocks.{cut_few, blocks_are}
+use Rattle.ts_raw.proofs.block_column.BlockColumn.blocks.Goals as goal
+
+pub new-requires : goal.new-requires
+new-requires g c =
+    subst (λ (x : List ℕ). AreMarks x 0 c.as_slice-2.result.now) (sym c.as_slice.ensures.value) (subst (λ (x : List Mark). AreMarks c.self.inside.bytes.items 0 x) (sym c.as_slice-2.ensures.value) c.self.invariant.counted.coded.marked)
+
+pub returns : goal.returns
+returns g c =
+    let bytes : List ℕ = c.self.inside.bytes.items in
+    let ms : List Mark = c.self.inside.marks.items in
+    let cut : ℕ = c.self.inside.cut in
+    let all : List (ℤ × ℤ) = coded_points bytes ms in
+    let texts = c.new.ensures ∙ (λ i. texts_at (c.as_slice.ensures.value i) (c.as_slice-2.ensures.value i)) in
+    subst (HoldPoints c.args.self.now.points) (sym texts) (record {
+      parts = blocks_at bytes ms;
+      blocks = blocks_are bytes ms 0 c.self.invariant.counted.coded.marked;
+      removed = cut;
+      few = cut_few bytes ms cut c.self.invariant.counted.coded.marked c.self.invariant.cut_fits;
+      points_are = sym (ap (λ (s : ColumnState). map.entries s.points) c.self.view_is) ∙ entries-from_sorted int_cmp (drop cut all) (is_rising_behind cut all c.self.invariant.counted.coded.rising) ∙ ap (drop cut) (coded_concat bytes ms);
+    })
