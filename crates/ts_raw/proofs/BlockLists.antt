@@ -1,20 +1,16 @@
 -- The lists of points of blocks, wherever the bytes of these are.
-use Rattle.std.proofs.Common.{◌≡◌, ℕ, zero, suc, ◌+◌, ◌-◌, ◌<◌, ◌≤◌, ℤ, ◌<ℤ◌, ◌≤ℤ◌, int_cmp, int_lt, true, false, T, Less, List, [], ◌∷◌, ◌++◌, length, map, take, drop, get_or, append_assoc, append-nil, length-append, length-drop, refl, sym, ◌∙◌, ap, subst, arith}
-use Rattle.std.proofs.lemmas.Int.{ints}
+use Rattle.std.proofs.Common.{◌≡◌, ℕ, zero, suc, ◌+◌, ◌-◌, ◌<◌, ◌≤◌, ℤ, ◌<ℤ◌, List, [], ◌∷◌, ◌++◌, length, take, drop, get_or, append-nil, length-append, length-drop, refl, sym, ◌∙◌, ap, subst, arith}
 use Rattle.std.proofs.lemmas.List.{take-append-drop, length-take-le}
 use Rattle.std.proofs.Math.Seq.{drop-append_seam, take-length, take-append_seam}
 use Rattle.std.specs.List.{AllByRecursion}
-use Rattle.std.specs.FinMap.Entries.{below_all}
-use Rattle.ts_core.proofs.lists.Places.{both_of}
-use Rattle.ts_core.proofs.lists.Comparisons.{lt_from}
-use Rattle.ts_block.specs.Blocks.{times_of, AreLater, ArePoints, IsBlockOf, last_of}
+use Rattle.ts_block.specs.Blocks.{times_of, ArePoints, IsBlockOf, last_of}
 use Rattle.ts_block.specs.Appending.{EndsInBlock, values_start, last_time}
 use Rattle.ts_block.proofs.DecodingLemmas.{values_inside}
 use Rattle.ts_raw.specs.declared.mark.Mark.{Mark}
 use Rattle.ts_raw.specs.Columns.{AreTimed}
 use Rattle.ts_raw.specs.PlainColumns.{IsRising}
-use Rattle.ts_raw.specs.CodedPoints.{text_at, points_at, coded_points, blocks_at, joined, IsMark, AreBlocks, AreMarks, AreOrdered, IsCoded, IsCounted, AllEndBefore, AllEndBy, OthersEndBy, IsLastBefore}
-use Rattle.ts_raw.proofs.PushLemmas.{mark_kept, mark_moved, all_within, all_by, others_from, marks_push, marks_split, coded_push, blocks_push, new_mark}
+use Rattle.ts_raw.specs.CodedPoints.{text_at, points_at, coded_points, blocks_at, joined, IsMark, AreBlocks, AreMarks, AreOrdered, IsCounted, AllEndBefore, OthersEndBy}
+use Rattle.ts_raw.proofs.PushLemmas.{mark_kept, mark_moved, all_within, others_from, marks_push, marks_split, blocks_push, new_mark}
 use Rattle.ts_raw.specs.Rewriting.{IsEncoded}
 use Rattle.ts_raw.proofs.CodedLemmas.{part}
 

@@ -1,35 +1,35 @@
 -- A column as coded blocks.
-use Rattle.std.proofs.Common.{◌≡◌, ◌⊎◌, ⊎_elim, ℕ, zero, suc, ◌+◌, ◌-◌, ◌<◌, ◌≤◌, max, ℤ, pos, ◌+ℤ◌, ◌<ℤ◌, ◌≤ℤ◌, int_cmp, int_lt, int_le, true, false, Bool, ◌&&◌, is_lt, is_eq, cond, T, Less, List, [], ◌∷◌, ◌++◌, length, map, take, drop, filter, get_or, slice_get, append_assoc, append-nil, length-append, length-drop, drop-cons, Option, Some, None, Result, Ok, Err, IfOk, refl, sym, ◌∙◌, ap, subst, arith}
+use Rattle.std.proofs.Common.{◌≡◌, ℕ, zero, suc, ◌+◌, ◌-◌, ◌<◌, ◌≤◌, max, ℤ, pos, ◌+ℤ◌, ◌<ℤ◌, ◌≤ℤ◌, int_cmp, int_lt, int_le, true, false, is_lt, is_eq, cond, T, List, [], ◌∷◌, ◌++◌, length, take, drop, filter, get_or, slice_get, append-nil, length-append, length-drop, drop-cons, Option, Some, None, Result, Ok, Err, IfOk, refl, sym, ◌∙◌, ap, subst, arith}
 use Rattle.std.proofs.lemmas.Int.{ints}
-use Rattle.std.proofs.lemmas.List.{take-append-drop, drop-append-le, drop-drop, length-take-le}
+use Rattle.std.proofs.lemmas.List.{take-append-drop, drop-append-le, drop-drop}
 use Rattle.std.proofs.Math.Seq.{drop-append-add}
 use Rattle.std.specs.Iterator.{YieldsFirst}
 use Rattle.std.specs.declared.alloc.AllocError.{AllocError}
 use Rattle.std.specs.List.{AllByRecursion}
 use Rattle.std.specs.Cmp.{int_cmp_total}
 use Rattle.std.specs.FinMap as map
-use Rattle.std.specs.FinMap.{put, find, entries-from_sorted}
+use Rattle.std.specs.FinMap.{put, find}
 use Rattle.std.specs.FinMap.Entries.{below_all}
 use Rattle.ts_core.specs.facts.Facts.{is_within}
 use Rattle.ts_core.specs.facts.Times.{IsTime}
 use Rattle.ts_core.proofs.lists.Places.{both_of}
-use Rattle.ts_core.proofs.lists.Comparisons.{lt_from, le_true}
-use Rattle.ts_block.specs.Blocks.{times_of, AreLater, ArePoints, last_of}
+use Rattle.ts_core.proofs.lists.Comparisons.{lt_from}
+use Rattle.ts_block.specs.Blocks.{times_of, ArePoints, last_of}
 use Rattle.ts_block.specs.Appending.{last_time}
 use Rattle.ts_raw.specs.declared.mark.Mark.{Mark}
 use Rattle.ts_raw.specs.declared.rewriting.Rewritten.{Rewritten}
 use Rattle.ts_raw.specs.Columns.{AreTimed}
 use Rattle.ts_raw.specs.PlainColumns.{IsRising, IsStartOf}
-use Rattle.ts_raw.specs.CodedPoints.{text_at, points_at, coded_points, blocks_at, joined, IsMark, AreBlocks, AreMarks, AreOrdered, IsCoded, IsCounted, numbered, before_first, AllEndBefore, AllEndBy, OthersEndBy, IsLastBefore, CutFits}
+use Rattle.ts_raw.specs.CodedPoints.{text_at, points_at, coded_points, blocks_at, IsMark, AreBlocks, AreMarks, AreOrdered, IsCounted, numbered, before_first, AllEndBefore, OthersEndBy, IsLastBefore, CutFits}
 use Rattle.ts_raw.specs.Rewriting.{IsRewritten, blocks_of, marks_replaced, cut_at, cut_after}
 use Rattle.ts_raw.specs.BlockColumns.{AreBlocksOf, texts_at, IsColumn}
-use Rattle.ts_raw.proofs.CodedLemmas.{points_before, points_hold}
+use Rattle.ts_raw.proofs.CodedLemmas.{points_hold}
 use Rattle.ts_raw.proofs.CutLemmas.{first_parts, first_bound, start_behind, is_rising_behind, timed_behind}
-use Rattle.ts_raw.proofs.PointMaps.{rising-put, timed-put, from_sorted-nothing, from_sorted-put}
+use Rattle.ts_raw.proofs.PointMaps.{rising-put, timed-put, from_sorted-put}
 use Rattle.ts_raw.proofs.PointRanges.{drop-before}
 use Rattle.ts_raw.proofs.PushLemmas.{none_counted, coded_less, all_within, others_by}
-use Rattle.ts_raw.proofs.BlockLists.{coded_concat, blocks_of_marks, mark_at, mark_stays, same_points, take_next}
-use Rattle.ts_raw.proofs.RewriteLemmas.{coded_join, coded_one, rising_first, put_after, put_within, last_after_drop, length_put, numbered_marks, numbered_blocks, rising_of}
+use Rattle.ts_raw.proofs.BlockLists.{blocks_of_marks, mark_at, mark_stays, same_points, take_next}
+use Rattle.ts_raw.proofs.RewriteLemmas.{coded_join, rising_first, put_after, put_within, last_after_drop, length_put, numbered_marks, numbered_blocks}
 
 -- ---- the removed points are within the first block
 
@@ -496,12 +496,12 @@ rising_splits : (xs : List (ℤ × ℤ)) (x : ℤ × ℤ) → IsRising (xs ++ (x
 rising_splits [] x s = tt
 rising_splits (y ∷ xs) x s = (before y xs (both_of _ _ s).0, rising_splits xs x (both_of _ _ s).1)
   where
-  less_of : (a b : ℤ) → T (is_lt (int_cmp a b)) → a <ℤ b
-  less_of a b h = grind (arith, ints, h)
+    less_of : (a b : ℤ) → T (is_lt (int_cmp a b)) → a <ℤ b
+    less_of a b h = grind (arith, ints, h)
 
-  before : (y : ℤ × ℤ) (xs : List (ℤ × ℤ)) → T (below_all int_cmp y.0 (xs ++ (x ∷ []))) → y.0 <ℤ x.0
-  before y [] h = less_of y.0 x.0 (both_of _ _ h).0
-  before y (z ∷ xs) h = before y xs (both_of _ _ h).1
+    before : (y : ℤ × ℤ) (xs : List (ℤ × ℤ)) → T (below_all int_cmp y.0 (xs ++ (x ∷ []))) → y.0 <ℤ x.0
+    before y [] h = less_of y.0 x.0 (both_of _ _ h).0
+    before y (z ∷ xs) h = before y xs (both_of _ _ h).1
 
 -- the next point of a list in the order of time
 pub next_map : (ps : List (ℤ × ℤ)) (i : ℕ) (d : ℤ × ℤ) → IsRising ps → i < length ps → map.insert (map.from_sorted {R = int_cmp} (take i ps)) (get_or ps i d).0 (get_or ps i d).1 ≡ map.from_sorted (take (i + 1) ps)

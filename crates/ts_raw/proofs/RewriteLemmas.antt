@@ -1,11 +1,10 @@
 -- A block that is encoded anew, with a point inserted or replaced.
-use Rattle.std.proofs.Common.{◌≡◌, ◌≢◌, ℕ, zero, suc, ◌+◌, ◌-◌, ◌<◌, ◌≤◌, ℤ, ◌<ℤ◌, ◌≤ℤ◌, int_cmp, int_lt, true, false, Bool, ◌&&◌, is_lt, cond, T, Less, Equal, Greater, Ordering, List, [], ◌∷◌, ◌++◌, length, map, take, drop, get_or, set, insert, append_assoc, append-nil, length-append, length-drop, length-take, min, option_to_list, Some, None, Option, drop-cons, refl, sym, ◌∙◌, ap, subst, arith}
+use Rattle.std.proofs.Common.{◌≡◌, ℕ, zero, suc, ◌+◌, ◌<◌, ◌≤◌, ℤ, ◌<ℤ◌, ◌≤ℤ◌, int_cmp, true, false, Bool, ◌&&◌, is_lt, T, Less, Equal, Greater, List, [], ◌∷◌, ◌++◌, length, take, drop, get_or, set, insert, append_assoc, append-nil, length-append, length-drop, drop-cons, refl, sym, ◌∙◌, ap, subst, arith}
 use Rattle.std.proofs.lemmas.Int.{ints}
-use Rattle.std.proofs.lemmas.List.{take-append-drop, drop-append-le, drop-drop, length-take-le}
+use Rattle.std.proofs.lemmas.List.{take-append-drop, length-take-le}
 use Rattle.std.specs.Int.{w64}
 use Rattle.std.specs.Prelude.{FitsSigned}
-use Rattle.std.specs.List.{concat, AllByRecursion}
-use Rattle.std.specs.Cmp.{int_cmp_total}
+use Rattle.std.specs.List.{AllByRecursion}
 use Rattle.std.specs.FinMap.{put}
 use Rattle.std.specs.FinMap.Entries.{below_all, by_order}
 use Rattle.ts_core.proofs.lists.Places.{both_of}
@@ -16,8 +15,7 @@ use Rattle.ts_raw.specs.declared.mark.Mark.{Mark}
 use Rattle.ts_raw.specs.Columns.{AreTimed}
 use Rattle.ts_raw.specs.PlainColumns.{IsRising}
 use Rattle.ts_raw.specs.CodedPoints.{points_at, coded_points, blocks_at, IsMark, AreBlocks, AreMarks, numbered}
-use Rattle.ts_raw.specs.Rewriting.{IsEncoded, AreEncodable, blocks_of, marks_replaced}
-use Rattle.ts_raw.specs.declared.rewriting.Rewritten.{Rewritten}
+use Rattle.ts_raw.specs.Rewriting.{IsEncoded, AreEncodable}
 use Rattle.ts_raw.proofs.PointMaps.{rising-put, timed-put}
 use Rattle.ts_raw.proofs.CutLemmas.{is_rising_behind, timed_behind, timed_first}
 use Rattle.ts_raw.proofs.BlockLists.{mark_stays, take_next}

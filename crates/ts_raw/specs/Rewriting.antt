@@ -1,5 +1,5 @@
 -- A block that is encoded anew, with a point inserted or replaced. (Own rule.)
-use Rattle.std.specs.Prelude.{◌≡◌, ℕ, zero, suc, ◌+◌, ◌<◌, ◌≤◌, ℤ, ◌≤ℤ◌, List, [], ◌∷◌, ◌++◌, length, take, drop, option_to_list}
+use Rattle.std.specs.Prelude.{◌≡◌, ℕ, zero, suc, ◌+◌, ◌<◌, ◌≤◌, ℤ, ◌≤ℤ◌, List, ◌∷◌, ◌++◌, length, take, drop, option_to_list}
 use Rattle.std.specs.Ordering.{int_cmp}
 use Rattle.std.specs.FinMap.{put}
 use Rattle.ts_raw.specs.declared.mark.Mark.{Mark}

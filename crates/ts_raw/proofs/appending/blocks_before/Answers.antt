@@ -1,4 +1,4 @@
-use Rattle.std.proofs.Common.{rules, ◌≡◌, true, false, length, int_lt, sym, ◌∙◌}
+use Rattle.std.proofs.Common.{rules, length, int_lt, sym, ◌∙◌}
 use Rattle.std.proofs.lemmas.Bool.{ltb-true}
 use Rattle.std.proofs.lemmas.List.Sorted.{IsPartitionPoint-from_clause}
 use Rattle.ts_raw.specs.declared.mark.Mark.{Mark}

@@ -1,5 +1,4 @@
-use Rattle.std.proofs.Common.{rules, ◌≡◌, ◌≤◌, List, [], ◌∷◌, ◌++◌, sym, ap, subst, ◌∙◌, option_to_list}
-use Rattle.ts_raw.specs.declared.mark.Mark.{Mark}
+use Rattle.std.proofs.Common.{rules, ◌≡◌, ◌≤◌, [], ◌∷◌, ◌++◌, sym, ap, subst, ◌∙◌, option_to_list}
 use Rattle.ts_raw.specs.CodedPoints.{AllEndBy, OthersEndBy, CutFits, points_at, blocks_at}
 use Rattle.ts_raw.proofs.PushLemmas.{others_of, all_by, blocks_push, cut_longer, cut_more}
 use Rattle.ts_raw.proofs.appending.push_later.Given.{Over}

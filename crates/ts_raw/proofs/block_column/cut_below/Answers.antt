@@ -1,4 +1,4 @@
-use Rattle.std.proofs.Common.{rules, ◌≡◌, ◌+◌, ◌-◌, ◌<◌, ◌≤◌, max, ℕ, ℤ, List, length, take, drop, filter, get_or, int_le, sym, ap, subst, ◌∙◌, arith, SFits, w64, to_z-of_z}
+use Rattle.std.proofs.Common.{rules, ◌≡◌, ◌+◌, ◌-◌, ◌<◌, ◌≤◌, max, ℕ, ℤ, List, length, take, drop, get_or, sym, ap, subst, ◌∙◌, arith, SFits, w64, to_z-of_z}
 use Rattle.std.proofs.lemmas.Bool.{ltb-true}
 use Rattle.ts_raw.specs.declared.mark.Mark.{Mark}
 use Rattle.ts_raw.specs.CodedPoints.{coded_points, blocks_at, before_first, CutFits}

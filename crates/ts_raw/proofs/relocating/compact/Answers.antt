@@ -1,4 +1,4 @@
-use Rattle.std.proofs.Common.{rules, ◌≡◌, length, sym, subst, arith}
+use Rattle.std.proofs.Common.{◌≡◌, length, sym, subst, arith}
 use Rattle.ts_raw.specs.CodedPoints.{OthersEndBy}
 use Rattle.ts_raw.proofs.PushLemmas.{all_within, others_by}
 use Rattle.ts_raw.proofs.relocating.compact.Goals as goal

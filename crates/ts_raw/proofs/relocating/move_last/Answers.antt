@@ -1,7 +1,7 @@
-use Rattle.std.proofs.Common.{rules, ◌≡◌, ◌<◌, ◌≤◌, ◌-◌, get_or, ℕ, List, [], ◌∷◌, ◌++◌, length, vec_len, true, sym, ap, subst, refl, ◌∙◌, arith, is_ok, if◌then◌else◌, option_to_list}
+use Rattle.std.proofs.Common.{◌≡◌, ◌-◌, get_or, ℕ, List, [], ◌∷◌, ◌++◌, length, sym, ap, subst, refl, ◌∙◌, arith, is_ok, if◌then◌else◌, option_to_list}
 use Rattle.std.proofs.lemmas.Bool.{ltb-true}
 use Rattle.ts_raw.specs.declared.mark.Mark.{Mark}
-use Rattle.ts_raw.specs.CodedPoints.{text_at, coded_points, IsMark, AreMarks, OthersEndBy, blocks_at}
+use Rattle.ts_raw.specs.CodedPoints.{text_at, IsMark, AreMarks, OthersEndBy, blocks_at}
 use Rattle.ts_raw.proofs.PushLemmas.{marks_split}
 use Rattle.ts_raw.proofs.BlockLists.{mark_at, moved_marked, moved_blocks, moved_others}
 use Rattle.ts_raw.proofs.relocating.move_last.Given.{Over}

@@ -1,4 +1,4 @@
-use Rattle.std.proofs.Common.{rules, ◌≡◌, ℤ, List, drop, sym, ap, subst, ◌∙◌, int_cmp, FitsSigned, w64}
+use Rattle.std.proofs.Common.{rules, ℤ, List, sym, ap, subst, ◌∙◌, int_cmp, FitsSigned, w64}
 use Rattle.std.specs.FinMap.{put}
 use Rattle.ts_core.specs.facts.Times.{IsTime}
 use Rattle.ts_raw.specs.PlainColumns.{IsRising}

@@ -1,10 +1,6 @@
-use Rattle.std.proofs.Common.{rules, ◌≡◌, ◌+◌, ◌-◌, ◌<◌, ℕ, ℤ, List, [], ◌∷◌, ◌++◌, length, drop, slice_index_or, sym, ap, subst, refl, ◌∙◌, arith, is_ok, if◌then◌else◌}
-use Rattle.std.proofs.Math.Seq.{drop-append_seam}
+use Rattle.std.proofs.Common.{◌≡◌, ◌-◌, ℕ, ℤ, List, ◌++◌, length, slice_index_or, sym, ap, subst, ◌∙◌, arith, is_ok, if◌then◌else◌}
 use Rattle.ts_block.specs.Blocks.{IsBlockOf}
-use Rattle.ts_block.specs.Appending.{EndsInBlock, last_time}
-use Rattle.ts_raw.specs.declared.mark.Mark.{Mark}
-use Rattle.ts_raw.specs.CodedPoints.{points_at, IsMark}
-use Rattle.ts_raw.proofs.PushLemmas.{new_mark}
+use Rattle.ts_block.specs.Appending.{last_time}
 use Rattle.ts_raw.proofs.BlockLists.{last_point, block_at_end}
 use Rattle.ts_raw.proofs.rewriting.push_points.Goals as goal
 

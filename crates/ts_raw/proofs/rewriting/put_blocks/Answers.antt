@@ -1,4 +1,4 @@
-use Rattle.std.proofs.Common.{◌≡◌, ◌+◌, List, [], ◌∷◌, ◌++◌, length, take, drop, set, insert, sym, ap, ◌∙◌, is_ok, if◌then◌else◌, Option, option_to_list}
+use Rattle.std.proofs.Common.{◌+◌, List, ◌∷◌, ◌++◌, take, drop, set, insert, sym, ap, ◌∙◌, is_ok, if◌then◌else◌, option_to_list}
 use Rattle.ts_raw.specs.declared.mark.Mark.{Mark}
 use Rattle.ts_raw.specs.declared.rewriting.Rewritten.{Rewritten}
 use Rattle.ts_raw.proofs.RewriteLemmas.{set_replaced, insert_replaced}

@@ -1,6 +1,6 @@
-use Rattle.std.proofs.Common.{rules, ◌≡◌, ◌+◌, ◌<◌, ◌≤◌, ℕ, ℤ, List, [], ◌∷◌, ◌++◌, length, take, drop, get_or, set, sym, ap, subst, refl, ◌∙◌, arith}
+use Rattle.std.proofs.Common.{rules, ◌≡◌, ◌+◌, ◌<◌, ℕ, List, length, get_or, ap, refl, ◌∙◌, arith}
 use Rattle.ts_raw.specs.declared.mark.Mark.{Mark}
-use Rattle.ts_raw.specs.CodedPoints.{IsMark, AreBlocks, points_at, coded_points, numbered}
+use Rattle.ts_raw.specs.CodedPoints.{points_at, coded_points}
 use Rattle.ts_raw.proofs.RewriteLemmas.{with_before, here, numbered_next, count_next, count_all}
 use Rattle.ts_raw.proofs.rewriting.renumber.Goals as goal
 

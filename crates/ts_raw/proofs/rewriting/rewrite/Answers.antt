@@ -1,8 +1,7 @@
-use Rattle.std.proofs.Common.{◌≡◌, ◌+◌, ◌<◌, ◌≤◌, ◌/◌, ℕ, ℤ, List, [], ◌∷◌, ◌++◌, length, vec_len, int_cmp, take, drop, sym, ap, subst, ◌∙◌, arith}
+use Rattle.std.proofs.Common.{◌≡◌, ◌/◌, ℕ, ℤ, List, [], ◌∷◌, ◌++◌, length, vec_len, int_cmp, take, drop, sym, ap, subst, ◌∙◌, arith}
 use Rattle.std.proofs.lemmas.List.{take-append-drop}
 use Rattle.std.specs.FinMap.{put}
 use Rattle.ts_block.specs.Blocks.{ArePoints}
-use Rattle.ts_raw.specs.declared.mark.Mark.{Mark}
 use Rattle.ts_raw.specs.CodedPoints.{AreBlocks, points_at, coded_points}
 use Rattle.ts_raw.proofs.RewriteLemmas.{whole_points, front_points, back_points, two_blocks, coded_one}
 use Rattle.ts_raw.proofs.rewriting.rewrite.Given.{Over}

@@ -1,4 +1,4 @@
-use Rattle.std.proofs.Common.{◌≡◌, ℕ, ℤ, List, drop, sym, ap, subst, ◌∙◌, int_cmp}
+use Rattle.std.proofs.Common.{ℕ, ℤ, List, drop, sym, ap, subst, ◌∙◌, int_cmp}
 use Rattle.std.specs.FinMap as map
 use Rattle.std.specs.FinMap.{entries-from_sorted}
 use Rattle.ts_raw.specs.declared.mark.Mark.{Mark}

@@ -1,4 +1,4 @@
-use Rattle.std.proofs.Common.{rules, ◌≡◌, ◌+◌, ◌<◌, ◌≤◌, ℕ, ℤ, List, [], length, take, get_or, int_cmp, IfSome, Some, None, sym, ap, subst, ◌∙◌, refl, Option, SFits, w64, to_z-of_z}
+use Rattle.std.proofs.Common.{rules, ◌≡◌, ◌<◌, ℕ, ℤ, List, [], length, take, int_cmp, IfSome, Some, sym, ap, subst, ◌∙◌, refl, Option, SFits, w64, to_z-of_z}
 use Rattle.std.proofs.Math.Seq.{take-length}
 use Rattle.std.specs.FinMap as map
 use Rattle.std.specs.FinMap.{entries-from_sorted}

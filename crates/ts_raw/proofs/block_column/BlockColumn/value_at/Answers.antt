@@ -1,6 +1,6 @@
-use Rattle.std.proofs.Common.{rules, ◌≡◌, ◌+ℤ◌, ℤ, pos, List, [], filter, Option, None, Some, int_cmp, sym, ap, ◌∙◌, SFits, w64, to_z, of_z, to_z-of_z, refl}
+use Rattle.std.proofs.Common.{rules, ◌≡◌, ◌+ℤ◌, ℤ, pos, List, [], filter, None, Some, sym, ap, ◌∙◌, SFits, w64, to_z, of_z, to_z-of_z, refl}
 use Rattle.std.specs.FinMap as map
-use Rattle.std.specs.FinMap.{find, get-entries}
+use Rattle.std.specs.FinMap.{get-entries}
 use Rattle.ts_core.specs.facts.Facts.{is_within}
 use Rattle.ts_raw.proofs.ColumnBlocks.{value_first}
 use Rattle.ts_raw.proofs.block_column.BlockColumn.value_at.Given.{Over}

@@ -1,4 +1,4 @@
-use Rattle.std.proofs.Common.{rules, ◌≡◌, ℤ, negsuc, List, filter, ◌∙◌, ap, SFits, w64, to_z-of_z}
+use Rattle.std.proofs.Common.{rules, ℤ, negsuc, List, filter, ◌∙◌, ap, SFits, w64, to_z-of_z}
 use Rattle.std.specs.FinMap as map
 use Rattle.ts_core.specs.facts.Facts.{is_within}
 use Rattle.ts_raw.proofs.CutLemmas.{from_least}

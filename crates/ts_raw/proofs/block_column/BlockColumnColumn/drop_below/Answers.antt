@@ -1,4 +1,4 @@
-use Rattle.std.proofs.Common.{rules, ◌≡◌, ◌≤◌, ℕ, ℤ, List, length, drop, filter, int_le, int_cmp, sym, ap, subst, ◌∙◌, arith, Fits, w64, vec_capacity, None}
+use Rattle.std.proofs.Common.{rules, ◌≡◌, ℕ, ℤ, List, length, drop, filter, int_le, int_cmp, sym, ap, subst, ◌∙◌, arith, Fits, w64, vec_capacity, None}
 use Rattle.std.specs.FinMap as map
 use Rattle.ts_raw.specs.declared.mark.Mark.{Mark}
 use Rattle.ts_raw.specs.Columns.{ColumnState, points_from}
