@@ -20,7 +20,7 @@ use Rattle.ts_raw.specs.declared.mark.Mark.{Mark}
 use Rattle.ts_raw.specs.declared.rewriting.Rewritten.{Rewritten}
 use Rattle.ts_raw.specs.Columns.{AreTimed}
 use Rattle.ts_raw.specs.PlainColumns.{IsRising, IsStartOf}
-use Rattle.ts_raw.specs.CodedPoints.{text_at, points_at, coded_points, blocks_at, IsMark, AreBlocks, AreMarks, AreOrdered, IsCounted, numbered, before_first, AllEndBefore, OthersEndBy, IsLastBefore, CutFits}
+use Rattle.ts_raw.specs.CodedPoints.{text_at, points_at, coded_points, blocks_at, IsMark, AreBlocks, AreMarks, AreOrdered, IsCounted, numbered, count_of, before_first, AllEndBefore, OthersEndBy, IsLastBefore, CutFits}
 use Rattle.ts_raw.specs.Rewriting.{IsRewritten, blocks_of, marks_replaced, cut_at, cut_after}
 use Rattle.ts_raw.specs.BlockColumns.{AreBlocksOf, texts_at, IsColumn}
 use Rattle.ts_raw.proofs.CodedLemmas.{points_hold}
@@ -29,7 +29,7 @@ use Rattle.ts_raw.proofs.PointMaps.{rising-put, timed-put, from_sorted-put}
 use Rattle.ts_raw.proofs.PointRanges.{drop-before}
 use Rattle.ts_raw.proofs.PushLemmas.{none_counted, coded_less, all_within, others_by}
 use Rattle.ts_raw.proofs.BlockLists.{blocks_of_marks, mark_at, mark_stays, same_points, take_next}
-use Rattle.ts_raw.proofs.RewriteLemmas.{coded_join, rising_first, put_after, put_within, last_after_drop, length_put, numbered_marks, numbered_blocks}
+use Rattle.ts_raw.proofs.RewriteLemmas.{counts_are, coded_join, rising_first, put_after, put_within, last_after_drop, length_put, numbered_marks, numbered_blocks}
 
 -- ---- the removed points are within the first block
 
@@ -180,9 +180,9 @@ ordered_from bytes (m ∷ ms) h s = (
 
 -- blocks that are counted anew hold rising points
 pub counted_anew : (bytes : List ℕ) (ms : List Mark) → AreBlocks bytes ms → IsRising (coded_points bytes ms) → AreTimed (coded_points bytes ms)
-    → IsCounted bytes (numbered bytes 0 ms) (length (coded_points bytes ms)) × (coded_points bytes (numbered bytes 0 ms) ≡ coded_points bytes ms)
+    → IsCounted bytes (numbered 0 ms) (length (coded_points bytes ms)) × (coded_points bytes (numbered 0 ms) ≡ coded_points bytes ms)
 counted_anew bytes ms h s t =
-    let new : List Mark = numbered bytes 0 ms in
+    let new : List Mark = numbered 0 ms in
     let marked = numbered_marks bytes 0 ms h in
     let same : coded_points bytes new ≡ coded_points bytes ms = same_points bytes bytes ms new (numbered_blocks bytes 0 ms) in
     let rising = subst IsRising (sym same) s in (
@@ -304,22 +304,26 @@ module _ (bytes : List ℕ) (ms : List Mark) (total cut : ℕ) (p : ℤ × ℤ) 
   all_new : coded_points bytes (marks_replaced r ms) ≡ put int_cmp p.0 p.1 (drop (cut_at r.at cut) (coded_points bytes ms))
   all_new = new_is ∙ (whole r.at refl).0 ∙ ap (λ (x : List (ℤ × ℤ)). put int_cmp p.0 p.1 (drop (cut_at r.at cut) x)) (sym old_is)
 
-  pub replaced_few : total < 18446744073709551615 → length (coded_points bytes (marks_replaced r ms)) ≤ 18446744073709551615
+  pub replaced_count : count_of (marks_replaced r ms) ≡ length (coded_points bytes (marks_replaced r ms))
+  replaced_count = counts_are bytes (marks_replaced r ms) replaced_blocks
+
+  pub replaced_few : total < 18446744073709551615 → count_of (marks_replaced r ms) ≤ 18446744073709551615
   replaced_few t =
+      let n = replaced_count in
       let a = ap length all_new in
       let b = (length_put p.0 p.1 (drop (cut_at r.at cut) (coded_points bytes ms))).0 in
       let d = length-drop (cut_at r.at cut) (coded_points bytes ms) in
       let e = c.total_is in
       omega arith
 
-  replaced_anew : IsTime p.0 → IsCounted bytes (numbered bytes 0 (marks_replaced r ms)) (length (coded_points bytes (marks_replaced r ms))) × (coded_points bytes (numbered bytes 0 (marks_replaced r ms)) ≡ coded_points bytes (marks_replaced r ms))
+  replaced_anew : IsTime p.0 → IsCounted bytes (numbered 0 (marks_replaced r ms)) (length (coded_points bytes (marks_replaced r ms))) × (coded_points bytes (numbered 0 (marks_replaced r ms)) ≡ coded_points bytes (marks_replaced r ms))
   replaced_anew is =
       let rest : List (ℤ × ℤ) = drop (cut_at r.at cut) (coded_points bytes ms) in
       counted_anew bytes (marks_replaced r ms) replaced_blocks
       (subst IsRising (sym all_new) (rising-put rest (is_rising_behind (cut_at r.at cut) (coded_points bytes ms) c.coded.rising) p.0 p.1))
       (subst AreTimed (sym all_new) (timed-put rest (timed_behind (cut_at r.at cut) (coded_points bytes ms) c.coded.timed) p.0 p.1 is))
 
-  pub replaced_points : IsTime p.0 → drop (cut_after r.at cut) (coded_points bytes (numbered bytes 0 (marks_replaced r ms))) ≡ put int_cmp p.0 p.1 (drop cut (coded_points bytes ms))
+  pub replaced_points : IsTime p.0 → drop (cut_after r.at cut) (coded_points bytes (numbered 0 (marks_replaced r ms))) ≡ put int_cmp p.0 p.1 (drop cut (coded_points bytes ms))
   replaced_points is = ap (drop (cut_after r.at cut)) ((replaced_anew is).1 ∙ new_is) ∙ (whole r.at refl).1 ∙ ap (λ (x : List (ℤ × ℤ)). put int_cmp p.0 p.1 (drop cut x)) (sym old_is)
 
   cut_again : (at : ℕ) → r.at ≡ at → CutFits (cut_after at cut) (blocks_at bytes (marks_replaced r ms))
@@ -331,10 +335,10 @@ module _ (bytes : List ℕ) (ms : List Mark) (total cut : ℕ) (p : ℤ × ℤ) 
       same_first (m ∷ ns) h l = h
 
   pub replaced_column : (capacity marks_capacity tail : ℕ) → IsTime p.0 → tail ≡ length bytes
-      → IsColumn bytes (numbered bytes 0 (marks_replaced r ms)) (length (coded_points bytes (marks_replaced r ms))) (cut_after r.at cut) tail capacity marks_capacity None
+      → IsColumn bytes (numbered 0 (marks_replaced r ms)) (length (coded_points bytes (marks_replaced r ms))) (cut_after r.at cut) tail capacity marks_capacity None
   replaced_column capacity marks_capacity tail is t = record {
     counted = (replaced_anew is).0;
-    others = subst (λ n. OthersEndBy n (numbered bytes 0 (marks_replaced r ms))) (sym t) (others_by (length bytes) (numbered bytes 0 (marks_replaced r ms)) (all_within bytes (numbered bytes 0 (marks_replaced r ms)) 0 (replaced_anew is).0.coded.marked));
+    others = subst (λ n. OthersEndBy n (numbered 0 (marks_replaced r ms))) (sym t) (others_by (length bytes) (numbered 0 (marks_replaced r ms)) (all_within bytes (numbered 0 (marks_replaced r ms)) 0 (replaced_anew is).0.coded.marked));
     cut_fits = subst (CutFits (cut_after r.at cut)) (sym (numbered_blocks bytes 0 (marks_replaced r ms))) (cut_again r.at refl);
     is_staged = tt;
   }
@@ -436,7 +440,7 @@ module _ (bytes : List ℕ) (ms : List Mark) (total cut at n : ℕ) (t : ℤ) (c
           omega arith
 
 pub dropped_column : (bytes : List ℕ) (ms : List Mark) (total cut at tail capacity marks_capacity : ℕ) → IsCounted bytes ms total → OthersEndBy tail ms → CutFits cut (blocks_at bytes (drop at ms))
-    → IsColumn bytes (numbered bytes 0 (drop at ms)) (length (coded_points bytes (drop at ms))) cut tail capacity marks_capacity None × (coded_points bytes (numbered bytes 0 (drop at ms)) ≡ coded_points bytes (drop at ms))
+    → IsColumn bytes (numbered 0 (drop at ms)) (length (coded_points bytes (drop at ms))) cut tail capacity marks_capacity None × (coded_points bytes (numbered 0 (drop at ms)) ≡ coded_points bytes (drop at ms))
 dropped_column bytes ms total cut at tail capacity marks_capacity c o f =
     let all = blocks_of_marks bytes 0 ms c.coded.marked in
     let split : coded_points bytes ms ≡ coded_points bytes (take at ms) ++ coded_points bytes (drop at ms) = ap (coded_points bytes) (sym (take-append-drop at ms)) ∙ coded_join bytes (take at ms) (drop at ms) in
@@ -465,10 +469,10 @@ dropped_column bytes ms total cut at tail capacity marks_capacity c o f =
     others_behind (suc k) [] h = tt
     others_behind (suc k) (n ∷ ns) h = others_behind k ns (others_next n ns h)
 
-    others_numbered : (before : ℕ) (ns : List Mark) → OthersEndBy tail ns → OthersEndBy tail (numbered bytes before ns)
+    others_numbered : (before : ℕ) (ns : List Mark) → OthersEndBy tail ns → OthersEndBy tail (numbered before ns)
     others_numbered before [] h = tt
     others_numbered before (n ∷ []) h = tt
-    others_numbered before (n ∷ k ∷ ns) h = (h.0, others_numbered (before + length (points_at bytes n)) (k ∷ ns) h.1)
+    others_numbered before (n ∷ k ∷ ns) h = (h.0, others_numbered (before + n.count) (k ∷ ns) h.1)
 
 pub cut_at_later : (at cut : ℕ) → (at ≡ 0 → ⊥) → (0 ≡ cut_at at cut) × (cut ≡ cut_after at cut)
 cut_at_later zero cut n = absurd (n refl)
@@ -479,8 +483,12 @@ pub rewritten_if_ok : (old new : List ℕ) (ms : List Mark) (at cut : ℕ) (d : 
 rewritten_if_ok old new ms at cut d p (Ok n) marked l part is blocks points front = is_rewritten old new ms at cut d p n marked l part is blocks points front
 rewritten_if_ok old new ms at cut d p (Err e) marked l part is blocks points front = tt
 
-pub rest_few : (bytes : List ℕ) (k : ℕ) (ms : List Mark) → length (coded_points bytes (drop k ms)) ≤ length (coded_points bytes ms)
-rest_few bytes k ms =
+pub rest_count : (bytes : List ℕ) (k : ℕ) (ms : List Mark) → AreBlocks bytes ms → count_of (drop k ms) ≡ length (coded_points bytes (drop k ms))
+rest_count bytes k ms h = counts_are bytes (drop k ms) (blocks_behind bytes k ms h)
+
+pub rest_few : (bytes : List ℕ) (k : ℕ) (ms : List Mark) → AreBlocks bytes ms → count_of (drop k ms) ≤ length (coded_points bytes ms)
+rest_few bytes k ms h =
+    let n = rest_count bytes k ms h in
     let a = ap (λ (x : List Mark). length (coded_points bytes x)) (take-append-drop k ms) in
     let b = ap length (coded_join bytes (take k ms) (drop k ms)) in
     let c = length-append (coded_points bytes (take k ms)) (coded_points bytes (drop k ms)) in

@@ -14,7 +14,7 @@ use Rattle.ts_block.specs.Appending.{last_time}
 use Rattle.ts_raw.specs.declared.mark.Mark.{Mark}
 use Rattle.ts_raw.specs.Columns.{AreTimed}
 use Rattle.ts_raw.specs.PlainColumns.{IsRising}
-use Rattle.ts_raw.specs.CodedPoints.{points_at, coded_points, blocks_at, IsMark, AreBlocks, AreMarks, numbered}
+use Rattle.ts_raw.specs.CodedPoints.{points_at, coded_points, blocks_at, IsMark, AreBlocks, AreMarks, numbered, count_of}
 use Rattle.ts_raw.specs.Rewriting.{IsEncoded, AreEncodable}
 use Rattle.ts_raw.proofs.PointMaps.{rising-put, timed-put}
 use Rattle.ts_raw.proofs.CutLemmas.{is_rising_behind, timed_behind, timed_first}
@@ -140,27 +140,37 @@ last_after_drop k (p ∷ ps) l = last_dropped k p ps l
 
 -- ---- blocks that are counted anew
 
+pub counts_are : (bytes : List ℕ) (ms : List Mark) → AreBlocks bytes ms → count_of ms ≡ length (coded_points bytes ms)
+unfolding coded_points
+counts_are bytes [] h = refl
+counts_are bytes (m ∷ ms) h = let a = h.0.count_is in let b = counts_are bytes ms h.1 in let c = length-append (points_at bytes m) (coded_points bytes ms) in omega arith
+
 module _ (bytes : List ℕ) where
-  pub numbered_marks : (before : ℕ) (ms : List Mark) → AreBlocks bytes ms → AreMarks bytes before (numbered bytes before ms)
+  pub numbered_marks : (before : ℕ) (ms : List Mark) → AreBlocks bytes ms → AreMarks bytes before (numbered before ms)
   numbered_marks before [] h = tt
-  numbered_marks before (m ∷ ms) h = (record { some = h.0.some; within = h.0.within; block = h.0.block; values_at = h.0.values_at; last_is = h.0.last_is }, refl, numbered_marks (before + length (points_at bytes m)) ms h.1)
+  numbered_marks before (m ∷ ms) h = (
+    record { some = h.0.some; within = h.0.within; block = h.0.block; values_at = h.0.values_at; count_is = h.0.count_is; last_is = h.0.last_is },
+    refl,
+    subst (λ n. AreMarks bytes (before + n) (numbered (before + m.count) ms)) h.0.count_is (numbered_marks (before + m.count) ms h.1),
+  )
 
-  pub numbered_blocks : (before : ℕ) (ms : List Mark) → blocks_at bytes (numbered bytes before ms) ≡ blocks_at bytes ms
+  pub numbered_blocks : (before : ℕ) (ms : List Mark) → blocks_at bytes (numbered before ms) ≡ blocks_at bytes ms
   numbered_blocks before [] = refl
-  numbered_blocks before (m ∷ ms) = ap (λ (x : List (List (ℤ × ℤ))). points_at bytes m ∷ x) (numbered_blocks (before + length (points_at bytes m)) ms)
+  numbered_blocks before (m ∷ ms) = ap (λ (x : List (List (ℤ × ℤ))). points_at bytes m ∷ x) (numbered_blocks (before + m.count) ms)
 
-  pub numbered_push : (before : ℕ) (ms : List Mark) (m : Mark) → numbered bytes before (ms ++ m ∷ []) ≡ numbered bytes before ms ++ record { start = m.start; values = m.values; end = m.end; before = before + length (coded_points bytes ms); last = m.last } ∷ []
-  unfolding coded_points
-  numbered_push before [] m = ap (λ n. record { start = m.start; values = m.values; end = m.end; before = n; last = m.last } ∷ []) (let n : before ≡ before + 0 = omega arith in n)
-  numbered_push before (k ∷ ms) m =
-      ap (λ (x : List Mark). record { start = k.start; values = k.values; end = k.end; before = before; last = k.last } ∷ x)
-      (numbered_push (before + length (points_at bytes k)) ms m
-      ∙ ap (λ n. numbered bytes (before + length (points_at bytes k)) ms ++ record { start = m.start; values = m.values; end = m.end; before = n; last = m.last } ∷ [])
-      (let e = length-append (points_at bytes k) (coded_points bytes ms) in let n : before + length (points_at bytes k) + length (coded_points bytes ms) ≡ before + length (points_at bytes k ++ coded_points bytes ms) = omega arith in n))
+unfoldable pub with_before : ℕ → Mark → Mark
+with_before n m = record { start = m.start; values = m.values; end = m.end; count = m.count; before = n; last = m.last }
 
-  pub numbered_length : (before : ℕ) (ms : List Mark) → length (numbered bytes before ms) ≡ length ms
-  numbered_length before [] = refl
-  numbered_length before (m ∷ ms) = ap suc (numbered_length (before + length (points_at bytes m)) ms)
+numbered_push : (before : ℕ) (ms : List Mark) (m : Mark) → numbered before (ms ++ m ∷ []) ≡ numbered before ms ++ with_before (before + count_of ms) m ∷ []
+unfolding with_before
+numbered_push before [] m = ap (λ n. with_before n m ∷ []) (let n : before ≡ before + 0 = omega arith in n)
+numbered_push before (k ∷ ms) m =
+    ap (λ (x : List Mark). with_before before k ∷ x)
+    (numbered_push (before + k.count) ms m ∙ ap (λ n. numbered (before + k.count) ms ++ with_before n m ∷ []) (let n : before + k.count + count_of ms ≡ before + (k.count + count_of ms) = omega arith in n))
+
+numbered_length : (before : ℕ) (ms : List Mark) → length (numbered before ms) ≡ length ms
+numbered_length before [] = refl
+numbered_length before (m ∷ ms) = ap suc (numbered_length (before + m.count) ms)
 
 pub set_seam : (xs ys : List Mark) (y z : Mark) → set (xs ++ y ∷ ys) (length xs) z ≡ xs ++ z ∷ ys
 set_seam [] ys y z = refl
@@ -178,15 +188,16 @@ get_seam : (xs ys : List Mark) (y d : Mark) → get_or (xs ++ y ∷ ys) (length 
 get_seam [] ys y d = refl
 get_seam (x ∷ xs) ys y d = get_seam xs ys y d
 
-unfoldable pub with_before : ℕ → Mark → Mark
-with_before n m = record { start = m.start; values = m.values; end = m.end; before = n; last = m.last }
+count_join : (xs ys : List Mark) → count_of (xs ++ ys) ≡ count_of xs + count_of ys
+count_join [] ys = let n : count_of ys ≡ 0 + count_of ys = omega arith in n
+count_join (m ∷ xs) ys = let a = count_join xs ys in omega arith
 
-module _ (bytes : List ℕ) (all cur : List Mark) (i total : ℕ) (d : Mark) (l : i < length all) (is : cur ≡ numbered bytes 0 (take i all) ++ drop i all) (t : total ≡ length (coded_points bytes (take i all))) where
+module _ (all cur : List Mark) (i total : ℕ) (d : Mark) (l : i < length all) (is : cur ≡ numbered 0 (take i all) ++ drop i all) (t : total ≡ count_of (take i all)) where
   abbrev done : List Mark
-  done = numbered bytes 0 (take i all)
+  done = numbered 0 (take i all)
 
   size : length done ≡ i
-  size = numbered_length bytes 0 (take i all) ∙ length-take-le i all (omega arith)
+  size = numbered_length 0 (take i all) ∙ length-take-le i all (omega arith)
 
   seam : cur ≡ done ++ (get_or all i d ∷ drop (i + 1) all)
   seam = is ∙ ap (λ (x : List Mark). done ++ x) (drop-cons all i d l ∙ ap (λ k. get_or all i d ∷ drop k all) (let n : suc i ≡ i + 1 = omega arith in n))
@@ -194,16 +205,30 @@ module _ (bytes : List ℕ) (all cur : List Mark) (i total : ℕ) (d : Mark) (l 
   pub here : get_or cur i d ≡ get_or all i d
   here = (λ j. get_or (seam j) (sym size j) d) ∙ get_seam done (drop (i + 1) all) (get_or all i d) d
 
-  pub numbered_next : set cur i (with_before total (get_or cur i d)) ≡ numbered bytes 0 (take (i + 1) all) ++ drop (i + 1) all
+  pub numbered_next : set cur i (with_before total (get_or cur i d)) ≡ numbered 0 (take (i + 1) all) ++ drop (i + 1) all
   unfolding with_before
   numbered_next =
       let new : Mark = with_before total (get_or cur i d) in
-      let same : new ≡ with_before (0 + length (coded_points bytes (take i all))) (get_or all i d) = (λ j. with_before ((let n : total ≡ 0 + length (coded_points bytes (take i all)) = omega arith in n) j) (here j)) in
+      let same : new ≡ with_before (0 + count_of (take i all)) (get_or all i d) = (λ j. with_before ((let n : total ≡ 0 + count_of (take i all) = omega arith in n) j) (here j)) in
       (λ j. set (seam j) (sym size j) new) ∙ set_seam done (drop (i + 1) all) (get_or all i d) new
       ∙ ap (λ x. done ++ (x ∷ drop (i + 1) all)) same
-      ∙ sym (append_assoc done (with_before (0 + length (coded_points bytes (take i all))) (get_or all i d) ∷ []) (drop (i + 1) all))
-      ∙ ap (λ (x : List Mark). x ++ drop (i + 1) all) (sym (numbered_push bytes 0 (take i all) (get_or all i d)))
-      ∙ ap (λ (x : List Mark). numbered bytes 0 x ++ drop (i + 1) all) (sym (take_next all i d l))
+      ∙ sym (append_assoc done (with_before (0 + count_of (take i all)) (get_or all i d) ∷ []) (drop (i + 1) all))
+      ∙ ap (λ (x : List Mark). x ++ drop (i + 1) all) (sym (numbered_push 0 (take i all) (get_or all i d)))
+      ∙ ap (λ (x : List Mark). numbered 0 x ++ drop (i + 1) all) (sym (take_next all i d l))
+
+  pub count_next : total + (get_or cur i d).count ≡ count_of (take (i + 1) all)
+  count_next =
+      let a = ap count_of (take_next all i d l) in
+      let b = count_join (take i all) (get_or all i d ∷ []) in
+      let c : (get_or cur i d).count ≡ (get_or all i d).count = ap (λ (x : Mark). x.count) here in
+      omega arith
+
+  pub count_within : total + (get_or cur i d).count ≤ count_of all
+  count_within =
+      let a = count_next in
+      let b = ap count_of (take-append-drop (i + 1) all) in
+      let c = count_join (take (i + 1) all) (drop (i + 1) all) in
+      omega arith
 
 pub coded_join : (bytes : List ℕ) (xs ys : List Mark) → coded_points bytes (xs ++ ys) ≡ coded_points bytes xs ++ coded_points bytes ys
 unfolding coded_points
@@ -213,18 +238,6 @@ coded_join bytes (m ∷ xs) ys = ap (λ (z : List (ℤ × ℤ)). points_at bytes
 pub coded_one : (bytes : List ℕ) (m : Mark) → coded_points bytes (m ∷ []) ≡ points_at bytes m
 unfolding coded_points
 coded_one bytes m = append-nil (points_at bytes m)
-
-pub count_next : (bytes : List ℕ) (all : List Mark) (i : ℕ) (d : Mark) → i < length all → length (coded_points bytes (take (i + 1) all)) ≡ length (coded_points bytes (take i all)) + length (points_at bytes (get_or all i d))
-count_next bytes all i d l =
-    ap (λ (x : List Mark). length (coded_points bytes x)) (take_next all i d l) ∙ ap length (coded_join bytes (take i all) (get_or all i d ∷ []))
-    ∙ length-append (coded_points bytes (take i all)) (coded_points bytes (get_or all i d ∷ [])) ∙ ap (λ (x : List (ℤ × ℤ)). length (coded_points bytes (take i all)) + length x) (coded_one bytes (get_or all i d))
-
-pub count_all : (bytes : List ℕ) (all : List Mark) (k : ℕ) → length (coded_points bytes (take k all)) ≤ length (coded_points bytes all)
-count_all bytes all k =
-    let a = ap (λ (x : List Mark). length (coded_points bytes x)) (take-append-drop k all) in
-    let b = ap length (coded_join bytes (take k all) (drop k all)) in
-    let c = length-append (coded_points bytes (take k all)) (coded_points bytes (drop k all)) in
-    omega arith
 
 -- ---- points that are encoded
 

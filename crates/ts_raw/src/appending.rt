@@ -25,11 +25,11 @@ pub(crate) fn blocks_before(marks: &[Mark], time: Time) -> usize
     }
 }
 
-/// Returns true if the last block holds as many points as it can. `total` is the number of all points.
-pub(crate) fn is_full(mark: &Mark, total: usize) -> bool
-    ensures { result ≡ false → total < mark.now.before + 256 }
+/// Returns true if a block holds as many points as it can.
+pub(crate) fn is_full(mark: &Mark) -> bool
+    ensures { result ≡ false → mark.now.count < 256 }
 {
-    total.saturating_sub(mark.before) >= BLOCK_POINTS
+    mark.count >= BLOCK_POINTS
 }
 
 /// Returns true if the last block ends the bytes, of which there are `size`, and no other block ends after its start. All
@@ -63,6 +63,7 @@ fn push_block<A: Allocator>(
         start,
         values: 9,
         end: bytes.len(),
+        count: 1,
         before: total,
         last: point.0,
     };
@@ -79,7 +80,7 @@ fn push_last<A: Allocator>(
 )
     requires counted { IsCounted bytes.old.items (marks.old.items ++ mark.now ∷ []) total }
     requires later { AllEndBefore (marks.old.items ++ mark.now ∷ []) point.now.0 }
-    requires few { total < mark.now.before + 256 }
+    requires few { mark.now.count < 256 }
     requires ends { mark.now.end ≡ vec_len bytes.old }
     requires apart { AllEndBy mark.now.start marks.old.items }
     requires bytes_room { vec_len bytes.old + 20 ≤ vec_capacity bytes.old }
@@ -101,6 +102,7 @@ fn push_last<A: Allocator>(
         start: mark.start,
         values: values - mark.start,
         end: bytes.len(),
+        count: mark.count + 1,
         before: mark.before,
         last: point.0,
     };
@@ -128,7 +130,7 @@ pub(crate) fn push_later<A: Allocator>(
 {
     let size = bytes.len();
     match marks.last() {
-        Some(mark) if !is_full(mark, total) && is_at_end(mark, size, tail) => {
+        Some(mark) if !is_full(mark) && is_at_end(mark, size, tail) => {
             let mark = marks.pop().unwrap();
             push_last(bytes, marks, &mark, total, point);
             tail

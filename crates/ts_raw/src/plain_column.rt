@@ -1,5 +1,5 @@
 //! A column stored as a sorted vector.
-ghost use Rattle.std.specs.Prelude.{◌≡◌, ◌<◌, ◌≤◌, ◌≤ℤ◌, pos, ℤ, length, filter, vec_len, vec_capacity, drop, int_lt, None, IfOk, IsOk};
+ghost use Rattle.std.specs.Prelude.{◌≡◌, ◌<◌, ◌≤◌, ◌≤ℤ◌, pos, ℤ, length, filter, vec_len, vec_capacity, drop, int_lt};
 ghost use Rattle.std.specs.Ordering.{int_cmp, int_eq};
 ghost use Rattle.std.specs.FinMap as map;
 ghost use Rattle.std.specs.FinMap.{put, find};
@@ -185,20 +185,18 @@ impl<A: Allocator> PlainColumn<A> {
         }
     }
 
-    /// Creates a column of points, which must be in the order of time, each time once. Moves the vector in: unlike other
-    /// kinds of columns, it never runs out of memory.
-    pub fn of(points: Vec<(Time, i64), A>) -> Result<PlainColumn<A>, AllocError>
+    /// Creates a column of points, which must be in the order of time, each time once. Moves the vector in.
+    pub fn of(points: Vec<(Time, i64), A>) -> PlainColumn<A>
         requires rising { IsRising points.items }
         requires timed { AreTimed points.items }
-        ensures points { IfOk result (λ column. column.points ≡ map.from_sorted points.items) }
-        ensures entries { IfOk result (λ column. map.entries column.points ≡ points.items) }
-        ensures none_aside { IfOk result (λ column. column.aside ≡ None) }
-        ensures free { IsOk result }
+        ensures points { result.points ≡ map.from_sorted points.items }
+        ensures entries { map.entries result.points ≡ points.items }
+        ensures none_aside { result.aside ≡ None }
     {
-        Ok(PlainColumn {
+        PlainColumn {
             points,
             aside: None,
-        })
+        }
     }
 
     /// Returns all points in the order of time.

@@ -31,6 +31,7 @@ pub(crate) fn move_last<A: Allocator>(
         start,
         values: mark.values,
         end: bytes.len(),
+        count: mark.count,
         before: mark.before,
         last: mark.last,
     };
@@ -57,6 +58,7 @@ fn copied<A: Allocator + Copy>(
             start,
             values: mark.values,
             end: new_bytes.len(),
+            count: mark.count,
             before: mark.before,
             last: mark.last,
         };

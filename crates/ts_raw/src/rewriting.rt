@@ -3,7 +3,7 @@ ghost use Rattle.std.specs.Prelude.{◌≡◌, ◌+◌, ◌<◌, ◌≤◌, ℤ,
 ghost use Rattle.std.specs.Ordering.{int_cmp};
 ghost use Rattle.std.specs.FinMap.{put};
 ghost use Rattle.ts_block.specs.Blocks.{ArePoints};
-ghost use Rattle.ts_raw.specs.CodedPoints.{IsMark, AreBlocks, points_at, coded_points, numbered};
+ghost use Rattle.ts_raw.specs.CodedPoints.{IsMark, AreBlocks, points_at, coded_points, numbered, count_of};
 ghost use Rattle.ts_raw.specs.Rewriting.{IsEncoded, AreEncodable, blocks_of, marks_replaced, cut_at, cut_after};
 
 use crate::appending::BLOCK_POINTS;
@@ -15,7 +15,11 @@ use std::alloc::{AllocError, Allocator};
 use ts_block::{encode, values_offset};
 use ts_core::{Time, reserve_eighth};
 
-/// The blocks that replace the block at an index: one, or two if one would hold too many points.
+/// Number of points above which a block is halved when a point is inserted or replaced: late points mostly come near one
+/// another, and a smaller block is encoded anew sooner.
+const HALVED_POINTS: usize = 64;
+
+/// The blocks that replace the block at an index: one or two.
 #[derive(Clone, Copy, Drop)]
 pub(crate) struct Rewritten {
     pub(crate) at: usize,
@@ -75,6 +79,7 @@ fn push_points<A: Allocator + Copy>(
         start,
         values,
         end: bytes.len(),
+        count: points.len(),
         before: 0,
         last: points[points.len() - 1].0,
     })
@@ -106,7 +111,7 @@ fn changed<A: Allocator>(
 }
 
 /// Encodes the points of a block from the index `skip` on, with a point inserted or replaced, at the end of the bytes:
-/// as one block, or as two halves. `at` is the index of the block.
+/// as one block, or as two halves if there are more than 64. `at` is the index of the block.
 pub(crate) fn rewrite<A: Allocator + Copy>(
     bytes: &mut Vec<u8, A>,
     mark: &Mark,
@@ -121,7 +126,7 @@ pub(crate) fn rewrite<A: Allocator + Copy>(
     ensures points { IfOk result (λ new. coded_points bytes.new.items (blocks_of new) ≡ put int_cmp point.now.0 point.now.1 (drop skip (points_at bytes.old.items mark.now))) }
 {
     let points = changed(*bytes.allocator(), bytes.as_slice(), mark, skip, point)?;
-    if points.len() <= BLOCK_POINTS {
+    if points.len() <= HALVED_POINTS {
         let first = push_points(bytes, points.as_slice())?;
         return Ok(Rewritten {
             at,
@@ -140,16 +145,15 @@ pub(crate) fn rewrite<A: Allocator + Copy>(
 }
 
 /// Counts the points before each block. Returns the number of all points.
-pub(crate) fn renumber(bytes: &[u8], marks: &mut [Mark]) -> usize
-    requires blocks { AreBlocks bytes.now marks.old }
-    requires few { length (coded_points bytes.now marks.old) ≤ 18446744073709551615 }
-    ensures marks { marks.new ≡ numbered bytes.now 0 marks.old }
-    ensures total { result ≡ length (coded_points bytes.now marks.old) }
+fn renumber(marks: &mut [Mark]) -> usize
+    requires { count_of marks.old ≤ 18446744073709551615 }
+    ensures marks { marks.new ≡ numbered 0 marks.old }
+    ensures total { result ≡ count_of marks.old }
 {
     let mut total = 0;
     for mark in marks.iter_mut() {
         mark.before = total;
-        total += decoder_of(bytes, mark).len();
+        total += mark.count;
     }
     total
 }
@@ -168,34 +172,24 @@ fn put_blocks<A: Allocator>(marks: &mut Vec<Mark, A>, new: &Rewritten)
 }
 
 /// Puts new blocks in the place of a block. There must be capacity for a mark. Returns the number of all points.
-pub(crate) fn replace<A: Allocator>(
-    bytes: &[u8],
-    marks: &mut Vec<Mark, A>,
-    new: &Rewritten,
-) -> usize
+pub(crate) fn replace<A: Allocator>(marks: &mut Vec<Mark, A>, new: &Rewritten) -> usize
     requires within { new.now.at < length marks.old.items }
     requires room { vec_len marks.old < vec_capacity marks.old }
-    requires blocks { AreBlocks bytes.now (marks_replaced new.now marks.old.items) }
-    requires few { length (coded_points bytes.now (marks_replaced new.now marks.old.items)) ≤ 18446744073709551615 }
-    ensures marks { marks.new.items ≡ numbered bytes.now 0 (marks_replaced new.now marks.old.items) }
-    ensures total { result ≡ length (coded_points bytes.now (marks_replaced new.now marks.old.items)) }
+    requires few { count_of (marks_replaced new.now marks.old.items) ≤ 18446744073709551615 }
+    ensures marks { marks.new.items ≡ numbered 0 (marks_replaced new.now marks.old.items) }
+    ensures total { result ≡ count_of (marks_replaced new.now marks.old.items) }
 {
     put_blocks(marks, new);
-    renumber(bytes, marks.as_mut_slice())
+    renumber(marks.as_mut_slice())
 }
 
 /// Removes the first `count` blocks. Returns the number of points of the others.
-pub(crate) fn remove_front<A: Allocator>(
-    bytes: &[u8],
-    marks: &mut Vec<Mark, A>,
-    count: usize,
-) -> usize
+pub(crate) fn remove_front<A: Allocator>(marks: &mut Vec<Mark, A>, count: usize) -> usize
     requires bound { count ≤ length marks.old.items }
-    requires blocks { AreBlocks bytes.now (drop count marks.old.items) }
-    requires few { length (coded_points bytes.now (drop count marks.old.items)) ≤ 18446744073709551615 }
-    ensures marks { marks.new.items ≡ numbered bytes.now 0 (drop count marks.old.items) }
-    ensures total { result ≡ length (coded_points bytes.now (drop count marks.old.items)) }
+    requires few { count_of (drop count marks.old.items) ≤ 18446744073709551615 }
+    ensures marks { marks.new.items ≡ numbered 0 (drop count marks.old.items) }
+    ensures total { result ≡ count_of (drop count marks.old.items) }
 {
     drop(marks.drain(..count));
-    renumber(bytes, marks.as_mut_slice())
+    renumber(marks.as_mut_slice())
 }

@@ -36,7 +36,7 @@ fn open_last<A: Allocator>(
     let Some(mark) = marks.last() else {
         return Ok(());
     };
-    if is_full(mark, total) || is_at_end(mark, bytes.len(), *tail) {
+    if is_full(mark) || is_at_end(mark, bytes.len(), *tail) {
         return Ok(());
     }
     *tail = move_last(bytes, marks)?;
@@ -89,6 +89,21 @@ fn stage_among<A: Allocator + Copy>(
     rewrite(bytes, &mark, at, cut_of(at, cut), point)
 }
 
+/// Returns about as many bytes as a point takes: if its block is to be encoded anew, those of the block.
+fn needed_bytes(marks: &[Mark], time: Time) -> usize {
+    match marks.last() {
+        Some(last) if last.last >= time => {
+            let at = marks.partition_point(|mark| mark.last < time);
+            let size = match marks.get(at) {
+                Some(mark) => mark.end.saturating_sub(mark.start),
+                None => 0,
+            };
+            size.saturating_add(2 * POINT_BYTES)
+        }
+        _ => POINT_BYTES,
+    }
+}
+
 /// Stages a point: reserves the capacity to append it, or encodes its block anew. All blocks but the last end by the
 /// offset `tail`; the first `cut` points of `total` were removed.
 pub(crate) fn stage<A: Allocator + Copy>(
@@ -111,7 +126,7 @@ pub(crate) fn stage<A: Allocator + Copy>(
     if total == usize::MAX {
         return Err(AllocError);
     }
-    make_room(bytes, marks, tail, POINT_BYTES)?;
+    make_room(bytes, marks, tail, needed_bytes(marks.as_slice(), point.0))?;
     let at = blocks_before(marks.as_slice(), point.0);
     if at == marks.len() {
         stage_last(bytes, marks, tail, total, point.0)?;

@@ -9,7 +9,7 @@ use Rattle.ts_raw.proofs.appending.push_block.Goals.{After-unwrap}
 use Rattle.ts_raw.proofs.appending.push_block.Goals as goal
 
 mark : (g : Over) (c : After-unwrap g) → Mark
-mark g c = record { start = c.len-start.result; values = 9; end = c.len.result; before = c.args.total; last = c.args.point.now.0 }
+mark g c = record { start = c.len-start.result; values = 9; end = c.len.result; count = 1; before = c.args.total; last = c.args.point.now.0 }
 
 both : (g : Over) (c : After-unwrap g) → IsCounted c.begin.new.bytes.items (c.args.marks.now.items ++ mark g c ∷ []) (c.args.total + 1)
     × (coded_points c.begin.new.bytes.items (c.args.marks.now.items ++ mark g c ∷ []) ≡ coded_points c.args.bytes.now.items c.args.marks.now.items ++ c.args.point.now ∷ [])
@@ -24,7 +24,7 @@ both g c =
     let same : take (length bytes) new ≡ bytes = ap (λ n. take n new) (let n : length bytes ≡ vec_len c.args.bytes.now = omega (arith, c.args.bytes.now.ok.0) in n) ∙ c.begin.ensures.before in
     let block : EndsInBlock new c.len-start.result (c.len-start.result + 9) c.args.point.now.0 (c.args.point.now ∷ []) =
     subst (λ n. EndsInBlock new n (n + 9) c.args.point.now.0 (c.args.point.now ∷ [])) (let n : vec_len c.args.bytes.now ≡ c.len-start.result = omega (arith, c.len-start.ensures) in n) c.begin.ensures.ends in
-    started bytes new c.args.marks.now.items (mark g c) c.args.total c.args.point.now c.requires.counted c.requires.later valid start refl refl end same block
+    started bytes new c.args.marks.now.items (mark g c) c.args.total c.args.point.now c.requires.counted c.requires.later valid start refl refl refl end same block
 
 items : (g : Over) (c : After-unwrap g) → c.push.new.self.items ≡ c.args.marks.now.items ++ mark g c ∷ []
 unfolding mark

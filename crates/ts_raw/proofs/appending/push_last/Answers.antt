@@ -4,7 +4,7 @@ use Rattle.ts_core.specs.facts.Times.{IsTime}
 use Rattle.ts_block.specs.Appending.{EndsInBlock}
 use Rattle.ts_raw.specs.declared.mark.Mark.{Mark}
 use Rattle.ts_raw.specs.CodedPoints.{points_at, coded_points, blocks_at, IsCounted, OthersEndBy}
-use Rattle.ts_raw.proofs.PushLemmas.{last_block, last_count, last_before, last_values, others_from, extended}
+use Rattle.ts_raw.proofs.PushLemmas.{last_block, last_count, last_before, last_values, marks_split, others_from, extended}
 use Rattle.ts_raw.proofs.appending.push_last.Given.{Over}
 use Rattle.ts_raw.proofs.appending.push_last.Goals.{After-unwrap}
 use Rattle.ts_raw.proofs.appending.push_last.Goals as goal
@@ -13,11 +13,10 @@ pub append-values-requires-clause-ends : goal.append-values-requires-clause-ends
 append-values-requires-clause-ends g c =
     let bytes : List ℕ = c.args.bytes.now.items in
     let m : Mark = c.args.mark.now in
-    let here : m.end ≡ length bytes = omega (arith, c.requires.ends, c.args.bytes.now.ok.0) in
-    let count = last_count bytes bytes c.args.marks.now.items m m c.args.total c.args.point.now c.requires.counted c.requires.later here c.requires.apart in (
+    let here : m.end ≡ length bytes = omega (arith, c.requires.ends, c.args.bytes.now.ok.0) in (
       points_at bytes m,
       last_block bytes bytes c.args.marks.now.items m m c.args.total c.args.point.now c.requires.counted c.requires.later here c.requires.apart,
-      let f = c.requires.few in omega arith,
+      let f = c.requires.few in let n = (marks_split bytes m c.args.marks.now.items 0 c.requires.counted.coded.marked).1.count_is in omega arith,
     )
 
 pub append-values-requires-clause-later : goal.append-values-requires-clause-later
@@ -37,7 +36,7 @@ overflow_add-mark g c =
     Fits-le (let n : m.start + m.values ≤ m.end = omega arith in n) size
 
 mark : (g : Over) (c : After-unwrap g) → Mark
-mark g c = record { start = c.args.mark.now.start; values = c.append-values.result - c.args.mark.now.start; end = c.len.result; before = c.args.mark.now.before; last = c.args.point.now.0 }
+mark g c = record { start = c.args.mark.now.start; values = c.append-values.result - c.args.mark.now.start; end = c.len.result; count = c.args.mark.now.count + 1; before = c.args.mark.now.before; last = c.args.point.now.0 }
 
 both : (g : Over) (c : After-unwrap g) → IsCounted c.append-values.new.bytes.items (c.args.marks.now.items ++ mark g c ∷ []) (c.args.total + 1)
     × (coded_points c.append-values.new.bytes.items (c.args.marks.now.items ++ mark g c ∷ []) ≡ coded_points c.args.bytes.now.items (c.args.marks.now.items ++ c.args.mark.now ∷ []) ++ c.args.point.now ∷ [])
@@ -52,7 +51,7 @@ both g c =
     let valid : IsTime c.args.point.now.0 = subst IsTime c.nanos-valid.ensures.value c.nanos-valid.ensures.valid in
     let block = c.append-values.ensures.ends (points_at bytes m) (last_block bytes new c.args.marks.now.items m (mark g c) c.args.total c.args.point.now c.requires.counted c.requires.later here c.requires.apart) in
     let place : c.append-values.result ≡ m.start + (c.append-values.result - m.start) = let v = block.values_at in omega arith in
-    extended bytes new c.args.marks.now.items m (mark g c) c.args.total c.args.point.now c.requires.counted c.requires.later here c.requires.apart valid refl refl refl end c.append-values.ensures.before
+    extended bytes new c.args.marks.now.items m (mark g c) c.args.total c.args.point.now c.requires.counted c.requires.later here c.requires.apart valid refl refl refl refl end c.append-values.ensures.before
     (subst (λ n. EndsInBlock new m.start n c.args.point.now.0 (points_at bytes m ++ c.args.point.now ∷ [])) place block)
 
 items : (g : Over) (c : After-unwrap g) → c.push.new.self.items ≡ c.args.marks.now.items ++ mark g c ∷ []

@@ -1,4 +1,4 @@
-use Rattle.std.proofs.Common.{◌≡◌, ◌-◌, ℕ, ℤ, List, ◌++◌, length, slice_index_or, sym, ap, subst, ◌∙◌, arith, is_ok, if◌then◌else◌}
+use Rattle.std.proofs.Common.{refl, ◌≡◌, ◌-◌, ℕ, ℤ, List, ◌++◌, length, slice_index_or, sym, ap, subst, ◌∙◌, arith, is_ok, if◌then◌else◌}
 use Rattle.ts_block.specs.Blocks.{IsBlockOf}
 use Rattle.ts_block.specs.Appending.{last_time}
 use Rattle.ts_raw.proofs.BlockLists.{last_point, block_at_end}
@@ -18,4 +18,4 @@ returns-clause-block g c =
     let is_block : IsBlockOf block ps = c.in_ok-block.ensures in
     let values = c.values_offset-values.ensures ps (subst (λ (x : List ℕ). IsBlockOf x ps) (sym c.as_slice.ensures.value) is_block) in
     let last : (slice_index_or ps (length ps - 1) c.index-points-points.result).0 ≡ last_time ps = last_point ps c.index-points-points.result c.requires in
-    block_at_end old block new ps (record { start = c.len-start.result; values = c.values_offset-values.result; end = c.len-2.result; before = 0; last = (slice_index_or ps (length ps - 1) c.index-points-points.result).0 }) is_block is start end values last
+    block_at_end old block new ps (record { start = c.len-start.result; values = c.values_offset-values.result; end = c.len-2.result; count = length ps; before = 0; last = (slice_index_or ps (length ps - 1) c.index-points-points.result).0 }) is_block is start end values refl last

@@ -15,13 +15,13 @@ pub returns-in_err-make_room-clause-counted : goal.returns-in_err-make_room-clau
 returns-in_err-make_room-clause-counted g c = moved g (goal.at.returns-in_err-make_room-clause-counted g c).After-make_room
 
 pub blocks_before-at-requires : goal.blocks_before-at-requires
-blocks_before-at-requires g c = subst AreOrdered (sym c.as_slice.ensures.value) (moved g (goal.at.blocks_before-at-requires g c).After-make_room).coded.ordered
+blocks_before-at-requires g c = subst AreOrdered (sym c.as_slice-2.ensures.value) (moved g (goal.at.blocks_before-at-requires g c).After-make_room).coded.ordered
 
 pub stage_last-requires-clause-later : goal.stage_last-requires-clause-later
 stage_last-requires-clause-later g c =
     let ms : List Mark = c.make_room.new.marks.items in
     let all : c.blocks_before-at.result ≡ length ms = omega (arith, c.if-at-len.true, c.len.ensures, c.make_room.new.marks.ok.0) in
-    let parted : IsLastBefore c.args.point.0 ms c.blocks_before-at.result = subst (λ (x : List Mark). IsLastBefore c.args.point.0 x c.blocks_before-at.result) c.as_slice.ensures.value c.blocks_before-at.ensures.parted in
+    let parted : IsLastBefore c.args.point.0 ms c.blocks_before-at.result = subst (λ (x : List Mark). IsLastBefore c.args.point.0 x c.blocks_before-at.result) c.as_slice-2.ensures.value c.blocks_before-at.ensures.parted in
     subst (λ (x : List Mark). AllEndBefore x c.args.point.0) (ap (λ n. take n ms) all ∙ take-length ms) (ends_before c.args.point.0 ms c.blocks_before-at.result (omega arith) parted)
 
 appended : (g : Over) (c : After-stage_last g) → IsCounted c.make_room.new.bytes.items c.make_room.new.marks.items c.args.total → IsCounted c.stage_last.new.bytes.items c.stage_last.new.marks.items c.args.total

@@ -9,7 +9,7 @@ use Rattle.ts_raw.specs.Rewriting.{IsRewritten, marks_replaced, cut_after}
 use Rattle.ts_raw.proofs.PointMaps.{from_sorted-put}
 use Rattle.ts_raw.proofs.CutLemmas.{is_rising_behind}
 use Rattle.ts_raw.proofs.PushLemmas.{coded_less}
-use Rattle.ts_raw.proofs.ColumnBlocks.{cut_within, appended_map, replaced_blocks, replaced_few, replaced_points, replaced_column}
+use Rattle.ts_raw.proofs.ColumnBlocks.{cut_within, appended_map, replaced_few, replaced_count, replaced_points, replaced_column}
 use Rattle.ts_raw.proofs.block_column.BlockColumnColumn.commit.Given.{Over}
 use Rattle.ts_raw.proofs.block_column.BlockColumnColumn.commit.Goals.{After-unwrap-staged, In-Some, After-replace-self-inside}
 use Rattle.ts_raw.proofs.block_column.BlockColumnColumn.commit.Goals as goal
@@ -22,21 +22,13 @@ staged g c =
 rewritten : (g : Over) (c : In-Some g) (s : IsStaged c.self.inside.bytes.items c.self.inside.marks.items c.self.inside.total c.self.inside.cut (vec_capacity c.self.inside.bytes) (vec_capacity c.self.inside.marks) c.unwrap-staged.result) → IsRewritten c.self.inside.bytes.items c.self.inside.marks.items c.self.inside.cut c.unwrap-staged.result.point c.in-Some.new
 rewritten g c s = subst (CanCommit c.self.inside.bytes.items c.self.inside.marks.items c.self.inside.cut (vec_capacity c.self.inside.bytes) c.unwrap-staged.result.point) c.in-Some.is s.can
 
-pub replace-self-inside-requires-clause-blocks : goal.replace-self-inside-requires-clause-blocks
-replace-self-inside-requires-clause-blocks g c =
-    let a = goal.at.replace-self-inside-requires-clause-blocks g c in
-    let bytes : List ℕ = c.self.inside.bytes.items in
-    let ms : List Mark = c.self.inside.marks.items in
-    let s = staged g a.After-unwrap-staged in
-    subst (λ (x : List ℕ). AreBlocks x (marks_replaced c.in-Some.new ms)) (sym c.as_slice.ensures.value) (replaced_blocks bytes ms c.self.inside.total c.self.inside.cut c.unwrap-staged.result.point c.in-Some.new c.self.invariant.counted c.self.invariant.cut_fits (rewritten g a.In-Some s))
-
 pub replace-self-inside-requires-clause-few : goal.replace-self-inside-requires-clause-few
 replace-self-inside-requires-clause-few g c =
     let a = goal.at.replace-self-inside-requires-clause-few g c in
     let bytes : List ℕ = c.self.inside.bytes.items in
     let ms : List Mark = c.self.inside.marks.items in
     let s = staged g a.After-unwrap-staged in
-    subst (λ (x : List ℕ). length (coded_points x (marks_replaced c.in-Some.new ms)) ≤ 18446744073709551615) (sym c.as_slice.ensures.value) (replaced_few bytes ms c.self.inside.total c.self.inside.cut c.unwrap-staged.result.point c.in-Some.new c.self.invariant.counted c.self.invariant.cut_fits (rewritten g a.In-Some s) s.countable)
+    (replaced_few bytes ms c.self.inside.total c.self.inside.cut c.unwrap-staged.result.point c.in-Some.new c.self.invariant.counted c.self.invariant.cut_fits (rewritten g a.In-Some s) s.countable)
 
 pub invariant_of-self : goal.invariant_of-self
 invariant_of-self g c = record {
@@ -46,8 +38,8 @@ invariant_of-self g c = record {
   is_staged = subst (IsStagedIfAny c.push_later-self-inside.new.bytes.items c.push_later-self-inside.new.marks.items (c.self.inside.total + 1) c.self.inside.cut (vec_capacity c.push_later-self-inside.new.bytes) (vec_capacity c.push_later-self-inside.new.marks)) (sym c.take.ensures.after) tt;
 }
 
-marks_are : (g : Over) (c : After-replace-self-inside g) → c.replace-self-inside.new.marks.items ≡ numbered c.self.inside.bytes.items 0 (marks_replaced c.in-Some.new c.self.inside.marks.items)
-marks_are g c = c.replace-self-inside.ensures.marks ∙ ap (λ (x : List ℕ). numbered x 0 (marks_replaced c.in-Some.new c.self.inside.marks.items)) c.as_slice.ensures.value
+marks_are : (g : Over) (c : After-replace-self-inside g) → c.replace-self-inside.new.marks.items ≡ numbered 0 (marks_replaced c.in-Some.new c.self.inside.marks.items)
+marks_are g c = c.replace-self-inside.ensures.marks
 
 pub invariant_of-self-in-Some : goal.invariant_of-self-in-Some
 invariant_of-self-in-Some g c =
@@ -58,7 +50,7 @@ invariant_of-self-in-Some g c =
     let s = staged g a.After-unwrap-staged in
     let valid : IsTime c.unwrap-staged.result.point.0 = search rules in
     let size : c.len-self-inside.result ≡ length bytes = omega (arith, c.len-self-inside.ensures, c.self.inside.bytes.ok.0) in
-    let total : c.replace-self-inside.result ≡ length (coded_points bytes new) = c.replace-self-inside.ensures.total ∙ ap (λ (x : List ℕ). length (coded_points x new)) c.as_slice.ensures.value in
+    let total : c.replace-self-inside.result ≡ length (coded_points bytes new) = c.replace-self-inside.ensures.total ∙ replaced_count bytes ms c.self.inside.total c.self.inside.cut c.unwrap-staged.result.point c.in-Some.new c.self.invariant.counted c.self.invariant.cut_fits (rewritten g a.In-Some s) in
     let capacity : ℕ = vec_capacity c.self.inside.bytes in
     let marks_capacity : ℕ = vec_capacity c.replace-self-inside.new.marks in
     let end : ℕ = c.len-self-inside.result in

@@ -7,38 +7,31 @@ use Rattle.ts_raw.specs.CodedPoints.{AreBlocks, CutFits, blocks_at, coded_points
 use Rattle.ts_raw.proofs.PointMaps.{kept_map}
 use Rattle.ts_raw.proofs.CutLemmas.{is_rising_behind}
 use Rattle.ts_raw.proofs.BlockLists.{blocks_of_marks}
-use Rattle.ts_raw.proofs.ColumnBlocks.{blocks_behind, dropped_column, rest_few}
+use Rattle.ts_raw.proofs.ColumnBlocks.{dropped_column, rest_count, rest_few}
 use Rattle.ts_raw.proofs.block_column.BlockColumnColumn.drop_below.Given.{Over}
-use Rattle.ts_raw.proofs.block_column.BlockColumnColumn.drop_below.Goals.{After-as_slice-3, After-remove_front-self-inside}
+use Rattle.ts_raw.proofs.block_column.BlockColumnColumn.drop_below.Goals.{After-cut_below-at, After-remove_front-self-inside}
 use Rattle.ts_raw.proofs.block_column.BlockColumnColumn.drop_below.Goals as goal
-
-pub remove_front-self-inside-requires-clause-blocks : goal.remove_front-self-inside-requires-clause-blocks
-remove_front-self-inside-requires-clause-blocks g c =
-    let bytes : List ℕ = c.self.inside.bytes.items in
-    let ms : List Mark = c.self.inside.marks.items in
-    subst (λ (x : List ℕ). AreBlocks x (drop c.cut_below-at.result.0 ms)) (sym c.as_slice-3.ensures.value) (blocks_behind bytes c.cut_below-at.result.0 ms (blocks_of_marks bytes 0 ms c.self.invariant.counted.coded.marked))
 
 pub remove_front-self-inside-requires-clause-few : goal.remove_front-self-inside-requires-clause-few
 remove_front-self-inside-requires-clause-few g c =
     let bytes : List ℕ = c.self.inside.bytes.items in
     let ms : List Mark = c.self.inside.marks.items in
-    let same = ap (λ (x : List ℕ). length (coded_points x (drop c.cut_below-at.result.0 ms))) c.as_slice-3.ensures.value in
-    let few = rest_few bytes c.cut_below-at.result.0 ms in
+    let few = rest_few bytes c.cut_below-at.result.0 ms (blocks_of_marks bytes 0 ms c.self.invariant.counted.coded.marked) in
     let total = c.self.invariant.counted.total_is in
     let fits : Fits w64 c.self.inside.total = search rules in
     let top = fits.fits in
     omega arith
 
-column : (g : Over) (c : After-as_slice-3 g) (m : ℕ) → IsColumn c.self.inside.bytes.items (numbered c.self.inside.bytes.items 0 (drop c.cut_below-at.result.0 c.self.inside.marks.items)) (length (coded_points c.self.inside.bytes.items (drop c.cut_below-at.result.0 c.self.inside.marks.items))) c.cut_below-at.result.1 c.self.inside.tail (vec_capacity c.self.inside.bytes) m None
-    × (coded_points c.self.inside.bytes.items (numbered c.self.inside.bytes.items 0 (drop c.cut_below-at.result.0 c.self.inside.marks.items)) ≡ coded_points c.self.inside.bytes.items (drop c.cut_below-at.result.0 c.self.inside.marks.items))
+column : (g : Over) (c : After-cut_below-at g) (m : ℕ) → IsColumn c.self.inside.bytes.items (numbered 0 (drop c.cut_below-at.result.0 c.self.inside.marks.items)) (length (coded_points c.self.inside.bytes.items (drop c.cut_below-at.result.0 c.self.inside.marks.items))) c.cut_below-at.result.1 c.self.inside.tail (vec_capacity c.self.inside.bytes) m None
+    × (coded_points c.self.inside.bytes.items (numbered 0 (drop c.cut_below-at.result.0 c.self.inside.marks.items)) ≡ coded_points c.self.inside.bytes.items (drop c.cut_below-at.result.0 c.self.inside.marks.items))
 column g c m =
     let bytes : List ℕ = c.self.inside.bytes.items in
     let ms : List Mark = c.self.inside.marks.items in
     let cut : CutFits c.cut_below-at.result.1 (blocks_at bytes (drop c.cut_below-at.result.0 ms)) = subst (λ (x : List ℕ). CutFits c.cut_below-at.result.1 (blocks_at x (drop c.cut_below-at.result.0 ms))) c.as_slice.ensures.value (subst (λ (x : List Mark). CutFits c.cut_below-at.result.1 (blocks_at c.as_slice.result.now (drop c.cut_below-at.result.0 x))) c.as_slice-2.ensures.value c.cut_below-at.ensures.cut) in
     dropped_column bytes ms c.self.inside.total c.cut_below-at.result.1 c.cut_below-at.result.0 c.self.inside.tail (vec_capacity c.self.inside.bytes) m c.self.invariant.counted c.self.invariant.others cut
 
-marks_are : (g : Over) (c : After-remove_front-self-inside g) → c.remove_front-self-inside.new.marks.items ≡ numbered c.self.inside.bytes.items 0 (drop c.cut_below-at.result.0 c.self.inside.marks.items)
-marks_are g c = c.remove_front-self-inside.ensures.marks ∙ ap (λ (x : List ℕ). numbered x 0 (drop c.cut_below-at.result.0 c.self.inside.marks.items)) c.as_slice-3.ensures.value
+marks_are : (g : Over) (c : After-remove_front-self-inside g) → c.remove_front-self-inside.new.marks.items ≡ numbered 0 (drop c.cut_below-at.result.0 c.self.inside.marks.items)
+marks_are g c = c.remove_front-self-inside.ensures.marks
 
 pub invariant_of-self : goal.invariant_of-self
 invariant_of-self g c =
@@ -47,9 +40,9 @@ invariant_of-self g c =
     let rest : List Mark = drop c.cut_below-at.result.0 c.self.inside.marks.items in
     let capacity : ℕ = vec_capacity c.self.inside.bytes in
     let marks_capacity : ℕ = vec_capacity c.remove_front-self-inside.new.marks in
-    let total : c.remove_front-self-inside.result ≡ length (coded_points bytes rest) = c.remove_front-self-inside.ensures.total ∙ ap (λ (x : List ℕ). length (coded_points x rest)) c.as_slice-3.ensures.value in
+    let total : c.remove_front-self-inside.result ≡ length (coded_points bytes rest) = c.remove_front-self-inside.ensures.total ∙ rest_count bytes c.cut_below-at.result.0 c.self.inside.marks.items (blocks_of_marks bytes 0 c.self.inside.marks.items c.self.invariant.counted.coded.marked) in
     subst (λ t. IsColumn bytes c.remove_front-self-inside.new.marks.items t c.cut_below-at.result.1 c.self.inside.tail capacity marks_capacity None) (sym total)
-    (subst (λ (x : List Mark). IsColumn bytes x (length (coded_points bytes rest)) c.cut_below-at.result.1 c.self.inside.tail capacity marks_capacity None) (sym (marks_are g a.After-remove_front-self-inside)) (column g a.After-as_slice-3 marks_capacity).0)
+    (subst (λ (x : List Mark). IsColumn bytes x (length (coded_points bytes rest)) c.cut_below-at.result.1 c.self.inside.tail capacity marks_capacity None) (sym (marks_are g a.After-remove_front-self-inside)) (column g a.After-cut_below-at marks_capacity).0)
 
 pub returns-clause-kept : goal.returns-clause-kept
 returns-clause-kept g c =
@@ -59,7 +52,7 @@ returns-clause-kept g c =
     let all : List (ℤ × ℤ) = drop c.self.inside.cut (coded_points bytes ms) in
     let cut : ℕ = c.cut_below-at.result.1 in
     ap (λ (x : List Mark). map.from_sorted {R = int_cmp} (drop cut (coded_points bytes x))) (marks_are g a.After-remove_front-self-inside)
-    ∙ ap (λ (x : List (ℤ × ℤ)). map.from_sorted {R = int_cmp} (drop cut x)) (column g a.After-as_slice-3 0).1
+    ∙ ap (λ (x : List (ℤ × ℤ)). map.from_sorted {R = int_cmp} (drop cut x)) (column g a.After-cut_below-at 0).1
     ∙ ap (map.from_sorted {R = int_cmp}) ((λ i. drop cut (coded_points (sym c.as_slice.ensures.value i) (drop c.cut_below-at.result.0 (sym c.as_slice-2.ensures.value i)))) ∙ c.cut_below-at.ensures.kept ∙ (λ i. filter (λ (p : ℤ × ℤ). int_le c.args.mark p.0) (drop c.self.inside.cut (coded_points (c.as_slice.ensures.value i) (c.as_slice-2.ensures.value i)))))
     ∙ kept_map all (is_rising_behind c.self.inside.cut (coded_points bytes ms) c.self.invariant.counted.coded.rising) (int_le c.args.mark)
     ∙ ap (λ (s : ColumnState). points_from s.points c.args.mark) c.self.view_is
