@@ -1,5 +1,7 @@
 -- Script, Serving: how far a run has come
 pub mod Progress
+-- Script: the same by the input of a known reader
+pub mod ScriptLaws
 -- Machine: one step
 pub mod MachineLemmas
 pub mod RuleCommands

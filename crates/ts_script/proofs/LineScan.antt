@@ -1,12 +1,14 @@
 -- Lines and their parts.
-use Rattle.std.proofs.Common.{◌≡◌, ◌≢◌, cond, ℕ, zero, suc, ◌+◌, ◌<◌, ◌≤◌, slice_index, List, [], ◌∷◌, ◌++◌, length, drop, Bool, true, false, Option, Some, None, refl, sym, ap, ◌∙◌, append_assoc, append-nil, arith, IfSome, subst, not}
+use Rattle.std.proofs.Common.{◌≡◌, ◌≢◌, cond, ℕ, zero, suc, ◌+◌, ◌<◌, slice_index, List, [], ◌∷◌, ◌++◌, length, drop, Bool, true, false, Option, Some, None, refl, sym, ap, ◌∙◌, append_assoc, arith, subst, not, nat_lt, Result, Ok, Err}
 use Rattle.std.proofs.lemmas.Bool.Decides.{nat_tests}
 use Rattle.std.specs.Io.KnownBytes.{Consumes, prepend_known, Keeps, IsAtEnd}
 use Rattle.ts_core.specs.io.Devices.{Input}
-use Rattle.ts_script.specs.ScriptLines.{onto_first, lines_of, script_line_limit}
+use Rattle.ts_core.specs.io.ReadingAhead.{Ahead, pending, IsFilled}
+use Rattle.ts_core.specs.declared.io.read_ahead.ReadFault.{ReadFault}
+use Rattle.ts_script.specs.ScriptLines.{onto_first, lines_of, ended_lines}
 use Rattle.ts_script.specs.ReaderState.{ReaderState}
 use Rattle.memchr.specs.Find.{Nowhere, Passes, is_byte}
-use Rattle.ts_script.specs.LineReading.{first_line, after_line, has_lf, IsLineEnd, LineIs, to_come, NextOf, next_of, result_at_end}
+use Rattle.ts_script.specs.LineReading.{first_line, after_line, has_lf, IsLineEnd, LineIs, AreEnded, AreLines, IsTextOf, EndIsOver, IsNext, to_come, next_of, result_at_end}
 use Rattle.ts_script.specs.declared.line_reader.Next.{Next}
 use Rattle.ts_script.specs.declared.line_reader.Next.TheVariants.{Line, End}
 
@@ -56,6 +58,10 @@ pub first-append : (s t : List ℕ) → has_lf s ≡ false → first_line (s ++ 
 first-append [] t h = refl
 first-append (b ∷ bs) t h = grind (arith, nat_tests, first-append bs t)
 
+first-no_lf : (t : List ℕ) → has_lf (first_line t) ≡ false
+first-no_lf [] = refl
+first-no_lf (b ∷ bs) = grind (arith, nat_tests, first-no_lf bs)
+
 pub after-append : (s t : List ℕ) → has_lf s ≡ false → after_line (s ++ t) ≡ after_line t
 after-append [] t h = refl
 after-append (b ∷ bs) t h = grind (arith, nat_tests, after-append bs t)
@@ -92,26 +98,62 @@ pub lines_of-more : (bytes : List ℕ) → bytes ≢ [] → lines_of bytes ≡ f
 lines_of-more [] h = absurd (h refl)
 lines_of-more (b ∷ bs) h = lines_of-cons b bs
 
--- the next of a whole line
-told : (all line bytes : List ℕ) (long : Bool) (left : Option (List ℕ)) → all ≢ [] → bytes ≡ first_line all → LineIs bytes line long → left ≡ Some (after_line all) → NextOf all (next_of long) line left
-told all line bytes true left some is kept rest = (after_line all, rest, bytes, lines_of-more all some ∙ ap (λ l. l ∷ lines_of (after_line all)) (sym is), kept)
-told all line bytes false left some is kept rest = (after_line all, rest, lines_of-more all some ∙ ap (λ l. l ∷ lines_of (after_line all)) (sym (kept.0 ∙ is)), subst (λ (l : List ℕ). length l ≤ script_line_limit) (sym kept.0) kept.1)
+-- ---- the lines of a text
 
-not_empty : (s t u : List ℕ) → has_lf t ≡ true → s ++ (t ++ u) ≢ []
-not_empty [] [] u h = λ e. cc
-not_empty [] (x ∷ t) u h = λ e. cc
-not_empty (x ∷ s) t u h = λ e. cc
+pub cut_at_lf : (t : List ℕ) → has_lf t ≡ true → t ≡ first_line t ++ 10 ∷ after_line t
+cut_at_lf [] h = cc
+cut_at_lf (b ∷ bs) h = grind (arith, nat_tests, cut_at_lf bs)
 
-pub found_next : (all : Option (List ℕ)) (buffered : List ℕ) (remaining : Option (List ℕ)) (bytes line line' : List ℕ) (long long' : Bool)
-    → SoFar all (prepend_known buffered remaining) bytes line long → has_lf buffered ≡ true → LineIs (bytes ++ first_line buffered) line' long'
-    → IfSome all (λ whole. NextOf whole (next_of long') line' (prepend_known (after_line buffered) remaining))
-found_next None buffered remaining bytes line line' long long' so lf kept = tt
-found_next (Some xs) buffered None bytes line line' long long' so lf kept = absurd so.before
-found_next (Some xs) buffered (Some r) bytes line line' long long' so lf kept =
-    let e : xs ≡ bytes ++ (buffered ++ r) = so.before in
-    let f : first_line xs ≡ bytes ++ first_line buffered = ap first_line e ∙ first-append bytes (buffered ++ r) so.no_lf ∙ ap (λ l. bytes ++ l) (first-front buffered r lf) in
-    let a : after_line xs ≡ after_line buffered ++ r = ap after_line e ∙ after-append bytes (buffered ++ r) so.no_lf ∙ after-front buffered r lf in
-    told xs line' _ long' _ (λ n. not_empty bytes buffered r lf (sym e ∙ n)) (sym f) kept (ap Some (sym a))
+lines_of-ended : (text more : List ℕ) → has_lf text ≡ false → lines_of ((text ++ 10 ∷ []) ++ more) ≡ text ∷ lines_of more
+lines_of-ended [] more h = refl
+lines_of-ended (b ∷ bs) more h = grind (arith, nat_tests, lines_of-ended bs more)
+
+ended_lines-ended : (text more : List ℕ) → has_lf text ≡ false → ended_lines ((text ++ 10 ∷ []) ++ more) ≡ text ∷ ended_lines more
+ended_lines-ended [] more h = refl
+ended_lines-ended (b ∷ bs) more h = grind (arith, nat_tests, ended_lines-ended bs more)
+
+-- a text without an LF, and an LF, is one line
+pub one_ended : (text : List ℕ) → has_lf text ≡ false → AreEnded (text ++ 10 ∷ []) (text ∷ [])
+one_ended text h = λ more. (lines_of-ended text more h, ended_lines-ended text more h)
+
+-- a text without an LF has no line that is ended
+pub none_ended : (text : List ℕ) → has_lf text ≡ false → ended_lines text ≡ []
+none_ended [] h = refl
+none_ended (b ∷ bs) h = grind (arith, nat_tests, none_ended bs)
+
+one_line : (text : List ℕ) → has_lf text ≡ false → text ≢ [] → lines_of text ≡ text ∷ []
+one_line text h some = lines_of-more text some ∙ ap (λ l. l ∷ lines_of (after_line text)) (first-whole text h) ∙ ap (λ l. text ∷ lines_of l) (after-whole text h)
+
+pub no_lines : AreEnded [] []
+no_lines = λ more. (refl, refl)
+
+-- lines that follow ended lines
+pub lines_join : (ended : Bool) (s t : List ℕ) (ks ls : List (List ℕ)) → AreEnded s ks → AreLines ended t ls → AreLines ended (s ++ t) (ks ++ ls)
+lines_join false s t ks ls a b = λ more. (
+  ap lines_of (append_assoc s t more) ∙ (a (t ++ more)).0 ∙ ap (λ l. ks ++ l) (b more).0 ∙ sym (append_assoc ks ls (lines_of more)),
+  ap ended_lines (append_assoc s t more) ∙ (a (t ++ more)).1 ∙ ap (λ l. ks ++ l) (b more).1 ∙ sym (append_assoc ks ls (ended_lines more)),
+)
+lines_join true s t ks ls a b = (a t).0 ∙ ap (λ l. ks ++ l) b
+
+-- ---- the next line
+
+-- the text of a line that was found
+told : (text line : List ℕ) (long : Bool) → LineIs text line long → IsTextOf text (next_of long) line
+told text line true kept = kept
+told text line false kept = kept.0
+
+regrouped : (s t u v : List ℕ) → s ++ ((t ++ 10 ∷ u) ++ v) ≡ ((s ++ t) ++ 10 ∷ []) ++ (u ++ v)
+regrouped s t u v = simp (append_assoc)
+
+no_lf_before : (s t : List ℕ) → has_lf s ≡ false → has_lf (s ++ first_line t) ≡ false
+no_lf_before s t h = has_lf-append s (first_line t) h ∙ first-no_lf t
+
+found_came : (all : Option (List ℕ)) (buffered : List ℕ) (remaining : Option (List ℕ)) (bytes : List ℕ) → Consumes all (prepend_known buffered remaining) bytes → has_lf buffered ≡ true
+    → Consumes all (prepend_known (after_line buffered) remaining) ((bytes ++ first_line buffered) ++ 10 ∷ [])
+found_came None buffered remaining bytes p lf = tt
+found_came (Some xs) buffered None bytes p lf = absurd p
+found_came (Some xs) buffered (Some r) bytes p lf =
+    p ∙ ap (λ l. bytes ++ (l ++ r)) (cut_at_lf buffered lf) ∙ regrouped bytes (first_line buffered) (after_line buffered) r
 
 consumed_more : (all remaining now : Option (List ℕ)) (bytes buffered : List ℕ) → Consumes all (prepend_known buffered remaining) bytes → Keeps remaining now → Consumes all now (bytes ++ buffered)
 consumed_more None remaining now bytes buffered p k = tt
@@ -151,45 +193,51 @@ result_at_end-cons : (b : ℕ) (line : List ℕ) → result_at_end (b ∷ line) 
 result_at_end-cons b line = grind (arith, nat_tests)
 
 -- the input has ended
-pub last_next : (all now : Option (List ℕ)) (bytes line : List ℕ) (long : Bool) → SoFar all now bytes line long → IsAtEnd now → IfSome all (λ whole. NextOf whole (result_at_end line long) line now)
-last_next None now bytes line long so end = tt
-last_next (Some xs) None bytes line long so end = absurd so.before
-last_next (Some xs) (Some left) bytes line true so end =
-    let e : xs ≡ bytes = so.before ∙ ap (λ l. bytes ++ l) end ∙ append-nil bytes in
-    let some : xs ≢ [] = λ n. omega (arith, so.kept, ap length e, ap length n) in
-    told xs line bytes true _ some (sym (ap first_line e ∙ first-whole bytes so.no_lf)) so.kept (ap Some (end ∙ sym (ap after_line e ∙ after-whole bytes so.no_lf)))
-last_next (Some xs) (Some left) bytes [] false so end =
-    let e : xs ≡ bytes = so.before ∙ ap (λ l. bytes ++ l) end ∙ append-nil bytes in
-    (e ∙ sym so.kept.0, ap Some end)
-last_next (Some xs) (Some left) bytes (b ∷ line) false so end =
-    let e : xs ≡ bytes = so.before ∙ ap (λ l. bytes ++ l) end ∙ append-nil bytes in
-    let some : xs ≢ [] = λ n. let k = so.kept.0 in cc in
-    rw (result_at_end-cons b line) (told xs (b ∷ line) bytes false _ some (sym (ap first_line e ∙ first-whole bytes so.no_lf)) so.kept (ap Some (end ∙ sym (ap after_line e ∙ after-whole bytes so.no_lf))))
+last_line : (bytes line : List ℕ) (long : Bool) → has_lf bytes ≡ false → LineIs bytes line long → result_at_end line long ≢ End → IsTextOf bytes (result_at_end line long) line × (lines_of bytes ≡ bytes ∷ [])
+last_line bytes line true no_lf kept some = (kept, one_line bytes no_lf (λ n. omega (arith, kept, ap length n)))
+last_line bytes [] false no_lf kept some = absurd (some refl)
+last_line bytes (b ∷ line) false no_lf kept some = (rw (result_at_end-cons b line) kept.0, one_line bytes no_lf (λ n. let k = kept.0 in cc))
 
--- ---- the bytes that were used of the read buffer
+last_over : (bytes line : List ℕ) (long : Bool) → LineIs bytes line long → result_at_end line long ≡ End → bytes ≡ []
+last_over bytes line true kept e = cc
+last_over bytes [] false kept e = sym kept.0
+last_over bytes (b ∷ line) false kept e = let r = result_at_end-cons b line in cc
 
 -- ---- the turns of the loop, where start is the reader with its line forgotten, and now is the reader at the loop's head
 
 abbrev pub Kept : ReaderState → ReaderState → Type 0
 Kept now new = (before : List ℕ) → LineIs before now.line now.long → LineIs (before ++ first_line now.ahead.buffered) new.line new.long
 
-abbrev pub Told : ReaderState → Input → Next → ReaderState → Input → Type 0
-Told begun input next new input' = IfSome (to_come begun input) (λ whole. NextOf whole next new.line (to_come new input'))
+pub found_told : (begun start now new : ReaderState) (input input' : Input) (next : Next) (bytes : List ℕ) → begun.ahead.ended ≡ false → new.ahead.ended ≡ false → start.ahead.buffered ≡ begun.ahead.buffered
+    → SoFar (to_come start input) (to_come now input') bytes now.line now.long → has_lf now.ahead.buffered ≡ true → Kept now new → new.ahead.buffered ≡ after_line now.ahead.buffered → next ≡ next_of new.long
+    → IsNext begun input next new input'
+found_told begun start now new input input' next bytes going goes same so lf kept left is =
+    let text = bytes ++ first_line now.ahead.buffered in
+    let came = found_came (to_come start input) now.ahead.buffered input'.remaining bytes so.before lf in
+    record {
+      bytes = text ++ 10 ∷ [];
+      came = subst (λ (l : List ℕ). Consumes (prepend_known l input.remaining) (to_come new input') (text ++ 10 ∷ [])) same
+          (subst (λ (l : List ℕ). Consumes (to_come start input) (prepend_known l input'.remaining) (text ++ 10 ∷ [])) (sym left) came);
+      line = λ some.
+          let text_is = subst (λ (n : Next). IsTextOf text n new.line) (sym is) (told text new.line new.long (kept bytes so.kept)) in
+          let lines = subst (λ (e : Bool). AreLines e (text ++ 10 ∷ []) (text ∷ [])) (sym goes) (one_ended text (no_lf_before bytes now.ahead.buffered so.no_lf)) in
+          (going, (text, text_is, lines));
+      over = λ e. absurd (next_is_some new.long (sym is ∙ e));
+    }
 
-pub found_told : (begun start now new : ReaderState) (input input' : Input) (next : Next) (bytes : List ℕ) → start.ahead.buffered ≡ begun.ahead.buffered → SoFar (to_come start input) (to_come now input') bytes now.line now.long
-    → has_lf now.ahead.buffered ≡ true → Kept now new → new.ahead.buffered ≡ after_line now.ahead.buffered → next ≡ next_of new.long → Told begun input next new input'
-found_told begun start now new input input' next bytes same so lf kept left is =
-    let r = found_next (to_come start input) now.ahead.buffered input'.remaining bytes now.line new.line now.long new.long so lf (kept bytes so.kept) in
-    subst (λ (l : List ℕ). IfSome (prepend_known l input.remaining) (λ whole. NextOf whole next new.line (to_come new input'))) same
-    (subst (λ (n : Next). IfSome (to_come start input) (λ whole. NextOf whole n new.line (to_come new input'))) (sym is)
-    (subst (λ (l : List ℕ). IfSome (to_come start input) (λ whole. NextOf whole (next_of new.long) new.line (prepend_known l input'.remaining))) (sym left) r))
-
-pub last_told : (begun start new : ReaderState) (input input' : Input) (next : Next) (bytes : List ℕ) → start.ahead.buffered ≡ begun.ahead.buffered → SoFar (to_come start input) (to_come new input') bytes new.line new.long
-    → IsAtEnd (to_come new input') → next ≡ result_at_end new.line new.long → Told begun input next new input'
-last_told begun start new input input' next bytes same so end is =
-    let r = last_next (to_come start input) (to_come new input') bytes new.line new.long so end in
-    subst (λ (l : List ℕ). IfSome (prepend_known l input.remaining) (λ whole. NextOf whole next new.line (to_come new input'))) same
-    (subst (λ (n : Next). IfSome (to_come start input) (λ whole. NextOf whole n new.line (to_come new input'))) (sym is) r)
+pub last_told : (begun start new : ReaderState) (input input' : Input) (next : Next) (bytes : List ℕ) → begun.ahead.ended ≡ false → new.ahead.ended ≡ true → start.ahead.buffered ≡ begun.ahead.buffered
+    → SoFar (to_come start input) (to_come new input') bytes new.line new.long → next ≡ result_at_end new.line new.long → IsNext begun input next new input'
+last_told begun start new input input' next bytes going over same so is =
+    record {
+      bytes = bytes;
+      came = subst (λ (l : List ℕ). Consumes (prepend_known l input.remaining) (to_come new input') bytes) same so.before;
+      line = λ some.
+          let l = last_line bytes new.line new.long so.no_lf so.kept (λ e. some (is ∙ e)) in
+          let text_is = subst (λ (n : Next). IsTextOf bytes n new.line) (sym is) l.0 in
+          let lines = subst (λ (e : Bool). AreLines e bytes (bytes ∷ [])) (sym over) l.1 in
+          (going, (bytes, text_is, lines));
+      over = λ e. (last_over bytes new.line new.long so.kept (sym is ∙ e), over);
+    }
 
 pub more_told : (all : Option (List ℕ)) (now mid new : ReaderState) (input input' : Input) (bytes : List ℕ) → SoFar all (to_come now input) bytes now.line now.long
     → has_lf now.ahead.buffered ≡ false → Kept now mid → mid.ahead.buffered ≡ after_line now.ahead.buffered → Keeps (to_come mid input) (to_come new input') → new.line ≡ mid.line → new.long ≡ mid.long
@@ -209,3 +257,23 @@ flipped more false e h = cc
 pub flipped_back : (more ended : Bool) → more ≡ not ended → more ≡ true → ended ≡ false
 flipped_back more true e h = cc
 flipped_back more false e h = refl
+
+-- ---- one read
+
+-- the end of input leaves no byte buffered
+none_left : (bytes : List ℕ) → nat_lt 0 (length bytes) ≡ false → bytes ≡ []
+none_left [] h = refl
+none_left (b ∷ bs) h = grind (arith, nat_tests, h)
+
+left_nothing : (remaining : Option (List ℕ)) (bytes : List ℕ) → bytes ≡ [] → IsAtEnd (prepend_known bytes remaining) → IsAtEnd remaining
+left_nothing None bytes e h = tt
+left_nothing (Some r) bytes e h = ap (λ l. l ++ r) (sym e) ∙ h
+
+ended_over : (new : Ahead) (source' : Input) (more : Bool) → more ≡ not new.ended → more ≡ nat_lt 0 (length new.buffered) → new.ended ≡ true → IsAtEnd (pending new source') → (new.buffered ≡ []) × IsAtEnd source'.remaining
+ended_over new source' more m n e h =
+    let none = none_left new.buffered (sym n ∙ m ∙ ap not e) in
+    (none, left_nothing source'.remaining new.buffered none h)
+
+pub over_at_end : (old : Ahead) (source : Input) (result : Result Bool ReadFault) (new : Ahead) (source' : Input) → IsFilled old source result new source' → EndIsOver new source'
+over_at_end old source (Ok more) new source' f = λ e. ended_over new source' more f.more f.some e (f.end e)
+over_at_end old source (Err fault) new source' f = λ e. let s = f.stays in cc

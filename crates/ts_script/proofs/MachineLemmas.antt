@@ -1,5 +1,5 @@
 -- The machine's effect for a command, in each state.
-use Rattle.std.proofs.Common.{◌≡◌, ◌⊎◌, ⊎_elim, List, ℕ, ℤ, ◌<ℤ◌, ◌≤ℤ◌, ◌≤◌, [], length, codes, sym, ap, ◌∙◌, subst, Bool, true, false, IsTrue, Option, Some, None, Result, Ok, Err, OnOk, OnErr, IsErr, ◌↔◌, IfOk, is_err, zero, suc, ◌∷◌, true≢false, IfSome, IsNone, inl, inr, refl}
+use Rattle.std.proofs.Common.{◌≡◌, ◌⊎◌, ⊎_elim, List, ℕ, ℤ, ◌<ℤ◌, ◌≤ℤ◌, ◌≤◌, ◌<◌, [], length, codes, sym, ap, ◌∙◌, subst, Bool, true, false, IsTrue, Option, Some, None, Result, Ok, Err, OnOk, OnErr, IsErr, ◌↔◌, IfOk, is_err, zero, suc, ◌∷◌, true≢false, IfSome, IsNone, inl, inr, refl}
 use Rattle.std.specs.Fmt.{decimal}
 use Rattle.std.specs.Str.{IsUtf8}
 use Rattle.ts_core.specs.facts.Facts.{Text}
@@ -33,9 +33,7 @@ use Rattle.ts_script.specs.ScriptReplies.{line, text_of, step_text, written_text
 use Rattle.ts_script.specs.declared.reply.Reply.{Reply}
 use Rattle.ts_script.specs.declared.reply.Reply.TheVariants.{OutOfMemory}
 use Rattle.ts_script.specs.Machine.{State, no_longer_fresh, with_certificate, with_store, opened_with, with_begin, with_step, is_last, with_run, rules_in, lows_in, facts_of_line, RunsWhole, current_marks_text, at_moment, in_precision, in_epoch, Counts, Does, Step, opens, refuses_settings, opens_no_memory, opens_late, moves, sets, shows, writes, writes_no_memory, retains, refuses_retain, retains_no_memory, begins, refuses_begin, begins_no_memory, steps, steps_idle, hands_in, hands_in_no_memory, replies, replies_no_memory, explains, explains_no_memory, tells_live, counts, counts_nothing, refuses_count, refuses_unknown, too_long, no_text, skips, does}
-use Rattle.ts_script.specs.MachineState.{MachineState, keeping, IsMachineIn, HasReply, HasExplanation, Did, Refused, Stepped, IsAnswered}
-use Rattle.ts_script.specs.LineReading.{NextOf}
-use Rattle.ts_script.specs.declared.line_reader.Next.TheVariants as next
+use Rattle.ts_script.specs.MachineState.{MachineState, keeping, IsMachineIn, HasReply, HasExplanation, Did, Refused, Stepped}
 
 -- ---- writing
 
@@ -303,11 +301,5 @@ was_not_read s m i = (refl, begun_in s m i)
 pub was_no_text : (bytes answer : Text) (s : State) (m : MachineState) → (IsUtf8 bytes → ⊥) → Refused s answer m → Stepped bytes s answer m
 was_no_text bytes answer s m not_text r = (no_longer_fresh s, subst (λ (a : Text). Step s bytes a (no_longer_fresh s)) (sym r.0) (no_text bytes not_text), r.1)
 
-pub long_answered : (bytes text answer : Text) (left : Option Text) (s : State) (m : MachineState) → NextOf bytes next.TooLong text left → Refused s answer m → IsAnswered bytes left s m answer
-long_answered bytes text answer left s m n r = record {
-  rest = n.0;
-  left_is = n.1;
-  text = n.2;
-  lines_are = n.3;
-  stepped = (no_longer_fresh s, subst (λ (a : Text). Step s n.2 a (no_longer_fresh s)) (sym r.0) (too_long n.2 n.4), r.1);
-}
+pub was_too_long : (text answer : Text) (s : State) (m : MachineState) → script_line_limit < length text → Refused s answer m → Stepped text s answer m
+was_too_long text answer s m long r = (no_longer_fresh s, subst (λ (a : Text). Step s text a (no_longer_fresh s)) (sym r.0) (too_long text long), r.1)

@@ -1,11 +1,11 @@
 -- A line reader, by its read buffer and the line so far. (Own rule.)
-use Rattle.std.specs.Prelude.{◌≡◌, ◌≢◌, ◌↔◌, ℕ, ◌+◌, ◌≤◌, ◌<◌, List, [], ◌∷◌, ◌++◌, length, take, drop, Bool, true, false, not, IsTrue, Option, Some, IfSome, Result, Err, IfOk, OnOk, OnErr, ◌==◌, if◌then◌else◌}
-use Rattle.std.specs.Io.KnownBytes.{Keeps}
+use Rattle.std.specs.Prelude.{◌≡◌, ◌≢◌, ◌↔◌, ℕ, ◌+◌, ◌≤◌, ◌<◌, List, [], ◌∷◌, ◌++◌, length, take, drop, Bool, true, false, not, IsTrue, Option, Result, Err, IfOk, OnOk, OnErr, ◌==◌, if◌then◌else◌}
+use Rattle.std.specs.Io.KnownBytes.{Keeps, Consumes, IsAtEnd}
 use Rattle.ts_core.specs.io.Devices.{Input}
-use Rattle.ts_core.specs.io.ReadingAhead.{Ahead, pending, EndIsEnd, bit, one_if_device, weight}
+use Rattle.ts_core.specs.io.ReadingAhead.{Ahead, pending, bit, one_if_device, weight}
 use Rattle.ts_core.specs.declared.io.read_ahead.ReadFault.{ReadFault}
 use Rattle.ts_core.specs.declared.io.read_ahead.ReadFault.TheVariants.{Turns}
-use Rattle.ts_script.specs.ScriptLines.{lines_of, script_line_limit}
+use Rattle.ts_script.specs.ScriptLines.{lines_of, ended_lines, script_line_limit}
 use Rattle.ts_script.specs.declared.line_reader.Next.{Next}
 use Rattle.ts_script.specs.declared.line_reader.Next.TheVariants.{Line, TooLong, End}
 use Rattle.ts_script.specs.ReaderState.{ReaderState}
@@ -33,11 +33,24 @@ LineIs bytes line true = script_line_limit < length bytes
 abbrev pub to_come : ReaderState → Input → Option (List ℕ)
 to_come reading input = pending reading.ahead input
 
--- the next line of these bytes, and the bytes that remain
-abbrev pub NextOf : List ℕ → Next → List ℕ → Option (List ℕ) → Type 0
-NextOf bytes Line line left = (rest : List ℕ) × (left ≡ Some rest) × (lines_of bytes ≡ line ∷ lines_of rest) × (length line ≤ script_line_limit)
-NextOf bytes TooLong line left = (rest : List ℕ) × (left ≡ Some rest) × (long : List ℕ) × (lines_of bytes ≡ long ∷ lines_of rest) × (script_line_limit < length long)
-NextOf bytes End line left = (bytes ≡ []) × (left ≡ Some [])
+-- the bytes are these lines, each with its LF, whatever follows
+abbrev pub AreEnded : List ℕ → List (List ℕ) → Type 0
+AreEnded bytes lines = (more : List ℕ) → (lines_of (bytes ++ more) ≡ lines ++ lines_of more) × (ended_lines (bytes ++ more) ≡ lines ++ ended_lines more)
+
+-- the bytes are these lines, each with its LF, or the last to the end of input
+abbrev pub AreLines : Bool → List ℕ → List (List ℕ) → Type 0
+AreLines false bytes lines = AreEnded bytes lines
+AreLines true bytes lines = lines_of bytes ≡ lines
+
+-- the line that was found has this text; the text of a long line isn't kept
+abbrev pub IsTextOf : List ℕ → Next → List ℕ → Type 0
+IsTextOf text Line line = line ≡ text
+IsTextOf text TooLong line = script_line_limit < length text
+IsTextOf text End line = ⊥
+
+-- after the end of input no byte is buffered, and none is to come
+abbrev pub EndIsOver : Ahead → Input → Type 0
+EndIsOver ahead input = ahead.ended ≡ true → (ahead.buffered ≡ []) × IsAtEnd input.remaining
 
 -- the result at an LF
 abbrev pub next_of : Bool → Next
@@ -72,7 +85,7 @@ IsLonger old new = (before : List ℕ) → LineIs before old.line old.long → L
 
 -- the calls of the source between two states of the read buffer
 pub record CallsReader {T : Type 0} (old : Ahead) (source : Input) (result : Result T ReadFault) (new : Ahead) (source' : Input) : Type 0 where
-  pub end : EndIsEnd new source'
+  pub end : EndIsOver new source'
   pub stays : OnErr result (new.ended ≡ false)
   pub allowed : new.limit ≡ old.limit
   pub within : new.turns ≤ new.limit
@@ -84,15 +97,28 @@ pub record CallsReader {T : Type 0} (old : Ahead) (source : Input) (result : Res
 -- one read; it returns false at the end of input
 pub record IsReadOn (old : ReaderState) (source : Input) (result : Result Bool ReadFault) (new : ReaderState) (source' : Input) : Type 0 where
   pub bytes : Keeps (to_come old source) (to_come new source')
+  pub none : OnErr result (new.ahead.buffered ≡ [])
   pub more : IfOk result (λ more. more ≡ not new.ahead.ended)
   pub line : new.line ≡ old.line
   pub long : new.long ≡ old.long
   pub turn : OnOk result (new.ahead.turns ≡ old.ahead.turns + 1)
   pub less : OnOk result (weight new.ahead < weight old.ahead)
 
--- if the bytes to come are known, the next line is the first of these bytes
-abbrev pub IsNext : ReaderState → Input → Next → ReaderState → Input → Type 0
-IsNext old source next new source' = IfSome (to_come old source) (λ bytes. NextOf bytes next new.line (to_come new source'))
+-- the next line: its bytes are consumed with its LF, or to the end of input
+pub record IsNext (old : ReaderState) (source : Input) (next : Next) (new : ReaderState) (source' : Input) : Type 0 where
+  pub bytes : List ℕ
+  pub came : Consumes (to_come old source) (to_come new source') bytes
+  pub line : next ≢ End → (old.ahead.ended ≡ false) × ((text : List ℕ) × IsTextOf text next new.line × AreLines new.ahead.ended bytes (text ∷ []))
+  pub over : next ≡ End → (bytes ≡ []) × (new.ahead.ended ≡ true)
+
+-- a fault in a line: the bytes that came of it have no LF, nor is one buffered
+pub record IsCut (old : ReaderState) (source : Input) (new : ReaderState) (source' : Input) : Type 0 where
+  pub going : old.ahead.ended ≡ false
+  pub no_lf : has_lf old.ahead.buffered ≡ false
+  pub bytes : List ℕ
+  pub came : Consumes (to_come old source) (to_come new source') bytes
+  pub part : has_lf bytes ≡ false
+  pub none : new.ahead.buffered ≡ []
 
 -- the end is reported only after it was read, and each line consumes something
 pub record UsesUp (old : Ahead) (next : Next) (new : Ahead) : Type 0 where

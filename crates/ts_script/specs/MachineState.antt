@@ -12,7 +12,6 @@ use Rattle.ts_reply.specs.Answering.{IsReply}
 use Rattle.ts_reply.specs.Explaining.{IsExplanation}
 use Rattle.ts_reply.specs.declared.epoch.Epoch.{Epoch}
 use Rattle.ts_reply.specs.declared.epoch.Epoch.TheVariants as epochs
-use Rattle.ts_script.specs.ScriptLines.{lines_of}
 use Rattle.ts_script.specs.Commands.{Command}
 use Rattle.ts_script.specs.Machine.{State, no_longer_fresh, Does, Step}
 use Rattle.ts_script.specs.ScriptReplies.{line, unknown_text}
@@ -56,14 +55,6 @@ Refused s answer m = (answer ≡ line unknown_text) × IsMachineIn (no_longer_fr
 
 abbrev pub Stepped : Text → State → Text → MachineState → Type 0
 Stepped text s answer m = (s' : State) × Step s text answer s' × IsMachineIn s' m
-
--- the first line of the bytes is answered with `answer`, and the bytes after it remain
-pub record IsAnswered (bytes : Text) (left : Option Text) (s : State) (m : MachineState) (answer : Text) : Type 0 where
-  pub rest : Text
-  pub left_is : left ≡ Some rest
-  pub text : Text
-  pub lines_are : lines_of bytes ≡ text ∷ lines_of rest
-  pub stepped : Stepped text s answer m
 
 -- ---- the code of a machine's value
 

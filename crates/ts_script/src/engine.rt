@@ -1,13 +1,13 @@
 //! The engine of `tsdb replay`: reads a script line by line, and answers each line.
-ghost use Rattle.std.specs.Prelude.{◌≡◌, ◌≢◌, ◌≤◌, [], false, Option, length, string_capacity};
+ghost use Rattle.std.specs.Prelude.{◌≡◌, ◌≤◌, [], false, length, string_capacity};
 ghost use Rattle.ts_core.specs.facts.Facts.{Text};
 ghost use Rattle.ts_core.specs.io.OutputBuffering.{IsBuffered};
 ghost use Rattle.ts_core.specs.io.ReadingAhead.{nothing_ahead};
 ghost use Rattle.ts_script.specs.ScriptLines.{script_line_limit, turn_limit};
-ghost use Rattle.ts_script.specs.LineReading.{NextOf, has_lf};
+ghost use Rattle.ts_script.specs.LineReading.{IsTextOf, has_lf};
 ghost use Rattle.ts_script.specs.ScriptReplies.{text_of};
 ghost use Rattle.ts_script.specs.Machine.{State, start};
-ghost use Rattle.ts_script.specs.MachineState.{IsMachineIn, IsAnswered};
+ghost use Rattle.ts_script.specs.MachineState.{IsMachineIn, Stepped};
 ghost use Rattle.ts_script.specs.Script.{IsReplay};
 ghost use Rattle.ts_script.specs.declared.reply.TheConstants.{TEXT_ROOM};
 
@@ -28,7 +28,7 @@ const TURN_LIMIT: u64 = 4_294_967_296;
 /// Answers the line that was read.
 fn answer(machine: &mut Machine, next: Next, line: &[u8]) -> Reply
     requires { length line.now ≤ script_line_limit }
-    ensures { (bytes : Text) (left : Option Text) (s : State) → next ≢ Next.End → NextOf bytes next line.now left → IsMachineIn s machine.old → IsAnswered bytes left s machine.new (text_of result) }
+    ensures { (text : Text) (s : State) → IsTextOf text next line.now → IsMachineIn s machine.old → Stepped text s (text_of result) machine.new }
 {
     match next {
         Next::End => Reply::Nothing,

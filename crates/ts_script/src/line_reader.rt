@@ -1,9 +1,9 @@
 //! Reads a script line by line, up to a limit of the line's length.
-ghost use Rattle.std.specs.Prelude.{◌≡◌, ◌≤◌, [], length, IfOk, true, false};
+ghost use Rattle.std.specs.Prelude.{◌≡◌, ◌≤◌, [], length, IfOk, OnErr, true, false};
 ghost use Rattle.std.specs.Bool.{OnFalse, OnTrue};
-ghost use Rattle.ts_core.specs.io.ReadingAhead.{EndIsEnd, nothing_ahead};
+ghost use Rattle.ts_core.specs.io.ReadingAhead.{nothing_ahead};
 ghost use Rattle.ts_script.specs.ScriptLines.{script_line_limit};
-ghost use Rattle.ts_script.specs.LineReading.{LineIs, TakesBuffered, IsLonger, CallsReader, IsReadOn, IsNext, UsesUp, has_lf, next_of, result_at_end};
+ghost use Rattle.ts_script.specs.LineReading.{LineIs, TakesBuffered, IsLonger, CallsReader, EndIsOver, IsReadOn, IsNext, IsCut, UsesUp, has_lf, next_of, result_at_end};
 
 use crate::chunk::{LINE_LIMIT, extend_line, keep_lent, line_end};
 use std::alloc::{AllocError, Global};
@@ -141,7 +141,9 @@ impl LineReader {
     fn gather<R: Read>(&mut self, source: &mut Source<R>) -> Result<Next, ReadFault>
         requires none { LineIs [] self.old.line self.old.long }
         requires going { self.old.ahead.ended ≡ false }
+        requires part { has_lf self.old.ahead.buffered ≡ false }
         ensures next { IfOk result (λ next. IsNext self.old source.old next self.new source.new) }
+        ensures cut { OnErr result (IsCut self.old source.old self.new source.new) }
         ensures long { IfOk result (λ next. next ≡ Next.TooLong → self.new.long ≡ true) }
         ensures goes_on { IfOk result (λ next. UsesUp self.old.ahead next self.new.ahead) }
         ensures source_calls { CallsReader self.old.ahead source.old result self.new.ahead source.new }
@@ -158,8 +160,9 @@ impl LineReader {
 
     /// Reads the next line.
     pub fn next<R: Read>(&mut self, source: &mut Source<R>) -> Result<Next, ReadFault>
-        requires { EndIsEnd self.old.ahead source.old }
+        requires { EndIsOver self.old.ahead source.old }
         ensures next { IfOk result (λ next. IsNext self.old source.old next self.new source.new) }
+        ensures cut { OnErr result (IsCut self.old source.old self.new source.new) }
         ensures long { IfOk result (λ next. next ≡ Next.TooLong → self.new.long ≡ true) }
         ensures goes_on { IfOk result (λ next. UsesUp self.old.ahead next self.new.ahead) }
         ensures source_calls { CallsReader self.old.ahead source.old result self.new.ahead source.new }

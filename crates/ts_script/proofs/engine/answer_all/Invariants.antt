@@ -1,14 +1,14 @@
 use Rattle.std.proofs.Common.{◌≡◌, ◌+◌, ◌≤◌, string_capacity}
 use Rattle.ts_script.specs.declared.reply.TheConstants.{TEXT_ROOM}
-use Rattle.ts_core.specs.io.ReadingAhead.{EndIsEnd, bit, weight}
-use Rattle.ts_script.specs.LineReading.{to_come}
+use Rattle.ts_core.specs.io.ReadingAhead.{bit, weight}
+use Rattle.ts_script.specs.LineReading.{to_come, EndIsOver}
 use Rattle.ts_script.proofs.Progress.{Progress}
 use Rattle.ts_script.proofs.engine.answer_all.Given as goal
 
 abbrev pub invariant-loop-lines : goal.invariant-loop-lines
 invariant-loop-lines g l = record {
-  progress : Progress l.initial.source.remaining (to_come l.lines l.source) l.initial.sink.contents l.sink.contents l.answers l.machine;
-  end : EndIsEnd l.lines.ahead l.source;
+  progress : Progress l.initial.source.remaining (to_come l.lines l.source) l.lines.ahead.ended l.initial.sink.contents l.sink.contents l.answers l.machine;
+  over : EndIsOver l.lines.ahead l.source;
   turns : l.source.turns ≡ l.initial.source.turns + l.lines.ahead.turns;
   allowed : l.lines.ahead.limit ≡ l.initial.lines.ahead.limit;
   within : l.lines.ahead.turns ≤ l.lines.ahead.limit;

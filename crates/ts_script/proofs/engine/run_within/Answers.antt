@@ -1,4 +1,5 @@
-use Rattle.std.proofs.Common.{◌≡◌, ℕ, refl, ap, ◌∙◌, Result, Err, arith}
+use Rattle.std.proofs.Common.{◌≡◌, ℕ, [], false, true≢false, refl, sym, ap, ◌∙◌, Result, Err, arith}
+use Rattle.std.proofs.KnownBytes.{Consumes-nil}
 use Rattle.std.proofs.lemmas.Result.{err_from_is_err_and}
 use Rattle.ts_core.specs.io.Devices.{Input, Output}
 use Rattle.ts_script.specs.Script.{IsReplay}
@@ -10,8 +11,12 @@ use Rattle.ts_script.proofs.engine.run_within.Goals as goal
 -- nothing is read or written where there is no memory
 without_memory : {T : Type 0} (turns : ℕ) (source : Input) (sink : Output) (result : Result T RunFault) → result ≡ Err OutOfMemory → IsReplay turns source sink result source sink
 without_memory turns source sink result none = rw none record {
-  answered = tt;
-  begun = none_answered source.remaining sink.contents;
+  came = [];
+  ended = false;
+  read = record { bytes = Consumes-nil source.remaining; end = λ h. absurd (true≢false (sym h)); ends = omega arith };
+  whole = tt;
+  answered = λ w. none_answered sink.contents;
+  begun = λ w. cc;
   memory = λ e. (refl, refl);
   reader = omega arith;
   writer = omega arith;

@@ -8,8 +8,9 @@ use Rattle.ts_script.proofs.line_reader.LineReader.gather.Goals as goal
 pub returns-then-take_chunk-clause-next : goal.returns-then-take_chunk-clause-next
 returns-then-take_chunk-clause-next g c =
     let t = c.take_chunk.ensures.taken in
-    let so = c.loop-self.invariant.so_far in
-    found_told c.args.self.now c.args.self.now c.loop-self.self c.take_chunk.new.self c.args.source.now c.loop-self.source c.found.result so.0 refl so.1
+    let i = c.loop-self.invariant in
+    let so = i.so_far in
+    found_told c.args.self.now c.args.self.now c.loop-self.self c.take_chunk.new.self c.args.source.now c.loop-self.source c.found.result so.0 c.requires.going (t.ended ∙ i.going) refl so.1
     (sym t.found ∙ c.if-take_chunk.true) c.take_chunk.ensures.line t.buffered c.found.ensures
 
 pub returns-then-take_chunk-clause-goes_on : goal.returns-then-take_chunk-clause-goes_on
@@ -57,14 +58,29 @@ returns-in_err-read_on-clause-source_calls g c =
       ends = omega (arith, s.ends, i.ends, ap bit c.requires.going, ap bit s.stays, ap bit t.ended, ap bit i.going);
     }
 
+pub returns-in_err-read_on-clause-cut : goal.returns-in_err-read_on-clause-cut
+returns-in_err-read_on-clause-cut g c =
+    let p = err_from_is_err_and c.from_residual.result c.from_residual.ensures.1 in
+    let t = c.take_chunk.ensures.taken in
+    let f = c.in_err-read_on.ensures.read in
+    let so = c.loop-self.invariant.so_far in
+    let m = more_told (to_come c.args.self.now c.args.source.now) c.loop-self.self c.take_chunk.new.self c.read_on.new.self c.loop-self.source c.read_on.new.source so.0 so.1 (sym t.found ∙ c.if-take_chunk.false) c.take_chunk.ensures.line t.buffered f.bytes f.line f.long in
+    rw p.1 record {
+      going = c.requires.going;
+      no_lf = c.requires.part;
+      bytes = m.0;
+      came = m.1.before;
+      part = m.1.no_lf;
+      none = f.none;
+    }
+
 pub returns-then-not-branch-clause-next : goal.returns-then-not-branch-clause-next
 returns-then-not-branch-clause-next g c =
     let t = c.take_chunk.ensures.taken in
     let f = c.in_ok-read_on.ensures.read in
-    let s = c.in_ok-read_on.ensures.source_calls in
     let so = c.loop-self.invariant.so_far in
     let m = more_told (to_come c.args.self.now c.args.source.now) c.loop-self.self c.take_chunk.new.self c.read_on.new.self c.loop-self.source c.read_on.new.source so.0 so.1 (sym t.found ∙ c.if-take_chunk.false) c.take_chunk.ensures.line t.buffered f.bytes f.line f.long in
-    last_told c.args.self.now c.args.self.now c.read_on.new.self c.args.source.now c.read_on.new.source c.last.result m.0 refl m.1 (s.end (flipped _ _ f.more c.if-not-branch.true)) c.last.ensures
+    last_told c.args.self.now c.args.self.now c.read_on.new.self c.args.source.now c.read_on.new.source c.last.result m.0 c.requires.going (flipped _ _ f.more c.if-not-branch.true) refl m.1 c.last.ensures
 
 pub returns-then-not-branch-clause-goes_on : goal.returns-then-not-branch-clause-goes_on
 returns-then-not-branch-clause-goes_on g c =
