@@ -1,7 +1,8 @@
 -- The errors of a run: their messages, and the device that each belongs to. (Own rule.)
-use Rattle.std.specs.Prelude.{ℕ, Result, Ok, Err}
+use Rattle.std.specs.Prelude.{ℕ, Option, Some, None, Result, Ok, Err}
 use Rattle.ts_core.specs.facts.Facts.{Text}
 use Rattle.ts_core.specs.text.FaultTexts.{fault_text, memory_text}
+use Rattle.ts_core.specs.declared.text.fault_code.FaultCode.{FaultCode}
 use Rattle.ts_core.specs.declared.text.fault_code.FaultCode.TheVariants as code
 use Rattle.ts_core.specs.declared.text.fault_text.FaultDetail.TheVariants.{Alone}
 use Rattle.ts_core.specs.declared.io.read_ahead.ReadFault.{ReadFault}
@@ -9,11 +10,20 @@ use Rattle.ts_core.specs.declared.io.read_ahead.ReadFault.TheVariants as read
 use Rattle.ts_script.specs.declared.run_fault.RunFault.{RunFault}
 use Rattle.ts_script.specs.declared.run_fault.RunFault.TheVariants.{OutOfMemory, Reader, Writer, Turns}
 
+-- each in the table of all faults; out of memory has no number
+abbrev pub run_fault_code : RunFault → Option FaultCode
+run_fault_code Reader = Some code.ReaderFailed
+run_fault_code Writer = Some code.WriterFailed
+run_fault_code Turns = Some code.EndlessScript
+run_fault_code OutOfMemory = None
+
+-- the message of a fault with this number, or of none
+abbrev pub coded_text : Option FaultCode → Text
+coded_text (Some c) = fault_text c Alone
+coded_text None = memory_text
+
 abbrev pub run_fault_text : RunFault → Text
-run_fault_text Reader = fault_text code.ReaderFailed Alone
-run_fault_text Writer = fault_text code.WriterFailed Alone
-run_fault_text Turns = fault_text code.EndlessScript Alone
-run_fault_text OutOfMemory = memory_text
+run_fault_text fault = coded_text (run_fault_code fault)
 
 abbrev pub fault_of_read : ReadFault → RunFault
 fault_of_read read.Device = Reader
