@@ -4,6 +4,10 @@ use Rattle.std.specs.Io.KnownBytes.{Consumes, Appends}
 use Rattle.ts_core.specs.facts.Facts.{Text}
 use Rattle.ts_core.specs.io.Devices.{Input, Output, AppendsFront}
 use Rattle.ts_core.specs.store.StoreData.{StoreData}
+use Rattle.ts_core.specs.text.FaultTexts.{fault_text}
+use Rattle.ts_core.specs.declared.text.fault_code.FaultCode.{FaultCode}
+use Rattle.ts_core.specs.declared.text.fault_code.FaultCode.TheVariants as code
+use Rattle.ts_core.specs.declared.text.fault_text.FaultDetail.TheVariants.{Alone}
 use Rattle.ts_http.specs.Acts.{Replied, Acts}
 use Rattle.ts_store.specs.write.LineTexts.{State, IsIn}
 use Rattle.ts_http.specs.HttpReplies.{refusal_status, refusal_reply}
@@ -32,6 +36,14 @@ pub data Serves (now : ℤ) (left : ℕ) (old : State) (bytes : Text) : Served �
 -- In each state that the store was in, the request was served so, and its whole reply or a beginning of it was sent.
 abbrev pub ServedAs : ℤ → Text → StoreData → Served → StoreData → (Text → Type 0) → Type 0
 ServedAs now bytes old served new Sent = (s : State) → IsIn s old → (text : Text) × (s' : State) × Serves now (left_in now old) s bytes served text s' × IsIn s' new × Sent text
+
+-- each in the table of all faults
+abbrev pub io_fault_code : IoFault → FaultCode
+io_fault_code Reader = code.ConnectionReaderFailed
+io_fault_code Writer = code.ConnectionWriterFailed
+
+abbrev pub io_fault_text : IoFault → Text
+io_fault_text fault = fault_text (io_fault_code fault) Alone
 
 -- the failures that a call adds to its reader's, and to its writer's
 abbrev pub one_if_reader : {T : Type 0} → Result T IoFault → ℕ

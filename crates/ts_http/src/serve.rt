@@ -7,7 +7,8 @@ ghost use Rattle.ts_http.specs.Heads.{head_limit};
 ghost use Rattle.ts_http.specs.Requests.{path_of, query_of, route_of, method_of, is_allowed, body_limit, refused, body_length};
 ghost use Rattle.ts_http.specs.OutcomeReplies.{ActsAs, reply_of};
 ghost use Rattle.ts_http.specs.ServeSteps.{IsLengthAnswer, IsActedOn, IsSent};
-ghost use Rattle.ts_http.specs.Served.{IsServed};
+ghost use Rattle.ts_core.specs.text.FaultTexts.{IsAppended};
+ghost use Rattle.ts_http.specs.Served.{io_fault_code, io_fault_text, IsServed};
 
 use crate::body::{Body, take_body};
 use crate::fields::body_of;
@@ -22,9 +23,10 @@ use crate::rules::{add_rule, drop_rule};
 use crate::status::Status;
 use crate::writing::write;
 use httparse::spans::{EMPTY_HEADER_SPAN, HeaderSpan, RequestSpans};
-use std::alloc::{Allocator, Global};
+use std::alloc::{AllocError, Allocator, Global};
 use std::io::{Read, Write};
-use ts_core::{Refused, Sink, Source, Time};
+use thiserror::Error;
+use ts_core::{FaultCode, FaultDetail, Refused, Sink, Source, Time};
 use ts_store::Store;
 
 /// The outcome of serving a request.
@@ -37,12 +39,33 @@ pub enum Served {
 }
 
 /// Device faults while serving a request.
-#[derive(Clone, Copy, Debug, PartialEq, Eq)]
+#[derive(Clone, Copy, Debug, PartialEq, Eq, Error)]
+#[error("{}", self.code().words())]
 pub enum IoFault {
     /// The reader failed. Nothing was executed.
     Reader,
     /// The writer failed. The request was executed, and a beginning of the reply went out.
     Writer,
+}
+
+impl IoFault {
+    /// Returns the code of this fault in the common table of faults.
+    pub fn code(self) -> FaultCode
+        ensures { result ≡ io_fault_code self }
+    {
+        match self {
+            IoFault::Reader => FaultCode::ConnectionReaderFailed,
+            IoFault::Writer => FaultCode::ConnectionWriterFailed,
+        }
+    }
+
+    /// Appends the message to `text`. When out of memory, `text` may end in part of the message. Does not allocate if
+    /// `text` has the capacity.
+    pub fn text_to<A: Allocator>(&self, text: &mut String<A>) -> Result<(), AllocError>
+        ensures { IsAppended (io_fault_text self.now) text.old text.new result }
+    {
+        self.code().text_to(FaultDetail::Alone, text)
+    }
 }
 
 impl From<ReadFailed> for IoFault {
