@@ -1,5 +1,5 @@
 -- The machine's effect for a command, in each state.
-use Rattle.std.proofs.Common.{◌≡◌, ◌⊎◌, ⊎_elim, List, ℕ, ℤ, ◌<ℤ◌, ◌≤ℤ◌, ◌≤◌, ◌<◌, [], length, codes, sym, ap, ◌∙◌, subst, Bool, true, false, IsTrue, Option, Some, None, Result, Ok, Err, OnOk, OnErr, IsErr, ◌↔◌, IfOk, is_err, zero, suc, ◌∷◌, true≢false, IfSome, IsNone, inl, inr, refl}
+use Rattle.std.proofs.Common.{◌≡◌, ◌⊎◌, List, ℕ, ℤ, ◌<ℤ◌, ◌≤ℤ◌, ◌≤◌, ◌<◌, [], length, codes, sym, ap, ◌∙◌, subst, Bool, true, false, IsTrue, Option, Some, None, Result, Ok, Err, OnOk, OnErr, IsErr, ◌↔◌, IfOk, is_err, zero, suc, ◌∷◌, true≢false, inl, inr, refl}
 use Rattle.std.specs.Fmt.{decimal}
 use Rattle.std.specs.Str.{IsUtf8}
 use Rattle.ts_core.specs.facts.Facts.{Text}

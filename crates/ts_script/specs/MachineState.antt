@@ -1,5 +1,5 @@
 -- The machine that serves a script, and the state that it represents. (Own rule.)
-use Rattle.std.specs.Prelude.{◌≡◌, ℕ, zero, suc, ℤ, Bool, ◌∷◌, Option, Some, None, refl}
+use Rattle.std.specs.Prelude.{◌≡◌, ℕ, zero, suc, ℤ, Bool, Option, Some, None, refl}
 use Rattle.std.specs.Coded.{Coded, code_by, coded×, coded_ℕ, coded_ℤ, coded_bool, coded_option}
 use Rattle.ts_core.specs.facts.Facts.{Text}
 use Rattle.ts_core.specs.store.StoreData.{StoreData}
