@@ -7,24 +7,32 @@ ghost use Rattle.ts_image.specs.LoadFaults.{fault_of};
 
 use crate::field_fault::FieldFault;
 use std::alloc::{AllocError, Allocator};
+use thiserror::Error;
 use ts_core::{FaultCode, FaultDetail};
 
 /// Error of loading an image.
-#[derive(Clone, Copy, Debug, Drop)]
+#[derive(Clone, Copy, Debug, PartialEq, Eq, Error)]
 pub enum LoadFault {
     /// The input doesn't begin as an image does.
+    #[error("{}", FaultCode::NotAnImage.words())]
     NotAnImage,
     /// The image is of another version.
+    #[error("{}", FaultCode::ImageVersion.words())]
     OtherVersion,
     /// The input isn't of the form of an image. The first field at fault begins at this offset.
+    #[error("{}, at byte {}", FaultCode::BrokenImage.words(), .0)]
     Misshapen(u64),
     /// The image is of the form and contradicts itself.
+    #[error("{}", FaultCode::ContradictoryImage.words())]
     Contradiction,
     /// A read failed.
+    #[error("{}", FaultCode::ImageDevice.words())]
     Device,
     /// The allowed number of reads saw no end.
+    #[error("{}", FaultCode::EndlessImage.words())]
     Turns,
     /// Out of memory.
+    #[error("out of memory")]
     OutOfMemory,
 }
 

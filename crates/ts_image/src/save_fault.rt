@@ -3,16 +3,20 @@ ghost use Rattle.ts_core.specs.text.FaultTexts.{IsAppended};
 ghost use Rattle.ts_image.specs.ImageFaultTexts.{save_fault_text};
 
 use std::alloc::{AllocError, Allocator};
+use thiserror::Error;
 use ts_core::{FaultCode, FaultDetail, Refused};
 
 /// Error of saving an image.
-#[derive(Clone, Copy, Debug, Drop)]
+#[derive(Clone, Copy, Debug, PartialEq, Eq, Error)]
 pub enum SaveFault {
     /// A write failed. A beginning of the image was written.
+    #[error("{}", FaultCode::ImageDevice.words())]
     Device,
     /// Out of memory. Nothing was written.
+    #[error("out of memory")]
     OutOfMemory,
     /// The data doesn't fit the form of images. Nothing was written. That of a store that represents a history fits.
+    #[error("{}", FaultCode::ContradictoryImage.words())]
     Unfit,
 }
 
