@@ -52,7 +52,7 @@ never_read S x h = cc
 module _ (A : Type 0) (s : Input) (turns : ℕ) (t : Input) where
   -- what isn't read isn't loaded
   pub not_read : (e : LoadFault) → LoadsParts {A = A} s turns (Err e) t → LoadsImage {A = A} s turns (Err e) t
-  not_read e p = record { ok = tt; err = p.err; failures = p.failures; ends = tt; within = p.within; spent = λ z. p.spent (turns_again (LoadedImage A) (Version × ImageParts A) e z) }
+  not_read e p = record { ok = tt; err = p.err; rest = p.rest; failures = p.failures; ends = tt; within = p.within; spent = λ z. p.spent (turns_again (LoadedImage A) (Version × ImageParts A) e z) }
 
   module _ (v : Version) (parts : ImageParts A) (p : LoadsParts s turns (Ok (v, parts)) t) where
     pub is_loaded : (settings : Settings) → IsPossible v (image_of parts) → settings ≡ settings_in (settings_of_parts parts.settings)
@@ -60,6 +60,7 @@ module _ (A : Type 0) (s : Input) (turns : ℕ) (t : Input) where
     is_loaded settings is made = record {
       ok = record { bytes = p.ok; possible = is; settings = made };
       err = tt;
+      rest = p.rest;
       failures = p.failures;
       ends = p.ends;
       within = p.within;
@@ -70,6 +71,7 @@ module _ (A : Type 0) (s : Input) (turns : ℕ) (t : Input) where
     contradicts never = record {
       ok = tt;
       err = if_some s.remaining (λ bytes. AreBytes bytes → IsImageOf v (image_of parts) bytes) (λ bytes. AreBytes bytes → IsFaultOf bytes Contradiction) (λ bytes is are. (v, image_of parts, is are, never)) p.ok;
+      rest = p.rest;
       failures = p.failures;
       ends = tt;
       within = p.within;
@@ -80,6 +82,7 @@ module _ (A : Type 0) (s : Input) (turns : ℕ) (t : Input) where
     out_of_memory = record {
       ok = tt;
       err = if_some s.remaining (λ bytes. AreBytes bytes → IsImageOf v (image_of parts) bytes) (λ bytes. AreBytes bytes → IsFaultOf bytes OutOfMemory) (λ bytes is are. tt) p.ok;
+      rest = p.rest;
       failures = p.failures;
       ends = tt;
       within = p.within;
@@ -91,13 +94,14 @@ module _ (A : Type 0) (s : Input) (turns : ℕ) (t : Input) where
 module _ (s : Input) (turns : ℕ) (t : Input) where
   -- what isn't loaded gives no store
   pub no_store : (A : Type 0) (e : LoadFault) → LoadsImage {A = A} s turns (Err e) t → LoadsStore s turns (Err e) t
-  no_store A e p = record { ok = tt; err = p.err; failures = p.failures; ends = tt; within = p.within; spent = λ z. p.spent (turns_again StoreData (LoadedImage A) e z) }
+  no_store A e p = record { ok = tt; err = p.err; rest = p.rest; failures = p.failures; ends = tt; within = p.within; spent = λ z. p.spent (turns_again StoreData (LoadedImage A) e z) }
 
   module _ (A : Type 0) (image : LoadedImage A) (p : LoadsImage s turns (Ok image) t) where
     pub store_loaded : (k : StoreData) → IsStoreOf (image_of image.parts) k → LoadsStore s turns (Ok k) t
     store_loaded k made = record {
       ok = record { version = image.version; image = image_of image.parts; bytes = p.ok.bytes; possible = p.ok.possible; store = made };
       err = tt;
+      rest = p.rest;
       failures = p.failures;
       ends = p.ends;
       within = p.within;
@@ -108,6 +112,7 @@ module _ (s : Input) (turns : ℕ) (t : Input) where
     no_room_for_store = record {
       ok = tt;
       err = if_some s.remaining (λ bytes. AreBytes bytes → IsImageOf image.version (image_of image.parts) bytes) (λ bytes. AreBytes bytes → IsFaultOf bytes OutOfMemory) (λ bytes is are. tt) p.ok.bytes;
+      rest = p.rest;
       failures = p.failures;
       ends = tt;
       within = p.within;

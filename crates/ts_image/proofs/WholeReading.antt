@@ -1,8 +1,8 @@
 -- All bytes of a source, read as an image.
-use Rattle.std.proofs.Common.{◌≡◌, ℕ, ◌+◌, ◌≤◌, ◌<◌, Bool, cond, List, [], ◌∷◌, ◌++◌, length, take, drop, Option, Some, None, Result, Ok, Err, refl, sym, ap, subst, ◌∙◌, inl, inr, arith}
+use Rattle.std.proofs.Common.{◌≡◌, ◌≢◌, ℕ, ◌+◌, ◌≤◌, ◌<◌, Bool, true, false, cond, List, [], ◌∷◌, ◌++◌, length, take, drop, Option, Some, None, Result, Ok, Err, refl, sym, ap, subst, ◌∙◌, inl, inr, arith}
 use Rattle.std.proofs.Math.Dec.{eqb-suc-zero}
 use Rattle.std.specs.Prelude.{IsSome, IfSome, IfOk, IfErr}
-use Rattle.std.specs.Io.KnownBytes.{prepend_known}
+use Rattle.std.specs.Io.KnownBytes.{prepend_known, IsAtEnd}
 use Rattle.ts_core.specs.io.Devices.{Input}
 use Rattle.ts_core.specs.io.ReadingAhead.{nothing_ahead, bit}
 use Rattle.ts_image.specs.declared.version.Version.{Version}
@@ -64,6 +64,15 @@ if_known : (o : Option (List ℕ)) (P : List ℕ → Type 0) → ((bytes : List 
 if_known (Some bytes) P h = h bytes refl
 if_known None P h = tt
 
+rest_at_end : (buffered : List ℕ) (left : Option (List ℕ)) → IsAtEnd (prepend_known buffered left) → IsAtEnd left
+rest_at_end buffered None h = tt
+rest_at_end [] (Some y) h = h
+rest_at_end (b ∷ bs) (Some y) h = cc
+
+ended_of : (ended : Bool) → (bit ended ≡ 0 → ⊥) → ended ≡ true
+ended_of true h = refl
+ended_of false h = absurd (h refl)
+
 abbrev pub before_all : ℕ → FieldsRead
 before_all turns = record { ahead = nothing_ahead turns; at = 0 }
 
@@ -77,6 +86,10 @@ module _ (turns : ℕ) (s : Input) where
   module _ {T : Type 0} (r : Result T FieldFault) (c : FieldsRead) (u : Input) (q : CallsSource (nothing_ahead turns) s r c.ahead u) where
     turns_within : u.turns ≤ s.turns + turns
     turns_within = let w = q.within (omega arith) in let a = q.allowed in let t = q.turns in omega (arith, w, a, t)
+
+    -- the end was read if the counts of ends differ
+    rest_of : u.ends ≢ s.ends → IsAtEnd u.remaining
+    rest_of h = rest_at_end c.ahead.buffered u.remaining (q.end (ended_of c.ahead.ended (let n = q.ends in λ z. h (omega (arith, n, z)))))
 
     all_spent : r ≡ Err field.Turns → (u.turns ≡ s.turns + turns) × (u.ends ≡ s.ends)
     all_spent e =
@@ -110,6 +123,7 @@ module _ (turns : ℕ) (s : Input) where
   no_memory {A} = record {
     ok = tt;
     err = of_none OutOfMemory (λ bytes. tt);
+    rest = λ h. absurd (h refl);
     failures = omega arith;
     ends = tt;
     within = omega arith;
@@ -121,6 +135,7 @@ module _ (turns : ℕ) (s : Input) where
     loads_fault X e found q = record {
       ok = tt;
       err = found;
+      rest = rest_of (faulty X e) b t q;
       failures = q.failures ∙ ap (λ (n : ℕ). s.failures + n) (same_failures X (Version × ImageParts A) e);
       ends = tt;
       within = turns_within (faulty X e) b t q;
@@ -140,6 +155,7 @@ module _ (turns : ℕ) (s : Input) where
     not_an_image h = record {
       ok = tt;
       err = if_known s.remaining (λ bytes. AreBytes bytes → IsFaultOf bytes NotAnImage) (λ bytes k w e. h.value (known_all bytes k) (ap (take 4) (sym (all_rest bytes k)) ∙ e));
+      rest = rest_of (fine head.None) b t h.calls;
       failures = h.calls.failures;
       ends = tt;
       within = turns_within (fine head.None) b t h.calls;
@@ -150,6 +166,7 @@ module _ (turns : ℕ) (s : Input) where
     other_version h = record {
       ok = tt;
       err = if_known s.remaining (λ bytes. AreBytes bytes → IsFaultOf bytes OtherVersion) (λ bytes k w. let v = h.value (known_all bytes k) in (v.0, v.1, all_rest bytes k ∙ v.2, v.3, v.4));
+      rest = rest_of (fine head.Other) b t h.calls;
       failures = h.calls.failures;
       ends = tt;
       within = turns_within (fine head.Other) b t h.calls;
@@ -193,6 +210,7 @@ module _ (turns : ℕ) (s : Input) where
           record {
             ok = if_known s.remaining (λ bytes. AreBytes bytes → IsImageOf v (image_of parts) bytes) (λ bytes k are. image_found v h bytes k are (image_of parts) (w.value (known_here v h bytes k are)));
             err = tt;
+            rest = rest_of (fine parts) c u q;
             failures = q.failures;
             ends = let e = q.ends in let z : bit c.ahead.ended ≡ 1 = ap bit w.ended in omega (arith, e, z);
             within = turns_within (fine parts) c u q;

@@ -1,5 +1,6 @@
 -- The value of an image that the code reads, and the effect of reading one. (Own rules.)
-use Rattle.std.specs.Prelude.{◌≡◌, ℕ, ◌+◌, ◌≤◌, true, Result, Ok, Err, IfOk, IfErr, IfSome}
+use Rattle.std.specs.Prelude.{◌≡◌, ◌≢◌, ℕ, ◌+◌, ◌≤◌, true, Result, Ok, Err, IfOk, IfErr, IfSome}
+use Rattle.std.specs.Io.KnownBytes.{IsAtEnd}
 use Rattle.ts_core.specs.io.Devices.{Input}
 use Rattle.ts_image.specs.declared.version.Version.{Version}
 use Rattle.ts_image.specs.declared.field_fault.FieldFault.{FieldFault}
@@ -48,6 +49,8 @@ one_if_device_failed (Err OutOfMemory) = 0
 pub record Loads {T : Type 0} (IsWanted : T → Type 0) (source : Input) (turns : ℕ) (result : Result T LoadFault) (source' : Input) : Type 0 where
   pub ok : IfOk result IsWanted
   pub err : IfErr result (λ e. IfSome source.remaining (λ bytes. AreBytes bytes → IsFaultOf bytes e))
+  -- once the end was read, the source has no byte left
+  pub rest : source'.ends ≢ source.ends → IsAtEnd source'.remaining
   -- a read failed exactly if the fault says so
   pub failures : source'.failures ≡ source.failures + one_if_device_failed result
   -- the end was read
