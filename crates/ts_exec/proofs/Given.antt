@@ -26,6 +26,7 @@ use Rattle.ts_core.proofs.plans.AssembledAnswers.{assembled-answer}
 use Rattle.ts_core.proofs.moves.StepStands.{few_accepted}
 use Rattle.ts_exec.specs.Answered.{HasRows}
 use Rattle.ts_exec.specs.RowParts.{bucket_grid}
+use Rattle.ts_exec.specs.declared.kept.Kept.TheVariants.{Whole}
 use Rattle.ts_exec.specs.GroupTables.{Table, rows_for, rows_from, width, group_with, with_pieces, given}
 use Rattle.ts_exec.specs.Shares.{Share, group_in, with_shares, total_at, rule_shares, source_shares, pieces_shares}
 use Rattle.ts_exec.proofs.Shares.{shares-table, rows-after, length-rows_after, held_at, held-after, held-fits, found-after}
@@ -131,7 +132,7 @@ module _ (seen : ViewState) (q : Query) (ps : List Piece) where
   abbrev group_rows : List Text → List Text × List Aggregate
   group_rows g = (g, rows_for (width q) g table)
 
-  groups_put : with_pieces seen q ps [] ≡ map group_rows (all_groups (map group_in shares))
+  groups_put : with_pieces Whole seen q ps [] ≡ map group_rows (all_groups (map group_in shares))
   groups_put =
       pieces-put seen q ps [] tt
       ∙ table-entries (width q) table (map group_in shares) (shares-table (width q) shares [] tt) (λ g. found-after (width q) g shares [] ∙ or_false _ ∙ any_group g shares)
@@ -141,7 +142,7 @@ module _ (seen : ViewState) (q : Query) (ps : List Piece) where
   all_rows (g ∷ gs) = (rows_length g, all_rows gs)
 
   -- each has a row for every bucket
-  pub given-rows : AllByRecursion (HasRows (width q)) (with_pieces seen q ps [])
+  pub given-rows : AllByRecursion (HasRows (width q)) (with_pieces Whole seen q ps [])
   given-rows = subst (AllByRecursion (HasRows (width q))) (sym groups_put) (all_rows (all_groups (map group_in shares)))
 
 module _ (opening : Settings) (h : History) (seen : ViewState) (q : Query) (shows : Shows opening h seen) (wide : IsWide (query_context seen.settings seen.marks q)) (ps : List Piece) (valid : IsValid seen.settings seen.marks q ps) where

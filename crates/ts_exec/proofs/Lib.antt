@@ -4,6 +4,8 @@ mod Fresh
 mod Linked
 mod Shares
 mod Entries
+-- Executions, Selections: the values that a query selects
+mod KeptParts
 -- Executions, Shares: how many points are given of a view
 mod PointCounts
 mod CountSteps
@@ -12,9 +14,10 @@ mod Selected
 mod Walked
 mod NamedRules
 mod Widths
--- RowParts: buckets of a row
+-- RowParts: buckets of a row, runs of points in one
 mod Spans
 mod NextBuckets
+mod Runs
 -- Slots, Searches: the groups in order
 mod Slotted
 -- Fillings

@@ -33,6 +33,7 @@ use Rattle.ts_core.proofs.lists.Comparisons.{le_true, lt_true, same_bool}
 use Rattle.ts_core.proofs.queries.GroupsInOrder.{same_group-eq, same_group-refl}
 use Rattle.ts_core.proofs.aggregates.Folds.{fold-append}
 use Rattle.ts_store.specs.read.ViewResults.{ColumnRef, column_refs_from, column_refs_where, no_points, points_at, SeenCell, with_parts, cells_within}
+use Rattle.ts_exec.specs.declared.kept.Kept.TheVariants.{Whole}
 use Rattle.ts_exec.specs.RowParts.{bucket_grid, place_at}
 use Rattle.ts_exec.specs.GroupTables.{Table, IsGroupTable, width, with_column_parts, with_cell_part, with_column_ref, with_column_refs, is_cell_taken, with_cell_parts, with_rule, with_source, with_pieces}
 use Rattle.ts_exec.specs.Shares.{Share, group_in, with_shares, is_share, total_at, point_share, column_ref_shares, column_refs_shares, cell_share, rule_shares, source_shares, pieces_shares}
@@ -41,18 +42,18 @@ use Rattle.ts_exec.proofs.Shares.{shares-table, shares-append, column-shares}
 -- ---- pieces are put by their shares
 
 module _ (q : Query) (a b : ℤ) where
-  column_ref_put : (cs : List ColumnPoints) (s : ColumnRef) (t : Table) → IsGroupTable t → with_column_ref q cs a b s t ≡ with_shares (width q) (column_ref_shares q cs a b s) t
+  column_ref_put : (cs : List ColumnPoints) (s : ColumnRef) (t : Table) → IsGroupTable t → with_column_ref Whole q cs a b s t ≡ with_shares (width q) (column_ref_shares q cs a b s) t
   column_ref_put cs s t h =
-      elim (list_all (meets s.series) q.conditions) as (λ c. cond c (with_column_parts (bucket_grid q) (width q) (tag_values q.group_tags s.series) (points_at cs s.number a b) t) t
+      elim (list_all (meets s.series) q.conditions) as (λ c. cond c (with_column_parts Whole (bucket_grid q) (width q) (tag_values q.group_tags s.series) (points_at cs s.number a b) t) t
       ≡ with_shares (width q) (cond c (map (point_share (bucket_grid q) (tag_values q.group_tags s.series)) (points_at cs s.number a b)) []) t) [
         | true ↦ column-shares (bucket_grid q) (width q) (tag_values q.group_tags s.series) (points_at cs s.number a b) t h
         | false ↦ refl
       ]
 
-  column_refs_put : (cs : List ColumnPoints) (ss : List ColumnRef) (t : Table) → IsGroupTable t → with_column_refs q cs a b ss t ≡ with_shares (width q) (column_refs_shares q cs a b ss) t
+  column_refs_put : (cs : List ColumnPoints) (ss : List ColumnRef) (t : Table) → IsGroupTable t → with_column_refs Whole q cs a b ss t ≡ with_shares (width q) (column_refs_shares q cs a b ss) t
   column_refs_put cs [] t h = refl
   column_refs_put cs (s ∷ ss) t h =
-      ap (with_column_refs q cs a b ss) (column_ref_put cs s t h)
+      ap (with_column_refs Whole q cs a b ss) (column_ref_put cs s t h)
       ∙ column_refs_put cs ss (with_shares (width q) (column_ref_shares q cs a b s) t) (shares-table (width q) (column_ref_shares q cs a b s) t h)
       ∙ sym (shares-append (width q) (column_ref_shares q cs a b s) (column_refs_shares q cs a b ss) t)
 
@@ -69,15 +70,15 @@ module _ (q : Query) (a b : ℤ) where
   rule_put None t = refl
   rule_put (Some r) t = cells_put r.rule (cells_within r (index_of r.rule a) (index_of r.rule b)) t
 
-  source_put : (seen : ViewState) (source : Source) (t : Table) → IsGroupTable t → with_source seen q source a b t ≡ with_shares (width q) (source_shares seen q source a b) t
+  source_put : (seen : ViewState) (source : Source) (t : Table) → IsGroupTable t → with_source Whole seen q source a b t ≡ with_shares (width q) (source_shares seen q source a b) t
   source_put seen Raw t h = column_refs_put seen.columns (column_refs_where (is_of q.measurement q.field) seen.columns) t h
   source_put seen (Rollup name) t h = rule_put (rule_shown name seen.rules) t
 
-pub pieces-put : (seen : ViewState) (q : Query) (ps : List Piece) (t : Table) → IsGroupTable t → with_pieces seen q ps t ≡ with_shares (width q) (pieces_shares seen q ps) t
+pub pieces-put : (seen : ViewState) (q : Query) (ps : List Piece) (t : Table) → IsGroupTable t → with_pieces Whole seen q ps t ≡ with_shares (width q) (pieces_shares seen q ps) t
 pieces-put seen q [] t h = refl
 pieces-put seen q (p ∷ ps) t h =
     let xs : List Share = source_shares seen q p.source p.from p.to in
-    ap (with_pieces seen q ps) (source_put q p.from p.to seen p.source t h)
+    ap (with_pieces Whole seen q ps) (source_put q p.from p.to seen p.source t h)
     ∙ pieces-put seen q ps (with_shares (width q) xs t) (shares-table (width q) xs t h)
     ∙ sym (shares-append (width q) xs (pieces_shares seen q ps) t)
 

@@ -1,13 +1,15 @@
 -- Columns whose series meet the conditions give what all columns give.
-use Rattle.std.proofs.Common.{◌≡◌, ℕ, ℤ, ◌<◌, Bool, true, false, not, cond, List, [], ◌∷◌, filter, refl, sym, ◌∙◌, ap, subst, true≢false, ⊎_elim}
+use Rattle.std.proofs.Common.{◌≡◌, ℕ, ℤ, ◌<◌, Bool, true, false, not, cond, List, [], ◌∷◌, filter, refl, sym, ◌∙◌, ap, subst, ⊎_elim}
 use Rattle.std.specs.List.{list_all, AllByRecursion}
 use Rattle.std.proofs.lemmas.Bool.{and_parts}
 use Rattle.ts_core.specs.lists.Members.{Among}
+use Rattle.ts_core.proofs.lists.MembersLemmas.{filter-filter}
 use Rattle.ts_core.specs.facts.Facts.{same_text}
 use Rattle.ts_core.specs.facts.Tags.{tag_value}
 use Rattle.ts_core.specs.queries.Queries.{Query, Condition, meets}
 use Rattle.ts_core.specs.store.StoreStates.{ColumnPoints}
 use Rattle.ts_store.specs.read.ViewResults.{ColumnRef, column_ref_has}
+use Rattle.ts_exec.specs.declared.kept.Kept.{Kept}
 use Rattle.ts_exec.specs.GroupTables.{Table, with_column_ref, with_column_refs, selected_column_refs, IsNarrowing}
 
 -- ---- what the selected columns give
@@ -28,16 +30,16 @@ all_selected m conditions (s ∷ ss) h =
       | false ↦ λ e. rest
     ] refl
 
-pub selected_give : (q : Query) (cs : List ColumnPoints) (a b : ℤ) (ss : List ColumnRef) (t : Table) → with_column_refs q cs a b (selected_column_refs q.conditions ss) t ≡ with_column_refs q cs a b ss t
-selected_give q cs a b [] t = refl
-selected_give q cs a b (s ∷ ss) t =
+pub selected_give : (kept : Kept) (q : Query) (cs : List ColumnPoints) (a b : ℤ) (ss : List ColumnRef) (t : Table) → with_column_refs kept q cs a b (selected_column_refs q.conditions ss) t ≡ with_column_refs kept q cs a b ss t
+selected_give kept q cs a b [] t = refl
+selected_give kept q cs a b (s ∷ ss) t =
     let left : List ColumnRef = selected_column_refs q.conditions ss in
-    elim (is_met q.conditions s) as (λ v. is_met q.conditions s ≡ v → with_column_refs q cs a b (cond v (s ∷ left) left) t ≡ with_column_refs q cs a b ss (with_column_ref q cs a b s t)) [
-      | true ↦ λ e. selected_give q cs a b ss (with_column_ref q cs a b s t)
-      | false ↦ λ e. selected_give q cs a b ss t ∙ ap (λ (u : Table). with_column_refs q cs a b ss u) (sym (unmet s t e))
+    elim (is_met q.conditions s) as (λ v. is_met q.conditions s ≡ v → with_column_refs kept q cs a b (cond v (s ∷ left) left) t ≡ with_column_refs kept q cs a b ss (with_column_ref kept q cs a b s t)) [
+      | true ↦ λ e. selected_give kept q cs a b ss (with_column_ref kept q cs a b s t)
+      | false ↦ λ e. selected_give kept q cs a b ss t ∙ ap (λ (u : Table). with_column_refs kept q cs a b ss u) (sym (unmet s t e))
     ] refl
   where
-    unmet : (s : ColumnRef) (t : Table) → is_met q.conditions s ≡ false → with_column_ref q cs a b s t ≡ t
+    unmet : (s : ColumnRef) (t : Table) → is_met q.conditions s ≡ false → with_column_ref kept q cs a b s t ≡ t
     unmet s t e = rw e refl
 
 -- ---- which columns are selected
@@ -48,21 +50,8 @@ all_among p (y ∷ ys) x h a =
     let s = and_parts (p y) (list_all p ys) h in
     ⊎_elim {C = p x ≡ true} (λ e. ap p e ∙ s.0) (λ k. all_among p ys x s.1 k) a
 
-filter_twice : {X : Type 0} (p r : X → Bool) → ((x : X) → p x ≡ true → r x ≡ true) → (xs : List X) → filter p (filter r xs) ≡ filter p xs
-filter_twice p r h [] = refl
-filter_twice p r h (x ∷ xs) =
-    let rest = filter_twice p r h xs in
-    elim (r x) as (λ v. r x ≡ v → filter p (cond v (x ∷ filter r xs) (filter r xs)) ≡ cond (p x) (x ∷ filter p xs) (filter p xs)) [
-      | true ↦ λ e. ap (λ ys. cond (p x) (x ∷ ys) ys) rest
-      | false ↦ λ e. rest ∙ absent (p x) (λ t. true≢false (sym (h x t) ∙ e))
-    ] refl
-  where
-    absent : (v : Bool) → (v ≡ true → ⊥) → filter p xs ≡ cond v (x ∷ filter p xs) (filter p xs)
-    absent true n = absurd (n refl)
-    absent false n = refl
-
 pub selected_narrowed : (conditions : List Condition) (k : Condition) → IsNarrowing conditions k → (ss : List ColumnRef) → selected_column_refs conditions (filter (column_ref_has k.tag k.value) ss) ≡ selected_column_refs conditions ss
-selected_narrowed conditions k is ss = filter_twice (is_met conditions) (column_ref_has k.tag k.value) has ss
+selected_narrowed conditions k is ss = filter-filter (is_met conditions) (column_ref_has k.tag k.value) has ss
   where
     has : (s : ColumnRef) → is_met conditions s ≡ true → column_ref_has k.tag k.value s ≡ true
     has s h =

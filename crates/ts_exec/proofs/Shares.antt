@@ -11,6 +11,7 @@ use Rattle.ts_core.specs.aggregates.Aggregates.{Aggregate, empty_aggregate, merg
 use Rattle.ts_core.specs.aggregates.MergeLaws.{aggregate_laws}
 use Rattle.ts_core.specs.queries.Answers.{group_cmp, same_group}
 use Rattle.ts_core.proofs.queries.GroupsInOrder.{groups_total, exact_groups, same_group-refl, same_group-eq}
+use Rattle.ts_exec.specs.declared.kept.Kept.TheVariants.{Whole}
 use Rattle.ts_exec.specs.RowParts.{BucketGrid, added, place_at, with_part, with_point_parts}
 use Rattle.ts_exec.specs.GroupTables.{Table, IsGroupTable, rows_or, rows_for, with_cell_part, with_column_parts}
 use Rattle.ts_exec.specs.Shares.{Share, with_shares, is_share, total_at, point_share}
@@ -45,7 +46,7 @@ pub rows-put : (n : ℕ) (g : List Text) (rows : List Aggregate) (t : Table) →
 rows-put n g rows t = ap (rows_or n) (find-put group_cmp groups_total g g rows t ∙ ap (λ b. cond b (Some rows) (find group_cmp g t)) (same_group-refl g))
 
 column_from : (grid : BucketGrid) (n : ℕ) (g : List Text) (ps : List (ℤ × ℤ)) (rows : List Aggregate) (t : Table) → IsGroupTable t
-    → with_shares n (map (point_share grid g) ps) (put group_cmp g rows t) ≡ put group_cmp g (with_point_parts grid ps rows) t
+    → with_shares n (map (point_share grid g) ps) (put group_cmp g rows t) ≡ put group_cmp g (with_point_parts Whole grid ps rows) t
 column_from grid n g [] rows t h = refl
 column_from grid n g (p ∷ ps) rows t h =
     let s : Share = point_share grid g p in
@@ -54,7 +55,7 @@ column_from grid n g (p ∷ ps) rows t h =
     ∙ ap (with_shares n (map (point_share grid g) ps)) (put-put g next rows t h)
     ∙ column_from grid n g ps next t h
 
-pub column-shares : (grid : BucketGrid) (n : ℕ) (g : List Text) (ps : List (ℤ × ℤ)) (t : Table) → IsGroupTable t → with_column_parts grid n g ps t ≡ with_shares n (map (point_share grid g) ps) t
+pub column-shares : (grid : BucketGrid) (n : ℕ) (g : List Text) (ps : List (ℤ × ℤ)) (t : Table) → IsGroupTable t → with_column_parts Whole grid n g ps t ≡ with_shares n (map (point_share grid g) ps) t
 column-shares grid n g [] t h = refl
 column-shares grid n g (p ∷ ps) t h = sym (column_from grid n g ps (with_part (place_at grid p.0) (point_share grid g p).part (rows_for n g t)) t h)
 
@@ -113,8 +114,8 @@ held-after g j (s ∷ ss) rows l =
 
 -- ---- where all fits, nothing is left out
 
-added_fits : (x y : Aggregate) → x.count + y.count ≤ 2 ^ 62 → added x y ≡ merged x y
-added_fits x y h = ap (λ b. cond b (merged x y) x) (le-leb (x.count + y.count) (2 ^ 62) h)
+pub added-fits : (x y : Aggregate) → x.count + y.count ≤ 2 ^ 62 → added x y ≡ merged x y
+added-fits x y h = ap (λ b. cond b (merged x y) x) (le-leb (x.count + y.count) (2 ^ 62) h)
 
 pub held-fits : (g : List Text) (j : ℕ) (ss : List Share) (x : Aggregate) → x.count + (total_at g j ss).count ≤ 2 ^ 62 → held_at g j ss x ≡ merged x (total_at g j ss)
 held-fits g j [] x h = sym (aggregate_laws.comm x empty_aggregate ∙ aggregate_laws.unit x)
@@ -124,7 +125,7 @@ held-fits g j (s ∷ ss) x h =
       | true ↦ λ k.
           let t : Aggregate = total_at g j ss in
           let few : x.count + s.part.count ≤ 2 ^ 62 = omega arith in
-          ap (held_at g j ss) (added_fits x s.part few) ∙ held-fits g j ss (merged x s.part) (omega arith) ∙ aggregate_laws.assoc x s.part t
+          ap (held_at g j ss) (added-fits x s.part few) ∙ held-fits g j ss (merged x s.part) (omega arith) ∙ aggregate_laws.assoc x s.part t
       | false ↦ λ k. held-fits g j ss x k
     ] h
 
@@ -142,14 +143,6 @@ found-after n g (s ∷ ss) t =
     swapped true false r o = refl
     swapped false true r o = refl
     swapped false false r o = refl
-
--- ---- a row that is held aside
-
--- what is added to a row that was written, is added to what was written
-pub held-part : (i : ℕ) (a x : Aggregate) (rows : List Aggregate) → with_part i a (set rows i x) ≡ set rows i (added x a)
-held-part i a x [] = refl
-held-part zero a x (r ∷ rows) = refl
-held-part (suc i) a x (r ∷ rows) = ap (λ xs. r ∷ xs) (held-part i a x rows)
 
 -- ---- a place past the last row
 

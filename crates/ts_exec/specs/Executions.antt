@@ -10,7 +10,9 @@ use Rattle.ts_check.specs.Checks.{Plan}
 use Rattle.ts_exec.specs.declared.fault.ExecFault.{ExecFault}
 use Rattle.ts_exec.specs.declared.fault.ExecFault.TheVariants as errors
 use Rattle.ts_exec.specs.Answered.{Answered}
+use Rattle.ts_exec.specs.Fillings.{functions_of}
 use Rattle.ts_exec.specs.GroupTables.{given}
+use Rattle.ts_exec.specs.Selections.{HaveSameValues}
 use Rattle.ts_exec.specs.Shares.{points_of_shares, pieces_shares}
 
 -- the view has the settings and marks that the plan was checked under
@@ -24,6 +26,13 @@ pub record IsAnswer (seen : ViewState) (p : Plan) (a : Answered) : Type 0 where
   pub exact : a.groups ≡ given seen p.select.query p.pieces
   pub answer : (opening : Settings) (h : History) → Shows opening h seen → a.groups ≡ answer_of (latest_of h) p.select.query
 
+-- an answer whose values of the query's functions are those of a plan over a view, with any fill option; if the view
+-- shows a history, these are the values over all points ever accepted
+pub record IsSelectedAnswer (seen : ViewState) (p : Plan) (a : Answered) : Type 0 where
+  pub select : a.select ≡ p.select
+  pub same : HaveSameValues (functions_of p.select.columns) a.groups (given seen p.select.query p.pieces)
+  pub answer : (opening : Settings) (h : History) → Shows opening h seen → HaveSameValues (functions_of p.select.columns) a.groups (answer_of (latest_of h) p.select.query)
+
 -- the number of a plan's points over a view; if the view shows a history, of all points ever accepted that match the
 -- query
 pub record IsPointCount (seen : ViewState) (p : Plan) (n : ℕ) : Type 0 where
@@ -35,6 +44,12 @@ abbrev pub IsExecutionOf : {A : Type 0} → ViewState → Plan → Result Answer
 IsExecutionOf seen p (Ok answered) = IsCurrent seen p × IsAnswer seen p answered
 IsExecutionOf seen p (Err (errors.Stale settings marks)) = (settings.now ≡ seen.settings) × (marks.now ≡ seen.marks) × (IsCurrent seen p → ⊥)
 IsExecutionOf seen p (Err errors.OutOfMemory) = IsCurrent seen p
+
+-- the same for the selected values
+abbrev pub IsSelectionOf : {A : Type 0} → ViewState → Plan → Result Answered (ExecFault A) → Type 0
+IsSelectionOf seen p (Ok answered) = IsCurrent seen p × IsSelectedAnswer seen p answered
+IsSelectionOf seen p (Err (errors.Stale settings marks)) = (settings.now ≡ seen.settings) × (marks.now ≡ seen.marks) × (IsCurrent seen p → ⊥)
+IsSelectionOf seen p (Err errors.OutOfMemory) = IsCurrent seen p
 
 -- the same for a count, which never runs out of memory
 abbrev pub IsCountOf : {A : Type 0} → ViewState → Plan → Result ℕ (ExecFault A) → Type 0

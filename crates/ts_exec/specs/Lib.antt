@@ -2,6 +2,7 @@
 pub mod RowParts
 pub mod GroupTables
 pub mod Shares
+pub mod Selections
 pub mod Lent
 pub mod Answered
 pub mod ExecTexts

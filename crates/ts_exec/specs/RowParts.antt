@@ -1,9 +1,12 @@
 -- How parts are merged into rows, up to 2^62 points each. (Own rules.)
-use Rattle.std.specs.Prelude.{◌≡◌, ℕ, ◌+◌, ◌^◌, min, nat_le, ℤ, pos, ◌+ℤ◌, ◌-ℤ◌, ◌≤ℤ◌, ◌<ℤ◌, List, [], ◌∷◌, set, get_or, if◌then◌else◌}
+use Rattle.std.specs.Prelude.{◌≡◌, ℕ, ◌+◌, ◌^◌, ◌≤◌, min, nat_le, ℤ, pos, neg_ℤ, ◌+ℤ◌, ◌-ℤ◌, ◌≤ℤ◌, ◌<ℤ◌, List, [], ◌∷◌, set, get_or, Some, if◌then◌else◌}
+use Rattle.ts_core.specs.declared.aggregates.aggregate.Extremes.{Extremes}
 use Rattle.ts_core.specs.aggregates.Aggregates.{Aggregate, empty_aggregate, aggregate_of_one, merged}
 use Rattle.ts_core.specs.aggregates.Buckets.{bucket_of}
 use Rattle.ts_core.specs.queries.Queries.{Query}
 use Rattle.ts_core.specs.queries.Answers.{at_least_none}
+use Rattle.ts_exec.specs.declared.kept.Kept.{Kept}
+use Rattle.ts_exec.specs.declared.kept.Kept.TheVariants.{CountAlone, CountAndSum, Whole}
 
 -- x and y merged, or x alone if they have more than 2^62 points together
 abbrev pub added : Aggregate → Aggregate → Aggregate
@@ -26,9 +29,25 @@ place_at g t = at_least_none (bucket_of t g.interval g.offset -ℤ bucket_of g.f
 abbrev pub with_part : ℕ → Aggregate → List Aggregate → List Aggregate
 with_part i a rows = set rows i (added (get_or rows i empty_aggregate) a)
 
-abbrev pub with_point_parts : BucketGrid → List (ℤ × ℤ) → List Aggregate → List Aggregate
-with_point_parts g [] rows = rows
-with_point_parts g (p ∷ ps) rows = with_point_parts g ps (with_part (place_at g p.0) (aggregate_of_one p.0 p.1) rows)
+-- extremes that say nothing of the points: each value lies between the least and the greatest of 64 bits
+abbrev pub wide_extremes : Extremes
+wide_extremes = record { min = neg_ℤ (pos 9223372036854775808); max = pos 9223372036854775807; first = (pos 0, pos 0); last = (pos 0, pos 0) }
+
+-- a point's part of a row; what isn't kept of it is the same for all points
+abbrev pub part_of_point : Kept → ℤ → ℤ → Aggregate
+part_of_point CountAlone t v = record { count = 1; sum = pos 0; extremes = Some wide_extremes }
+part_of_point CountAndSum t v = record { count = 1; sum = v; extremes = Some wide_extremes }
+part_of_point Whole t v = aggregate_of_one t v
+
+abbrev pub with_point_parts : Kept → BucketGrid → List (ℤ × ℤ) → List Aggregate → List Aggregate
+with_point_parts kept g [] rows = rows
+with_point_parts kept g (p ∷ ps) rows = with_point_parts kept g ps (with_part (place_at g p.0) (part_of_point kept p.0 p.1) rows)
+
+-- a run of points: all times from low, inclusive, to high, exclusive, are in the row with this number. If there are
+-- any, the row has room for the part and `left` more points.
+pub record IsRun (g : BucketGrid) (rows : List Aggregate) (left : ℕ) (low high : ℤ) (place : ℕ) (part : Aggregate) : Type 0 where
+  pub within : (t : ℤ) → low ≤ℤ t → t <ℤ high → place ≡ min (place_at g t) 18446744073709551615
+  pub room : low <ℤ high → ((get_or rows place empty_aggregate).count + part.count) + left ≤ 2 ^ 62
 
 -- a bucket starts at `high`, and the one before it has this number
 pub record IsEnd (g : BucketGrid) (high : ℤ) (place : ℕ) : Type 0 where

@@ -1,13 +1,16 @@
-//! `execute`: answers a query by a checked plan.
-ghost use Rattle.std.specs.Prelude.{◌≡◌, ◌↔◌, [], IsTrue, IsOk, IfOk};
+//! `execute` and `execute_selected`: answer a query by a checked plan.
+ghost use Rattle.std.specs.Prelude.{◌≡◌, ◌↔◌, [], map, IsTrue, IsOk, IfOk};
 ghost use Rattle.std.specs.List.{AllByRecursion};
 ghost use Rattle.ts_core.specs.queries.Queries.{IsQuery};
 ghost use Rattle.ts_exec.specs.Answered.{HasRows};
-ghost use Rattle.ts_exec.specs.Executions.{IsCurrent, IsExecutionOf};
-ghost use Rattle.ts_exec.specs.GroupTables.{with_pieces, width};
+ghost use Rattle.ts_exec.specs.Executions.{IsCurrent, IsExecutionOf, IsSelectionOf};
+ghost use Rattle.ts_exec.specs.Fillings.{functions_of};
+ghost use Rattle.ts_exec.specs.GroupTables.{with_pieces, width, group_with, given};
+ghost use Rattle.ts_exec.specs.Selections.{HaveSameValues};
 
 use crate::fault::ExecFault;
 use crate::groups::{GroupRows, Groups};
+use crate::kept::{Kept, kept_for};
 use crate::pieces::{Scan, add_pieces};
 use crate::table::Table;
 use std::alloc::{AllocError, Allocator};
@@ -15,21 +18,37 @@ use ts_check::{Checked, Piece};
 use ts_ql::Query;
 use ts_store::View;
 
-/// Returns the groups that the pieces of a plan give, with their rows.
+/// Returns the groups that the pieces of a plan give, with their rows. Keeps these parts of raw points.
 fn groups_given<'a, A: Allocator + Copy + 'a, V: View<A> + 'a>(
     alloc: A,
+    kept: Kept,
     view: &'a V,
     query: &Query<A>,
     pieces: &[Piece],
 ) -> Result<Vec<GroupRows<'a, A>, A>, AllocError>
-    ensures given { IfOk result (λ v. v.items ≡ with_pieces (V.seen view.now) query.now.query pieces.now []) }
+    ensures given { IfOk result (λ v. v.items ≡ with_pieces kept (V.seen view.now) query.now.query pieces.now []) }
     ensures rows { IfOk result (λ v. AllByRecursion (HasRows (width query.now.query)) v.items) }
     ensures query { IsOk result → IsQuery query.now.query }
 {
     let mut groups = Groups::new(alloc);
     let mut scan = Scan::new(alloc, query)?;
-    add_pieces(&mut groups, &mut scan, view, pieces)?;
+    add_pieces(&mut groups, &mut scan, kept, view, pieces)?;
     groups.into_groups()
+}
+
+/// Returns the groups that the pieces of a plan give, with the values of the query's functions alone.
+fn groups_selected<'a, A: Allocator + Copy + 'a, V: View<A> + 'a>(
+    alloc: A,
+    view: &'a V,
+    query: &Query<A>,
+    pieces: &[Piece],
+) -> Result<Vec<GroupRows<'a, A>, A>, AllocError>
+    ensures values { IfOk result (λ v. HaveSameValues (functions_of query.now.columns) (map (group_with query.now.query) v.items) (given (V.seen view.now) query.now.query pieces.now)) }
+    ensures rows { IfOk result (λ v. AllByRecursion (HasRows (width query.now.query)) v.items) }
+    ensures query { IsOk result → IsQuery query.now.query }
+{
+    let kept = kept_for(query.columns());
+    groups_given(alloc, kept, view, query, pieces)
 }
 
 /// Returns true if the view has the settings and marks that the plan was checked under.
@@ -52,7 +71,24 @@ pub fn execute<'a, A: Allocator + Copy + 'a, V: View<A> + 'a>(
     if !is_fresh(view, checked) {
         return Err(ExecFault::Stale(view.settings(), view.marks()));
     }
-    let groups = groups_given(alloc, view, checked.query(), checked.pieces())?;
+    let groups = groups_given(alloc, Kept::Whole, view, checked.query(), checked.pieces())?;
+    let query = checked.query().copied(alloc)?;
+    Ok(Table::new(query, groups))
+}
+
+/// Executes a checked plan over a view as `execute` does, but computes only the values of the query's functions. The
+/// other values of the result are unspecified. A count needs no values of points, and a sum no extremes.
+pub fn execute_selected<'a, A: Allocator + Copy + 'a, V: View<A> + 'a>(
+    alloc: A,
+    view: &'a V,
+    checked: &Checked<A>,
+) -> Result<Table<'a, A>, ExecFault<'a, A>>
+    ensures { IsSelectionOf (V.seen view.now) checked.now result }
+{
+    if !is_fresh(view, checked) {
+        return Err(ExecFault::Stale(view.settings(), view.marks()));
+    }
+    let groups = groups_selected(alloc, view, checked.query(), checked.pieces())?;
     let query = checked.query().copied(alloc)?;
     Ok(Table::new(query, groups))
 }

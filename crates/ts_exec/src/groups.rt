@@ -7,6 +7,7 @@ ghost use Rattle.ts_exec.specs.Slots.{AreSlots, made};
 ghost use Rattle.ts_exec.specs.GroupTables.{with_column_parts, with_cell_part};
 
 use crate::buckets::Buckets;
+use crate::kept::Kept;
 use crate::slot::Slot;
 use std::alloc::{AllocError, Allocator};
 use std::cmp::Ordering;
@@ -190,22 +191,24 @@ impl<'a, A: Allocator + Copy> Groups<'a, A> {
         self.slots[at].add_part(width, place, part)
     }
 
-    /// Adds points to a group, inserting it if needed. Tries the slot `guess` first. Without points, inserts no group.
+    /// Adds points to a group, inserting it if needed, and keeps these parts of them. Tries the slot `guess` first.
+    /// Without points, inserts no group.
     pub(crate) fn add_points(
         &mut self,
         guess: usize,
+        kept: Kept,
         width: usize,
         values: &[&'a str],
         buckets: &mut Buckets,
         mut points: Points<'_>,
     ) -> Result<(), AllocError>
-        ensures value { OnOk result (self.new ≡ with_column_parts buckets.old width (lent values.now) points.entry self.old) }
+        ensures value { OnOk result (self.new ≡ with_column_parts kept buckets.old width (lent values.now) points.entry self.old) }
         ensures same { buckets.new ≡ buckets.old }
     {
         let Some(first) = points.next() else {
             return Ok(());
         };
         let at = expect(&mut self.slots, guess, values)?;
-        self.slots[at].add_points(width, buckets, first, points)
+        self.slots[at].add_points(kept, width, buckets, first, points)
     }
 }

@@ -2,12 +2,13 @@
 //! plans that ts_check checks, and on ts_core, ts_raw and ts_ql.
 //!
 //! Proved: `execute` returns the answer to the plan's query over all points ever accepted, whatever history the view
-//! shows. It returns `Stale` exactly if the plan is stale; its only other error is `OutOfMemory`.
+//! shows. It returns `Stale` exactly if the plan is stale; its only other error is `OutOfMemory`. `execute_selected`
+//! promises the same for the values of the query's functions alone, and computes no others of raw points.
 //!
 //! An example, over a store and a plan that was checked under its settings and marks:
 //!
 //! ```text
-//! let table = execute(alloc, &store, &checked)?;
+//! let table = execute_selected(alloc, &store, &checked)?;
 //! let rows = fill(table, checked.query().fill());
 //! for group in rows.groups() {
 //!     // group.values are the values of the tags that the query groups by
@@ -17,8 +18,8 @@
 //! }
 //! ```
 //!
-//! To add an aggregate: touch nothing here; `Partial` merges rows, and ts_core's `Function` computes the values of
-//! columns. To add a fill option that ts_core's `Fill` has: touch filled.rt, and `row_content` and `content_rows` in
+//! To add a function: say in kept.rt, and in `keeps` of specs/Selections.antt, which parts of an aggregate it needs.
+//! ts_core's `Function` computes its value. To keep other parts: add a `Fold`. To add a fill option that ts_core's `Fill` has: touch filled.rt, and `row_content` and `content_rows` in
 //! specs/Fillings.antt.
 #![tactic(auto)]
 
@@ -28,7 +29,9 @@ mod executor;
 mod fault;
 mod filled;
 mod filling;
+mod fold;
 mod groups;
+mod kept;
 mod pieces;
 mod rows;
 mod selection;
@@ -36,7 +39,7 @@ mod slot;
 mod table;
 
 pub use counting::count_points;
-pub use executor::execute;
+pub use executor::{execute, execute_selected};
 pub use fault::ExecFault;
 pub use filled::{FilledRow, FilledRows, Values};
 pub use filling::{FilledGroup, FilledGroups, Rows, fill};

@@ -15,6 +15,7 @@ ghost use Rattle.ts_exec.specs.GroupTables.{with_cell, with_cell_parts, with_sou
 
 use crate::buckets::{Buckets, width};
 use crate::groups::Groups;
+use crate::kept::Kept;
 use crate::selection::selected_columns;
 use std::alloc::{AllocError, Allocator};
 use std::marker::Model;
@@ -118,15 +119,17 @@ fn expect_groups<'a, A: Allocator + Copy>(
     Ok(places)
 }
 
-/// Adds the raw points from `from`, inclusive, to `to`, exclusive, that the query matches.
+/// Adds the raw points from `from`, inclusive, to `to`, exclusive, that the query matches. Keeps these
+/// parts of them.
 fn add_raw<'a, A: Allocator + Copy + 'a, V: View<A> + 'a>(
     groups: &mut Groups<'a, A>,
     scan: &mut Scan<'a, '_, A>,
+    kept: Kept,
     view: &'a V,
     from: i64,
     to: i64,
 ) -> Result<(), AllocError>
-    ensures value { OnOk result (groups.new ≡ with_source (V.seen view.now) scan.old Raw from to groups.old) }
+    ensures value { OnOk result (groups.new ≡ with_source kept (V.seen view.now) scan.old Raw from to groups.old) }
     ensures same { scan.new ≡ scan.old }
 {
     let alloc = *scan.values.allocator();
@@ -138,7 +141,14 @@ fn add_raw<'a, A: Allocator + Copy + 'a, V: View<A> + 'a>(
         let guess = places.get(number).copied().unwrap_or(0);
         number = number.saturating_add(1);
         let points = view.raw_range(column.id, from, to);
-        groups.add_points(guess, scan.width, &scan.values, &mut scan.buckets, points)?;
+        groups.add_points(
+            guess,
+            kept,
+            scan.width,
+            &scan.values,
+            &mut scan.buckets,
+            points,
+        )?;
     }
     Ok(())
 }
@@ -316,18 +326,19 @@ pub(crate) fn rule_from<'a, A: Allocator>(
     }
 }
 
-/// Adds the data of a piece.
+/// Adds the data of a piece. Keeps these parts of raw points.
 fn add_piece<'a, A: Allocator + Copy + 'a, V: View<A> + 'a>(
     groups: &mut Groups<'a, A>,
     scan: &mut Scan<'a, '_, A>,
+    kept: Kept,
     view: &'a V,
     piece: &Piece,
 ) -> Result<(), AllocError>
-    ensures value { OnOk result (groups.new ≡ with_source (V.seen view.now) scan.old piece.now.source piece.now.from piece.now.to groups.old) }
+    ensures value { OnOk result (groups.new ≡ with_source kept (V.seen view.now) scan.old piece.now.source piece.now.from piece.now.to groups.old) }
     ensures same { scan.new ≡ scan.old }
 {
     match &piece.source {
-        PieceSource::Raw => add_raw(groups, scan, view, piece.from, piece.to),
+        PieceSource::Raw => add_raw(groups, scan, kept, view, piece.from, piece.to),
         PieceSource::Rollup(name) => match rule_from(0, view.settings().rules(), name.as_str()) {
             Some((number, rule)) => add_cells(
                 groups, scan, view, rule, number, piece.from, piece.to,
@@ -337,17 +348,18 @@ fn add_piece<'a, A: Allocator + Copy + 'a, V: View<A> + 'a>(
     }
 }
 
-/// Adds the data of all pieces.
+/// Adds the data of all pieces. Keeps these parts of raw points.
 pub(crate) fn add_pieces<'a, A: Allocator + Copy + 'a, V: View<A> + 'a>(
     groups: &mut Groups<'a, A>,
     scan: &mut Scan<'a, '_, A>,
+    kept: Kept,
     view: &'a V,
     pieces: &[Piece],
 ) -> Result<(), AllocError>
-    ensures { OnOk result (groups.new ≡ with_pieces (V.seen view.now) scan.old pieces.now groups.old) }
+    ensures { OnOk result (groups.new ≡ with_pieces kept (V.seen view.now) scan.old pieces.now groups.old) }
 {
     for piece in pieces {
-        add_piece(groups, scan, view, piece)?;
+        add_piece(groups, scan, kept, view, piece)?;
     }
     Ok(())
 }

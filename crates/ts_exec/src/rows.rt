@@ -1,9 +1,11 @@
 //! Adds points and parts to the rows of a group.
-ghost use Rattle.std.specs.Prelude.{◌≡◌, ◌∷◌, length, get_or, set};
+ghost use Rattle.std.specs.Prelude.{◌≡◌, ◌∷◌, ◌+◌, ◌^◌, ◌≤◌, true, get_or, min, if◌then◌else◌};
 ghost use Rattle.ts_core.specs.aggregates.Aggregates.{empty_aggregate};
-ghost use Rattle.ts_exec.specs.RowParts.{added, with_part, with_point_parts};
+ghost use Rattle.ts_exec.specs.RowParts.{IsRun, added, part_of_point, place_at, with_part, with_point_parts};
 
-use crate::buckets::Buckets;
+use crate::buckets::{Buckets, Span};
+use crate::fold::{Counted, Fold, Summed};
+use crate::kept::Kept;
 use ts_core::{Agg, MAX_COUNT, Partial, Time};
 use ts_raw::Points;
 
@@ -27,74 +29,96 @@ pub(crate) fn add_part(rows: &mut [Agg], place: usize, part: Agg)
     }
 }
 
-/// Cached row with its index, for runs of points in one bucket.
+/// Returns true if the row with this index has room for a point and `others` more.
+fn has_room(rows: &[Agg], place: usize, others: u64) -> bool
+    ensures { result ≡ true → (get_or rows.now place empty_aggregate).count + (others + 1) ≤ 2 ^ 62 }
+{
+    let count = match rows.get(place) {
+        Some(row) => row.count(),
+        None => 0,
+    };
+    others < MAX_COUNT.saturating_sub(count)
+}
+
+/// Run of points in one bucket, and their fold.
 #[derive(Clone, Copy, Debug)]
-struct CachedRow {
+struct Run<F> {
+    // Times from `low`, inclusive, to `high`, exclusive, are in the bucket.
+    low: i64,
+    high: i64,
     place: usize,
-    row: Agg,
+    fold: F,
 }
 
-/// Returns the row with this index, or an empty one.
-fn row_at(rows: &[Agg], place: usize) -> Agg
-    ensures { result ≡ get_or rows.now place empty_aggregate }
+/// Returns the end of a run: that of its bucket, or of no time if the row has no room.
+fn end_of_run(span: &Span, roomy: bool) -> i64
+    ensures { result ≡ (if roomy then span.now.high else span.now.low) }
 {
-    match rows.get(place) {
-        Some(row) => *row,
-        None => Agg::empty(),
-    }
+    if roomy { span.high } else { span.low }
 }
 
-/// Writes the row with this index, if there is one.
-fn put_row(rows: &mut [Agg], place: usize, row: Agg)
-    ensures { rows.new ≡ set rows.old place row }
-{
-    if place < rows.len() {
-        rows[place] = row;
-    }
-}
-
-/// Caches the row with this index, after writing back the one cached before.
-fn cache_row(rows: &mut [Agg], cached: &mut CachedRow, place: usize)
-    ensures same { set rows.new cached.new.place cached.new.row ≡ set rows.old cached.old.place cached.old.row }
-    ensures place { cached.new.place ≡ place }
-    ensures length { length rows.new ≡ length rows.old }
-{
-    if cached.place != place {
-        put_row(rows, cached.place, cached.row);
-        cached.row = row_at(rows, place);
-        cached.place = place;
-    }
-}
-
-/// Adds points, each to the row of its bucket. Caches the current row, as points of a bucket mostly come in runs.
-pub(crate) fn add_points(rows: &mut [Agg], buckets: &mut Buckets, points: Points<'_>)
-    ensures value { rows.new ≡ with_point_parts buckets.old points.entry rows.old }
+/// Begins a run by its first point, with at most `others` points to come. If these could give its row more than 2^62
+/// points, none of them belongs to the run.
+fn begin_run<F: Fold>(
+    rows: &[Agg],
+    buckets: &mut Buckets,
+    time: Time,
+    value: i64,
+    others: u64,
+) -> Run<F>
+    ensures run { IsRun buckets.old rows.now others result.low result.high result.place (F.folded result.fold) }
+    ensures place { result.place ≡ min (place_at buckets.old time) 18_446_744_073_709_551_615 }
+    ensures fold { F.folded result.fold ≡ part_of_point F.kept time value }
     ensures same { buckets.new ≡ buckets.old }
 {
-    let _width = rows.len();
-    let mut cached = CachedRow {
-        place: 0,
-        row: row_at(rows, 0),
-    };
-    for (time, value) in points {
-        cache_row(rows, &mut cached, buckets.place(time.nanos()));
-        cached.row = added(cached.row, Agg::single(time, value));
+    let span = buckets.span(time.nanos());
+    let roomy = has_room(rows, span.place, others);
+    Run {
+        low: span.low,
+        high: end_of_run(&span, roomy),
+        place: span.place,
+        fold: F::single(time, value),
     }
-    put_row(rows, cached.place, cached.row);
 }
 
-/// Adds the point `first` and then the others, each to the row of its bucket.
-pub(crate) fn add_first_points(
+/// Adds points, each to the row of its bucket. Folds each run of points in one bucket, and merges it into its row.
+fn add_runs<F: Fold>(
     rows: &mut [Agg],
     buckets: &mut Buckets,
     first: (Time, i64),
     others: Points<'_>,
 )
-    ensures value { rows.new ≡ with_point_parts buckets.old (first ∷ others.entry) rows.old }
+    ensures value { rows.new ≡ with_point_parts F.kept buckets.old (first ∷ others.entry) rows.old }
     ensures same { buckets.new ≡ buckets.old }
 {
     let _width = rows.len();
-    let place = buckets.place(first.0.nanos());
-    add_part(rows, place, Agg::single(first.0, first.1));
-    add_points(rows, buckets, others);
+    let count = others.len() as u64;
+    let mut run: Run<F> = begin_run(rows, buckets, first.0, first.1, count);
+    for (time, value) in others {
+        if run.low <= time.nanos() && time.nanos() < run.high {
+            run.fold = run.fold.with(time, value);
+        } else {
+            add_part(rows, run.place, run.fold.part());
+            run = begin_run(rows, buckets, time, value, count);
+        }
+    }
+    add_part(rows, run.place, run.fold.part());
+}
+
+/// Adds the point `first` and then the others, each to the row of its bucket. Keeps these parts of them.
+pub(crate) fn add_points(
+    rows: &mut [Agg],
+    kept: Kept,
+    buckets: &mut Buckets,
+    first: (Time, i64),
+    others: Points<'_>,
+)
+    ensures value { rows.new ≡ with_point_parts kept buckets.old (first ∷ others.entry) rows.old }
+    ensures same { buckets.new ≡ buckets.old }
+{
+    match kept {
+        Kept::CountAlone => add_runs::<Counted>(rows, buckets, first, others),
+        Kept::CountAndSum => add_runs::<Summed>(rows, buckets, first, others),
+        Kept::Whole => add_runs::<Agg>(rows, buckets, first, others),
+    }
 }

@@ -6,7 +6,8 @@ ghost use Rattle.ts_exec.specs.RowParts.{with_part, with_point_parts};
 ghost use Rattle.ts_exec.specs.GroupTables.{rows_or};
 
 use crate::buckets::Buckets;
-use crate::rows::{add_first_points, add_part};
+use crate::kept::Kept;
+use crate::rows::{add_part, add_points};
 use std::alloc::{AllocError, Allocator};
 use std::cmp::Ordering;
 use std::marker::Model;
@@ -81,21 +82,22 @@ impl<'a, A: Allocator + Copy> Slot<'a, A> {
         Ok(())
     }
 
-    /// Adds the point `first` and then the others, each to the row of its bucket.
+    /// Adds the point `first` and then the others, each to the row of its bucket. Keeps these parts of them.
     pub(crate) fn add_points(
         &mut self,
+        kept: Kept,
         width: usize,
         buckets: &mut Buckets,
         first: (Time, i64),
         others: Points<'_>,
     ) -> Result<(), AllocError>
-        ensures rows { OnOk result (self.new.1 ≡ Some (with_point_parts buckets.old (first ∷ others.entry) (rows_or width self.old.1))) }
+        ensures rows { OnOk result (self.new.1 ≡ Some (with_point_parts kept buckets.old (first ∷ others.entry) (rows_or width self.old.1))) }
         ensures key { self.new.0 ≡ self.old.0 }
         ensures same { buckets.new ≡ buckets.old }
     {
         self.make_rows(width)?;
         if let Some(rows) = &mut self.rows {
-            add_first_points(rows.as_mut_slice(), buckets, first, others);
+            add_points(rows.as_mut_slice(), kept, buckets, first, others);
         }
         Ok(())
     }

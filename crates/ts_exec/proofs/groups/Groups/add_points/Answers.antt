@@ -19,6 +19,6 @@ returns-clause-value g c =
     let all : List (ℤ × ℤ) = c.in-Some.first ∷ c.next.new.self in
     let left : c.args.points ≡ all = search rules in
     on_ok_weaker c.add_points.result (λ rows.
-    written-made t c.expect.ensures.slots k c.in_ok-at.at c.in_ok-at.ensures.place c.index_mut.result.now c.add_points.new.self c.index_mut.ensures.value c.add_points.ensures.key (with_point_parts c.args.buckets.now all) c.args.width rows
-    ∙ ap (λ (x : Table). with_column_parts c.args.buckets.now c.args.width k all x) (c.expect.ensures.made ∙ c.self.view_is)
-    ∙ sym (ap (λ (ps : List (ℤ × ℤ)). with_column_parts c.args.buckets.now c.args.width k ps c.args.self.now) left)) c.add_points.ensures.rows
+    written-made t c.expect.ensures.slots k c.in_ok-at.at c.in_ok-at.ensures.place c.index_mut.result.now c.add_points.new.self c.index_mut.ensures.value c.add_points.ensures.key (with_point_parts c.args.kept c.args.buckets.now all) c.args.width rows
+    ∙ ap (λ (x : Table). with_column_parts c.args.kept c.args.buckets.now c.args.width k all x) (c.expect.ensures.made ∙ c.self.view_is)
+    ∙ sym (ap (λ (ps : List (ℤ × ℤ)). with_column_parts c.args.kept c.args.buckets.now c.args.width k ps c.args.self.now) left)) c.add_points.ensures.rows

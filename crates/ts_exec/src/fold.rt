@@ -1,0 +1,154 @@
+//! Folds of points that keep parts of an aggregate.
+ghost use Rattle.std.specs.Prelude.{◌≡◌, ◌+◌, ◌^◌, ◌<◌};
+ghost use Rattle.ts_core.specs.aggregates.Aggregates.{Aggregate, merged};
+ghost use Rattle.ts_exec.specs.declared.kept.Kept.{Kept};
+ghost use Rattle.ts_exec.specs.declared.kept.Kept.TheVariants.{CountAlone, CountAndSum, Whole};
+ghost use Rattle.ts_exec.specs.RowParts.{part_of_point, wide_extremes};
+
+use std::marker::Model;
+use ts_core::{Agg, Extremes, Partial, Time};
+
+/// Fold of points: keeps some parts of their aggregate.
+pub(crate) trait Fold: Copy {
+    ghost kept: { Kept };
+
+    ghost folded: { Self → Aggregate };
+
+    /// Returns the fold of one point.
+    fn single(time: Time, value: i64) -> Self
+        ensures { folded result ≡ part_of_point kept time value };
+
+    /// Adds a point.
+    fn with(self, time: Time, value: i64) -> Self
+        requires { (folded self).count < 2 ^ 62 }
+        ensures { folded result ≡ merged (folded self) (part_of_point kept time value) };
+
+    /// Returns an aggregate with the parts that are kept.
+    fn part(self) -> Agg
+        ensures { result ≡ folded self };
+}
+
+/// Returns extremes that lie beyond those of any points.
+fn wide_extremes() -> Extremes
+    ensures { result ≡ wide_extremes }
+{
+    let zero = match Time::new(0) {
+        Some(time) => time,
+        None => unreachable!(),
+    };
+    Extremes {
+        min: i64::MIN,
+        max: i64::MAX,
+        first: (zero, 0),
+        last: (zero, 0),
+    }
+}
+
+/// Count of at least one point.
+#[derive(Clone, Copy, Debug)]
+pub(crate) struct Counted {
+    count: u64,
+}
+
+impl Model for Counted {
+    ghost use Rattle.std.specs.Prelude.{pos, ◌^◌, ◌≤◌, ◌<◌, Some};
+    ghost use Rattle.ts_core.specs.aggregates.Aggregates.{Aggregate};
+    ghost use Rattle.ts_exec.specs.RowParts.{wide_extremes};
+
+    ghost Value = { Aggregate };
+
+    ghost view = { λ c. record { count = c.count; sum = pos 0; extremes = Some wide_extremes } };
+
+    ghost invariant = { λ c. (0 < c.count) × (c.count ≤ 2 ^ 62) };
+
+    ghost inverse = { λ v. record { count = v.count } };
+}
+
+impl Fold for Counted {
+    ghost kept = { CountAlone };
+
+    ghost folded = { λ c. c };
+
+    fn single(_time: Time, _value: i64) -> Counted {
+        Counted { count: 1 }
+    }
+
+    fn with(self, _time: Time, _value: i64) -> Counted {
+        Counted {
+            count: self.count + 1,
+        }
+    }
+
+    fn part(self) -> Agg {
+        match Agg::from_parts(self.count, 0, Some(wide_extremes())) {
+            Some(part) => part,
+            None => unreachable!(),
+        }
+    }
+}
+
+/// Count and sum of at least one point.
+#[derive(Clone, Copy, Debug)]
+pub(crate) struct Summed {
+    count: u64,
+    sum: i128,
+}
+
+impl Model for Summed {
+    ghost use Rattle.std.specs.Prelude.{◌^◌, ◌≤◌, Some};
+    ghost use Rattle.ts_core.specs.aggregates.Aggregates.{Aggregate, IsSpread};
+    ghost use Rattle.ts_exec.specs.RowParts.{wide_extremes};
+
+    ghost Value = { Aggregate };
+
+    ghost view = { λ s. record { count = s.count; sum = s.sum; extremes = Some wide_extremes } };
+
+    ghost invariant = { λ s. (s.count ≤ 2 ^ 62) × IsSpread s.count s.sum wide_extremes };
+
+    ghost inverse = { λ v. record { count = v.count; sum = v.sum } };
+}
+
+impl Fold for Summed {
+    ghost kept = { CountAndSum };
+
+    ghost folded = { λ s. s };
+
+    fn single(_time: Time, value: i64) -> Summed {
+        Summed {
+            count: 1,
+            sum: i128::from(value),
+        }
+    }
+
+    fn with(self, _time: Time, value: i64) -> Summed {
+        Summed {
+            count: self.count + 1,
+            sum: self.sum + i128::from(value),
+        }
+    }
+
+    fn part(self) -> Agg {
+        match Agg::from_parts(self.count, self.sum, Some(wide_extremes())) {
+            Some(part) => part,
+            None => unreachable!(),
+        }
+    }
+}
+
+impl Fold for Agg {
+    ghost kept = { Whole };
+
+    ghost folded = { λ a. a };
+
+    fn single(time: Time, value: i64) -> Agg {
+        <Agg as Partial>::single(time, value)
+    }
+
+    fn with(self, time: Time, value: i64) -> Agg {
+        self.merge(<Agg as Partial>::single(time, value))
+    }
+
+    fn part(self) -> Agg {
+        self
+    }
+}
