@@ -1,9 +1,10 @@
 -- The outcome of a query, by the rows that a plan gives of a store.
-use Rattle.std.proofs.Common.{◌≡◌, List, Result, Ok, Err, Some, refl, sym, ap, ◌∙◌, subst}
+use Rattle.std.proofs.Common.{◌≡◌, List, Result, Ok, Err, Some, refl, sym, ap, ap₂, ◌∙◌, subst}
 use Rattle.ts_core.specs.facts.Facts.{Text}
 use Rattle.ts_core.specs.plans.Faults.{first_fault}
 use Rattle.ts_core.specs.declared.queries.fill.Fill.{Fill}
 use Rattle.ts_core.specs.queries.Answers.{answer_of}
+use Rattle.ts_core.specs.queries.Fills.{filled}
 use Rattle.ts_core.specs.store.History.{History, settings_of}
 use Rattle.ts_core.specs.facts.Latest.{latest_of}
 use Rattle.ts_core.specs.store.Marks.{Marks, marks_of}
@@ -20,8 +21,8 @@ use Rattle.ts_check.specs.declared.fault.CheckError.{CheckError}
 use Rattle.ts_check.specs.declared.fault.CheckError.TheVariants as checks
 use Rattle.ts_check.specs.declared.fault.CheckFault.{CheckFault}
 use Rattle.ts_exec.specs.Answered.{Answered}
-use Rattle.ts_exec.specs.Executions.{IsAnswer}
-use Rattle.ts_exec.specs.Fillings.{FilledAnswer, filled_answer}
+use Rattle.ts_exec.specs.Executions.{IsSelectedAnswer}
+use Rattle.ts_exec.specs.Fillings.{FilledAnswer, filled_answer, functions_of}
 use Rattle.ts_plan.specs.Planning.{IsPlanFor}
 use Rattle.ts_plan.specs.PlanTexts.{plan_fault_text}
 use Rattle.ts_plan.specs.declared.fault.PlanError.{PlanError}
@@ -31,15 +32,19 @@ use Rattle.ts_ql.specs.Selects.{Select}
 use Rattle.ts_reply.specs.Answering.{IsPlannedOutcome, answered, refused, IsChecked, invalid, valid, IsCertified, misspelled}
 use Rattle.ts_reply.specs.Explaining as explaining
 use Rattle.ts_reply.specs.Explaining.{IsExplained}
-use Rattle.ts_reply.specs.Outcomes.{Outcome, Certificate, Fault, rows_outcome, rows_over}
+use Rattle.ts_reply.specs.Outcomes.{Outcome, Rows, Certificate, Fault, rows_outcome, rows_over}
 
 pub rows_shown : (k : StoreData) (s : Select) (fill : Fill) (plan : Plan) (table : Answered) (r : FilledAnswer)
-    → ShowsEach k → plan.select ≡ s → fill ≡ s.fill → IsAnswer (view_state_of (state_of k)) plan table → r ≡ filled_answer fill table
+    → ShowsEach k → plan.select ≡ s → fill ≡ s.fill → IsSelectedAnswer (view_state_of (state_of k)) plan table → r ≡ filled_answer fill table
     → OfEachHistory k (λ opening h. rows_outcome r ≡ rows_over (latest_of h) s)
 rows_shown k s fill plan table r shows e f a is opening h stands =
     let select : table.select ≡ s = a.select ∙ e in
-    let groups : table.groups ≡ answer_of (latest_of h) s.query = a.answer opening h (shows opening h stands) ∙ ap (λ (x : Select). answer_of (latest_of h) x.query) e in
-    ap rows_outcome is ∙ rw (f, select, groups) refl
+    let values : filled fill (functions_of plan.select.columns) table.groups ≡ filled fill (functions_of plan.select.columns) (answer_of (latest_of h) plan.select.query) =
+    a.answer opening h (shows opening h stands) fill in
+    ap rows_outcome is
+    ∙ ap (λ (x : Select). Rows x (filled fill (functions_of x.columns) table.groups)) a.select
+    ∙ ap (Rows plan.select) values
+    ∙ ap₂ (λ (x : Select) (y : Fill). Rows x (filled y (functions_of x.columns) (answer_of (latest_of h) x.query))) e f
 
 -- a fact about a store's settings and marks is one about those of each history that it stands for
 carried : (Says : Settings → Marks → Type 0) (k : StoreData) (settings : Settings) (marks : Marks) (opening : Settings) (h : History)

@@ -15,7 +15,7 @@ use crate::reply::{Outcome, reply_json};
 use std::alloc::{AllocError, Allocator, Global};
 use ts_check::{Certificate, CheckError, Checked, ReadCertificateError, check, read_certificate};
 use ts_core::Time;
-use ts_exec::{ExecFault, Rows, execute, fill};
+use ts_exec::{ExecFault, Rows, execute_selected, fill};
 use ts_plan::{PlanError, plan};
 use ts_ql::{ParseError, Query, parse};
 use ts_store::{Store, View};
@@ -41,7 +41,7 @@ fn rows_of<'a, A: Allocator + Copy + 'a>(
     requires marks { checked.now.marks ≡ store.now.marks }
     ensures { IfOk result (λ r. OfEachHistory store.now (λ opening h. rows_outcome r ≡ rows_over (latest_of h) checked.now.select)) }
 {
-    match execute(alloc, store, checked) {
+    match execute_selected(alloc, store, checked) {
         Ok(table) => Ok(fill(table, checked.query().fill())),
         Err(ExecFault::OutOfMemory) => Err(AllocError),
         Err(ExecFault::Stale(_, _)) => unreachable!(),
