@@ -1,5 +1,5 @@
 -- The outcome of a query, by the rows that a plan gives of a store.
-use Rattle.std.proofs.Common.{◌≡◌, List, Result, Ok, Err, Some, refl, sym, ap, ap₂, ◌∙◌, subst}
+use Rattle.std.proofs.Common.{◌≡◌, List, Result, Ok, Err, Some, sym, ap, ap₂, ◌∙◌, subst}
 use Rattle.ts_core.specs.facts.Facts.{Text}
 use Rattle.ts_core.specs.plans.Faults.{first_fault}
 use Rattle.ts_core.specs.declared.queries.fill.Fill.{Fill}
