@@ -2,8 +2,9 @@
 
 use std::alloc::Global;
 use std::test::Fail;
+use ts_block::check;
 use ts_core::Time;
-use ts_raw::{Column, PlainColumn};
+use ts_raw::{BlockColumn, Column, PlainColumn};
 
 /// Times: the first one, how far the next one lies from each, and how many there are.
 #[derive(Clone, Copy)]
@@ -192,5 +193,45 @@ fn plain_columns_answer(rt: HostRuntime) -> Result<(), Fail> {
     for (row, calls) in ROWS.iter().enumerate() {
         assert_eq!(rt; first_wrong_plain(rt.alloc(), calls)?, None, "{row}");
     }
+    Ok(())
+}
+
+/// Returns the first wrong answer of a column of coded blocks.
+fn first_wrong_coded(alloc: Global, calls: &[Call]) -> Result<Option<usize>, Fail> {
+    let mut column = BlockColumn::new(alloc);
+    first_wrong(&mut column, calls)
+}
+
+#[test]
+fn coded_columns_answer(rt: HostRuntime) -> Result<(), Fail> {
+    for (row, calls) in ROWS.iter().enumerate() {
+        assert_eq!(rt; first_wrong_coded(rt.alloc(), calls)?, None, "{row}");
+    }
+    Ok(())
+}
+
+/// Returns the number of points in the blocks of a column, if all are blocks.
+fn coded_points(column: &BlockColumn<Global>) -> Option<usize> {
+    let blocks = column.blocks();
+    let mut points: usize = 0;
+    let mut at: usize = 0;
+    for _ in 0..blocks.len() {
+        let info = check(blocks.get(at)?).ok()?;
+        points = points.saturating_add(info.points());
+        at = at.saturating_add(1);
+    }
+    Some(points)
+}
+
+#[test]
+fn blocks_are_held(rt: HostRuntime) -> Result<(), Fail> {
+    let mut column = BlockColumn::new(rt.alloc());
+    put_all(&mut column, Times(1, 1, 600))?;
+    drop_below(&mut column, 300)?;
+    assert_eq!(rt; column.blocks().len(), 2);
+    assert_eq!(rt; coded_points(&column), Some(column.held()));
+    put_all(&mut column, Times(1_000, -1, 300))?;
+    assert_eq!(rt; column.live(), 601);
+    assert_eq!(rt; coded_points(&column), Some(column.held()));
     Ok(())
 }
