@@ -1,5 +1,6 @@
 //! Calls with each of their requests for memory refused in turn.
 
+mod columns;
 mod images;
 mod queries;
 mod requests;
