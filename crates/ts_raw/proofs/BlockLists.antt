@@ -1,4 +1,4 @@
--- The lists of points of blocks, wherever the bytes of these are.
+-- Lists of points of blocks, anywhere in the bytes.
 use Rattle.std.proofs.Common.{◌≡◌, ℕ, zero, suc, ◌+◌, ◌-◌, ◌<◌, ◌≤◌, ℤ, ◌<ℤ◌, List, [], ◌∷◌, ◌++◌, length, take, drop, get_or, append-nil, length-append, length-drop, refl, sym, ◌∙◌, ap, subst, arith}
 use Rattle.std.proofs.lemmas.List.{take-append-drop, length-take-le}
 use Rattle.std.proofs.Math.Seq.{drop-append_seam, take-length, take-append_seam}

@@ -367,7 +367,7 @@ module _ (bytes : List ℕ) (ms : List Mark) (total cut at n : ℕ) (t : ℤ) (c
   pub count_is : n ≡ length G + before_first t R
   count_is = is ∙ ap (before_first t) parts ∙ before_all t G R earlier
 
-  -- what is left is the points from t on
+  -- the points left are those from t on
   pub dropped_points : drop (max n cut - length G) R ≡ filter (λ (q : ℤ × ℤ). int_le t q.0) (drop cut (coded_points bytes ms))
   dropped_points =
       let C : List (ℤ × ℤ) = coded_points bytes ms in

@@ -1,4 +1,4 @@
--- The points of a column by what is among them: after one was put in, from a mark on, and within a range; and their order.
+-- Points of a column, by membership: after an insertion, from a mark on, and within a range; and their order.
 use Rattle.std.proofs.Common.{◌≡◌, ◌≢◌, ◌↔◌, ℤ, ◌≤ℤ◌, ◌<ℤ◌, int_le, int_lt, Bool, true, false, cond, refl, sym, ◌∙◌, ap, inl, inr, ◌⊎◌, ⊎_elim, Option, Some, None, true≢false, is_eq}
 use Rattle.std.specs.Ordering.{int_cmp, int_eq}
 use Rattle.std.specs.Cmp.{int_cmp_total}

@@ -1,4 +1,4 @@
--- The points of a bucket are those between its bounds.
+-- Points of a bucket, as those between its bounds.
 use Rattle.std.proofs.Common.{◌≡◌, ℤ, pos, ◌+ℤ◌, ◌≤ℤ◌, int_eq, subst, List, filter}
 use Rattle.std.proofs.lemmas.Bool.{and_parts, and_from}
 use Rattle.std.proofs.lemmas.Bool.Decides.{Decides-int_eq}

@@ -1,4 +1,4 @@
--- The hash of tags, one more at the end.
+-- Hash of tags, with one more at the end.
 use Rattle.std.proofs.Common.{◌≡◌, ℕ, ◌<◌, ◌+◌, List, [], ◌∷◌, ◌++◌, length, get_or, take, refl, ◌∙◌, ap, Bor}
 use Rattle.std.proofs.lemmas.List.{take_more}
 use Rattle.std.specs.Hash.FoldHasher.{write}

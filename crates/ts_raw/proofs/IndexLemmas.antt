@@ -1,4 +1,4 @@
--- An index by its parts: what its names stand for.
+-- Parts of an index, and the names that they represent.
 use Rattle.std.proofs.Common.{◌≡◌, ℕ, ◌<◌, true, false, nat_eq, List, [], length, map, get_or, refl, sym, ◌∙◌, ap, subst, eq-eqb, eqb-true}
 use Rattle.std.proofs.lemmas.Option.{slice_get-get_or, get_or_from_slice_get}
 use Rattle.std.specs.Cmp.Derive.{both_true}

@@ -1,4 +1,4 @@
--- An index goes on: one more series, one more field, one more column.
+-- Steps of an index: one more series, one more field, one more column.
 use Rattle.std.proofs.Common.{◌≡◌, ℕ, ◌+◌, ◌<◌, ◌≤◌, List, [], ◌∷◌, ◌++◌, length, map, get_or, sym, ◌∙◌, ap, subst, ◌⊎◌, ⊎_elim, arith}
 use Rattle.std.proofs.lemmas.List.{length_push, length-map, get_or_append_left, map-append}
 use Rattle.ts_core.specs.lists.Members.{Among, AllDistinct}

@@ -1,4 +1,4 @@
--- The numbers of those that pass: they name just these, each once, and read in turn they give the filtered list.
+-- Indices of the items that pass a test: exactly these, each once; the items at them, in order, are the filtered list.
 use Rattle.std.proofs.Common.{◌≡◌, ℕ, zero, suc, ◌+◌, Bool, true, false, cond, List, [], ◌∷◌, ◌++◌, length, map, filter, get_or, refl, sym, ◌∙◌, ap, subst, inl, inr, ⊎_elim, arith, append_assoc}
 use Rattle.std.proofs.Math.Seq.{get_or-append_seam}
 use Rattle.std.proofs.lemmas.List.{length_push}
@@ -7,7 +7,7 @@ use Rattle.ts_core.specs.lists.Members.{Among, AllDistinct}
 use Rattle.ts_core.specs.lists.Numbered.{IsAt, numbers_where_from, numbers_where}
 
 module _ {X : Type 0} (p : X → Bool) where
-  -- what a number stands for, counted from the first
+  -- the item with an index, counted from the first
   abbrev IsNumbered : List X → ℕ → ℕ → Type 0
   IsNumbered xs n m = (k : ℕ) × (x : X) × (m ≡ n + k) × IsAt xs k x × (p x ≡ true)
 

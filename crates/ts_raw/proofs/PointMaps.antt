@@ -93,7 +93,7 @@ pub put_last : (points : List (ℤ × ℤ)) → IsRising points → (point last 
     → points ++ point ∷ [] ≡ put int_cmp point.0 point.1 points
 put_last points s point last is before = sym (insert_end points point) ∙ put_new points point (length points) (omega arith) (after_last points s point.0 last is before)
 
--- what a binary search answers
+-- the result of a binary search
 pub found_place : (points : List (ℤ × ℤ)) → IsRising points → (t : ℤ) (r : Result ℕ ℕ) → IsBinarySearchResult (λ (p : ℤ × ℤ). int_cmp p.0 t) points r → IsPlaceOf t points r
 found_place points s t (Ok i) h = h
 found_place points s t (Err i) h = h (rises int_cmp_total points s t)

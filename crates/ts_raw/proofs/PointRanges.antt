@@ -1,4 +1,4 @@
--- What lies before a time, and behind it, in the order of time.
+-- Points before a time and after it, in the order of time.
 use Rattle.std.proofs.Common.{◌≡◌, ℕ, ℤ, ◌≤◌, true, false, List, length, take, drop, filter, sym, ◌∙◌, ap, subst, arith, slice_index_or, int_lt, int_le}
 use Rattle.std.proofs.lemmas.Int.{ints}
 use Rattle.std.specs.Ordering.{int_cmp}

@@ -1,4 +1,4 @@
--- A block that is encoded anew, with a point inserted or replaced.
+-- Encoding a block anew, with a point inserted or replaced.
 use Rattle.std.proofs.Common.{◌≡◌, ℕ, zero, suc, ◌+◌, ◌<◌, ◌≤◌, ℤ, ◌<ℤ◌, ◌≤ℤ◌, int_cmp, true, false, Bool, ◌&&◌, is_lt, T, Less, Equal, Greater, List, [], ◌∷◌, ◌++◌, length, take, drop, get_or, set, insert, append_assoc, append-nil, length-append, length-drop, drop-cons, refl, sym, ◌∙◌, ap, subst, arith}
 use Rattle.std.proofs.lemmas.Int.{ints}
 use Rattle.std.proofs.lemmas.List.{take-append-drop, length-take-le}

@@ -1,4 +1,4 @@
--- Series that compare equal are the same.
+-- Equality of series by comparison.
 use Rattle.std.proofs.Common.{◌≡◌, Equal, Ordering, ◌==◌, true, false, true≢false, refl, sym, ◌∙◌, ap}
 use Rattle.std.specs.Ordering.{ordering_index}
 use Rattle.std.proofs.lemmas.Cmp.{tied_itself}

@@ -7,7 +7,7 @@ use Rattle.ts_core.specs.facts.Facts.{Text, Series}
 use Rattle.ts_raw.specs.declared.index.tags.TagLink.{TagLink}
 use Rattle.ts_raw.specs.TagChains.{TagChains, head_of, no_link, next_of, Leads, LeadsTo, AreHeadsWithin, KeepLeads, AllLead, AreTagged, AreAmongTagged, hash_of_tag}
 
--- how far a walk may still go
+-- an upper bound on the links that a walk still visits
 abbrev pub links_left : Option ℕ → ℕ
 links_left None = 0
 links_left (Some i) = i + 1
@@ -20,7 +20,7 @@ pub record IsGathered (links : List TagLink) (head : Option ℕ) (found : List �
   pub within : IsWithin links next
   pub rest : (n : ℕ) → (k : ℕ) × Leads links k head n → Among n found ⊎ ((k : ℕ) × Leads links k next n)
 
--- what stands in for a missing member doesn't matter
+-- the default for a missing member doesn't matter
 pub same_member : {X : Type 0} (xs : List X) (i : ℕ) (d e : X) → i < length xs → get_or xs i d ≡ get_or xs i e
 same_member xs i d e l = same_Some (get_or xs i d) (get_or xs i e) (sym (slice_get-get_or xs i d l) ∙ slice_get-get_or xs i e l)
 

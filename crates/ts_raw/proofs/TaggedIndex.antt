@@ -1,4 +1,4 @@
--- The columns of an index that have a tag: those that a walk over its series found, put in order.
+-- Columns of an index that have a tag: those found by a walk over its series, sorted.
 use Rattle.std.proofs.Common.{◌≡◌, ◌↔◌, ℕ, zero, suc, true, false, cond, List, [], ◌∷◌, map, get_or, refl, sym, ◌∙◌, ap, subst, inl, inr}
 use Rattle.std.proofs.lemmas.Option.{get_or_from_slice_get, slice_get-get_or, same_Some}
 use Rattle.std.proofs.lemmas.Bool.{and_parts}

@@ -17,7 +17,7 @@ same_numbers x y = (x.0 == y.0) && (x.1 == y.1)
 abbrev pub has_field : ℕ → ℕ × ℕ → Bool
 has_field field x = x.1 == field
 
--- each column is there once, is found by its indices, and is in the list of its field
+-- each column occurs once, is found by its indices, and is in the list of its field
 pub record IsColumnTable (place : ℕ × ℕ → Option ℕ) (columns : List (ℕ × ℕ)) (members : List (List ℕ)) : Type 0 where
   pub once : AllDistinct columns
   pub placed : (x : ℕ × ℕ) → place x ≡ last_with (0, 0) (λ y. same_numbers y x) columns (length columns)

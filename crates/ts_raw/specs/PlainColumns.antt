@@ -23,6 +23,6 @@ IsPlaceOf t points place =
     MatchResult place (HoldsAt (λ (p : ℤ × ℤ). int_cmp p.0 t ≡ Equal) points)
     (IsPartitionPoint (λ (p : ℤ × ℤ). int_cmp p.0 t ≡ Less) (λ (p : ℤ × ℤ). int_cmp p.0 t ≡ Greater) points)
 
--- the first i points are those before t
+-- exactly the first i points are before t
 abbrev pub IsStartOf : ℤ → List (ℤ × ℤ) → ℕ → Type 0
 IsStartOf t points i = IsPartitionPoint (λ (p : ℤ × ℤ). int_lt p.0 t ≡ true) (λ (p : ℤ × ℤ). int_lt p.0 t ≡ false) points i

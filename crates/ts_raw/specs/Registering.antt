@@ -3,7 +3,7 @@ use Rattle.std.specs.Prelude.{◌≡◌, ℕ, List, Result, IfOk, OnOk, OnErr, I
 use Rattle.ts_core.specs.lists.Members.{Among}
 use Rattle.ts_core.specs.lists.Numbered.{IsAt, Gains}
 
--- x has the returned index: it was there, or it is appended. An item that was there is found in any case, and an error
+-- x has the returned index: it was there, or it is appended. An existing item is found in any case, and an error
 -- changes nothing.
 pub record IsRegistered {X E : Type 0} (before after : List X) (result : Result ℕ E) (x : X) : Type 0 where
   pub number : IfOk result (λ n. IsAt after n x)

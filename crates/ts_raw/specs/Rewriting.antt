@@ -25,7 +25,7 @@ pub record AreEncodable (points : List (ℤ × ℤ)) : Type 0 where
 abbrev pub blocks_of : Rewritten → List Mark
 blocks_of r = r.first ∷ option_to_list r.second
 
--- the new blocks in the place of the old one
+-- the marks with the old one replaced by the new ones
 abbrev pub marks_replaced : Rewritten → List Mark → List Mark
 marks_replaced r marks = take r.at marks ++ (blocks_of r ++ drop (r.at + 1) marks)
 

@@ -1,5 +1,5 @@
--- Chains of series by the hashes of their tags. A chain may lead to a series that doesn't have the tag, or to none: whoever
--- asks tests the series. (Own rule.)
+-- Chains of series by the hashes of their tags. A chain may lead to a series that doesn't have the tag, or to none: the
+-- caller tests the series. (Own rule.)
 use Rattle.std.specs.Prelude.{◌≡◌, ℕ, zero, suc, ◌<◌, ◌%◌, nat_lt, nat_eq, List, length, Option, Some, None, if◌then◌else◌, slice_index_or, ◌⊎◌}
 use Rattle.std.specs.Map.{lookup}
 use Rattle.std.specs.Hash.FoldHasher.{initial, write, finish}
@@ -19,7 +19,7 @@ pub record TagChains : Type 0 where
   pub newest : List (ℕ × ℕ)
   pub links : List TagLink
 
--- in place of a link that isn't there
+-- the default for a link that doesn't exist
 abbrev pub no_link : TagLink
 no_link = record { series = 0; older = 0; count = 0 }
 
@@ -27,7 +27,7 @@ no_link = record { series = 0; older = 0; count = 0 }
 abbrev pub next_of : TagLink → ℕ → Option ℕ
 next_of l i = if nat_lt l.older i then Some l.older else None
 
--- the first links of a chain, so many, lead to the series n
+-- the first links of a chain, up to this number, lead to the series n
 unfoldable pub Leads : List TagLink → ℕ → Option ℕ → ℕ → Type 0
 Leads links k None n = ⊥
 Leads links zero (Some i) n = ⊥
@@ -45,7 +45,7 @@ LeadsTo chains hash n = (k : ℕ) × Leads chains.links k (head_of chains.newest
 abbrev pub AreHeadsWithin : TagChains → Type 0
 AreHeadsWithin chains = (hash i : ℕ) → head_of chains.newest hash ≡ Some i → i < length chains.links
 
--- what was found still is
+-- each series found before is still found
 abbrev pub KeepLeads : TagChains → TagChains → Type 0
 KeepLeads before after = (hash n : ℕ) → LeadsTo before hash n → LeadsTo after hash n
 
@@ -57,7 +57,7 @@ AllLead chains measurement tags n = (t : Text × Text) → Among t tags → Lead
 abbrev pub AreTagged : List Series → TagChains → Type 0
 AreTagged series chains = (n : ℕ) (s : Series) → IsAt series n s → AllLead chains s.measurement s.tags n
 
--- each series once, with its hash, and found by each of its tags
+-- each series occurs once, with its hash, and is found by each of its tags
 pub record IsSeriesTable (series : List Series) (hashes : List ℕ) (chains : TagChains) : Type 0 where
   pub table : IsTable hash_of_series series hashes
   pub tagged : AreTagged series chains

@@ -25,7 +25,7 @@ pub record IsTaggedAt (series : List Series) (columns : List (ℕ × ℕ)) (fiel
   pub has : has_tag tag value (slice_index_or series k no_series) ≡ true
   pub at : IsAt columns n (k, field)
 
--- just the columns of the field that are of these series and have the value of the tag
+-- exactly the columns of the field that are of these series and have the value of the tag
 pub record AreTaggedAt (series : List Series) (columns : List (ℕ × ℕ)) (field : ℕ) (tag value : Text) (numbers found : List ℕ) : Type 0 where
   pub sound : (n : ℕ) → Among n found → (k : ℕ) × Among k numbers × IsTaggedAt series columns field tag value k n
   pub complete : (k n : ℕ) → Among k numbers → IsTaggedAt series columns field tag value k n → Among n found

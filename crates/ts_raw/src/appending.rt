@@ -32,7 +32,7 @@ pub(crate) fn is_full(mark: &Mark) -> bool
     mark.count >= BLOCK_POINTS
 }
 
-/// Returns true if the last block ends the bytes, of which there are `size`, and no other block ends after its start. All
+/// Returns true if the last block ends the bytes, which number `size`, and no other block ends after its start. All
 /// blocks but the last end by the offset `tail`.
 pub(crate) fn is_at_end(mark: &Mark, size: usize, tail: usize) -> bool
     ensures { IsTrue result → (mark.now.end ≡ size) × (tail ≤ mark.now.start) }
@@ -70,7 +70,7 @@ fn push_block<A: Allocator>(
     marks.push(mark).unwrap();
 }
 
-/// Appends a point to the last block in place. Its mark was taken out of `marks`. There must be capacity.
+/// Appends a point to the last block in place. Its mark was removed from `marks`. There must be capacity.
 fn push_last<A: Allocator>(
     bytes: &mut Vec<u8, A>,
     marks: &mut Vec<Mark, A>,

@@ -203,8 +203,8 @@ impl<A: Allocator + Copy> Index<A> {
         }
     }
 
-    /// Returns the columns of a measurement and a field whose series has this value of a tag, in creation order. Visits few
-    /// other series.
+    /// Returns the columns of a measurement and a field whose series has this value of a tag, in creation order. Visits
+    /// few other series.
     pub fn columns_with_tag(
         &self,
         alloc: A,
@@ -235,8 +235,8 @@ impl<A: Allocator + Copy> Index<A> {
         }
     }
 
-    /// Returns about how many series of a measurement have this value of a tag. It is a hint: which columns a query visits
-    /// may depend on it, but not its answer.
+    /// Returns about how many series of a measurement have this value of a tag. It is a hint: which columns a query
+    /// visits may depend on it, but not its answer.
     pub fn count_with_tag(&self, measurement: &str, tag: &str, value: &str) -> usize {
         self.series.count_with_tag(measurement, tag, value)
     }

@@ -39,7 +39,7 @@ impl<A: Allocator> Model for PlainColumn<A> {
     ghost invariant = { λ c. IsReady c.points.items (vec_len c.points) (vec_capacity c.points) c.aside };
 }
 
-/// Binary search for a time. Returns `Ok` with its index, or `Err` with the index to insert it at.
+/// Searches for a time by binary search. Returns `Ok` with its index, or `Err` with the index to insert it at.
 fn place_of(points: &[(Time, i64)], time: Time) -> Result<usize, usize>
     requires { IsRising points.now }
     ensures bound { IsSearchInRange result (length points.now) }

@@ -76,7 +76,7 @@ fn blocks_size(marks: &[Mark]) -> usize {
     size
 }
 
-/// Copies the blocks into new bytes without gaps, of which there will be `size`. Returns an offset by which all blocks but
+/// Copies the blocks into new bytes without gaps, which will number `size`. Returns an offset by which all blocks but
 /// the last end.
 fn compact<A: Allocator + Copy>(
     bytes: &mut Vec<u8, A>,
@@ -96,8 +96,8 @@ fn compact<A: Allocator + Copy>(
     Ok(bytes.len())
 }
 
-/// Reserves capacity for `size` bytes. If more than a quarter of the bytes is of no block, the blocks are first copied into
-/// new bytes without gaps. All blocks but the last end by the offset `tail`.
+/// Reserves capacity for `size` bytes. If more than a quarter of the bytes is of no block, the blocks are first copied
+/// into new bytes without gaps. All blocks but the last end by the offset `tail`.
 pub(crate) fn make_room<A: Allocator + Copy>(
     bytes: &mut Vec<u8, A>,
     marks: &mut Vec<Mark, A>,

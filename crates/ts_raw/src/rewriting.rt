@@ -1,4 +1,4 @@
-//! Encodes a block anew, with a point inserted or replaced, and puts the new blocks in its place.
+//! Encodes a block anew, with a point inserted or replaced, and replaces the old block with the new ones.
 ghost use Rattle.std.specs.Prelude.{◌≡◌, ◌+◌, ◌<◌, ◌≤◌, ℤ, List, length, take, drop, vec_len, vec_capacity, IfOk, OnErr};
 ghost use Rattle.std.specs.Ordering.{int_cmp};
 ghost use Rattle.std.specs.FinMap.{put};
@@ -15,8 +15,8 @@ use std::alloc::{AllocError, Allocator};
 use ts_block::{encode, values_offset};
 use ts_core::{Time, reserve_eighth};
 
-/// Number of points above which a block is halved when a point is inserted or replaced: late points mostly come near one
-/// another, and a smaller block is encoded anew sooner.
+/// Number of points above which a block is halved when a point is inserted or replaced. Late points mostly come near
+/// one another, and a smaller block is encoded anew sooner.
 const HALVED_POINTS: usize = 64;
 
 /// The blocks that replace the block at an index: one or two.
@@ -110,8 +110,8 @@ fn changed<A: Allocator>(
     Ok(points)
 }
 
-/// Encodes the points of a block from the index `skip` on, with a point inserted or replaced, at the end of the bytes:
-/// as one block, or as two halves if there are more than 64. `at` is the index of the block.
+/// Encodes the points of a block from the index `skip` on, with a point inserted or replaced, at the end of the bytes.
+/// Makes one block, or two halves if there are more than 64 points. `at` is the index of the block.
 pub(crate) fn rewrite<A: Allocator + Copy>(
     bytes: &mut Vec<u8, A>,
     mark: &Mark,
@@ -158,7 +158,7 @@ fn renumber(marks: &mut [Mark]) -> usize
     total
 }
 
-/// Puts new blocks in the place of a block. There must be capacity for a mark.
+/// Replaces the block at an index with new blocks. There must be capacity for a mark.
 fn put_blocks<A: Allocator>(marks: &mut Vec<Mark, A>, new: &Rewritten)
     requires within { new.now.at < length marks.old.items }
     requires room { vec_len marks.old < vec_capacity marks.old }
@@ -171,7 +171,7 @@ fn put_blocks<A: Allocator>(marks: &mut Vec<Mark, A>, new: &Rewritten)
     }
 }
 
-/// Puts new blocks in the place of a block. There must be capacity for a mark. Returns the number of all points.
+/// Replaces a block with new ones. There must be capacity for a mark. Returns the number of all points.
 pub(crate) fn replace<A: Allocator>(marks: &mut Vec<Mark, A>, new: &Rewritten) -> usize
     requires within { new.now.at < length marks.old.items }
     requires room { vec_len marks.old < vec_capacity marks.old }

@@ -18,8 +18,8 @@ pub(crate) struct Staged {
     pub(crate) rewritten: Option<Rewritten>,
 }
 
-/// Moves the last block to the end of the bytes if it isn't full and can't grow where it is. All blocks but the last end
-/// by the offset `tail`.
+/// Moves the last block to the end of the bytes if it isn't full and can't grow where it is. All blocks but the last
+/// end by the offset `tail`.
 fn open_last<A: Allocator>(
     bytes: &mut Vec<u8, A>,
     marks: &mut Vec<Mark, A>,
@@ -43,7 +43,7 @@ fn open_last<A: Allocator>(
     Ok(())
 }
 
-/// Makes room for a point after all others.
+/// Reserves capacity for a point after all others.
 fn stage_last<A: Allocator>(
     bytes: &mut Vec<u8, A>,
     marks: &mut Vec<Mark, A>,

@@ -20,8 +20,8 @@ pub(crate) struct TagLink {
     count: u32,
 }
 
-/// Hash chains that lead from a tag to the series that have it, newest first. They give candidates: two tags may share a
-/// hash, and a registration that ran out of memory leaves links behind. Test a candidate's key before using it.
+/// Hash chains that lead from a tag to the series that have it, newest first. They give candidates: two tags may share
+/// a hash, and a registration that ran out of memory leaves links behind. Test a candidate's key before using it.
 #[derive(Drop)]
 pub(crate) struct TagTable<A: Allocator> {
     newest: HashMap<u32, u32, BuildHasherDefault<FoldHasher>, A>,
@@ -98,7 +98,7 @@ impl<A: Allocator + Copy> TagTable<A> {
         Ok(())
     }
 
-    /// Prepends a series to the chains of its tags. When out of memory, it may stand in some of them.
+    /// Prepends a series to the chains of its tags. When out of memory, it may be in some of them.
     pub(crate) fn push_all(
         &mut self,
         measurement: &str,
