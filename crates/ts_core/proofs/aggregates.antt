@@ -4,7 +4,7 @@ pub mod BucketsLemmas
 pub mod BucketsNear
 pub mod IndicesFit
 pub mod EdgesLemmas
--- Aggregates, Partials: what points fold to
+-- Aggregates, Partials: folds of points
 pub mod AggregatesLemmas
 pub mod EqualLemmas
 pub mod Folds

@@ -1,2 +1,2 @@
--- OutputBuffering: puts one after another
+-- OutputBuffering: several appends in a row
 pub mod OutputBufferLemmas

@@ -1,4 +1,4 @@
--- Tables, Links, LastBelow, Numbered: names under small numbers, searched by hash
+-- Tables, Links, LastBelow, Numbered: names by their indices, searched by hash
 pub mod TableLemmas
 pub mod ChainSearches
 pub mod Chained

@@ -1,4 +1,4 @@
--- StoreLaws, StoreMoves: moves of a store keep what it stands for
+-- StoreLaws, StoreMoves: transitions of a store and the histories that it represents
 pub mod LineStands
 pub mod MovesStand
 pub mod LivesKept

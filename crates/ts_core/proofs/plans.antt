@@ -3,7 +3,7 @@ pub mod Covered
 pub mod PiecesTogether
 pub mod Validity
 pub mod WorkedPieces
--- Plans: there is one, or no pieces are valid
+-- Plans: there is exactly one, or no pieces are valid
 pub mod Plannable
 pub mod Walks
 pub mod GoodPlaces

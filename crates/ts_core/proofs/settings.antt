@@ -1,9 +1,9 @@
--- SettingsTexts, SettingsWritten: settings read back as they are
+-- SettingsTexts, SettingsWritten: settings written and parsed back
 pub mod SettingsBack
 pub mod SettingsForms
 pub mod FilledTexts
 pub mod EachItem
--- SettingsFaults: what settings without a fault have
+-- SettingsFaults: the properties of settings without a fault
 pub mod SettingsLaws
 pub mod RuleLaws
 pub mod Intervals

@@ -1,6 +1,6 @@
 -- Small histories, computed
 pub mod RetentionRows
--- StoreStates: the same for what stands, one thing after another
+-- StoreStates: the history that a store represents, transition by transition
 pub mod Moves
 pub mod Begins
 pub mod RulesCome

@@ -1,4 +1,4 @@
--- Buckets of time; aggregates of points, how they are merged and taken apart, and means.
+-- Buckets of time; aggregates of points, merging them and taking them apart, and means.
 pub mod Buckets
 pub mod Edges
 pub mod Orders

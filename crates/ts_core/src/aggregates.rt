@@ -1,4 +1,4 @@
-//! Aggregates of points, how they are merged and taken apart, means, and buckets of time.
+//! Aggregates of points, merging them and taking them apart, means, and buckets of time.
 
 mod aggregate;
 mod bucket;

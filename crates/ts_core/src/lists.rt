@@ -1,4 +1,4 @@
-//! Lists: how they grow, numbers of their items, and hash chains over them.
+//! Lists: growth by an eighth, indices of 32 bits, and hash chains.
 
 mod chains;
 mod numbers;

@@ -1,4 +1,4 @@
--- What points fold to is their aggregate in the field's words, and no other is.
+-- The fold of points as their only aggregate, by the definition in the field's words.
 use Rattle.std.proofs.Common.{◌≡◌, ◌⊎◌, ◌+◌, ℤ, ◌+ℤ◌, ◌≤ℤ◌, ◌<ℤ◌, List, [], ◌∷◌, length, map, refl, sym, ◌∙◌, ap, subst, inl, inr, ⊎_elim, arith, one-add, Option, Some, None, MatchOption, Ordering, int_cmp}
 use Rattle.std.specs.List.{AllByRecursion}
 use Rattle.std.specs.Cmp.{IsTotalOrder, int_cmp_total}

@@ -1,4 +1,4 @@
--- A bucket is there, and it is one.
+-- Existence and uniqueness of the bucket of a time.
 use Rattle.std.proofs.Common.{◌≡◌, ℕ, ℤ, pos, negsuc, ◌*◌, ◌/◌, ◌<◌, ◌+ℤ◌, ◌-ℤ◌, ◌*ℤ◌, ◌≤ℤ◌, ◌<ℤ◌, arith, refl, sym, ap, ◌∙◌, suc, subst, neg_ℤ, div-add-mod', mod-lt, zero-mul, zero}
 use Rattle.std.proofs.Common.{unsigned_abs}
 use Rattle.std.specs.Int.Signed.{≤ℤ_refl, yes_non_neg, pos-nat_abs}

@@ -1,4 +1,4 @@
--- Buckets in order: of any interval of 1 or more, later times have no earlier bucket.
+-- Order of buckets: with an interval of 1 or more, later times have no earlier bucket.
 use Rattle.std.proofs.Common.{◌≡◌, ℤ, pos, negsuc, ◌+ℤ◌, ◌-ℤ◌, ◌*ℤ◌, ◌≤ℤ◌, arith, refl, ap, ◌∙◌, subst, unsigned_abs}
 use Rattle.std.specs.Int.Signed.{yes_non_neg, pos-nat_abs}
 use Rattle.std.proofs.Math.IntN.{suc_ℤ-*ℤ, +ℤ_one}

@@ -1,4 +1,4 @@
--- Bounds of a bucket, saturated: the same valid times are before them.
+-- Bounds of a bucket, clamped: the same valid times are before them.
 use Rattle.std.proofs.Common.{ℤ, pos, negsuc, ◌^◌, ◌+ℤ◌, ◌-ℤ◌, ◌≤ℤ◌, ◌<ℤ◌, int_lt, arith, SFits, w64}
 use Rattle.std.proofs.lemmas.Int.{ints}
 use Rattle.std.specs.Int.{w128, saturate_signed}

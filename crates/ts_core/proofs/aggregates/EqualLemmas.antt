@@ -1,4 +1,4 @@
--- Aggregates are equal exactly where they are the same.
+-- Equality of aggregates by comparison.
 use Rattle.std.proofs.Common.{◌≡◌, ℤ, Bool, true, ◌&&◌, nat_eq, int_eq, refl, sym, ap, subst, true≢false, Option, Some, None, int_cmp}
 use Rattle.std.specs.Option.{option_eq}
 use Rattle.std.specs.Cmp.Derive.{both_true}

@@ -1,4 +1,4 @@
--- What the laws give of a fold: it goes by parts, and by what is in the list and not by the order.
+-- Folds of lists: by parts, and independent of the order.
 use Rattle.std.proofs.Common.{◌≡◌, ℕ, ◌+◌, ℤ, Bool, true, false, cond, not, List, [], ◌∷◌, ◌++◌, length, filter, refl, sym, ◌∙◌, ap, inl, inr, subst, ⊎_elim, arith, one-add, zero-add, add_comm, add_assoc, get_or, take, ◌<◌, ◌≤◌, length-take}
 use Rattle.std.proofs.lemmas.List.{take_more}
 use Rattle.ts_core.specs.lists.Members.{Among, AllDistinct}
@@ -9,7 +9,7 @@ module _ {M : Type 0} {empty : M} {single : ℤ → ℤ → M} {merge : M → M 
   abbrev sum_of : List X → M
   sum_of xs = fold_by empty merge one xs
 
-  -- what stands in front may go behind
+  -- the first item may be merged second
   pub merge-left_comm : (x y z : M) → merge x (merge y z) ≡ merge y (merge x z)
   merge-left_comm x y z = sym (laws.assoc x y z) ∙ ap (λ a. merge a z) (laws.comm x y) ∙ laws.assoc y x z
 

@@ -1,4 +1,4 @@
--- A fold by groups: the groups' folds together are the fold of all.
+-- Folds by groups: together they are the fold of all.
 use Rattle.std.proofs.Common.{◌≡◌, ℕ, ℤ, suc, Bool, true, false, not, List, [], ◌∷◌, length, filter, refl, sym, ◌∙◌, ap, ap₂, subst, inl, inr, ⊎_elim, true≢false, arith}
 use Rattle.ts_core.specs.lists.Members.{Among, AllDistinct}
 use Rattle.ts_core.specs.aggregates.Partials.{PartialLaws, fold_by}

@@ -1,4 +1,4 @@
--- The index of a bucket of a second or more fits 64 bits, for a valid time and for a valid time less a duration.
+-- Bounds of the index of a bucket of a second or more: it fits 64 bits, for a valid time and for one less a duration.
 use Rattle.std.proofs.Common.{ℕ, ℤ, pos, negsuc, ◌^◌, ◌<◌, ◌≤ℤ◌, ◌<ℤ◌, ◌+ℤ◌, ◌-ℤ◌, ◌*ℤ◌, FitsSigned, w64, arith, ⊎_elim}
 use Rattle.std.proofs.lemmas.Int.{ints}
 use Rattle.std.proofs.lemmas.Bool.{cases_lt}

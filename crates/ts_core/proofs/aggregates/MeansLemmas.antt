@@ -1,4 +1,4 @@
--- The quotients by the greatest common divisor are the mean in lowest terms, and no other fraction is.
+-- Uniqueness of the mean in lowest terms: the quotients by the greatest common divisor.
 use Rattle.std.proofs.Common.{inl, inr, ◌⊎◌, ⊎_elim, ◌≡◌, ℕ, ℤ, pos, negsuc, suc, zero, ◌+◌, ◌*◌, ◌/◌, ◌%◌, ◌<◌, ◌≤◌, ◌*ℤ◌, arith, refl, sym, ap, ◌∙◌, subst, neg_ℤ, unsigned_abs, pos_of_ne-zero, one-mul, div-add-mod', mod-lt}
 use Rattle.std.proofs.Math.Nat.{dvd-mul_left, dvd-mod_iff, dvd-add_iff_left, dvd_of_mul-dvd-mul_left, dvd-mul_right, eq-one_of_dvd-one, mul-div_cancel, mul-div_cancel', div-mul_cancel, mul-dvd-mul_right, dvd_of_mul-dvd-mul_right, pos_of_dvd_of_pos, one-dvd}
 use Rattle.std.proofs.lemmas.Nat.Gcd.{dvd_antisymm, dvd_of_mod-eq-zero, dvd-zero, dvd_refl}
@@ -82,7 +82,7 @@ divides_step b a k some g d smaller =
     dvd_of_mul-dvd-mul_left {k = r} b l (subst (λ x. r * b ∣ x) product (dvd-mul_left (r * b) (m / r))))
     (zero_or r)
 
--- what divides a product and has nothing in common with the first factor divides the second; n bounds the recursion
+-- a divisor of a product that is coprime to the first factor divides the second; n bounds the recursion
 divides : (n b : ℕ) → b ≤ n → (a k : ℕ) → IsGcd a b 1 → b ∣ a * k → b ∣ k
 divides zero b h a k g d = divides_zero b a k (omega arith) g d
 divides (suc n) zero h a k g d = divides_zero zero a k refl g d

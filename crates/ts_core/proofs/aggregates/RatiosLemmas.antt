@@ -1,4 +1,4 @@
--- The mean that is computed is the mean: the sum over the count, in lowest terms.
+-- The computed mean: the sum over the count, in lowest terms.
 use Rattle.std.proofs.Common.{◌≡◌, ℕ, ◌<◌, ◌≤◌, ◌%◌, suc, zero, arith, refl, mod-lt, unsigned_abs}
 use Rattle.std.specs.Int.{IsGcd}
 use Rattle.std.proofs.lemmas.Nat.Gcd.{IsGcd-from_zero, IsGcd-from_mod}

@@ -1,4 +1,4 @@
--- Where the rest of an aggregate is determined, and that it is then the aggregate of the others.
+-- The rest of an aggregate, if it is determined: the aggregate of the other points.
 use Rattle.std.proofs.Common.{◌≡◌, ℕ, ◌+◌, ◌-◌, ◌<◌, ℤ, ◌+ℤ◌, ◌-ℤ◌, ◌<ℤ◌, Bool, not, List, [], ◌∷◌, filter, refl, sym, ◌∙◌, ap, subst, arith, Option, Some, None, MatchOption, IsSome, IfSome, ⊎_elim, Ordering, Less, int_cmp}
 use Rattle.std.specs.Cmp.{IsTotalOrder, int_cmp_total, int_cmp_is}
 use Rattle.std.proofs.lemmas.Int.{ints}
@@ -36,7 +36,7 @@ IsOnlyRest-all whole part e = record {
 before_from_lt : (x y : ℤ) → x <ℤ y → int_cmp x y ≡ Less
 before_from_lt x y h = sym (int_cmp_is x y Less h)
 
--- what is beyond is the lesser, and only itself gives it
+-- if the lesser of p and r comes before p, it is r
 module _ {K : Type 0} {R : K → K → Ordering} (o : IsTotalOrder R) (exact : CmpEqualImpliesEq R) where
   other_one : (p r w : K) → R w p ≡ Less → lesser R p r ≡ w → r ≡ w
   other_one p r w b e =

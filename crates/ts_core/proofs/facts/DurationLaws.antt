@@ -1,4 +1,4 @@
--- What is read of a duration is the sum of its terms, and each list of terms is read so.
+-- Reading durations: the result is the sum of the terms, and each list of terms is read.
 use Rattle.std.proofs.Common.{◌≡◌, ◌≢◌, ◌⊎◌, ℕ, ◌+◌, ◌-◌, ◌*◌, ◌<◌, ◌&&◌, nat_lt, Bool, true, false, not, List, [], ◌∷◌, ◌++◌, length, cond, Option, Some, None, option_map, option_and_then, unsigned_abs, inl, inr, ⊎_elim, refl, sym, ap, ◌∙◌, arith, append_assoc, append-nil}
 use Rattle.std.proofs.lemmas.Bool.{not-true}
 use Rattle.std.proofs.lemmas.Bool.Decides.{nat_tests}

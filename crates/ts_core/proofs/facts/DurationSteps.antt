@@ -1,4 +1,4 @@
--- Adding up a duration byte by byte: what was read so far is reached, so that past 64 bits there is no way back.
+-- Adding up a duration byte by byte: the sum never falls, so it stays above 64 bits once it is.
 use Rattle.std.proofs.Common.{◌≡◌, ℕ, ◌+◌, ◌-◌, ◌*◌, ◌^◌, ◌<◌, ◌≤◌, cond, Bool, true, false, [], ◌∷◌, ◌++◌, length, drop, take, get_or, slice_range, Option, Some, None, option_map, option_and_then, unsigned_abs, refl, sym, ap, ◌∙◌, arith, lit≤}
 use Rattle.std.proofs.Math.Nat.{le-mul_of_pos_right}
 use Rattle.std.proofs.lemmas.List.{at_drop_more}
@@ -35,7 +35,7 @@ units_reach sum n m (Some u) e =
 term_reaches : (sum n m : ℕ) (name : Text) → with_term sum n name ≡ Some m → Reaches sum n m
 term_reaches sum n m name e = units_reach sum n m (duration_unit_of name) e
 
--- what follows a digit reaches what it goes on with
+-- each sum after a digit is reached from the sum and the number before it
 abbrev FollowsReach : Text → ℕ → Type 0
 FollowsReach bs m = (s k : ℕ) → added_up s k [] bs ≡ Some m → Reaches s k m
 

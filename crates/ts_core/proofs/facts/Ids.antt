@@ -1,4 +1,4 @@
--- The orders of names and ids are total, and tie only what is the same.
+-- Orders of names and ids: total, with ties only between equal ones.
 use Rattle.std.proofs.Common.{◌≡◌, ◌≢◌, true, false, refl, sym, ◌∙◌, ap, List, Equal, Ordering, is_eq, true≢false, ℤ}
 use Rattle.std.specs.Ordering.{int_cmp}
 use Rattle.std.specs.Cmp.{IsTotalOrder, int_cmp_total}

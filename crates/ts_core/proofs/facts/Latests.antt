@@ -1,4 +1,4 @@
--- What is latest, in other words: of each id exactly one fact is latest, it is the one accepted last, and each accepted id has one.
+-- Latest facts in other words: each accepted id has exactly one, the fact accepted last.
 use Rattle.std.proofs.Common.{◌≡◌, Bool, true, false, cond, not, List, [], ◌∷◌, refl, sym, ◌∙◌, ap, Some, None, inl, inr, ◌⊎◌, ⊎_elim, true≢false}
 use Rattle.std.proofs.lemmas.Option.{same_Some}
 use Rattle.std.proofs.lemmas.Bool.{not-true}
@@ -19,7 +19,7 @@ latest-distinct (f ∷ fs) = (
   AllDistinct-filter (is_other f) (latest fs) (latest-distinct fs),
 )
 
--- what is latest is the newest of its id
+-- a latest fact is the newest of its id
 pub value_at-latest : (fs : List Fact) (f : Fact) → Among f (latest fs) → value_at fs (id_of f) ≡ Some f.value
 value_at-latest [] f h = absurd h
 value_at-latest (g ∷ fs) f h =

@@ -1,4 +1,4 @@
--- Units of durations: what holds of each name holds of the name that calls a unit, and how many bytes of a text a name takes.
+-- Units of durations: properties of all names by those of each name, and the length of the name at the start of a text.
 use Rattle.std.proofs.Common.{◌≡◌, ◌⊎◌, ℕ, ◌<◌, Bool, true, false, [], ◌∷◌, cond, Option, Some, None, inl, inr, refl, sym, subst, arith}
 use Rattle.std.specs.Bool.{⊤}
 use Rattle.std.proofs.lemmas.Slice.Eq.{bytes_eq-Decides}

@@ -1,4 +1,4 @@
--- Puts into a write buffer, one after another.
+-- Several appends to a write buffer in a row.
 use Rattle.std.proofs.Common.{◌≡◌, ◌+◌, ◌++◌, [], Option, Result, Ok, Err, sym, ap, ◌∙◌, subst, append_assoc, append-nil, arith}
 use Rattle.std.specs.Io.KnownBytes.{Appends}
 use Rattle.std.proofs.KnownBytes.{Appends-trans, Appends-nil}

@@ -1,17 +1,17 @@
--- A search along the chain of a hash, from the newest place to the oldest.
+-- Search along the chain of a hash, from the newest index to the oldest.
 use Rattle.std.proofs.Common.{◌≡◌, ℕ, ◌+◌, ◌<◌, ◌≤◌, false, nat_eq, List, length, get_or, Option, Some, None, refl, sym, ◌∙◌, ap, subst, ⊎_elim, arith, true≢false, eq-eqb, eqb-true}
 use Rattle.std.proofs.lemmas.Bool.{cases_lt, cases_order}
 use Rattle.ts_core.specs.lists.LastBelow.{newest_of}
 use Rattle.ts_core.proofs.lists.LastBelows.{last_below-some, last_below-none, last_below-gap}
 
--- what is sought is at no place from some on, and the next place is the newest before that
+-- the sought item is at no index from some index on, and the next index is the newest before that
 pub record IsSearched (hashes : List ℕ) (hash : ℕ) (Is : ℕ → Type 0) (next : Option ℕ) : Type 0 where
   pub below : ℕ
   pub within : below ≤ length hashes
   pub next_is : next ≡ newest_of hashes hash below
   pub none_behind : (i : ℕ) → below ≤ i → i < length hashes → Is i → ⊥
 
--- how far a search may still go
+-- an upper bound on the indices that a search still visits
 abbrev pub places_left : Option ℕ → ℕ
 places_left None = 0
 places_left (Some n) = n + 1

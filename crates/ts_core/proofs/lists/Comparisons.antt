@@ -1,4 +1,4 @@
--- Comparisons that answer yes or no, and what they say.
+-- Comparisons that return a boolean, and their meaning.
 use Rattle.std.proofs.Common.{◌≡◌, ℤ, ◌<ℤ◌, ◌≤ℤ◌, int_le, int_lt, arith, refl, sym, ◌∙◌, ap, List, [], ◌∷◌, Bool, true, false, inl, inr, subst, true≢false, is_eq}
 use Rattle.std.specs.List.{list_any, list_all, AllByRecursion}
 use Rattle.std.proofs.lemmas.Int.{ints}

@@ -1,4 +1,4 @@
--- The last number below another that passes a test.
+-- The greatest number below another that passes a test.
 use Rattle.std.proofs.Common.{◌≡◌, ℕ, zero, suc, ◌+◌, ◌<◌, ◌≤◌, Bool, true, false, cond, Option, Some, None, List, [], ◌∷◌, ◌++◌, length, get_or, refl, sym, ◌∙◌, ap, inl, inr, ◌⊎◌, ⊎_elim, arith, add-one}
 use Rattle.std.proofs.lemmas.List.{get_or_push, get_or_append_left}
 use Rattle.std.proofs.Math.Nat.{eq-or-lt_of_le}
@@ -22,7 +22,7 @@ some_case : (p : ℕ → Bool) (n i : ℕ) (b : Bool) (o : Option ℕ) → p n �
 some_case p n i true o e h = inl (sym (some_number n i h), ap p (sym (some_number n i h)) ∙ e)
 some_case p n i false o e h = inr h
 
--- what is found is below, and passes
+-- a number that is found is below, and passes
 pub last_below-some : (p : ℕ → Bool) (n i : ℕ) → last_below p n ≡ Some i → (i < n) × (p i ≡ true)
 unfolding last_below
 last_below-some p zero i h = absurd (cc)

@@ -1,4 +1,4 @@
--- One more of what is made of a list one by one, a test of what is made, how many pass one, and one more byte of a slice.
+-- Steps of lists: one more mapped item, a test of mapped items, the number that pass one, and one more byte of a slice.
 use Rattle.std.proofs.Common.{◌≡◌, ◌≤◌, ◌<◌, ◌+◌, ◌-◌, ◌∙◌, ℕ, take, drop, get_or, slice_range, length-drop, Bool, true, false, cond, ◌||◌, List, [], ◌∷◌, ◌++◌, length, filter, map, arith, refl, ap}
 use Rattle.std.proofs.lemmas.List.{take_more, get_or-drop}
 use Rattle.std.specs.List.{AllByRecursion, list_any}

@@ -1,4 +1,4 @@
--- What is among two lists put together, among what a filter leaves, among distinct ones without one, and among images.
+-- Members of two joined lists, of a filtered list, of distinct items without one, and of images.
 use Rattle.std.proofs.Common.{◌≡◌, Bool, true, false, cond, List, [], ◌∷◌, ◌++◌, ◌⊎◌, ℕ, zero, suc, Some, filter, map, refl, sym, ◌∙◌, ap, inl, inr, subst, ⊎_elim, true≢false}
 use Rattle.std.specs.List.{slice_get}
 use Rattle.std.proofs.lemmas.Option.{same_Some}
@@ -71,7 +71,7 @@ filter_step p z x zs true e ih h = ⊎_elim {C = p z ≡ true} (λ q. ap p q ∙
 filter_step p z x zs false e ih h = ih h
 
 module _ {X : Type 0} (p : X → Bool) where
-  -- what a filter leaves passes
+  -- an item of the filtered list passes
   pub Among-filter_passes : (z : X) (xs : List X) → Among z (filter p xs) → p z ≡ true
   Among-filter_passes z [] h = absurd h
   Among-filter_passes z (x ∷ xs) h = filter_step p z x (filter p xs) (p x) refl (Among-filter_passes z xs) h
@@ -85,7 +85,7 @@ module _ {X : Type 0} (p : X → Bool) where
         | false ↦ λ k. inr (Among-filter_was z xs k)
       ] h
 
-  -- what passes stays
+  -- an item that passes stays
   pub Among-filter_stays : (z : X) (xs : List X) → Among z xs → p z ≡ true → Among z (filter p xs)
   Among-filter_stays z [] h t = h
   Among-filter_stays z (x ∷ xs) h t =

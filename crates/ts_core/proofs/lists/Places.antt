@@ -1,4 +1,4 @@
--- Entries in the order of their keys: what a search finds, and what an edit at that place does.
+-- Entries in the order of their keys: the result of a binary search, and an edit at that index.
 use Rattle.std.proofs.Common.{◌≡◌, ℕ, zero, suc, ◌<◌, ◌≤◌, Bool, true, false, cond, ◌&&◌, T, List, [], ◌∷◌, length, get_or, set, insert, refl, sym, ◌∙◌, ap, Some, Ordering, Less, Equal, Greater, is_lt, is_eq, arith}
 use Rattle.std.specs.Ordering.{ordering_index, ordering_reverse}
 use Rattle.std.specs.Cmp.{IsTotalOrder}
@@ -21,7 +21,7 @@ module _ {K : Type 0} {R : K → K → Ordering} (o : IsTotalOrder R) where
   flipped : (x y : K) (a : Ordering) → R x y ≡ a → R y x ≡ ordering_reverse a
   flipped x y a e = o.antisymm y x ∙ ap ordering_reverse e
 
-  -- what comes before, compares no higher
+  -- an earlier key compares no higher
   lower_index : (x y k : K) → R x y ≡ Less → ordering_index (R x k) ≤ ordering_index (R y k)
   lower_index x y k l =
       elim (R y k) as (λ r. R y k ≡ r → ordering_index (R x k) ≤ ordering_index r) [

@@ -1,4 +1,4 @@
--- Entries in the order of their keys, by what is among them.
+-- Entries in the order of their keys, by membership.
 use Rattle.std.proofs.Common.{◌≡◌, true, false, cond, T, List, [], ◌∷◌, refl, sym, ◌∙◌, ap, inl, inr, ◌⊎◌, ⊎_elim, true≢false, Some, Ordering, Less, Greater, is_lt, is_eq}
 use Rattle.std.specs.Ordering.{ordering_reverse}
 use Rattle.std.specs.Cmp.{IsTotalOrder}
@@ -15,7 +15,7 @@ not_itself : {K : Type 0} {R : K → K → Ordering} (o : IsTotalOrder R) (x : K
 not_itself o x h = true≢false (sym (ap is_lt h) ∙ ap is_lt (tied_itself o x))
 
 module _ {K X : Type 0} {R : K → K → Ordering} (o : IsTotalOrder R) where
-  -- what comes later has a greater key
+  -- a later entry has a greater key
   pub later_greater : (x : K) (es : List (K × X)) → T (below_all R x es) → (e : K × X) → Among e es → R x e.0 ≡ Less
   later_greater x [] h e a = absurd a
   later_greater x (f ∷ es) h e a =
@@ -41,7 +41,7 @@ module _ {K X : Type 0} {R : K → K → Ordering} (exact : CmpEqualImpliesEq R)
   entry : (k : K) (v : X) (e : K × X) → k ≡ e.0 → v ≡ e.1 → (k, v) ≡ e
   entry k v e p q = λ i. (p i, q i)
 
-  -- what is found is an entry of the list
+  -- a value that is found is an entry of the list
   pub among_found : (es : List (K × X)) (k : K) (v : X) → find R k es ≡ Some v → Among (k, v) es
   among_found [] k v h = absurd (none-some v h)
   among_found (e ∷ es) k v h =

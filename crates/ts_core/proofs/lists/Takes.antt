@@ -1,4 +1,4 @@
--- Beginnings of lists.
+-- Prefixes of lists.
 use Rattle.std.proofs.Common.{◌≡◌, ℕ, zero, suc, ◌+◌, ◌-◌, ◌≤◌, List, [], ◌∷◌, ◌++◌, length, take, drop, slice_range, refl, ap, ◌∙◌, arith}
 use Rattle.std.proofs.Math.Seq.{drop-append_seam}
 
@@ -9,7 +9,7 @@ shorter (suc k) zero items le = absurd (omega (arith, le))
 shorter (suc k) (suc n) [] le = refl
 shorter (suc k) (suc n) (x ∷ items) le = ap (λ (xs : List ℕ). x ∷ xs) (shorter k n items (omega (arith, le)))
 
--- what was put behind a list, but its last element
+-- the bytes that were appended to a list, but the last one
 pub put_behind : (xs ys : List ℕ) (size : ℕ) → slice_range (xs ++ take (size + 1) ys) (length xs) (length xs + size) ≡ take size ys
 put_behind xs ys size =
     let count : (length xs + size) - length xs ≡ size = omega arith in

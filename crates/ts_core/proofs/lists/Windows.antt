@@ -1,4 +1,4 @@
--- What lies between two places of a list in the order of whole numbers, such as times or indices of buckets.
+-- Items between two indices of a list sorted by whole numbers, such as times or indices of buckets.
 use Rattle.std.proofs.Common.{◌≡◌, ℕ, ℤ, suc, zero, ◌<◌, ◌≤◌, ◌-◌, ◌+◌, Bool, true, false, cond, T, List, [], ◌∷◌, length, take, drop, filter, get_or, refl, sym, ◌∙◌, ap, arith, slice_index_or, int_lt, ⊎_elim, Less}
 use Rattle.std.proofs.lemmas.Int.{ints}
 use Rattle.std.proofs.lemmas.Bool.{cases_lt}

@@ -1,4 +1,4 @@
--- What freezing a column's points does to each cell.
+-- The effect of freezing a column's points on each cell.
 use Rattle.std.proofs.Common.{◌≡◌, ℤ, ◌+◌, ◌≤◌, ◌^◌, Bool, true, false, cond, not, ◌&&◌, ◌||◌, List, [], ◌∷◌, ◌++◌, length, filter, map, refl, sym, ◌∙◌, ap, ap₂, subst, inl, inr, ⊎_elim, int_le, int_lt, arith, Option, Some, None, is_some, is_eq, T, Less, Equal, Greater}
 use Rattle.std.proofs.lemmas.Int.{ints}
 use Rattle.std.proofs.lemmas.Bool.{le-ltb}
@@ -125,7 +125,7 @@ live_in o = (or_else no_parts o).live
 abbrev pub any_in : Rule → Column → Cell → List (ℤ × ℤ) → Bool
 any_in r c k ps = list_any (in_points r c k) ps
 
--- what a change leaves alone
+-- a part that a change leaves alone
 pub changed_as : {X : Type 0} (read : Option CellParts → X) (f : CellParts → CellParts) → ((a : CellParts) → read (Some (f a)) ≡ read (Some a)) → (m : CellMap) (q k : Cell)
     → read (finmap.get (changed m q f) k) ≡ read (finmap.get m k)
 changed_as read f same m q k =

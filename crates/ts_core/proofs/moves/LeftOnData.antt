@@ -1,4 +1,4 @@
--- What is left of a run, on what a store keeps: a step lowers it by one, and writes leave it.
+-- The number of steps left of a run, on a store's content: a step lowers it by one, and writes leave it.
 use Rattle.std.proofs.Common.{◌≡◌, ℕ, ℤ, ◌+◌, ◌≤◌, ◌<ℤ◌, Bool, true, false, cond, List, [], ◌∷◌, length, filter, map, refl, sym, ◌∙◌, ap, ap₂, arith, int_lt}
 use Rattle.std.proofs.lemmas.List.{length-map, nil_from_length}
 use Rattle.std.specs.FinMap as finmap
@@ -67,7 +67,7 @@ turns_roomed (r ∷ rs) (low ∷ lows) facts (m ∷ ms) (n ∷ ns) e = ap₂ (λ
 
 -- ---- the moves
 
--- what is left in an open run
+-- the number of steps left of an open run
 left_open : (k : StoreData) → k.running ≡ true → steps_left (state_of k) ≡ length k.waiting + turns_left (rules_of k.settings.rules k.marks.lows k.cells) + 1
 left_open k e = ap (λ b. cond b (length k.waiting + turns_left (rules_of k.settings.rules k.marks.lows k.cells) + 1) 0) e
 

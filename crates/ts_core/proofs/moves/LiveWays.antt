@@ -1,5 +1,5 @@
--- Three ways to a live part: a fact more, one in place of another, and what a part leaves. Where the rest of an aggregate is determined, no
--- other fact is looked at.
+-- Three ways to a live part: one more fact, a replaced fact, and a removed part. If the rest of an aggregate is
+-- determined, no other fact is visited.
 use Rattle.std.proofs.Common.{◌≡◌, ℤ, Bool, true, false, cond, not, ◌&&◌, List, [], ◌∷◌, filter, map, refl, sym, ◌∙◌, ap, ap₂, subst, inl, inr, ⊎_elim, true≢false}
 use Rattle.ts_core.specs.lists.Members.{Among, AllDistinct}
 use Rattle.ts_core.specs.facts.Facts.{Fact, Column, Id, id_of, same_id}
@@ -20,7 +20,7 @@ use Rattle.ts_core.proofs.store.Moves.{is_left, left_points}
 use Rattle.ts_core.proofs.moves.Freezing.{gone_held, and_true, and_false}
 use Rattle.ts_core.proofs.store.RunSteps.{facts_of-left}
 
--- what facts add up to is possible
+-- the aggregate of facts is possible
 pub facts_possible : (fs : List Fact) → IsSound (aggregate_of fs)
 facts_possible fs = fold-possible aggregate_laws sound_laws (λ (f : Fact). f.time) (λ (f : Fact). f.value) fs
 

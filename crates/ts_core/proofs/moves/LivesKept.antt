@@ -1,4 +1,4 @@
--- The live part of each cell that is there is the fold of its raw facts, after each move.
+-- The live part of each existing cell as the fold of its raw facts, after each transition.
 use Rattle.std.proofs.Common.{◌≡◌, ℤ, ◌≤ℤ◌, true, false, List, [], ◌∷◌, filter, map, refl, sym, ◌∙◌, ap, subst, Some, None}
 use Rattle.std.specs.List.{AllByRecursion}
 use Rattle.std.specs.FinMap as finmap

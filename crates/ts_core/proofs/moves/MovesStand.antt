@@ -1,4 +1,4 @@
--- The other moves, on what the store keeps.
+-- The other transitions, on a store's content.
 use Rattle.std.proofs.Common.{◌≡◌, ℤ, ◌≤ℤ◌, true, false, cond, not, ◌&&◌, List, [], ◌∷◌, filter, map, refl, sym, ◌∙◌, ap, subst, inl, inr, ◌⊎◌, ⊎_elim, true≢false, Some, None, is_eq, T}
 use Rattle.std.specs.Int.{int_max}
 use Rattle.std.specs.List.{AllByRecursion}
@@ -192,7 +192,8 @@ too before after f p = record {
   only = λ g a. ⊎_elim {C = (g ≡ f) ⊎ (Among g (facts_of before) × (is_other f g ≡ true))} (λ e. inl e) (λ q. inr (q.0, other_true f g q.1)) (p.1.only g a);
 }
 
--- a cell that the fact isn't in has the same live part: where it is of the id of a fact that went, that one isn't in it either
+-- a cell that the fact isn't in has the same live part: where it is of the id of a fact that went, that one isn't in it
+-- either
 pub elsewhere : (before after : List ColumnPoints) (f : Fact) → AllDistinct (facts_of before) → PutsFact before after f → (r : Rule) (k : Cell) → is_in_cell r k f ≡ false → total_of r k (facts_of after) ≡ total_of r k (facts_of before)
 elsewhere before after f d p r k e =
     fold-same aggregate_laws one_fact (filter (is_in_cell r k) (facts_of after)) (filter (is_in_cell r k) (facts_of before))

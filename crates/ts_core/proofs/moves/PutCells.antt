@@ -1,4 +1,4 @@
--- A fact more, or another live part, in the words of cells: what a write leaves in the cell of its fact.
+-- One more fact, or another live part, by cells: the effect of a write on the cell of its fact.
 use Rattle.std.proofs.Common.{◌≡◌, ◌+◌, ◌≤◌, ◌^◌, ◌&&◌, true, false, cond, ap₂, List, Some, None, Option, refl, sym, ◌∙◌, ap}
 use Rattle.std.specs.declared.cmp.Ordering.{Ordering}
 use Rattle.std.specs.FinMap as finmap

@@ -1,4 +1,4 @@
--- A rule is added or dropped, on what the store keeps.
+-- Adding and dropping rules, on a store's content.
 use Rattle.std.proofs.Common.{◌≡◌, ℕ, zero, suc, inl, inr, not, ℤ, ◌+◌, ◌≤◌, ◌≤ℤ◌, Bool, true, false, cond, List, [], ◌∷◌, ◌++◌, length, filter, map, refl, sym, ◌∙◌, ap, subst, arith, Some, None, int_lt, IsTrue}
 use Rattle.std.specs.List.{AllByRecursion, remove}
 use Rattle.std.specs.FinMap as finmap

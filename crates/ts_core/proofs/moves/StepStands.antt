@@ -1,4 +1,4 @@
--- A step that moves a column, on what the store keeps.
+-- A step that moves a column, on a store's content.
 use Rattle.std.proofs.Common.{◌≡◌, ℤ, ◌+◌, ◌≤◌, ◌^◌, Bool, true, false, cond, not, ◌&&◌, ◌||◌, List, [], ◌∷◌, length, filter, map, refl, sym, ◌∙◌, ap, subst, inl, inr, ⊎_elim, true≢false, int_lt, arith, Option, Some, None, ◌≤ℤ◌, is_some}
 use Rattle.std.specs.List.{AllByRecursion}
 use Rattle.std.specs.FinMap as finmap
@@ -170,7 +170,7 @@ module _ (c : Column) (mark : ℤ) (before : List ColumnPoints) (ps : List (ℤ 
       ap (λ fs. aggregate_of (filter (is_in_cell r k) fs)) (facts_of-left c mark before)
       ∙ ap aggregate_of (filter-left (is_in_cell r k) (is_left c mark) (facts_of before) (gone_held c mark (is_in_cell r k) before ps once there ∙ e))
 
-  -- what was live is what is left of it
+  -- the old live part becomes the rest of it
   pub live_moved : (r : Rule) (k : Cell) (m : CellMap) → live_in (finmap.get m k) ≡ total_of r k (facts_of before)
       → ((p : ℤ × ℤ) → Among p below → same_text c.series.measurement r.measurement ≡ true → in_points r c k p ≡ true → finmap.get m k ≡ None → ⊥)
       → live_in (finmap.get (moved_cells r c below left m) k) ≡ total_of r k left

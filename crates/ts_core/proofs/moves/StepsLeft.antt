@@ -1,4 +1,4 @@
--- A begin lets all columns wait, each step of a run lowers what is left by one, and a write leaves it.
+-- The number of steps left: a begin lets all columns wait, each step of a run lowers it by one, and a write leaves it.
 use Rattle.std.proofs.Common.{◌≡◌, ℕ, ℤ, ◌+◌, ◌-◌, ◌<◌, true, cond, List, [], ◌∷◌, ◌++◌, length, filter, arith, refl, sym, ap, ap₂, ◌∙◌, int_lt}
 use Rattle.std.proofs.lemmas.List.{length-map}
 use Rattle.ts_core.specs.facts.Facts.{Series, Column}
@@ -21,7 +21,7 @@ turns_left-less : (us : List RuleCells) (r y : RuleCells) (vs : List RuleCells) 
 turns_left-less [] r y vs h e = let t = turns_of-less (expired_count r) h in let f : turns_of (expired_count y) ≡ turns_of (expired_count r - 256) = ap turns_of e in omega arith
 turns_left-less (u ∷ us) r y vs h e = let ih = turns_left-less us r y vs h e in omega arith
 
--- what is left in an open run
+-- the number of steps left of an open run
 left_open : (s : StoreState) → s.running ≡ true → steps_left s ≡ length s.waiting + turns_left s.rules + 1
 left_open s e = ap (λ b. cond b (length s.waiting + turns_left s.rules + 1) 0) e
 

@@ -1,4 +1,4 @@
--- What a new store keeps stands for the empty history.
+-- The content of a new store, and the empty history that it represents.
 use Rattle.std.proofs.Common.{◌≡◌, None, List, [], ◌∷◌, map, refl, sym, ◌∙◌, ap}
 use Rattle.std.specs.List.{AllByRecursion}
 use Rattle.std.specs.FinMap as finmap

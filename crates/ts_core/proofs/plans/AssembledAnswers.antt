@@ -1,4 +1,4 @@
--- The whole answer: what valid pieces give of a view that shows a history is the answer over all points ever accepted.
+-- The whole answer of valid pieces over a view that shows a history: the answer over all points ever accepted.
 use Rattle.std.proofs.Common.{◌≡◌, ◌<◌, ◌==◌, ℤ, Bool, true, false, not, ◌&&◌, List, [], ◌∷◌, filter, map, length, refl, sym, ap, ap₂, ◌∙◌, subst, inl, ⊎_elim, ◌≤ℤ◌, ◌<ℤ◌, true≢false, arith, Option, None}
 use Rattle.std.proofs.lemmas.Int.{ints, by_lt_z}
 use Rattle.std.specs.List.{AllByRecursion}

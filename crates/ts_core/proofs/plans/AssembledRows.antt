@@ -1,4 +1,4 @@
--- What valid pieces give of a row is the aggregate over all latest facts, as if none had ever been dropped.
+-- The row of valid pieces: the aggregate over all latest facts, as if none had ever been dropped.
 use Rattle.std.proofs.Common.{◌≡◌, ℤ, pos, Bool, true, false, ◌&&◌, List, [], ◌∷◌, filter, refl, sym, ap, ap₂, ◌∙◌, subst, inl, inr, ◌≤ℤ◌, ◌<ℤ◌, int_le, int_lt, arith, Option}
 use Rattle.std.proofs.lemmas.Int.{ints, by_lt_z}
 use Rattle.std.specs.List.{AllByRecursion}

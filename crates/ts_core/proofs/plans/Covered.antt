@@ -1,4 +1,4 @@
--- Valid pieces cover the range exactly once: each moment of it lies in one piece, and no other moment in any.
+-- Coverage by valid pieces: each moment of the range lies in exactly one piece, and no other moment in any.
 use Rattle.std.proofs.Common.{◌≡◌, ℕ, ℤ, ◌≤ℤ◌, ◌<ℤ◌, int_le, int_lt, arith, refl, sym, ap, ◌∙◌, suc, List, [], ◌∷◌, length, filter, Bool, true, false, cond}
 use Rattle.std.proofs.lemmas.Int.{ints, by_lt_z}
 use Rattle.std.proofs.lemmas.Bool.{and_parts, and_from}

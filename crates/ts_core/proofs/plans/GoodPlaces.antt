@@ -1,4 +1,4 @@
--- The buckets of a rule one after another, and the places from which valid pieces lead to the end.
+-- The buckets of a rule one after another, and the times from which valid pieces lead to the end.
 use Rattle.std.proofs.Common.{◌≡◌, ℕ, ℤ, pos, ◌+ℤ◌, ◌-ℤ◌, ◌≤ℤ◌, ◌<ℤ◌, arith, refl, sym, ap, ◌∙◌, suc, zero, subst, List, [], ◌∷◌, Some, None, ◌⊎◌, inl, inr, true, false, cond}
 use Rattle.std.specs.Prelude.{slice_get}
 use Rattle.std.specs.Int.Signed.{≤ℤ_refl}

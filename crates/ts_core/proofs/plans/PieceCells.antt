@@ -1,4 +1,4 @@
--- The rule that a piece names, with the cells that serve the query there.
+-- The rule that a piece names, with the cells that it covers of the query.
 use Rattle.std.proofs.Common.{◌≡◌, ℤ, pos, true, false, cond, List, [], ◌∷◌, map, refl, sym, ap, ap₂, ◌∙◌, subst, ◌≤ℤ◌, Option, Some, None, is_eq}
 use Rattle.std.specs.List.{AllByRecursion}
 use Rattle.std.specs.Ordering.{ordering_then, int_cmp}
@@ -107,7 +107,7 @@ module _ {fs : List Fact} {q : Query} {o : Option RuleCells} {a b : ℤ} (s : Se
   pub start_of-high : (k : ℤ) → is_within a b (start_of s.shown.rule k) ≡ true → s.shown.low ≤ℤ k
   start_of-high k m = subst (λ x. s.shown.low ≤ℤ x) (index_of-start s.shown.rule k s.wide) (index_of-high (start_of s.shown.rule k) m)
 
-  -- what matches is of the rule's measurement
+  -- a matching fact is of the rule's measurement
   pub is_rolled-matches : (f : Fact) → matches q f ≡ true → is_rolled s.shown.rule f ≡ true
   is_rolled-matches f m =
       same_text-from_eq f.column.series.measurement s.shown.rule.measurement

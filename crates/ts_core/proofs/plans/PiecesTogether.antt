@@ -1,4 +1,4 @@
--- What valid pieces hold of a row, put together, is the row: each fact of it is in just one piece.
+-- Pieces of a row joined: each fact of the row is in exactly one of the valid pieces.
 use Rattle.std.proofs.Common.{◌≡◌, ℤ, ◌≤ℤ◌, int_lt, Bool, true, false, ◌&&◌, not, List, [], ◌∷◌, filter, refl, sym, ◌∙◌, ap, ap₂, arith}
 use Rattle.std.proofs.lemmas.Int.{ints, by_lt_z}
 use Rattle.std.specs.Ordering.{int_eq}
@@ -16,7 +16,7 @@ use Rattle.ts_core.proofs.aggregates.Folds.{fold-split}
 use Rattle.ts_core.proofs.plans.Covered.{within_above, within_below}
 use Rattle.ts_core.proofs.queries.AnswersLaws.{over_range, filter_both, filter_same, first_half, second_half}
 
--- what the facts of a row in a part of the range add up to
+-- the aggregate of the facts of a row in a part of the range
 abbrev pub part_of_row : Query → List Fact → List Text → ℤ → ℤ → ℤ → Aggregate
 part_of_row q fs g k a b = aggregate_of (filter (is_in_row (over_range q a b) g k) fs)
 

@@ -1,4 +1,4 @@
--- There is a plan exactly where some list of pieces is valid: else no rule leads on, as far as the walk comes.
+-- Existence of a plan, exactly if some list of pieces is valid: otherwise no rule leads on from where the walk ends.
 use Rattle.std.proofs.Common.{◌≡◌, ◌↔◌, ℕ, ℤ, pos, ◌+◌, ◌+ℤ◌, ◌-ℤ◌, ◌≤ℤ◌, ◌<ℤ◌, arith, refl, sym, ap, ◌∙◌, suc, zero, subst, unsigned_abs, List, [], ◌∷◌, Some, None, ◌⊎◌, inl, inr, zero-add}
 use Rattle.std.specs.Prelude.{slice_get}
 use Rattle.std.specs.Int.Signed.{yes_non_neg, pos-nat_abs}

@@ -1,4 +1,4 @@
--- Pieces without a fault are valid, and valid pieces have none.
+-- Validity of pieces, exactly if they have no fault.
 use Rattle.std.proofs.Common.{◌≡◌, ◌↔◌, ℕ, ℤ, pos, ◌+◌, ◌-ℤ◌, int_le, int_lt, refl, sym, ap, ap₂, ◌∙◌, List, [], ◌∷◌, Option, Some, None, ◌⊎◌, Bool, true, false, cond, ◌&&◌, ◌||◌, inl, inr, true≢false}
 use Rattle.std.specs.Ordering.{int_eq}
 use Rattle.std.specs.Int.{int_rem_euclid}

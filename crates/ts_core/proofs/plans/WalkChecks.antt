@@ -1,4 +1,4 @@
--- A test that some buckets are the walk of a plan, for where the rules before the taken one have no valid bucket at all.
+-- A test that some buckets are the walk of a plan, if no rule before the chosen one has a valid bucket.
 use Rattle.std.proofs.Common.{◌≡◌, ℕ, ℤ, ◌+◌, ◌+ℤ◌, ◌<ℤ◌, int_lt, int_le, arith, refl, sym, ap, ◌∙◌, suc, subst, List, [], ◌∷◌, Some, Bool, true, false, cond, ◌&&◌, not, true≢false, zero-add}
 use Rattle.std.specs.Prelude.{slice_get}
 use Rattle.std.specs.Ordering.{int_eq}
@@ -75,7 +75,7 @@ step_is t p b (Rollup name) bs s l f e h w =
     let first = first_found t p b.to name t.rules 0 (λ m. ap (slice_get t.rules) (zero-add m)) (λ m d k x. absurd (omega arith)) g c.1 in
     (l, f, subst (λ z. Steps t p b.to z bs (IsWalk t b.to bs)) (sym e) (lt_from p t.mark c.0, first, w))
 
--- what passes is the walk
+-- buckets that pass the test are the walk
 pub is_walk-IsWalk : (t : QueryContext) (p : ℤ) (bs : List Piece) → IsWide t → is_walk t p bs ≡ true → IsWalk t p bs
 is_walk-IsWalk t p [] s h = (Decides-int_eq p t.query.to).0 h
 is_walk-IsWalk t p (b ∷ bs) s h =

@@ -1,4 +1,4 @@
--- The plan of a query is valid, it is one alone, and it is there wherever some list of pieces is valid.
+-- The plan of a query: valid, unique, and existing if some list of pieces is valid.
 use Rattle.std.proofs.Common.{◌≡◌, ℕ, ℤ, pos, ◌<◌, ◌+ℤ◌, ◌≤ℤ◌, ◌<ℤ◌, arith, refl, sym, ap, ap₂, ◌∙◌, subst, List, [], ◌∷◌, Option, Some, None, Bool, true, false, cond, ◌&&◌, true≢false}
 use Rattle.std.specs.Prelude.{slice_get}
 use Rattle.std.proofs.lemmas.Int.{ints, by_lt_z}

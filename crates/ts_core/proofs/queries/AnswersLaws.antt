@@ -1,4 +1,4 @@
--- The answer goes by what is in the list and not by its order, and an aggregate of a range is that of its two halves.
+-- Answers, by membership and not by the order of the list; an aggregate of a range is that of its two halves.
 use Rattle.std.proofs.Common.{◌≡◌, ℤ, ◌+ℤ◌, ◌*ℤ◌, ◌≤ℤ◌, int_lt, Bool, true, false, cond, ◌&&◌, not, List, [], ◌∷◌, map, filter, refl, sym, ◌∙◌, ap, ap₂, arith, true≢false}
 use Rattle.std.proofs.lemmas.Int.{ints, by_lt_z}
 use Rattle.std.proofs.lemmas.Bool.{and_parts, and_from}

@@ -1,4 +1,4 @@
--- Where the buckets of a rule and of a query meet: a cell that serves a query lies in one of its buckets.
+-- Boundaries of a rule's buckets and of a query's: a cell that fits a query lies in one of its buckets.
 use Rattle.std.proofs.Common.{◌≡◌, ℕ, zero, suc, ℤ, pos, negsuc, ◌-◌, ◌/◌, ◌%◌, ◌<◌, ◌+ℤ◌, ◌-ℤ◌, ◌*ℤ◌, ◌≤ℤ◌, ◌<ℤ◌, true, false, ◌&&◌, arith, refl, sym, ap, ap₂, ◌∙◌, subst, div-add-mod', mod-lt, int_le, int_lt, ◌⊎◌, ⊎_elim}
 use Rattle.std.specs.Int.{int_rem_euclid}
 use Rattle.std.proofs.Math.IntN.{suc_ℤ-*ℤ, pos-*ℤ-pos, negsuc-*ℤ-pos, zero-*ℤ}

@@ -1,4 +1,4 @@
--- The buckets of a query: just those in which some moment of the range lies, each once, in order.
+-- The buckets of a query: exactly those with a moment of the range, each once, in order.
 use Rattle.std.proofs.Common.{◌≡◌, ◌↔◌, ℕ, ℤ, pos, negsuc, ◌+ℤ◌, ◌-ℤ◌, ◌*ℤ◌, ◌≤ℤ◌, ◌<ℤ◌, int_lt, arith, refl, sym, ap, ◌∙◌, suc, zero, subst, List, [], ◌∷◌, inl, inr, Bool, true, false, cond}
 use Rattle.std.specs.Int.Signed.{≤ℤ_refl}
 use Rattle.std.proofs.lemmas.Int.{ints, by_lt_z}

@@ -1,4 +1,4 @@
--- A fact is in a row of a query just where its cell is, in a range where the cells of the rule serve the query.
+-- Facts of a query's row: exactly those whose cell is in it, in a range where the rule's cells fit the query.
 use Rattle.std.proofs.Common.{◌≡◌, ℤ, pos, Bool, true, false, cond, not, ◌&&◌, List, [], ◌∷◌, ◌++◌, map, zip, refl, sym, ap, ap₂, ◌∙◌, ⊎_elim, ◌≤ℤ◌, ◌<ℤ◌, true≢false, arith}
 use Rattle.std.proofs.lemmas.Int.{ints}
 use Rattle.std.specs.List.{AllByRecursion, list_all}
@@ -113,7 +113,7 @@ module _ (q : Query) (r : MarkedRule) (a b : ℤ) (v : pos 1 ≤ℤ q.interval) 
       selected (ap (λ z. same_group z g) same_group_of) range in_query
       (λ e. let p = within_parts a b f.time e in ap (λ z. int_eq z k) (one_bucket r.rule q a b f.time w v s.starts s.fits p.0 p.1))
 
--- what matches is of the query's measurement
+-- a matching fact is of the query's measurement
 pub matches-measurement : (q : Query) (f : Fact) → matches q f ≡ true → same_text f.column.series.measurement q.measurement ≡ true
 matches-measurement q f match =
     let chosen : is_selected q f.column ≡ true = (and_parts (is_selected q f.column) (is_within q.from q.to f.time) match).0 in

@@ -1,4 +1,4 @@
--- Filling changes no row that has data, and puts into each other row what its kind says.
+-- Filling: a row with data stays, and each other row gets the value of the fill option.
 use Rattle.std.proofs.Common.{◌≡◌, ℕ, ℤ, ◌==◌, suc, zero, true, false, cond, not, List, [], ◌∷◌, ◌++◌, map, filter, length, refl, sym, ◌∙◌, ap, subst, inl, inr, true≢false, Option, Some, None, arith}
 use Rattle.std.specs.Prelude.{slice_get}
 use Rattle.std.proofs.lemmas.Bool.Decides.{Decides-eqb}
@@ -72,7 +72,7 @@ none_fill-shown fs rows x h = let k = back (filter has_data rows) h in (k.0, Amo
     back (r ∷ rs) (inl e) = (r, inl refl, e)
     back (r ∷ rs) (inr h) = let k = back rs h in (k.0, inr k.1, k.2)
 
--- what the last row with data had, after rows
+-- the data of the last row with data, after rows
 abbrev carried : Option Aggregate → List Row → Option Aggregate
 carried e [] = e
 carried e (r ∷ rows) = carried (last_data e r) rows

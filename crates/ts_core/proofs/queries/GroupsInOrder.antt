@@ -1,4 +1,4 @@
--- The groups of an answer: just those that have a matching fact, each once, in byte order.
+-- The groups of an answer: exactly those that have a matching fact, each once, in byte order.
 use Rattle.std.proofs.Common.{◌≡◌, ◌↔◌, Bool, true, false, cond, ◌||◌, List, [], ◌∷◌, map, filter, refl, sym, ◌∙◌, ap, subst, inl, inr, true≢false, Option, Some, None, is_some, is_eq, Less, Equal, Greater, T}
 use Rattle.std.specs.Cmp.{IsTotalOrder}
 use Rattle.std.specs.List.{list_any}

@@ -1,4 +1,4 @@
--- Items of an array, read one after another; and how many members an object has.
+-- Items of an array, read one after another; and the number of members of an object.
 use Rattle.std.proofs.Common.{◌≡◌, ℕ, ◌+◌, ◌<◌, suc, List, [], ◌∷◌, ◌++◌, length, drop, get_or, Option, Some, None, option_map, String, refl, sym, ap, ◌∙◌, append_assoc, append-nil}
 use Rattle.std.proofs.lemmas.List.{at_drop_more}
 use Rattle.std.specs.declared.alloc.Global.{Global}
@@ -7,7 +7,7 @@ use Rattle.serde_json.specs.View.{view, items_view, members_view}
 use Rattle.serde_json.specs.declared.value.Value.{Value}
 use Rattle.ts_core.specs.settings.SettingsTexts.{each, members_count}
 
--- what was read, behind what was read before
+-- the items read, after those read before
 abbrev pub behind : {X : Type 0} → List X → Option (List X) → Option (List X)
 behind before o = option_map (λ xs. before ++ xs) o
 

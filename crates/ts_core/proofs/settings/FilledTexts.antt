@@ -1,4 +1,4 @@
--- Parsed texts of rules aren't empty.
+-- Parsed texts of rules, which aren't empty.
 use Rattle.std.proofs.Common.{◌≡◌, ◌≢◌, List, [], ◌∷◌, Option, Some, None, option_map, option_and_then, refl, subst}
 use Rattle.std.specs.List.{AllByRecursion}
 use Rattle.serde_json.specs.Data.{Items, no_items, item}

@@ -1,4 +1,4 @@
--- No interval of a query or of valid settings is empty.
+-- Intervals of a query and of valid settings, which aren't empty.
 use Rattle.std.proofs.Common.{◌≡◌, ℤ, pos, ◌≤ℤ◌, List, [], ◌∷◌, None, ◌∙◌}
 use Rattle.std.specs.List.{AllByRecursion}
 use Rattle.ts_core.specs.settings.Settings.{Rule, Settings}

@@ -1,4 +1,4 @@
--- A rule is found by its name and dropped by its index.
+-- Look-up of a rule by its name, and its removal by its index.
 use Rattle.std.proofs.Common.{◌≡◌, ℕ, zero, suc, ◌+◌, ◌<◌, Bool, true, false, cond, ◌||◌, List, [], ◌∷◌, length, filter, map, refl, sym, ap, ◌∙◌, subst, arith, Option, Some, None, IfSome, IsNone, true≢false}
 use Rattle.std.specs.List.{AllByRecursion, list_any, position_from, remove}
 use Rattle.std.proofs.lemmas.Option.{none-some}

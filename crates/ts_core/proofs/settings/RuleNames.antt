@@ -1,4 +1,4 @@
--- Where names differ, a rule is found by its name: so pieces may name rules, and a planner may number them.
+-- Distinct names of rules: a look-up by name finds the rule, so pieces may name rules and a planner may number them.
 use Rattle.std.proofs.Common.{◌≡◌, ℕ, ℤ, suc, zero, arith, refl, sym, ap, ◌∙◌, subst, List, [], ◌∷◌, map, length, Some, None, inl, inr, true, false, cond}
 use Rattle.std.specs.Prelude.{slice_get}
 use Rattle.ts_core.specs.lists.Members.{Among, AllDistinct}

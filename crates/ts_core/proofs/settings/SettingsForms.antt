@@ -1,4 +1,4 @@
--- What a text of settings says, part by part: a part that isn't there is a fault of the form.
+-- The parts of a text of settings: a missing one is a fault of the form.
 use Rattle.std.proofs.Common.{◌≡◌, ℤ, ℕ, Bool, true, false, List, Option, Some, None, Result, Ok, Err, option_and_then, unsigned_abs, codes, refl, sym, ap, ◌∙◌, IfErr}
 use Rattle.std.specs.Result.{IsErrAnd}
 use Rattle.serde_json.specs.Data.{Data, Items}
@@ -179,7 +179,7 @@ parts_read d values raw rules keys er ev es = both_there raw rules keys er (ap (
 
 -- ---- the text
 
--- what is refused by a part is refused by the whole
+-- a text that a part refuses is refused by the whole
 pub refused_by : {X Y : Type 0} (e : SettingsError) (part : Option X) (whole : Option Y) → (part ≡ None → whole ≡ None) → IsRefusal e part → IsRefusal e whole
 refused_by OutOfMemory part whole lacks r = tt
 refused_by (Fault fault) part whole lacks r = (r.0, lacks r.1)

@@ -1,4 +1,4 @@
--- A begin leaves what the columns hold, and both parts of each cell.
+-- The effect of a begin: it leaves the points of the columns, and both parts of each cell.
 use Rattle.std.proofs.Common.{◌≡◌, ℤ, false, cond, List, [], ◌∷◌, map, refl, sym, ◌∙◌, ap, ap₂, subst, true≢false, int_le, ◌≤ℤ◌}
 use Rattle.std.specs.Int.{int_max}
 use Rattle.ts_core.specs.lists.Members.{Among, AllDistinct}

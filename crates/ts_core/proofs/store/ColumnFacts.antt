@@ -1,4 +1,4 @@
--- What stands for a history has in each column just that column's raw facts.
+-- The points of each column of a store that represents a history: exactly the column's raw facts.
 use Rattle.std.proofs.Common.{◌≡◌, ℕ, ◌+◌, ℤ, List, [], ◌∷◌, ◌++◌, map, length, length-append, refl, sym, ◌∙◌, ap, ap₂, subst, inl, inr, ⊎_elim}
 use Rattle.std.proofs.lemmas.Bool.{and_parts}
 use Rattle.ts_core.specs.lists.Members.{Among, AllDistinct}

@@ -145,7 +145,7 @@ aggregate_where-held cut fs held s d p =
 pub live_of-held : (cut : Column → ℤ) (fs held : List Fact) → Holds cut fs held → AllDistinct fs → (r : Rule) (k : Cell) → live_of cut r k fs ≡ aggregate_where (is_in_cell r k) held
 live_of-held cut fs held s d r k = aggregate_where-held cut fs held s d (is_in_cell r k)
 
--- what is held stays, where the cuts agree
+-- the facts in columns stay, if the cuts agree
 pub Holds-agree : (cut next : Column → ℤ) (fs held : List Fact) → CutsAgree cut next fs → Holds cut fs held → Holds next fs held
 Holds-agree cut next fs held h s = record {
   once = s.once;

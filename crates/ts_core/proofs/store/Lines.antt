@@ -1,4 +1,4 @@
--- A line of several facts, put one by one.
+-- A line of several facts, inserted one by one.
 use Rattle.std.proofs.Common.{◌≡◌, ℤ, List, [], ◌∷◌, ◌++◌, length, map, refl, sym, ◌∙◌, ap, subst, ◌≤◌, ◌^◌}
 use Rattle.std.specs.List.{AllByRecursion}
 use Rattle.ts_core.specs.lists.Members.{Among}

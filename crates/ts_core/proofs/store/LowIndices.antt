@@ -1,5 +1,4 @@
--- The raw mark and the low indices are the greatest that the begins leave, and no fact that is accepted lies below a
--- low index.
+-- The raw mark and the low indices: the greatest that the begins leave. No accepted fact lies below a low index.
 use Rattle.std.proofs.Common.{◌≡◌, ℕ, ℤ, pos, ◌<◌, ◌≤◌, ◌+ℤ◌, ◌-ℤ◌, ◌≤ℤ◌, arith, refl, sym, ap, ◌∙◌, subst, cond, true, false, List, [], ◌∷◌, map, inl, inr, ⊎_elim, ◌==◌, int_lt}
 use Rattle.std.specs.Int.{int_max}
 use Rattle.std.specs.Int.Signed.{≤ℤ_refl}

@@ -1,4 +1,4 @@
--- What a begin, a step and a write do to what a store keeps.
+-- The effect of a begin, a step and a write on a store's content.
 use Rattle.std.proofs.Common.{◌≡◌, ℤ, Bool, true, false, cond, not, ◌&&◌, ◌||◌, ◌+◌, List, [], ◌∷◌, map, filter, int_le, ◌≤ℤ◌, ◌⊎◌}
 use Rattle.std.specs.Int.{int_max}
 use Rattle.ts_core.specs.lists.Members.{Among, AllDistinct}
@@ -47,7 +47,7 @@ is_left c mark f = not (same_column f.column c) || int_le mark f.time
 abbrev pub left_points : Column → ℤ → ColumnPoints → ColumnPoints
 left_points c mark s = cond (same_column s.column c) (record { column = s.column; points = filter (λ (p : ℤ × ℤ). int_le mark p.0) s.points }) s
 
--- what goes is merged into the frozen part, and the live part is what is left
+-- removed facts are merged into the frozen part, and the live part is that of the others
 pub record IsMoved (c : Column) (mark : ℤ) (before after : List ColumnPoints) (r next : RuleCells) : Type 0 where
   pub rule : r.rule ≡ next.rule
   pub low : r.low ≡ next.low

@@ -1,4 +1,4 @@
--- A store with nothing in it stands for the empty history.
+-- An empty store, which represents the empty history.
 use Rattle.std.proofs.Common.{◌≡◌, ℤ, List, [], ◌∷◌, None, map, refl, sym, ap, subst, false, true≢false}
 use Rattle.std.specs.List.{AllByRecursion}
 use Rattle.ts_core.specs.lists.Members.{AllDistinct}

@@ -147,7 +147,7 @@ one_moved = Step false ∷ begun
 marks_begun : marks_of two_minutes begun ≡ record { raw = pos 100000000000; lows = negsuc 153722867 ∷ [] }
 marks_begun = refl
 
--- how many raw points both columns have
+-- the number of raw points of both columns
 abbrev raw_points : History → List Column → ℕ
 raw_points h waiting = length (raw_of two_minutes h waiting (column a)) + length (raw_of two_minutes h waiting (column b))
 

@@ -1,4 +1,4 @@
--- A rule that is added starts with the raw facts alone, and one that is dropped takes its cells with it.
+-- Added and dropped rules: a new one starts with the raw facts alone, and a dropped one takes its cells with it.
 use Rattle.std.proofs.Common.{◌≡◌, ℤ, pos, Bool, true, false, cond, not, ◌&&◌, List, [], ◌∷◌, ◌++◌, filter, map, refl, sym, ◌∙◌, ap, ap₂, subst, ◌≤ℤ◌, None, IsTrue}
 use Rattle.std.specs.List.{AllByRecursion}
 use Rattle.std.proofs.lemmas.Bool.{and_parts, or_parts}

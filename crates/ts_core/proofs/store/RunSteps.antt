@@ -1,4 +1,4 @@
--- The steps of a run: one moves a column, whose facts below the mark go from the live parts to the frozen ones; one
+-- The steps of a run. One moves a column, whose facts below the mark go from the live parts to the frozen ones; one
 -- removes cells below the low index; the last one ends the run.
 use Rattle.std.proofs.Common.{◌≡◌, ◌↔◌, IsTrue, ℤ, Bool, true, false, cond, not, ◌&&◌, ◌||◌, List, [], ◌∷◌, ◌++◌, filter, map, refl, sym, ◌∙◌, ap, ap₂, subst, inr, true≢false, int_le, ◌≤ℤ◌}
 use Rattle.std.specs.List.{AllByRecursion}
@@ -76,7 +76,7 @@ columns_of-left c mark (s ∷ ss) =
     let first = elim (same_column s.column c) as (λ b. (let z : ColumnPoints = cond b (record { column = s.column; points = filter (λ (p : ℤ × ℤ). int_le mark p.0) s.points }) s in z.column ≡ s.column)) [ true ↦ refl | false ↦ refl ] in
     ap₂ (λ x xs. x ∷ xs) first (columns_of-left c mark ss)
 
--- what is held after some of it went
+-- the facts in columns after some were removed
 pub Holds-filtered : (cut next : Column → ℤ) (fs before after : List Fact) (q : Fact → Bool) → after ≡ filter q before
     → CutRises cut next → ((f : Fact) → is_kept cut f ≡ true → q f ≡ is_kept next f) → Holds cut fs before → Holds next fs after
 Holds-filtered cut next fs before after q e rise is s = record {
@@ -90,7 +90,7 @@ swap_and true true c = elim c as (λ x. not x ≡ not x && true) [ true ↦ refl
 swap_and true false c = elim c as (λ x. false ≡ not x && false) [ true ↦ refl | false ↦ refl ]
 swap_and false b c = refl
 
--- what the cut passes is what is held and goes
+-- the facts that the cut passes are those in columns that are removed
 pub passed_of-held : (cut next : Column → ℤ) (fs held : List Fact) (q : Fact → Bool) → ((f : Fact) → is_kept cut f ≡ true → q f ≡ is_kept next f) → Holds cut fs held → AllDistinct fs → (r : Rule) (k : Cell)
     → passed_of cut next r k fs ≡ aggregate_where (λ (f : Fact). is_in_cell r k f && not (q f)) held
 passed_of-held cut next fs held q is s d r k =

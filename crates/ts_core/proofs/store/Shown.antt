@@ -1,4 +1,4 @@
--- What stands for a history shows it.
+-- A view that shows the history which the store represents.
 use Rattle.std.proofs.Common.{◌≡◌, ℤ, List, [], ◌∷◌, sym, ◌∙◌, ap, ap₂, subst, ◌≤ℤ◌}
 use Rattle.std.specs.List.{AllByRecursion}
 use Rattle.ts_core.specs.facts.Facts.{Column, Fact}

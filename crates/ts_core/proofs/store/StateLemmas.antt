@@ -1,4 +1,4 @@
--- What standing for a history says in the words that moves need, and lists taken member by member.
+-- The representation of a history in the words that transitions need, and lists taken item by item.
 use Rattle.std.proofs.Common.{◌≡◌, ℤ, Bool, true, false, cond, ◌&&◌, ◌||◌, List, [], ◌∷◌, map, refl, sym, ◌∙◌, ap, ap₂, subst, inl, inr, ⊎_elim, int_le, ◌≤ℤ◌, arith, is_eq}
 use Rattle.std.proofs.lemmas.Int.{ints, clamps}
 use Rattle.std.proofs.lemmas.Cmp.{tied_itself}
@@ -138,7 +138,7 @@ StandsFor-Holds opening h s st = raw_of-Holds opening h s.waiting (facts_of s.co
 
 -- ---- the rules
 
--- what is said of the old rule and low index is said of the new ones
+-- the properties of the old rule and low index hold of the new ones
 pub HasCells-as : (cut : Column → ℤ) (fs : List Fact) (r after : RuleCells) → r.rule ≡ after.rule → r.low ≡ after.low
     → HasCells cut fs (record { rule = r.rule; low = r.low; cells = after.cells; parts = after.parts }) → HasCells cut fs after
 HasCells-as cut fs r after e l h = subst (HasCells cut fs) (λ i. record { rule = e i; low = l i; cells = after.cells; parts = after.parts }) h

@@ -1,4 +1,4 @@
--- An accepted fact changes what one column holds, and the live part of one cell of each rule.
+-- The effect of an accepted fact: on the points of one column, and on the live part of one cell of each rule.
 use Rattle.std.proofs.Common.{◌≡◌, ℤ, Bool, true, false, cond, not, ◌&&◌, List, [], ◌∷◌, filter, map, refl, sym, ◌∙◌, ap, ap₂, subst, inl, inr, ◌⊎◌, ⊎_elim, true≢false, int_le, ◌≤ℤ◌, None, length, ◌+◌, add-one}
 use Rattle.ts_core.specs.lists.Members.{Among}
 use Rattle.ts_core.specs.facts.Facts.{Series, Column, Fact, Id, id_of, same_id}
@@ -82,7 +82,7 @@ pub live_of-replaces : (cut : Column → ℤ) (fs : List Fact) (f : Fact) (r : R
     → live_of cut r k (latest (f ∷ fs)) ≡ merged (one_fact f) (aggregate_where (λ (g : Fact). is_in_cell r k g && is_kept cut g) (others f (latest fs)))
 live_of-replaces cut fs f r k e t = aggregate_where-touched (λ (g : Fact). is_in_cell r k g && is_kept cut g) fs f (ap₂ (λ x y. x && y) e t)
 
--- what is held after a write
+-- the facts in columns after a write
 pub Holds-written : (cut : Column → ℤ) (fs before after : List Fact) (f : Fact) → is_kept cut f ≡ true
     → FactsToo before after f (is_other f) → Holds cut (latest fs) before → Holds cut (latest (f ∷ fs)) after
 Holds-written cut fs before after f t too s = record {

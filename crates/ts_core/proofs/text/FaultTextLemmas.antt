@@ -1,4 +1,4 @@
--- What words one behind another leave out of memory.
+-- Texts appended in a row, when out of memory.
 use Rattle.std.proofs.Common.{◌≡◌, ◌∙◌, List, [], ◌∷◌, ◌++◌, Bor, Result, Ok, Err, OnErr, refl, ap, sym, append-nil}
 use Rattle.std.proofs.lemmas.List.{append_assoc}
 use Rattle.ts_core.specs.facts.Facts.{Text}

@@ -1,4 +1,4 @@
--- Numbers as text: what `parse` takes, and which numbers fit 64 bits.
+-- Numbers as text: the texts that `parse` accepts, and the numbers that fit 64 bits.
 use Rattle.std.proofs.Common.{◌≡◌, ℕ, ◌<◌, Bool, true, false, cond, not, eqb, [], ◌∷◌, length, sym, refl, arith, ℤ, pos, neg_ℤ, FitsSigned, w64, Option, Some, None}
 use Rattle.std.specs.Char.{is_ascii_digit, digit_value}
 use Rattle.std.specs.List.{list_all}
@@ -66,11 +66,11 @@ none_within_by false n e = refl
 pub none_within : (n : ℤ) → None ≡ cond (is_from_to (neg_ℤ (pos 9223372036854775808)) (pos 9223372036854775807) n) (Some n) None → is_from_to (neg_ℤ (pos 9223372036854775808)) (pos 9223372036854775807) n ≡ false
 none_within n e = none_within_by (is_from_to (neg_ℤ (pos 9223372036854775808)) (pos 9223372036854775807) n) n e
 
--- what `parse` refuses has no 64 bits
+-- a number that `parse` refuses doesn't fit 64 bits
 pub not_whole : (text : Text) → is_number text ≡ true → (IsNumeral 10 (without_leading_sign text) × FitsSigned w64 (signed_digits_value 10 text) → ⊥) → None ≡ whole_of text
 not_whole text e h = none_by (is_from_to (neg_ℤ (pos 9223372036854775808)) (pos 9223372036854775807) (signed_digits_value 10 text)) (signed_digits_value 10 text) (λ w. h (numeral text e, within_fits (signed_digits_value 10 text) w))
 
--- what was read has 64 bits
+-- a number that was read fits 64 bits
 pub whole_fits : (text : Text) (n : ℤ) → Some n ≡ whole_of text → FitsSigned w64 n
 whole_fits text n e =
     let read = cond_some (is_from_to (neg_ℤ (pos 9223372036854775808)) (pos 9223372036854775807) (signed_digits_value 10 text)) (signed_digits_value 10 text) n (sym e) in

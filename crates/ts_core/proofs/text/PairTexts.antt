@@ -1,4 +1,4 @@
--- Pairs of texts, one more at the end.
+-- Pairs of texts, with one more at the end.
 use Rattle.std.proofs.Common.{◌≡◌, ℕ, ◌<◌, ◌+◌, List, [], ◌∷◌, ◌++◌, length, get_or, take, refl, sym, ◌∙◌, ap, String, string_bytes, Bor}
 use Rattle.std.proofs.lemmas.List.{take_more}
 use Rattle.std.specs.Ordering.{ordering_then}

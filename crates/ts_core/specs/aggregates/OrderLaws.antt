@@ -72,7 +72,7 @@ module _ {K : Type 0} {R : K → K → Ordering} (o : IsTotalOrder R) (exact : C
   pub lesser-before : (a b : K) → R b a ≡ Less → lesser R a b ≡ b
   lesser-before a b h = ap (λ r. cond (is_gt r) b a) (o.antisymm a b ∙ ap ordering_reverse h)
 
-  -- nothing comes before itself
+  -- no item comes before itself
   pub not_itself : (a : K) → R a a ≡ Less → ⊥
   not_itself a h = let n : Less ≡ Equal = sym h ∙ tied_itself o a in cc
 

@@ -11,7 +11,7 @@ pub record Input : Type 0 where
   pub failures : ℕ
   pub ends : ℕ
 
--- a reader of these bytes that wasn't called yet
+-- a reader of these bytes before its first read
 abbrev pub unread : Option (List ℕ) → Input
 unread bytes = record { remaining = bytes; turns = 0; failures = 0; ends = 0 }
 

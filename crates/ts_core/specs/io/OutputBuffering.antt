@@ -10,8 +10,8 @@ pub record AreWrittenBut (old new : Option Text) (bytes buffered : Text) : Type 
   pub bytes_are : bytes ≡ sent ++ buffered
   pub written : Appends old new sent
 
--- Puts bytes behind the buffered ones. In their order some are written, and the rest is buffered. After a refused write a
--- prefix of all was written, and nothing is buffered.
+-- Appends bytes to the buffered ones. A prefix of all is written, in order, and the rest is buffered. After a refused
+-- write a prefix of all was written, and nothing is buffered.
 pub record IsBuffered {T E : Type 0} (old : Output) (buffered : Text) (result : Result T E) (bytes : Text) (new : Output) (buffered' : Text) : Type 0 where
   pub ok : OnOk result (AreWrittenBut old.contents new.contents (buffered ++ bytes) buffered')
   pub err : OnErr result (AppendsFront old.contents new.contents (buffered ++ bytes))

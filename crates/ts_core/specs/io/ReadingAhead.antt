@@ -5,8 +5,8 @@ use Rattle.ts_core.specs.io.Devices.{Input}
 use Rattle.ts_core.specs.declared.io.read_ahead.ReadFault.{ReadFault}
 use Rattle.ts_core.specs.declared.io.read_ahead.ReadFault.TheVariants.{Device, Turns}
 
--- the consumed and the remaining bytes of the last read, the number of reads so far and its limit, and whether the end
--- of input was read
+-- the consumed and the remaining bytes of the last read, the number of reads and its limit, and whether the end of
+-- input was read
 pub record Ahead : Type 0 where
   pub used : List ℕ
   pub buffered : List ℕ

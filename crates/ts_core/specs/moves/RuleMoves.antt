@@ -45,7 +45,7 @@ kept_beside p [] xs = []
 kept_beside p (r ∷ rs) [] = []
 kept_beside p (r ∷ rs) (x ∷ xs) = if p r then x ∷ kept_beside p rs xs else kept_beside p rs xs
 
--- The rule at an index has the name, and no other rule has it. So dropping the name removes what has this index.
+-- The rule at an index has the name, and no other rule has it. So dropping the name removes the rule with this index.
 pub record IsRuleAt (name : Text) (rules : List Rule) (index : ℕ) : Type 0 where
   pub inside : index < length rules
   pub named : IsTrue (is_named rules name)
@@ -100,7 +100,7 @@ SettingsStayFaultless = (opening : Settings) (h : History) → IsLawful opening 
 abbrev pub StartsAtFirst : Type 0
 StartsAtFirst = (r : Rule) (t : ℤ) → pos 1 ≤ℤ r.interval → IsFirstFrom r t (first_from r t)
 
--- A low index is the greater of two: the index that its rule starts with, and that of the greatest time left by the
+-- A low index is the greater of two: the starting index of its rule, and the index of the greatest time left by the
 -- begins since then.
 abbrev pub LowsAre : Type 0
 LowsAre = (opening : Settings) (h : History) (r : Rule) → pos 1 ≤ℤ r.interval

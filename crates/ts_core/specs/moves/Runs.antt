@@ -21,7 +21,7 @@ steps_left s = if s.running then length s.waiting + turns_left s.rules + 1 else 
 
 -- ---- the calls of one run, each with the steps that are left after it
 
--- Each call of an open run is a pair: whether it is a step, and the number of steps left after it. A step lowers that
+-- Each call of an open run is a pair: true if it is a step, and the number of steps left after it. A step lowers that
 -- number by one, and no other call raises it.
 abbrev pub Falls : ℕ → List (Bool × ℕ) → Type 0
 Falls left [] = Unit {0}

@@ -39,8 +39,8 @@ abbrev pub refolded_points : Rule → Column → List (ℤ × ℤ) → List Fact
 refolded_points r c [] facts m = m
 refolded_points r c (p ∷ ps) facts m = refolded_points r c ps facts (refolded r (cell_of r (fact_at c p)) facts m)
 
--- freezes the points of a column, and folds the live parts of their cells anew from the remaining raw facts, if the
--- column is of the rule's measurement
+-- if the column is of the rule's measurement, freezes its points, and folds the live parts of their cells anew from the
+-- remaining raw facts
 abbrev pub moved_cells : Rule → Column → List (ℤ × ℤ) → List Fact → CellMap → CellMap
 moved_cells r c ps facts m = if same_text c.series.measurement r.measurement then refolded_points r c ps facts (frozen_points r c ps m) else m
 

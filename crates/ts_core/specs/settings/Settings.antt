@@ -1,5 +1,5 @@
 -- Retention and rollup rules, as the operator sets them.
--- (InfluxData 1.8, downsampling and data retention: a rule stands for a retention policy with its continuous query. Own
+-- (InfluxData 1.8, downsampling and data retention: a rule represents a retention policy with its continuous query. Own
 -- rules: its cells have all latest facts, late ones too, where a continuous query runs once per bucket. Retention cuts
 -- raw points exactly at a time, where a retention policy drops whole shard groups.)
 use Rattle.std.specs.Prelude.{◌≡◌, ◌≢◌, ◌⊎◌, ℕ, ◌<◌, ◌≤◌, ◌^◌, ℤ, pos, ◌≤ℤ◌, FitsSigned, Bool, not, List, [], ◌∷◌, ◌++◌, map, filter, length}
@@ -62,8 +62,8 @@ pub record AreKeptTags (tags : List Text) : Type 0 where
   pub few : length tags ≤ 16
   pub once : AllDistinct tags
 
--- the properties of settings without a fault: few rules, distinct names, intervals of a second or more (so none is
--- empty), few kept tags, and no cells with a shorter retention duration than raw points (Own rules.)
+-- the properties of settings without a fault: few rules, distinct names, intervals of a second or more, few kept tags,
+-- and cells that last at least as long as raw points (Own rules.)
 pub record AreSettings (s : Settings) : Type 0 where
   pub few : length s.rules ≤ 32
   pub names : AllDistinct (map (λ (r : Rule). r.name) s.rules)

@@ -12,7 +12,7 @@ pub data Event : Type 0 where
   Line : List Fact → Event
   -- a retention run began, at this moment
   Begin : ℤ → Event
-  -- a step of a run; whether it ended the run
+  -- a step of a run; true if it ended the run
   Step : Bool → Event
   -- a rule was appended to the settings
   AddRule : Rule → Event

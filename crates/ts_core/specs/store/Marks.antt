@@ -22,10 +22,10 @@ index_of r t = bucket_of t r.interval r.offset
 abbrev pub first_from : Rule → ℤ → ℤ
 first_from r t = index_of r (t -ℤ pos 1) +ℤ pos 1
 
--- The low index of a rule: the greatest that the begins leave since the rule was added, and at least the index that it
--- starts with. A rule of the opening settings starts with the bucket of the least time. An added rule starts with the
--- first bucket that starts at or above the raw mark of that moment. A rule is identified by its name. If it is dropped
--- and added again, it starts anew.
+-- The low index of a rule: the greatest that the begins leave since the rule was added, and at least its starting
+-- index. A rule of the opening settings starts with the bucket of the least time. An added rule starts with the first
+-- bucket that starts at or above the raw mark of that moment. A rule is identified by its name. If it is dropped and
+-- added again, it starts anew.
 abbrev pub low_of : Settings → History → Rule → ℤ
 low_of opening [] r = index_of r least_time
 low_of opening (Line facts ∷ h) r = low_of opening h r
@@ -76,6 +76,6 @@ pub record IsGreatestOf (xs : List ℤ) (x : ℤ) : Type 0 where
   pub reached : Among x xs
   pub none_greater : (y : ℤ) → Among y xs → y ≤ℤ x
 
--- m is the greatest of the least time and of what a duration leaves at each begin
+-- m is the greatest of the least time and of the time that a duration leaves at each begin
 abbrev pub IsGreatestLeft : ℕ → History → ℤ → Type 0
 IsGreatestLeft duration h m = IsGreatestOf (least_time ∷ map (kept_since duration) (begins h)) m

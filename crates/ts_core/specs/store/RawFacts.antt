@@ -1,5 +1,5 @@
--- Which facts a column still has as raw points: while a run is open, a column that waits keeps those of before it.
--- (Own rules.)
+-- The facts that a column still has as raw points. While a run is open, a waiting column has those from before it. (Own
+-- rules.)
 use Rattle.std.specs.Prelude.{ℤ, int_le, Bool, ◌&&◌, List, [], ◌∷◌, filter, if◌then◌else◌}
 use Rattle.std.specs.List.{list_any}
 use Rattle.std.specs.Ordering.{eq_by_cmp}
@@ -25,7 +25,7 @@ earlier_mark opening (Step ended ∷ h) = earlier_mark opening h
 earlier_mark opening (AddRule rule ∷ h) = earlier_mark opening h
 earlier_mark opening (DropRule name ∷ h) = earlier_mark opening h
 
--- from where on a column still has its raw points
+-- the time from which a column still has its raw points
 abbrev pub kept_from : Settings → History → List Column → Column → ℤ
 kept_from opening h waiting c = if is_waiting waiting c then earlier_mark opening h else raw_mark opening h
 
@@ -42,7 +42,7 @@ cut_at cut c = if is_waiting cut.waiting c then cut.earlier else cut.mark
 abbrev pub is_kept : (Column → ℤ) → Fact → Bool
 is_kept cut f = int_le (cut f.column) f.time
 
--- the latest facts from the raw mark on: where no column waits, these are the raw facts of all columns
+-- the latest facts from the raw mark on; if no column waits, these are the raw facts of all columns
 abbrev pub raw_facts : Settings → History → List Fact
 raw_facts opening h = filter (λ (f : Fact). int_le (raw_mark opening h) f.time) (latest_of h)
 

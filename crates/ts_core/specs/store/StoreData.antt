@@ -25,7 +25,7 @@ no_parts = both_parts empty_aggregate
 pub record StoreData : Type 0 where
   pub settings : Settings
   pub marks : Marks
-  -- whether a run is in progress, and the columns that it hasn't moved yet
+  -- true if a run is in progress; and the columns that it hasn't moved yet
   pub running : Bool
   pub waiting : List Column
   -- the registered series, and the columns with their raw points, each in creation order

@@ -36,7 +36,7 @@ pub record RuleCells : Type 0 where
 pub record StoreState : Type 0 where
   pub settings : Settings
   pub marks : Marks
-  -- whether a run is in progress, and the columns that it hasn't moved yet
+  -- true if a run is in progress; and the columns that it hasn't moved yet
   pub running : Bool
   pub waiting : List Column
   -- the registered series, and the columns with their raw points

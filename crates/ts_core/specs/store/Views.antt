@@ -1,5 +1,5 @@
--- Views of a store, and when a view shows a history: the raw facts at or above the raw mark, and cells whose two parts
--- together are the totals. (Own rules.)
+-- Views of a store, and the histories that a view shows. It has the raw facts at or above the raw mark, and cells whose
+-- two parts together are the totals. (Own rules.)
 use Rattle.std.specs.Prelude.{◌≡◌, ◌↔◌, ◌≤ℤ◌, IsTrue, List, map}
 use Rattle.std.specs.List.{AllByRecursion}
 use Rattle.ts_core.specs.lists.Members.{Among, AllDistinct}

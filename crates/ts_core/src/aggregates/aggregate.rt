@@ -153,9 +153,9 @@ fn are_countable(count: u64, sum: i128, extremes: &Option<Extremes>) -> bool
 }
 
 impl Agg {
-    /// Creates an aggregate, or returns `None` if no aggregate of at most 2^62 points can have these parts. Without points
-    /// there are no extremes and the sum is 0. With points, the sum lies between `count` times the minimum and `count`
-    /// times the maximum.
+    /// Creates an aggregate, or returns `None` if no aggregate of at most 2^62 points can have these parts. Without
+    /// points there are no extremes and the sum is 0. With points, the sum lies between `count` times the minimum and
+    /// `count` times the maximum.
     pub fn from_parts(count: u64, sum: i128, extremes: Option<Extremes>) -> Option<Agg>
         ensures possible { IsSome result ↔ IsCountable (record { count = count; sum = sum; extremes = extremes }) }
         ensures parts { IfSome result (λ a. a ≡ record { count = count; sum = sum; extremes = extremes }) }

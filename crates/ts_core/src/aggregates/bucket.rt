@@ -78,8 +78,8 @@ impl Buckets {
         }
     }
 
-    /// Returns the start of a bucket and the start of the next one. A bound that doesn't fit an `i128` is clamped, which
-    /// leaves the same valid times before it.
+    /// Returns the start of a bucket and the start of the next one. A bound that doesn't fit an `i128` is clamped,
+    /// which leaves the same valid times before it.
     pub fn edges(self, index: i128) -> (i128, i128)
         requires { pos 1 ≤ℤ self.interval }
         ensures start { IsEdgeAt (bucket_start index self.interval self.offset) result.0 }

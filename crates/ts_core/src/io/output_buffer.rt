@@ -7,8 +7,7 @@ use std::alloc::{AllocError, Allocator};
 use std::io::Write;
 use std::marker::Model;
 
-/// Bytes that were put and not written yet; its model is these bytes. They are written by `flush`, and when more bytes
-/// don't fit.
+/// A write buffer; its model is the buffered bytes. They are written by `flush`, and when more bytes don't fit.
 #[derive(Drop)]
 pub struct OutputBuffer<A: Allocator> {
     bytes: Vec<u8, A>,
@@ -25,7 +24,7 @@ impl<A: Allocator> Model for OutputBuffer<A> {
     ghost invariant = { λ b. (vec_len b.bytes ≤ b.size) × (b.size ≤ vec_capacity b.bytes) };
 }
 
-/// Appends bytes that the vector has room for. Does not allocate.
+/// Appends bytes for which the vector has capacity. Does not allocate.
 fn append_in_room<A: Allocator>(buffer: &mut Vec<u8, A>, bytes: &[u8])
     requires { vec_len buffer.old + length bytes.now ≤ vec_capacity buffer.old }
     ensures items { buffer.new.items ≡ buffer.old.items ++ bytes.now }
@@ -38,7 +37,7 @@ fn append_in_room<A: Allocator>(buffer: &mut Vec<u8, A>, bytes: &[u8])
 }
 
 impl<A: Allocator> OutputBuffer<A> {
-    /// Creates an empty buffer of `size` bytes. Nothing else here allocates.
+    /// Creates an empty buffer of `size` bytes. No other function of the buffer allocates.
     pub fn new(alloc: A, size: usize) -> Result<OutputBuffer<A>, AllocError>
         ensures { IfOk result (λ b. b ≡ []) }
     {
@@ -59,7 +58,7 @@ impl<A: Allocator> OutputBuffer<A> {
         result
     }
 
-    /// Appends bytes. If they don't fit, the buffered bytes are written first; bytes that never fit are written behind
+    /// Appends bytes. If they don't fit, the buffered bytes are written first; bytes that never fit are written after
     /// them. After a refused write only a prefix of all these bytes may have been written; the rest is lost.
     pub fn put<W: Write>(&mut self, bytes: &[u8], sink: &mut Sink<W>) -> Result<(), Refused>
         ensures { IsBuffered sink.old self.old result bytes.now sink.new self.new }

@@ -1,4 +1,4 @@
-//! A buffer of 64 KiB between a source and who reads it, with a limit on the number of reads.
+//! A read buffer of 64 KiB in front of a source, with a limit on the number of reads.
 ghost use Rattle.std.specs.Prelude.{◌≡◌, ◌≤◌, [], length, IfOk, false};
 ghost use Rattle.ts_core.specs.io.ReadingAhead.{nothing_ahead, most_ahead, IsConsumed, IsFilled};
 
@@ -7,19 +7,19 @@ use std::alloc::{AllocError, Allocator};
 use std::io::Read;
 use std::marker::Model;
 
-/// How many bytes a turn reads at most.
+/// Size of the buffer, and so the most bytes per read.
 const BUFFER_SIZE: usize = 65_536;
 
-/// Why nothing more was read.
+/// Reason why a read returned no bytes.
 #[derive(Clone, Copy, Debug, Drop)]
 pub enum ReadFault {
     /// A read failed.
     Device,
-    /// As many reads as are allowed saw no end.
+    /// The limit of reads was reached without an end of input.
     Turns,
 }
 
-/// What was read from a source and not yet used. It is lent the source for each read.
+/// A read buffer. The source is passed to each read.
 #[derive(Drop)]
 pub struct ReadAhead<A: Allocator + Copy> {
     buffer: Vec<u8, A>,
@@ -42,7 +42,8 @@ impl<A: Allocator + Copy> Model for ReadAhead<A> {
 }
 
 impl<A: Allocator + Copy> ReadAhead<A> {
-    /// Takes all the memory that reading needs, 64 KiB. At most `limit` turns are taken.
+    /// Creates an empty buffer of 64 KiB, with a limit on the number of reads. No other function of the buffer
+    /// allocates.
     pub fn new(alloc: A, limit: u64) -> Result<ReadAhead<A>, AllocError>
         ensures { IfOk result (λ r. r ≡ nothing_ahead limit) }
     {
@@ -56,7 +57,7 @@ impl<A: Allocator + Copy> ReadAhead<A> {
         })
     }
 
-    /// What was read ahead.
+    /// Returns the bytes that were read and not consumed.
     pub fn buffered(&self) -> &[u8]
         ensures value { result.now ≡ self.now.buffered }
         ensures bound { length result.now ≤ most_ahead }
@@ -65,7 +66,7 @@ impl<A: Allocator + Copy> ReadAhead<A> {
         &self.buffer[self.at..self.end]
     }
 
-    /// What the last turn read and was used since. It stands until the next turn.
+    /// Returns the bytes of the last read that were consumed, which are valid until the next read.
     pub fn used(&self) -> &[u8]
         ensures value { result.now ≡ self.now.used }
         ensures bound { length result.now ≤ most_ahead }
@@ -73,14 +74,14 @@ impl<A: Allocator + Copy> ReadAhead<A> {
         &self.buffer[..self.at]
     }
 
-    /// Whether the end of the input was read.
+    /// Returns true if the end of the input was read.
     pub fn has_ended(&self) -> bool
         ensures { result ≡ self.now.ended }
     {
         self.ended
     }
 
-    /// Takes away the first bytes of what was read ahead.
+    /// Consumes the first `count` buffered bytes.
     pub fn consume(&mut self, count: usize)
         requires { count ≤ length self.old.buffered }
         ensures { IsConsumed self.old count self.new }
@@ -88,8 +89,7 @@ impl<A: Allocator + Copy> ReadAhead<A> {
         self.at += count;
     }
 
-    /// Reads once, where all that was read ahead is used. Answers whether there is more: `false` is the
-    /// end of the input.
+    /// Reads once, after all buffered bytes were consumed. Returns false at the end of the input.
     pub fn fill<R: Read>(&mut self, source: &mut Source<R>) -> Result<bool, ReadFault>
         requires empty { self.old.buffered ≡ [] }
         requires going { self.old.ended ≡ false }

@@ -12,8 +12,8 @@ use crate::settings::{Rule, Settings};
 use std::alloc::{AllocError, Allocator};
 use std::marker::Model;
 
-/// Raw mark, from which a store has all its raw points; and for each rule, in the order of the settings, its low index,
-/// which is that of its first complete bucket.
+/// Raw mark, from which a store has all its raw points. For each rule, in the order of the settings, its low index: the
+/// index of its first complete bucket.
 #[derive(Drop)]
 pub struct Marks<A: Allocator> {
     raw: Time,
@@ -133,7 +133,8 @@ impl<A: Allocator> Marks<A> {
         let _ = self.lows.remove(index);
     }
 
-    /// Raises each mark to the first time that the settings still keep at a moment; none goes back. Does not allocate.
+    /// Raises each mark to the first time that the settings still keep at a moment; no mark is lowered. Does not
+    /// allocate.
     pub fn raise(&mut self, settings: &Settings<A>, now: Time)
         ensures { self.new ≡ record { raw = int_max self.old.raw (kept_since settings.now.raw_duration now); lows = raised now settings.now.rules self.old.lows } }
     {

@@ -7,7 +7,7 @@ use Rattle.ts_core.proofs.aggregates.RemaindersLemmas.{beyond_from, spread_from,
 use Rattle.ts_core.proofs.aggregates.aggregate.Agg.without_inner.Goals.{After-saturating_sub-count, then-not-are_beyond-via-then-not-are_beyond, then-not-are_beyond-via-else-not-are_beyond+then-not-are_spread}
 use Rattle.ts_core.proofs.aggregates.aggregate.Agg.without_inner.Goals as goal
 
--- what is left, as the code computes it
+-- the rest, as the code computes it
 count : (c : After-saturating_sub-count) → c.saturating_sub-count.result ≡ c.args.self.count - c.args.part.count
 count c =
     let a = ap (λ (x : Aggregate). x.count) c.self.view_is in

@@ -19,7 +19,7 @@ used_more items at end k part e h =
     let fits : k ≤ end - at = omega (arith, ap length e, length-take (end - at) (drop at items)) in
     take-add at k items ∙ ap (λ (xs : List ℕ). take at items ++ xs) (sym (shorter k (end - at) (drop at items) fits) ∙ ap (take k) e)
 
--- what is to come, without the first k bytes of what was read ahead
+-- the bytes to come, without the first k buffered ones
 consumed : (buffered : List ℕ) (k : ℕ) (remaining : Option (List ℕ)) → Consumes (prepend_known buffered remaining) (prepend_known (drop k buffered) remaining) (take k buffered)
 consumed buffered k None = tt
 consumed buffered k (Some xs) = rw (← append_assoc) (rw take-append-drop)

@@ -1,4 +1,4 @@
--- A tally begins at 0, and its value has no bytes.
+-- A new counter: 0, and without bytes.
 use Rattle.std.proofs.Common.{[], ◌∷◌, refl}
 use Rattle.std.proofs.raw_atomic.Walks.{proved}
 use mir.Val.{Val, vstruct, vcons, vnil}
