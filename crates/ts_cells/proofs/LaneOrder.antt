@@ -1,4 +1,4 @@
--- The numbers of lanes in the lanes' order: where one more goes.
+-- The indices of lanes in the lanes' order: the index at which to insert one more.
 use Rattle.std.proofs.Common.{◌≡◌, ◌↔◌, IsTrue, Bool, Ordering, is_lt, true≢false, ℕ, zero, suc, ◌<◌, ◌≤◌, true, false, cond, T, List, [], ◌∷◌, ◌++◌, length, length-append, get_or, insert, refl, sym, ◌∙◌, ap, ap₂, subst, Some, ⊎_elim, is_eq, arith, Less, Equal, Greater}
 use Rattle.std.specs.Ordering.{ordering_index, eq_by_cmp}
 use Rattle.std.specs.Cmp.{IsTotalOrder}

@@ -2,13 +2,13 @@
 pub mod GridMoves
 pub mod GridLemmas
 pub mod Searches
--- Lanes: their numbers in order
+-- Lanes: their indices in order
 pub mod LaneOrder
 pub mod LaneLemmas
--- Rows: cells by the places of their lanes
+-- Rows: cells by the positions of their lanes
 pub mod RowLemmas
 pub mod PlaceLemmas
--- Expiry: cells are removed
+-- Expiry: removal of cells
 pub mod Sweeps
 pub mod ExpiryLemmas
 -- Walks: entries one by one

@@ -1,4 +1,4 @@
--- Places that grow at the front.
+-- Positions in an index that grows at the front.
 use Rattle.std.proofs.Common.{◌≡◌, ℕ, ◌≤◌, ◌+◌, ◌-◌, List, ◌++◌, length, length-append, replicate, take, drop, append_assoc, sym, ◌∙◌, ap, arith}
 use Rattle.std.proofs.lemmas.List.{take_all, take_at, drop_at, length-replicate, replicate-append-replicate}
 use Rattle.ts_cells.specs.Rows.{no_place, from_first}

@@ -1,4 +1,4 @@
--- Cells in the order of making, by the places of their lanes.
+-- Cells in creation order, by the positions of their lanes.
 use Rattle.std.proofs.Common.{◌≡◌, ◌≢◌, ℕ, zero, suc, ◌<◌, ◌≤◌, ◌+◌, ◌==◌, true, false, cond, List, [], ◌∷◌, ◌++◌, length, length-append, get_or, set, take, refl, sym, ◌∙◌, ap, subst, Option, Some, None, option_map, ⊎_elim, true≢false, arith}
 use Rattle.std.specs.List.{slice_get}
 use Rattle.std.proofs.lemmas.Option.{slice_get_past, slice_get-get_or}

@@ -1,4 +1,4 @@
--- Expiry on its way: cells are removed one by one, and the rows that are emptied go together.
+-- Expiry in progress: cells are removed one by one, and the rows that are emptied are removed together.
 use Rattle.std.proofs.Common.{◌≡◌, ◌≢◌, ◌<◌, ◌≤◌, ◌≤ℤ◌, ◌+◌, ℕ, ℤ, List, length, drop, sym, ◌∙◌, subst, add-one, refl, None, arith}
 use Rattle.ts_cells.specs.Grids.{Lane, RowOf, held, cells_of_bucket, RowsRise, IsGrid, grid_of}
 use Rattle.ts_cells.specs.Expiry.{HasEmptyFront, LosesOne, Removes, LosesBelow}

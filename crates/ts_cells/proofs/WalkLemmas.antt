@@ -1,4 +1,4 @@
--- A walk gives the entries of the finite map, in its order.
+-- The entries of a walk: those of the finite map, in its order.
 use Rattle.std.proofs.Common.{◌≡◌, ℕ, ℤ, Bool, true, false, cond, ◌&&◌, T, List, [], ◌∷◌, ◌++◌, get_or, map, filter, refl, sym, ◌∙◌, ap, ap₂, subst, Option, Some, None, is_eq, is_lt, true≢false, Less}
 use Rattle.std.specs.Ordering.{int_cmp, eq_by_cmp, ordering_then}
 use Rattle.std.specs.Cmp.{int_cmp_total}
