@@ -1,4 +1,4 @@
--- The text of a line's fault is short.
+-- The length of a line's error message: it is short.
 use Rattle.std.proofs.Common.{◌<◌, ◌≤◌, ◌^◌, length, arith, length-append}
 use Rattle.std.specs.Fmt.{decimal}
 use Rattle.std.proofs.lemmas.Fmt.{length-decimal-le}

@@ -1,4 +1,4 @@
--- Fields that are spelled are read.
+-- Spelled fields, which are read.
 use Rattle.std.proofs.Common.{◌≡◌, ℕ, ℤ, zero, suc, ◌+◌, ◌-◌, ◌≤◌, Bool, true, false, not, ◌||◌, eqb, List, [], ◌∷◌, ◌++◌, length, get_or, take, slice_range, slice_index, bytes_eq, codes, Ok, Some, None, refl, sym, ap, ◌∙◌, arith, append_assoc, length-append, FitsSigned, w64, pos, neg_ℤ}
 use Rattle.std.specs.Char.{is_ascii_digit}
 use Rattle.std.specs.List.{list_all, AllByRecursion}

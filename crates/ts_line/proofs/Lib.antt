@@ -14,7 +14,7 @@ pub mod Suffixes
 pub mod SpansLemmas
 -- Names: the names in a line that was read
 pub mod NameFacts
--- Lines: its parts in turn
+-- Lines: their parts one after another
 pub mod LineLemmas
 -- TagParts, Fields, NameMarks: tag by tag, field by field
 pub mod TagLemmas

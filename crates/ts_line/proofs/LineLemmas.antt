@@ -1,4 +1,4 @@
--- One step back over the spaces at a line's end, and how its parts are read in turn.
+-- One step back over the spaces at a line's end, and the order in which its parts are read.
 use Rattle.std.proofs.Common.{FitsSigned, w64}
 use Rattle.std.proofs.lemmas.Int.{ints}
 use Rattle.ts_core.specs.facts.TimeUnits.{nanoseconds_of}

@@ -1,4 +1,4 @@
--- When a number of units is a time.
+-- Numbers of units that are times.
 use Rattle.std.proofs.Common.{◌≡◌, ◌↔◌, ◌<◌, ◌≤◌, ◌≤ℤ◌, ◌*◌, suc, negsuc, int_le, true, false, sym, ap, refl, ◌∙◌, arith, ℤ, pos, neg_ℤ, ◌*ℤ◌, FitsSigned, w64, Option, Some, None, IsSome, IfSome, to_z, of_z}
 use Rattle.std.specs.Str.Parse.{signed_digits_value}
 use Rattle.std.proofs.lemmas.Bool.{false_from_ne_true, false≢true}

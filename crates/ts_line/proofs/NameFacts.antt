@@ -1,4 +1,4 @@
--- The names of a line that was read aren't empty, and no key is `time`.
+-- The names of a line that was read, which aren't empty; no key is `time`.
 use Rattle.std.proofs.Common.{◌≡◌, ℕ, ℤ, ◌+◌, ◌≤◌, Bool, true, false, ◌&&◌, List, [], ◌∷◌, length, map, bytes_eq, Ok, refl, sym, ap, subst, arith}
 use Rattle.std.proofs.lemmas.Bool.{and_parts}
 use Rattle.std.proofs.lemmas.List.{length-map}

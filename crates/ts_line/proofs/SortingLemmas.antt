@@ -1,4 +1,4 @@
--- A pair put in its place by its key.
+-- A pair inserted by its key.
 use Rattle.std.proofs.Common.{◌≡◌, true, ◌&&◌, ℕ, suc, ◌+◌, ◌-◌, ◌<◌, ◌≤◌, List, [], ◌∷◌, ◌++◌, length, map, take, drop, set, get_or, refl, sym, ap, ◌∙◌, subst, arith, Ok, Err, Bor, T}
 use Rattle.std.specs.FinMap as finmap
 use Rattle.std.specs.FinMap.{put, is_sorted, slice_cmp-IsAntisymmetric, nat_cmp-IsAntisymmetric, entries-insert, entries_sorted, len-entries, len-empty}

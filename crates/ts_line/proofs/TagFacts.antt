@@ -1,4 +1,4 @@
--- Tags that are read are spelled so.
+-- Tags that are read, which are spelled so.
 use Rattle.std.proofs.Common.{◌≡◌, ℕ, zero, suc, ◌+◌, ◌-◌, ◌<◌, ◌≤◌, Bool, true, false, not, ◌||◌, eqb, leb, List, [], ◌∷◌, ◌++◌, length, map, drop, slice_range, slice_index, bytes_eq, codes, Ok, refl, sym, ap, subst, ◌∙◌, arith, append_assoc, append-nil, length-drop, length-append, inl, inr, ◌⊎◌, ⊎_elim}
 use Rattle.std.proofs.lemmas.Bool.{or_parts, both_ways, not-false, eqb-true}
 use Rattle.std.proofs.lemmas.Bool.Decides.{nat_tests}

@@ -1,4 +1,4 @@
--- Reading a line against spelling it, and when it needs memory. (Own rules.)
+-- Reading a line against spelling it, and the texts that need memory. (Own rules.)
 use Rattle.std.specs.Prelude.{◌≡◌, ◌≤◌, ℤ, length, Option, Some, None, IfSome, Result, Ok, Err, IfOk}
 use Rattle.ts_core.specs.facts.Facts.{Text}
 use Rattle.ts_line.specs.declared.fault.ReadLineError.{ReadLineError}

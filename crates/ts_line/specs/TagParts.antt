@@ -31,7 +31,7 @@ next_tag before line start = pair_at line start >>= λ t.
     (if has_key before t.0.0.text then Err (fault_at RepeatedTagKey start) else Ok t))
 
 -- The tags from `at`, each after a comma, appended to `before`, and the offset after the last. At most n are tried: 64
--- may be taken, and the 65th is an error.
+-- are accepted, and the 65th is an error.
 unfoldable pub tags_at : ℕ → List (LinePart × LinePart) → Text → ℕ → Result (List (LinePart × LinePart) × ℕ) LineFault
 tags_at zero before line at = Ok (before, at)
 tags_at (suc n) before line at =

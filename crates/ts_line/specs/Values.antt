@@ -1,5 +1,5 @@
 -- Field values, classified by their form. (InfluxData 1.8, line protocol reference, data types and format; the store
--- takes integers alone.)
+-- accepts integers only.)
 use Rattle.std.specs.Prelude.{ℕ, ℤ, ◌+◌, ◌-◌, [], ◌∷◌, length, take, drop, Bool, true, false, not, ◌&&◌, ◌||◌, ◌==◌, if◌then◌else◌, slice_index, slice_range, Option, Some, None, Result, Ok, Err, bytes_eq, codes}
 use Rattle.std.specs.Char.{is_ascii_digit}
 use Rattle.ts_core.specs.facts.Facts.{Text}

@@ -38,7 +38,7 @@ pub fn read_line<A: Allocator + Copy>(
     // exactly no line, its parts or its first error
     ensures value { GivesIfRoom (λ o. o) result (line_of (nanoseconds_of precision) now text.now) }
 
-    // out of memory comes after what needs none: a text that is too long, blank or a comment has its own answer
+    // only a text that needs memory runs out of it: one that is not too long, not blank and no comment
     ensures memory { IfOutOfMemory result (NeedsMemory (nanoseconds_of precision) now text.now) }
 
     // round trip: a line that is read is a spelling of its parts, and each spelling of parts is read as these parts
