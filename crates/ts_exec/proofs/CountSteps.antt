@@ -1,4 +1,4 @@
--- A count that ends at 2^64 - 1, one column, cell or piece after another.
+-- A count capped at 2^64 - 1, one column, cell or piece after another.
 use Rattle.std.proofs.Common.{◌≡◌, ℕ, ◌+◌, ◌<◌, ◌≤◌, min, ℤ, true, false, cond, List, [], ◌∷◌, ◌++◌, map, filter, length, get_or, drop, sym, ◌∙◌, ap, arith}
 use Rattle.std.proofs.lemmas.List.{drop_more}
 use Rattle.std.specs.List.{list_all}
@@ -16,7 +16,7 @@ use Rattle.ts_exec.specs.Shares.{Share, points_of_shares, column_ref_shares, col
 use Rattle.ts_exec.proofs.NamedRules.{IsShownAt}
 use Rattle.ts_exec.proofs.PointCounts.{column_ref-points, points-append}
 
--- what is counted already and what is still to be counted
+-- the points already counted and those still to be counted
 abbrev pub counted : ℕ → List Share → ℕ
 counted n ss = min (points_of_shares ss + n) 18446744073709551615
 

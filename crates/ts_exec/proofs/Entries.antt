@@ -1,4 +1,4 @@
--- A table is its groups in order, each with its rows; and rows as an answer has them.
+-- A table: its groups in order, each with its rows; and rows as an answer has them.
 use Rattle.std.proofs.Common.{◌≡◌, ℕ, suc, ◌<◌, ℤ, pos, ◌+ℤ◌, ◌*ℤ◌, T, List, [], ◌∷◌, map, length, get_or, refl, sym, ◌∙◌, ap, ap₂, subst, Option, Some, None, is_some, Bool, true, false, cond, is_lt, ◌||◌, ◌&&◌, arith}
 use Rattle.std.proofs.lemmas.Int.{ints}
 use Rattle.std.specs.List.{list_any}

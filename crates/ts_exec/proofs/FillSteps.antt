@@ -1,4 +1,4 @@
--- Rows that are filled one by one are the filled rows, and their starts have 128 bits.
+-- Rows filled one by one, which are the filled rows; their starts fit in 128 bits.
 use Rattle.std.proofs.Common.{◌≡◌, ℕ, suc, ◌+◌, ◌-◌, ◌*◌, ◌<◌, ◌≤◌, ◌^◌, ℤ, pos, negsuc, neg_ℤ, ◌+ℤ◌, ◌*ℤ◌, ◌≤ℤ◌, ◌<ℤ◌, true, false, cond, not, List, [], ◌∷◌, map, filter, length, get_or, drop, drop-cons, add-one, Option, Some, None, SFits, w64, refl, sym, ◌∙◌, ap, ap₂, arith}
 use Rattle.std.specs.Int.{w128}
 use Rattle.std.proofs.Math.IntN.{suc_ℤ-*ℤ, pos-*ℤ-pos}

@@ -1,4 +1,4 @@
--- A plan that is fresh is valid for what is seen.
+-- A plan that is fresh, and so valid for the view.
 use Rattle.std.proofs.Common.{sym, subst}
 use Rattle.ts_core.specs.settings.Settings.{Settings}
 use Rattle.ts_core.specs.store.Marks.{Marks}

@@ -1,4 +1,4 @@
--- What is given of a view that shows a history is the answer over all points ever accepted.
+-- The result over a view that shows a history: the answer over all points ever accepted.
 use Rattle.std.proofs.Common.{◌≡◌, ℕ, zero, suc, ◌+◌, ◌<◌, ◌≤◌, ◌^◌, ◌==◌, ℤ, pos, ◌+ℤ◌, ◌-ℤ◌, ◌*ℤ◌, ◌≤ℤ◌, ◌<ℤ◌, int_lt, List, [], ◌∷◌, ◌++◌, map, filter, length, get_or, replicate, refl, sym, ◌∙◌, ap, ap₂, subst, None, Bool, true, false, cond, ◌||◌, arith, eqb-true}
 use Rattle.std.proofs.lemmas.Int.{ints}
 use Rattle.std.proofs.lemmas.List.{length-replicate, get_or-replicate}
@@ -194,7 +194,7 @@ module _ (opening : Settings) (h : History) (seen : ViewState) (q : Query) (show
       ∙ groups_are (all_groups (map group_in (shares seen q ps)))
       ∙ ap (λ gs. map (λ g. let z : Group = record { values = g; rows = map (assembled_row seen q ps g) (buckets_in q) } in z) (all_groups gs)) (all_shares_groups opening h seen q shows wide q.from ps first_le valid.covers valid.each)
 
--- what is given of a view that shows a history is the answer over all points ever accepted
+-- the result over a view that shows a history is the answer over all points ever accepted
 pub given-answer : (opening : Settings) (h : History) (seen : ViewState) (q : Query) (ps : List Piece) → Shows opening h seen → IsQuery q → IsValid seen.settings seen.marks q ps → given seen q ps ≡ answer_of (latest_of h) q
 given-answer opening h seen q ps shows is valid =
     let faultless : settings_fault seen.settings ≡ None = subst (λ s. settings_fault s ≡ None) (sym shows.settings) (settings_faultless opening h shows.lawful) in

@@ -1,4 +1,4 @@
--- An answer whose raw points keep what the query's functions need has their values.
+-- Answers whose raw points keep the parts that the query's functions need: they have the functions' values.
 use Rattle.std.proofs.Common.{◌≡◌, ℕ, zero, suc, ℤ, pos, ◌+ℤ◌, ◌*ℤ◌, true, false, cond, not, List, [], ◌∷◌, map, filter, replicate, Option, Some, None, option_map, refl, sym, ◌∙◌, ap, ap₂, subst, true≢false, nat_le, ◌+◌, ◌^◌}
 use Rattle.std.proofs.lemmas.Bool.{and_parts}
 use Rattle.std.proofs.lemmas.List.{length-map}

@@ -1,4 +1,4 @@
--- What is lent: one more of it, and how it compares.
+-- Values of borrowed texts: one more text, and comparisons.
 use Rattle.std.proofs.Common.{◌≡◌, List, [], ◌∷◌, ◌++◌, refl, ap, Bor, Ordering}
 use Rattle.std.specs.Ordering.{ordering_then}
 use Rattle.std.specs.Cmp.Lexicographic.{slice_cmp}
@@ -9,7 +9,7 @@ module _ {X : Type 0} where
   lent-push [] x = refl
   lent-push (y ∷ xs) x = ap (λ zs. y.now ∷ zs) (lent-push xs x)
 
-  -- what is lent compares as its values
+  -- borrowed items compare as their values
   pub lent-cmp : (R : X → X → Ordering) (xs ys : List (Bor X)) → slice_cmp (λ (x y : Bor X). R x.now y.now) xs ys ≡ slice_cmp R (lent xs) (lent ys)
   lent-cmp R [] [] = refl
   lent-cmp R [] (y ∷ ys) = refl

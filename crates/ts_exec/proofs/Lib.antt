@@ -1,4 +1,4 @@
--- Executions, Answered: what is given of a view is the answer over all points ever accepted
+-- Executions, Answered: the result over a view is the answer over all points ever accepted
 mod Given
 mod Fresh
 mod Linked
@@ -6,7 +6,7 @@ mod Shares
 mod Entries
 -- Executions, Selections: the values that a query selects
 mod KeptParts
--- Executions, Shares: how many points are given of a view
+-- Executions, Shares: the number of points of a plan over a view
 mod PointCounts
 mod CountSteps
 -- GroupTables, FirstOf: the cells and points of a piece

@@ -1,4 +1,4 @@
--- What pieces put into a table are their shares, and the shares are those of the facts and cells of a view.
+-- Shares of the pieces in a table: exactly those of the facts and cells of a view.
 use Rattle.std.proofs.Common.{◌≡◌, ℕ, ◌+◌, ◌==◌, ℤ, pos, ◌+ℤ◌, ◌-ℤ◌, ◌≤ℤ◌, ◌<ℤ◌, List, [], ◌∷◌, ◌++◌, map, filter, length, get_or, refl, sym, ◌∙◌, ap, ap₂, subst, Option, Some, None, Bool, true, false, cond, not, is_eq, ◌&&◌, arith, eq-eqb, eqb-true}
 use Rattle.std.proofs.lemmas.Int.{ints, by_lt_z}
 use Rattle.std.proofs.lemmas.Bool.{and_parts}

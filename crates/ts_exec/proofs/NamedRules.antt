@@ -1,4 +1,4 @@
--- The rule of a name that a plan's piece is of: its number, its interval, and its cells.
+-- The rule that a plan's piece names: its index, its interval, and its cells.
 use Rattle.std.proofs.Common.{◌≡◌, ℕ, suc, ◌+◌, ◌<◌, ℤ, true, false, cond, refl, sym, ◌∙◌, ap, subst, List, [], ◌∷◌, length, map, get_or, Some, None, arith}
 use Rattle.std.specs.List.{AllByRecursion}
 use Rattle.ts_core.specs.facts.Facts.{Text, same_text}
@@ -64,7 +64,7 @@ none-shown name (y ∷ ys) from e =
       | false ↦ λ k. none-shown name ys (from + 1) k
     ] e
 
--- what holds of each rule holds of the one that is found
+-- a property of each rule is one of the rule that is found
 pub found-holds : (P : Rule → Type 0) (name : Text) (rules : List Rule) (from number : ℕ) (rule : Rule) → AllByRecursion P rules → rule_from name from rules ≡ Some (number, rule) → P rule
 found-holds P name [] from number rule a e = absurd (no_pair (number, rule) e)
 found-holds P name (x ∷ xs) from number rule a e =

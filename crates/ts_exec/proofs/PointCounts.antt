@@ -1,4 +1,5 @@
--- How many points valid pieces give of a view that shows a history: just those of the latest facts that match the query.
+-- The number of points that valid pieces have of a view that shows a history: exactly the latest facts that match the
+-- query.
 use Rattle.std.proofs.Common.{◌≡◌, ℕ, ◌+◌, ◌≤◌, ◌^◌, ◌==◌, ℤ, pos, ◌+ℤ◌, ◌-ℤ◌, ◌≤ℤ◌, ◌<ℤ◌, Bool, true, false, cond, ◌&&◌, List, [], ◌∷◌, ◌++◌, map, filter, length, Option, None, Some, inr, refl, sym, ◌∙◌, ap, ap₂, subst, arith}
 use Rattle.std.proofs.lemmas.Int.{ints}
 use Rattle.std.specs.List.{list_all, AllByRecursion}
@@ -35,7 +36,7 @@ use Rattle.ts_exec.proofs.Given.{all_shares_total, few}
 
 -- ---- a query in one bucket of one group
 
--- what a query asks for, in one bucket of one group
+-- the query with one bucket and one group
 abbrev whole : Query → Query
 whole q = record { measurement = q.measurement; field = q.field; conditions = q.conditions; from = q.from; to = q.to; interval = (q.to +ℤ pos 1) -ℤ q.from; offset = q.from; group_tags = [] }
 
@@ -49,7 +50,7 @@ later : (P : Text → Type 0) (xs ys : List Text) → AllByRecursion P (xs ++ ys
 later P [] ys a = a
 later P (x ∷ xs) ys a = later P xs ys a.1
 
--- what serves a query, serves it in one bucket
+-- a source that fits a query fits it in one bucket
 module _ (s : Settings) (m : Marks) (q : Query) where
   serves_whole : (source : Source) (a b : ℤ) → q.from ≤ℤ a → a <ℤ b → b ≤ℤ q.to → SourceServes (query_context s m q) source a b → SourceServes (query_context s m (whole q)) source a b
   serves_whole Raw a b low up high is = is

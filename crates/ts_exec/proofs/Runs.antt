@@ -1,4 +1,4 @@
--- Runs of points: folding them and merging once is merging each.
+-- Runs of points: folding them and merging once equals merging each.
 use Rattle.std.proofs.Common.{◌≡◌, ℕ, zero, suc, ◌+◌, ◌≤◌, ◌^◌, ℤ, ◌≤ℤ◌, ◌<ℤ◌, Bool, true, false, List, [], ◌∷◌, length, get_or, min, refl, sym, ◌∙◌, ap, ap₂, cond, arith}
 use Rattle.std.proofs.lemmas.Int.{ints}
 use Rattle.ts_core.specs.aggregates.Aggregates.{Aggregate, empty_aggregate, merged}

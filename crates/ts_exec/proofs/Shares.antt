@@ -1,4 +1,4 @@
--- Shares put into a table one after another: what stands there then.
+-- Shares merged into a table one after another, and the resulting rows.
 use Rattle.std.proofs.Common.{◌≡◌, ℕ, zero, suc, ◌+◌, ◌<◌, ◌≤◌, ◌^◌, ◌==◌, List, [], ◌∷◌, ◌++◌, map, filter, length, get_or, set, refl, sym, ◌∙◌, ap, subst, Option, Some, is_some, Bool, true, false, cond, ◌&&◌, ◌||◌, arith, eq-eqb, eqb-true, true≢false, ℤ, min, ⊎_elim}
 use Rattle.std.proofs.lemmas.Bool.{le-leb, cases_lt}
 use Rattle.std.proofs.lemmas.List.{length-set, get_or-set_same, get_or-set_other}

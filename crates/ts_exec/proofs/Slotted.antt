@@ -1,4 +1,4 @@
--- Expected groups in order: what a search finds, what an edit there does, and which of them have data.
+-- Slots of groups in order: the result of a search, an edit at that slot, and the slots that have data.
 use Rattle.std.proofs.Common.{◌≡◌, ℕ, ◌<◌, ◌≤◌, T, List, [], ◌∷◌, length, get_or, set, insert, refl, sym, ◌∙◌, ap, subst, Option, Some, None, ◌-◌, Result, Ok, Err, Ordering, Less, Equal, Greater, Bool, true, false, cond, is_eq, is_lt, ◌&&◌, zero, suc, arith}
 use Rattle.std.specs.Ordering.{ordering_index, ordering_reverse}
 use Rattle.std.specs.List.{AllWithin}

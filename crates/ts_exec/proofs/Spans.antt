@@ -1,4 +1,4 @@
--- The bucket of a time: which times are in it, and how far its start may be from zero.
+-- The bucket of a time: the times in it, and a bound on its start's distance from zero.
 use Rattle.std.proofs.Common.{◌≡◌, ℤ, pos, ◌+ℤ◌, ◌-ℤ◌, ◌≤ℤ◌, ◌≤◌, ◌^◌, unsigned_abs, arith, refl, SFits, w64, to_z, of_z, to_z-of_z}
 use Rattle.std.specs.Int.{w128}
 use Rattle.std.proofs.lemmas.Int.{ints, fits_signed_from_abs}

@@ -1,4 +1,4 @@
--- The cells of a walk stand at indices of its range, and their buckets start near it.
+-- The cells of a walk: their indices are in its range, and their buckets start near it.
 use Rattle.std.proofs.Common.{◌≡◌, ℤ, pos, negsuc, ◌+ℤ◌, ◌≤ℤ◌, ◌≤◌, ◌^◌, unsigned_abs, true, false, not, ◌&&◌, ◌==◌, cond, refl, List, [], ◌∷◌, map, filter, arith, SFits, w64}
 use Rattle.std.proofs.lemmas.Int.{ints}
 use Rattle.std.specs.List.{AllByRecursion}

@@ -1,4 +1,4 @@
--- How many buckets a query has, and that a moment of its range is in one of them.
+-- The number of buckets of a query; a moment of its range is in one of them.
 use Rattle.std.proofs.Common.{◌≡◌, ℕ, zero, suc, ◌+◌, ◌<◌, ℤ, pos, ◌+ℤ◌, ◌-ℤ◌, ◌≤ℤ◌, ◌<ℤ◌, length, min, cond, [], refl, sym, ◌∙◌, ap, subst, arith}
 use Rattle.std.proofs.lemmas.Int.{ints}
 use Rattle.ts_core.specs.queries.Queries.{Query}

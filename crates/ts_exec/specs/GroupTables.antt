@@ -1,4 +1,4 @@
--- Groups with their rows, in byte order of their values, and how points and cells are added to them. (Own rules.)
+-- Groups with their rows, in byte order of their values, to which points and cells are added. (Own rules.)
 use Rattle.std.specs.Prelude.{◌≡◌, ℕ, ℤ, pos, ◌+ℤ◌, ◌*ℤ◌, ◌==◌, Bool, false, not, ◌&&◌, T, List, [], ◌∷◌, filter, map, length, replicate, Option, Some, None, if◌then◌else◌}
 use Rattle.std.specs.List.{list_all}
 use Rattle.std.specs.FinMap.{find, put, is_sorted}
@@ -119,6 +119,6 @@ group_on g e = record { values = e.0; rows = rows_from g (bucket_of g.from g.int
 abbrev pub group_with : Query → List Text × List Aggregate → Group
 group_with q e = group_on (bucket_grid q) e
 
--- the groups that a plan gives over a view
+-- the groups of a plan over a view
 abbrev pub given : ViewState → Query → List Piece → List Group
 given seen q ps = map (group_with q) (with_pieces Whole seen q ps [])

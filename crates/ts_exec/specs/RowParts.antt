@@ -1,4 +1,4 @@
--- How parts are merged into rows, up to 2^62 points each. (Own rules.)
+-- Merging parts into rows, up to 2^62 points each. (Own rules.)
 use Rattle.std.specs.Prelude.{◌≡◌, ℕ, ◌+◌, ◌^◌, ◌≤◌, min, nat_le, ℤ, pos, neg_ℤ, ◌+ℤ◌, ◌-ℤ◌, ◌≤ℤ◌, ◌<ℤ◌, List, [], ◌∷◌, set, get_or, Some, if◌then◌else◌}
 use Rattle.ts_core.specs.declared.aggregates.aggregate.Extremes.{Extremes}
 use Rattle.ts_core.specs.aggregates.Aggregates.{Aggregate, empty_aggregate, aggregate_of_one, merged}
@@ -29,11 +29,11 @@ place_at g t = at_least_none (bucket_of t g.interval g.offset -ℤ bucket_of g.f
 abbrev pub with_part : ℕ → Aggregate → List Aggregate → List Aggregate
 with_part i a rows = set rows i (added (get_or rows i empty_aggregate) a)
 
--- extremes that say nothing of the points: each value lies between the least and the greatest of 64 bits
+-- extremes that don't depend on the points: each value lies between the least and the greatest of 64 bits
 abbrev pub wide_extremes : Extremes
 wide_extremes = record { min = neg_ℤ (pos 9223372036854775808); max = pos 9223372036854775807; first = (pos 0, pos 0); last = (pos 0, pos 0) }
 
--- a point's part of a row; what isn't kept of it is the same for all points
+-- a point's part of a row; the parts that aren't kept are the same for all points
 abbrev pub part_of_point : Kept → ℤ → ℤ → Aggregate
 part_of_point CountAlone t v = record { count = 1; sum = pos 0; extremes = Some wide_extremes }
 part_of_point CountAndSum t v = record { count = 1; sum = v; extremes = Some wide_extremes }
@@ -54,8 +54,8 @@ pub record IsEnd (g : BucketGrid) (high : ℤ) (place : ℕ) : Type 0 where
   pub start : bucket_of high g.interval g.offset ≡ bucket_of (high -ℤ pos 1) g.interval g.offset +ℤ pos 1
   pub last : place ≡ min (place_at g (high -ℤ pos 1)) 18446744073709551615
 
--- all times from low, inclusive, to high, exclusive, are in the bucket with this number. The next bucket starts at high,
--- unless that is the greatest number of 64 bits.
+-- all times from low, inclusive, to high, exclusive, are in the bucket with this number. The next bucket starts at
+-- high, unless that is the greatest number of 64 bits.
 pub record IsGuess (g : BucketGrid) (low high : ℤ) (place : ℕ) : Type 0 where
   pub interval : pos 1 ≤ℤ g.interval
   pub guessed : (t : ℤ) → low ≤ℤ t → t <ℤ high → place ≡ min (place_at g t) 18446744073709551615

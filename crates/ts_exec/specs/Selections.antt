@@ -1,5 +1,5 @@
--- The values that a query selects of an answer. (InfluxData 1.8, InfluxQL functions. Own rule: what no function of the
--- query needs isn't computed.)
+-- The values that a query selects of an answer. (InfluxData 1.8, InfluxQL functions. Own rule: a part that no function
+-- of the query needs isn't computed.)
 use Rattle.std.specs.Prelude.{◌≡◌, Bool, true, false, List}
 use Rattle.ts_core.specs.declared.queries.fill.Fill.{Fill}
 use Rattle.ts_core.specs.declared.queries.value.Function.{Function}

@@ -18,7 +18,7 @@ use ts_check::{Checked, Piece};
 use ts_ql::Query;
 use ts_store::View;
 
-/// Returns the groups that the pieces of a plan give, with their rows. Keeps these parts of raw points.
+/// Returns the groups of the pieces of a plan, with their rows. Keeps these parts of raw points.
 fn groups_given<'a, A: Allocator + Copy + 'a, V: View<A> + 'a>(
     alloc: A,
     kept: Kept,
@@ -36,7 +36,7 @@ fn groups_given<'a, A: Allocator + Copy + 'a, V: View<A> + 'a>(
     groups.into_groups()
 }
 
-/// Returns the groups that the pieces of a plan give, with the values of the query's functions alone.
+/// Returns the groups of the pieces of a plan, with the values of the query's functions alone.
 fn groups_selected<'a, A: Allocator + Copy + 'a, V: View<A> + 'a>(
     alloc: A,
     view: &'a V,

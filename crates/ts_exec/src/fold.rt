@@ -28,7 +28,7 @@ pub(crate) trait Fold: Copy {
         ensures { result ≡ folded self };
 }
 
-/// Returns extremes that lie beyond those of any points.
+/// Returns extremes that don't depend on the points: the least and the greatest value of 64 bits, and 0 at time 0.
 fn wide_extremes() -> Extremes
     ensures { result ≡ wide_extremes }
 {

@@ -49,8 +49,8 @@ impl<'a, A: Allocator> GroupRows<'a, A> {
     }
 }
 
-/// Binary search for a group. Returns `Ok` with its slot, or `Err` with the slot to insert it at. Tries the last one
-/// first, as groups mostly arrive in order.
+/// Searches for a group by binary search. Returns `Ok` with its slot, or `Err` with the slot to insert it at. Tries the
+/// last one first, as groups mostly arrive in order.
 fn place_of<A: Allocator + Copy>(slots: &[Slot<'_, A>], values: &[&str]) -> Result<usize, usize>
     requires { AreSlots slots.now }
     ensures bound { IsSearchInRange result (length slots.now) }

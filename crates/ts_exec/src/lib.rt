@@ -18,9 +18,9 @@
 //! }
 //! ```
 //!
-//! To add a function: say in kept.rt, and in `keeps` of specs/Selections.antt, which parts of an aggregate it needs.
-//! ts_core's `Function` computes its value. To keep other parts: add a `Fold`. To add a fill option that ts_core's `Fill` has: touch filled.rt, and `row_content` and `content_rows` in
-//! specs/Fillings.antt.
+//! To add a function: state the parts of an aggregate that it needs, in kept.rt and in `keeps` of
+//! specs/Selections.antt. ts_core's `Function` computes its value. To keep other parts: add a `Fold`. To add a fill
+//! option that ts_core's `Fill` has: touch filled.rt, and `row_content` and `content_rows` in specs/Fillings.antt.
 #![tactic(auto)]
 
 mod buckets;
