@@ -1,4 +1,4 @@
--- The remaining tests of a bucket whose rule and ends are known to be right.
+-- The remaining tests of a bucket, if its rule and its ends are known to be right.
 use Rattle.std.proofs.Common.{◌≡◌, ℕ, ℤ, int_le, refl, sym, ap, ◌∙◌, subst, Some, None, Bool, true, false, ◌&&◌, ◌||◌, nat_eq, true≢false, arith}
 use Rattle.std.specs.Prelude.{slice_get}
 use Rattle.std.specs.List.{list_all}

@@ -1,4 +1,4 @@
--- The first start of a bucket from a place on.
+-- The first start of a bucket from a time on.
 use Rattle.std.proofs.Common.{◌≡◌, ℤ, pos, negsuc, ◌<◌, ◌*◌, ◌+ℤ◌, ◌-ℤ◌, ◌*ℤ◌, ◌≤ℤ◌, ◌<ℤ◌, neg_ℤ, arith, sym, ap, subst, suc, ◌/◌, div-add-mod', mod-lt, Option, Some, None, MatchOption}
 use Rattle.std.specs.Int.Signed.{≤ℤ_refl}
 use Rattle.std.proofs.Math.IntN.{negsuc-*ℤ-pos, pos-*ℤ-pos}

@@ -11,9 +11,9 @@ pub mod WalkSteps
 pub mod Pruning
 pub mod StepMoves
 pub mod Searches
--- Steps: which steps there are
+-- Steps: the list of all steps
 pub mod Scans
 pub mod BucketStarts
 pub mod ListLemmas
--- Joins: steps are joined to pieces
+-- Joins: steps merged into pieces
 pub mod BucketJoins

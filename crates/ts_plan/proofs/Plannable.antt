@@ -1,4 +1,4 @@
--- A query of a store can be planned: no interval is empty, and the names of rules differ and have the form of names.
+-- A store's query that can be planned: no interval is empty, and the names of rules differ and have the form of names.
 use Rattle.std.proofs.Common.{◌≡◌, None, length, sym, subst}
 use Rattle.ts_core.specs.lists.Members.{AllDistinct}
 use Rattle.ts_core.specs.settings.Settings.{Settings, AreSettings}

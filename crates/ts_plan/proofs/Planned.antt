@@ -1,4 +1,4 @@
--- The planner's result, from the walk that it found.
+-- The planner's result, from the result of the walk.
 use Rattle.std.proofs.Common.{◌≡◌, List, sym, subst, ◌∙◌, false, true≢false}
 use Rattle.std.specs.Bool.{IsTrue}
 use Rattle.std.specs.Prelude.{◌↔◌, Bool}

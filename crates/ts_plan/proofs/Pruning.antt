@@ -1,4 +1,4 @@
--- The sweep keeps the steps that lead to the end, and loses none of them.
+-- The sweep: it keeps exactly the steps that lead to the end.
 use Rattle.std.proofs.Common.{◌≡◌, ℤ, ◌≤ℤ◌, ◌<ℤ◌, int_le, arith, refl, sym, ap, subst, List, [], ◌∷◌, Bool, true, false, ◌||◌, inl, inr, true≢false, ◌∙◌, Some}
 use Rattle.std.specs.Int.Signed.{≤ℤ_refl}
 use Rattle.std.specs.Ordering.{int_eq}

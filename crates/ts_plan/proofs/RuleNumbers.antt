@@ -1,4 +1,4 @@
--- Where names differ, rules of one name have one number.
+-- The index of rules of one name, if names differ: there is only one.
 use Rattle.std.proofs.Common.{◌≡◌, ℕ, suc, zero, refl, sym, ap, ◌∙◌, subst, List, [], ◌∷◌, map, Some, None}
 use Rattle.std.specs.Prelude.{slice_get}
 use Rattle.ts_core.specs.lists.Members.{Among, AllDistinct}

@@ -16,7 +16,7 @@ use Rattle.ts_plan.proofs.ListLemmas.{among_push, among_last}
 use Rattle.ts_plan.proofs.RuleNumbers.{same_rule}
 use Rattle.ts_plan.proofs.BucketJoins.{test_serves, serves_test, serves_columns}
 
--- how far the next place is from the end
+-- the distance of the next time from the end
 abbrev pub left_to : ℤ → Option ℤ → ℕ
 left_to b None = 0
 left_to b (Some p) = 1 + unsigned_abs (b -ℤ p)

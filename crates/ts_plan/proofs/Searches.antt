@@ -1,4 +1,4 @@
--- What a search by place finds among steps that ascend.
+-- The result of a binary search by time among sorted steps.
 use Rattle.std.proofs.Common.{◌≡◌, ℕ, zero, suc, ◌<◌, ◌≤◌, ℤ, ◌≤ℤ◌, ◌<ℤ◌, Bool, true, false, List, [], ◌∷◌, length, get_or, drop, pos, refl, sym, Result, Ok, Err, Less, Equal, Greater, arith}
 use Rattle.std.specs.Ordering.{ordering_index, int_cmp, int_eq}
 use Rattle.std.specs.List.{AllByRecursion}

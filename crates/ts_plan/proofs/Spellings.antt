@@ -1,4 +1,4 @@
--- Rules of settings without a fault have names of the right form, so the pieces of a valid plan have a spelling.
+-- Names of rules of settings without a fault: they have the right form, so the pieces of a valid plan have a spelling.
 use Rattle.std.proofs.Common.{◌≡◌, ℕ, zero, suc, ℤ, ◌<ℤ◌, ◌≤ℤ◌, true, sym, subst, List, [], ◌∷◌, ◌++◌, length, Some, None, FitsSigned, w64, arith}
 use Rattle.std.proofs.lemmas.Int.{ints}
 use Rattle.std.specs.Prelude.{slice_get}

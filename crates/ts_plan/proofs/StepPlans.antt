@@ -1,4 +1,4 @@
--- The sweep and the walk give the plan, and where the start doesn't lead on there is none.
+-- The plan by the sweep and the walk; there is none if the start doesn't lead on.
 use Rattle.std.proofs.Common.{◌≡◌, pos, ◌-ℤ◌, ◌≤ℤ◌, arith, refl, sym, ◌∙◌, List, [], ◌∷◌, true, false, true≢false}
 use Rattle.std.specs.Int.Signed.{≤ℤ_refl}
 use Rattle.std.specs.List.{AllByRecursion}

@@ -1,4 +1,4 @@
--- The walk over the steps that remain is the walk of the plan.
+-- The walk over the remaining steps: it is the walk of the plan.
 use Rattle.std.proofs.Common.{◌≡◌, ℤ, ◌≤ℤ◌, ◌<ℤ◌, arith, refl, sym, ap, ◌∙◌, subst, List, [], ◌∷◌, true, false, cond, inl, inr, true≢false}
 use Rattle.std.specs.Prelude.{slice_get}
 use Rattle.std.specs.Int.Signed.{≤ℤ_refl}

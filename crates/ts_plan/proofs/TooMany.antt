@@ -1,4 +1,4 @@
--- The number of whole buckets fits 128 bits, and its limit.
+-- The number of whole buckets, which fits 128 bits, and its limit.
 use Rattle.std.proofs.Common.{◌≡◌, ◌↔◌, ℤ, pos, ◌+◌, ◌^◌, ◌<◌, ◌≤◌, ◌-ℤ◌, ◌<ℤ◌, unsigned_abs, Bool, sym, subst, arith, SFits, List}
 use Rattle.std.specs.Bool.{IsTrue}
 use Rattle.std.specs.Int.{w64, w128}

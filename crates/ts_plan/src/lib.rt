@@ -13,7 +13,7 @@
 //! ```
 //!
 //! To choose another of the valid plans: touch ts_core's specs/plans/Plans.antt, which defines the choice. Then
-//! steps.rt lists single buckets, sweep.rt prunes those that can't reach the end, and walk.rt takes one after another
+//! steps.rt lists single buckets, prune.rt prunes those that can't reach the end, and walk.rt takes one after another
 //! and merges neighbours.
 #![tactic(auto)]
 
