@@ -1,4 +1,4 @@
--- Numbers with the same bits are the same.
+-- Numbers with the same bits, which are equal.
 use Rattle.std.proofs.Common.{◌≡◌, ℕ, ℤ, true, false, nat_eq, to_z, of_z, refl, sym, ap, arith, ◌∙◌, true≢false, SFits}
 use Rattle.std.specs.Int.{Width}
 use Rattle.std.specs.Ordering.{int_eq}

@@ -1,4 +1,4 @@
--- The numbers of a boundary fit 128 bits.
+-- The numbers of a boundary, which fit 128 bits.
 use Rattle.std.proofs.Common.{ℤ, pos, ◌+ℤ◌, ◌*ℤ◌, ◌≤ℤ◌, arith, SFits}
 use Rattle.std.specs.Int.{w64, w128}
 use Rattle.std.proofs.lemmas.Int.{ints, fits_signed_from_abs}

@@ -1,4 +1,4 @@
--- The decimal of a number is digits that don't begin with 0, or 0 alone.
+-- The decimal of a number: digits that don't begin with 0, or 0 alone.
 use Rattle.std.proofs.Common.{◌≡◌, ℕ, zero, suc, ◌<◌, ◌≤◌, ◌^◌, Bool, true, false, not, eqb, ◌||◌, [], ◌∷◌, length, get_or, refl, sym, ap, arith}
 use Rattle.std.specs.Char.{is_ascii_digit, digit_value}
 use Rattle.std.specs.List.{list_all}

@@ -1,4 +1,4 @@
--- The parts of a certificate's lines: where they are cut, and that each has one spelling.
+-- The parts of a certificate's lines: the offsets where they are cut, and their only spelling.
 use Rattle.std.proofs.Common.{◌≡◌, ◌≢◌, ◌⊎◌, inl, inr, ℕ, zero, suc, ◌<◌, ◌≤◌, ◌^◌, ℤ, pos, negsuc, FitsSigned, w64, to_z, of_z, not, eqb, true, false, List, [], ◌∷◌, ◌++◌, length, codes, refl, sym, ap, subst, ◌∙◌, arith, append_assoc, Option, Some, None, IfSome, IfNone, Ok, Err, Bor}
 use Rattle.std.specs.List.{list_all}
 use Rattle.std.specs.Fmt.{decimal, signed_decimal}

@@ -1,4 +1,4 @@
--- Plans without a fault are valid, and so are their copies.
+-- Plans without a fault, which are valid, and so are their copies.
 use Rattle.std.proofs.Common.{◌≡◌, sym, subst, ap, ◌∙◌, List, Some, None, Result, Err}
 use Rattle.ts_core.specs.settings.Settings.{Settings}
 use Rattle.ts_core.specs.store.Marks.{Marks}

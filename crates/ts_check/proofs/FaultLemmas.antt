@@ -1,4 +1,4 @@
--- The texts of faults are short.
+-- The length of the messages of faults: they are short.
 use Rattle.std.proofs.Common.{◌<◌, ◌≤◌, ◌^◌, length, arith, length-append}
 use Rattle.std.specs.Fmt.{decimal}
 use Rattle.std.proofs.lemmas.Fmt.{length-decimal-le}

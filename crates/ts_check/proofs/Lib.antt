@@ -3,7 +3,7 @@ pub mod CheckedPlans
 pub mod NamedRules
 pub mod BoundaryNumbers
 pub mod Bits
--- CertificateTexts, CertificateLines: a certificate has one text, and one reading
+-- CertificateTexts, CertificateLines: the only text of a certificate, and its only reading
 pub mod CertificateLaws
 pub mod CertificateTokens
 pub mod CertificateNumbers

@@ -1,4 +1,4 @@
--- Marked rules: how many there are, and that each has buckets of a nanosecond or more.
+-- Marked rules: their number, and their buckets, each of a nanosecond or more.
 use Rattle.std.proofs.Common.{◌≡◌, ◌≤◌, pos, ◌≤ℤ◌, ℤ, arith, List, [], ◌∷◌, length, Some}
 use Rattle.std.specs.List.{AllByRecursion}
 use Rattle.ts_core.specs.facts.Facts.{Text}

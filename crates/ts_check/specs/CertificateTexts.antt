@@ -39,7 +39,7 @@ abbrev pub is_magnitude : Text → Bool
 is_magnitude [] = false
 is_magnitude (b ∷ bs) = list_all is_ascii_digit (b ∷ bs) && (not (b == 48) || length bs == 0)
 
--- numbers are written like this, and each such text is how its value is written
+-- each number has this decimal, and each such text is the decimal of its value
 pub record AreDecimals : Type 0 where
   pub written : (n : ℕ) → n < 2 ^ 64 → (is_magnitude (decimal n) ≡ true) × (digits_value 10 (decimal n) ≡ n)
   pub only : (text : Text) → is_magnitude text ≡ true → digits_value 10 text < 2 ^ 64 → text ≡ decimal (digits_value 10 text)
@@ -102,8 +102,8 @@ pub record IsFirstBadLine (text : Text) (n : ℕ) : Type 0 where
 
 -- ---- reading
 
--- the result of reading a text: the pieces it spells, its first error, or out of memory, but that only for a
--- certificate
+-- the result of reading a text: the pieces that it spells, or its first error, or out of memory, which only a
+-- certificate can have
 abbrev pub IsReadingOf : Text → Result (List Piece) ReadCertificateError → Type 0
 IsReadingOf text (Ok ps) = IsCertificate text ps
 IsReadingOf text (Err (errors.Fault fault)) = IsFirstBadLine text fault.at
