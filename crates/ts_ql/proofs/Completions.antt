@@ -1,4 +1,4 @@
--- From each state a text can be completed.
+-- Completions of a text, from each state.
 use Rattle.std.proofs.Common.{◌≡◌, ℕ, zero, suc, ℤ, [], ◌∷◌, true, false, Some, None, refl, arith}
 use Rattle.std.specs.Prelude.{codes}
 use Rattle.ts_core.specs.facts.Facts.{Text}

@@ -1,4 +1,4 @@
--- A statement has begun in each state between the first token and the last.
+-- Statements begun: at least one in each state between the first token and the last.
 use Rattle.std.proofs.Common.{ℕ, ℤ, ◌+◌, ◌<◌, Bool, true, false, ◌&&◌, Option, Some, None, Result, Ok, Err, arith}
 use Rattle.std.specs.Prelude.{⊤, if◌then◌else◌, nat_le, ◌==◌, codes}
 use Rattle.ts_ql.specs.declared.state.State.{State}

@@ -1,4 +1,4 @@
--- A query that counts has one bucket, which starts where the range does.
+-- The counting query: one bucket, which starts where the range does.
 use Rattle.std.proofs.Common.{◌≡◌, ◌∙◌, ◌≤◌, ℤ, pos, ◌+ℤ◌, ◌-ℤ◌, ◌*ℤ◌, ◌≤ℤ◌, ◌<ℤ◌, arith, sym, ap, subst, List, [], ◌∷◌, length, Bool, true, cond}
 use Rattle.std.proofs.Math.IntN.{zero-*ℤ}
 use Rattle.std.proofs.lemmas.Int.{ints}

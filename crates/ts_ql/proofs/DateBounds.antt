@@ -1,4 +1,4 @@
--- Timestamps and literals are far smaller than 128 bits.
+-- Bounds of timestamps and literals: far below 128 bits.
 use Rattle.std.proofs.Common.{◌≡◌, ℕ, zero, suc, ◌+◌, ◌-◌, ◌*◌, ◌<◌, ◌≤◌, ◌^◌, ℤ, pos, neg_ℤ, ◌+ℤ◌, ◌-ℤ◌, ◌*ℤ◌, unsigned_abs, Bool, true, false, ◌&&◌, ◌||◌, Option, Some, None, arith, refl, length}
 use Rattle.std.specs.Prelude.{⊤, if◌then◌else◌, nat_lt, nat_le, ◌==◌, option_and_then, drop, take, slice_range, slice_index}
 use Rattle.std.proofs.lemmas.Bool.{leb-true, ltb-true}

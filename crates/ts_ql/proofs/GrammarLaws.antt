@@ -1,4 +1,4 @@
--- The machine reads exactly the texts of the grammar, and stops at the first fault of any other.
+-- Reading by the machine: exactly the texts of the grammar, up to the first fault of any other.
 use Rattle.std.proofs.Common.{◌≡◌, ◌⊎◌, inl, inr, ℤ, List, [], ◌∷◌, ◌++◌, map, Bool, true, false, Some, None, Result, Ok, Err, refl, sym, ap, ◌∙◌, subst, append_assoc, arith}
 use Rattle.std.proofs.lemmas.List.{append-nil}
 use Rattle.ts_ql.specs.declared.state.State.{State}

@@ -1,4 +1,4 @@
--- In each state of the machine, the next token of a rest leads to the remaining rest.
+-- The next token of a rest, in each state of the machine: it leads to the remaining rest.
 use Rattle.std.proofs.Common.{◌≡◌, ℕ, ℤ, ◌<◌, List, [], ◌∷◌, Bool, true, false, Option, Some, None, Ok, Err, arith, refl, sym, ap, ◌∙◌, subst}
 use Rattle.std.proofs.lemmas.Bool.{eqb-true, eqb-false}
 use Rattle.std.specs.Prelude.{⊤, ◌==◌}

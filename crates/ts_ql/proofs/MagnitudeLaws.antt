@@ -1,4 +1,4 @@
--- A duration is the sum of its terms, each a number times its unit; an integer is the number of its digits.
+-- Durations as sums of terms, each a number times its unit; integers as the numbers of their digits.
 use Rattle.std.proofs.Common.{◌≡◌, ℕ, ◌+◌, ◌*◌, ◌-◌, ◌==◌, true, false, List, [], ◌∷◌, ◌++◌, arith, refl, sym, ap, ◌∙◌, slice_index, append-nil, Some, unsigned_abs}
 use Rattle.std.proofs.lemmas.Bool.Decides.{nat_tests}
 use Rattle.std.specs.Char.{is_ascii_digit, digit_value}

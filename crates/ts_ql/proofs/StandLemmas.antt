@@ -1,4 +1,4 @@
--- Where the tokens end, in the middle of a text, at its end, or after a moment that isn't a valid time.
+-- The state where the tokens end: in the middle of a text, at its end, or after a moment that isn't a valid time.
 use Rattle.std.proofs.Common.{◌≡◌, ℕ, ℤ, List, [], ◌∷◌, Bool, true, false, Option, Some, None, refl, sym, subst}
 use Rattle.std.specs.Prelude.{⊤}
 use Rattle.ts_ql.specs.declared.state.State.{State}

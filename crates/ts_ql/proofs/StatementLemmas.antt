@@ -27,7 +27,7 @@ has_name names text = list_any (λ (name : Bor Text). is_eq (text_cmp text name.
 abbrev pub met : List (Bor Text) → List Projection → Bool
 met names columns = list_any (λ (c : Projection). has_name names c.name) columns
 
--- whether names repeat is decided by the names before an index and the columns from it on
+-- the names before an index and the columns from it on decide if names repeat
 abbrev pub IsToldFrom : List (Bor Text) → List Projection → ℕ → Type 0
 IsToldFrom names columns i = (met names (drop i columns) || repeats (drop i columns)) ≡ repeats columns
 

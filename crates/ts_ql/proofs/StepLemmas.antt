@@ -1,4 +1,4 @@
--- A text has been read once a step takes its end.
+-- The end of a text: it has been read once a step takes its end.
 use Rattle.std.proofs.Common.{◌≡◌, ℕ, ◌+◌, ◌-◌, ℤ, pos, Bool, true, false, eqb, ◌&&◌, ◌||◌, codes, refl, sym, subst, Option, Some, None, Result, Ok, Err}
 use Rattle.std.proofs.lemmas.Bool.{cond_both, and_parts}
 use Rattle.std.specs.Prelude.{if◌then◌else◌, nat_lt, nat_le, int_le, bytes_eq}

@@ -1,4 +1,4 @@
--- A sum of moments grows by little with each token, so no text has one outside of 128 bits.
+-- Bounds of a sum of moments: it grows by little with each token, so no text has one outside of 128 bits.
 use Rattle.std.proofs.Common.{◌≡◌, ℕ, ◌+◌, ◌*◌, ◌≤◌, ◌^◌, ℤ, pos, ◌+ℤ◌, ◌-ℤ◌, unsigned_abs, Bool, true, false, ◌&&◌, Option, Some, None, Result, Ok, Err, arith, refl, subst}
 use Rattle.std.specs.Prelude.{⊤, if◌then◌else◌, nat_le, ◌==◌, codes}
 use Rattle.std.proofs.lemmas.Int.{ints}

@@ -1,4 +1,4 @@
--- The machine reads a text as the queries that it means by the grammar, or finds its first fault.
+-- The machine's reading of a text: the queries that it means by the grammar, or its first fault.
 use Rattle.std.proofs.Common.{◌≡◌, ◌⊎◌, inl, inr, ℕ, ℤ, ◌<◌, ◌≤◌, List, length, nat_lt, Bool, true, false, Result, Ok, Err, refl, sym, ap, ◌∙◌, subst}
 use Rattle.std.proofs.lemmas.Bool.{ltb-false}
 use Rattle.ts_core.specs.facts.Facts.{Text}

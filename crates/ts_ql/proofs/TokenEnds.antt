@@ -1,4 +1,4 @@
--- Where a token ends.
+-- Ends of tokens.
 use Rattle.std.proofs.Common.{◌≡◌, ℕ, suc, ◌+◌, ◌-◌, ◌<◌, ◌≤◌, ◌⊎◌, inl, inr, Bool, true, false, cond, eqb, ltb, ◌&&◌, ◌||◌, length, get_or, drop, [], ◌∷◌, arith, refl, sym, ◌∙◌, Option, Some, None}
 use Rattle.std.proofs.lemmas.Bool.{cond_both, ltb-true, eqb-true, eq-eqb, cases_lt, and_parts}
 use Rattle.std.proofs.lemmas.Bool.Decides.{nat_tests}

@@ -1,4 +1,4 @@
--- A text that is one word, in any case, isn't another.
+-- Texts that are one word, in any case, and so no other word.
 use Rattle.std.proofs.Common.{◌≡◌, ℕ, List, true, false, refl, ap, ◌∙◌, codes, bytes_eq}
 use Rattle.std.specs.Str.{str_to_ascii_lowercase}
 use Rattle.std.proofs.lemmas.Slice.Eq.{bytes_eq-Decides}

@@ -32,7 +32,7 @@ date_of text =
 
 -- ---- times of a day
 
--- weight in nanoseconds of the last of n decimal places of a second
+-- weight in nanoseconds of the last of n decimals of a second
 unfoldable pub place_value : ℕ → ℕ
 place_value places =
     if places == 1 then 100000000 else if places == 2 then 10000000 else if places == 3 then 1000000

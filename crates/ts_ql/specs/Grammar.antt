@@ -57,7 +57,7 @@ Is Tag t = (is_name t.kind ≡ true) × (is_time t.kind t.text ≡ false)
 Is Time t = is_time t.kind t.text ≡ true
 Is (Of kind) t = t.kind ≡ kind
 
--- an item of a spelling: any token of a class, one given token of a class, or a check
+-- an item of a spelling: any token of a class, one particular token of a class, or a check
 pub data Item : Type 0 where
   Any : Sort → Item
   This : Sort → Lexeme → Item

@@ -22,7 +22,7 @@ CanBeWritten (Any sort ∷ rest) = ((t : Lexeme) × Is sort t) × CanBeWritten r
 CanBeWritten (This sort l ∷ rest) = Is sort l × CanBeWritten rest
 CanBeWritten (Examine fault ∷ rest) = CanBeWritten rest
 
--- how far tokens reach into a spelling
+-- the part of a spelling that tokens reach
 pub data Reach : Type 0 where
   -- not to its end, but it can be completed
   Within : Reach
@@ -86,13 +86,13 @@ TextSays now text queries = SaysUnless (nat_lt 65536 (length text)) now text que
 abbrev pub TextFault : ℤ → Text → Fault → Type 0
 TextFault now text fault = IsFaultIf (nat_lt 65536 (length text)) now text fault
 
--- the first error of the text; or out of memory, but that only for a text that isn't too long
+-- the first error of the text; or out of memory, which only a text that isn't too long can have
 abbrev pub Explained : ℤ → Text → ParseError → Type 0
 Explained now text errors.OutOfMemory = length text ≤ 65536
 Explained now text (errors.Fault fault) = TextFault now text (as_fault fault)
 
--- a call returned, seen through `view`, the queries of the text or its first error, unless it ran out of memory on a
--- text that isn't too long
+-- a call returned, seen through `view`, the queries of the text or its first error; or it ran out of memory on a text
+-- that isn't too long
 abbrev pub Tells : {X : Type 0} → (X → List Select) → ℤ → Text → Result X ParseError → Type 0
 Tells view now text (Ok x) = TextSays now text (view x)
 Tells view now text (Err e) = Explained now text e
@@ -107,7 +107,7 @@ pub record ReadsText {X : Type 0} (view : X → List Select) (now : ℤ) (text :
   -- a text with a first error is refused with it
   pub fault : (fault : Fault) → TextFault now text fault → Gives view result (Err fault)
 
--- each text means queries or has a first error, never both, and just one of them
+-- each text means queries or has a first error, and exactly one of these
 pub record IsDecided (now : ℤ) (text : Text) : Type 0 where
   pub some : ((queries : List Select) × TextSays now text queries) ⊎ ((fault : Fault) × TextFault now text fault)
   pub not_both : (queries : List Select) (fault : Fault) → TextSays now text queries → TextFault now text fault → ⊥

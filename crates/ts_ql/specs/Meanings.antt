@@ -21,7 +21,7 @@ use Rattle.ts_ql.specs.Statements.{Meaning, statement_query}
 use Rattle.ts_ql.specs.Tokens.{Lexeme}
 use Rattle.ts_ql.specs.Words.{function_called, named}
 
--- the meaning of no statement yet
+-- the meaning of an empty statement
 abbrev pub no_meaning : Meaning
 no_meaning = record { columns = []; field = None; measurement = []; conditions = []; range = unbounded; buckets = None; tags = []; fill = fills.Null }
 

@@ -163,7 +163,7 @@ may_end state = false
 
 -- ---- statements
 
--- state of the parser: grammar state, number of statements begun, offset and draft of the current one, and queries of
+-- state of the parser: grammar state, number of statements begun, offset and builder of the current one, and queries of
 -- those before it
 pub record Progress : Type 0 where
   pub state : State

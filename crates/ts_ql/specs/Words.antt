@@ -1,5 +1,5 @@
--- Keywords, function names and unsupported words, in any case.
--- (InfluxData 1.8, InfluxQL reference: keywords, functions. Own rule: which of them are unsupported.)
+-- Keywords, function names and unsupported words, in any case. (InfluxData 1.8, InfluxQL reference: keywords,
+-- functions. Own rule: the unsupported ones.)
 use Rattle.std.specs.Prelude.{Bool, true, false, ◌||◌, if◌then◌else◌, Option, Some, None, codes, bytes_eq}
 use Rattle.ts_core.specs.facts.Facts.{Text}
 use Rattle.ts_core.specs.declared.queries.value.Function.{Function}

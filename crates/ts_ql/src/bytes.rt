@@ -48,8 +48,8 @@ fn is_escape_byte(byte: u8) -> bool
     byte == b'\\' || byte == b'n' || byte == b'"' || byte == b'\''
 }
 
-/// Returns the offset of the quote that closes a string, of which `from` is the first byte after the opening quote.
-/// Returns `None` if it is unclosed or has an invalid escape.
+/// Returns the offset of the quote that closes a string. `from` is the first byte after the opening quote. Returns
+/// `None` if the string is unclosed or has an invalid escape.
 #[tactic(auto, using(crate::proofs::LexingLemmas::closing_step, crate::proofs::LexingLemmas::closing_past), unfolding(crate::specs::Lexing::closing_quote))]
 pub(crate) fn closing_quote(text: &str, from: usize, quote: u8) -> Option<usize>
     ensures value { result ≡ closing_quote quote text.now from }

@@ -48,7 +48,7 @@ fn date_of(text: &[u8]) -> Option<i128>
     midnight(year, month, day)
 }
 
-/// Returns the weight, in nanoseconds, of the last of `places` decimal places of a second.
+/// Returns the weight, in nanoseconds, of the last of `places` decimals of a second.
 #[tactic(auto, unfolding(crate::specs::Dates::place_value))]
 fn place_value(places: usize) -> u64
     ensures { result ≡ place_value places }

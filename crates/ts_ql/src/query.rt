@@ -176,9 +176,9 @@ impl<A: Allocator> Query<A> {
     ghost use Rattle.ts_ql.specs.QueryRules.{IsSelect};
     ghost use Rattle.ts_ql.specs.Selects.{texts};
 
-    /// Creates a query from its parts, which must satisfy the rules of all queries: a bucket of at least 1 nanosecond,
-    /// a range that doesn't end before it starts, no first bucket before the least time, at most 10,000 buckets,
-    /// columns of distinct names other than `time`, and distinct group tags in byte order.
+    /// Creates a query from its parts, which must satisfy the rules of all queries. A bucket has at least 1 nanosecond,
+    /// and the range doesn't end before it starts. The first bucket doesn't start before the least time, and there are
+    /// at most 10,000 buckets. Column names are distinct and not `time`; group tags are distinct and in byte order.
     pub fn new(parts: QueryParts<A>) -> Query<A>
         requires { IsSelect parts }
         ensures { result ≡ parts }
