@@ -1,4 +1,4 @@
--- The outcome of a query, by the rows that a plan gives of a store.
+-- The outcome of a query, by the rows of a plan over a store.
 use Rattle.std.proofs.Common.{◌≡◌, List, Result, Ok, Err, Some, sym, ap, ap₂, ◌∙◌, subst}
 use Rattle.ts_core.specs.facts.Facts.{Text}
 use Rattle.ts_core.specs.plans.Faults.{first_fault}

@@ -1,4 +1,4 @@
--- The JSON of columns and tags has no float: it consists of strings.
+-- The JSON of columns and tags: it consists of strings and has no float.
 use Rattle.std.proofs.Common.{◌≡◌, Bool, true, false, ◌||◌, List, [], ◌∷◌, map, refl, Ordering, Less, Equal, Greater, nat_cmp, true≢false}
 use Rattle.std.specs.Ordering.{match_ordering}
 use Rattle.std.specs.Cmp.Lexicographic.{slice_cmp}

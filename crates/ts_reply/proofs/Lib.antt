@@ -1,7 +1,7 @@
 -- Answering, Explaining: the outcome of a query
 pub mod Answered
 pub mod Each
--- Replies, Appending: texts part by part
+-- Replies, AppendedData: texts part by part
 pub mod Appended
 pub mod Floats
 -- SeriesTexts: texts of series and rows

@@ -1,4 +1,4 @@
--- A time has one text.
+-- The text of a time, which is unique.
 use Rattle.std.proofs.Common.{◌≡◌, ℤ, ◌∙◌, sym, refl}
 use Rattle.jiff_core.proofs.DateLemmas.{epoch_day_injective}
 use Rattle.jiff_core.proofs.DateTimeLemmas.{civil_nanos_injective, time_nanos_injective}

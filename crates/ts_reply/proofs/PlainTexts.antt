@@ -1,4 +1,4 @@
--- A text whose bytes stand for themselves is quoted as it is.
+-- Texts whose bytes need no escape, which are quoted unchanged.
 use Rattle.std.proofs.Common.{◌≡◌, ◌==◌, true, [], ◌∷◌, ◌++◌, codes, ap, ◌∙◌, sym, refl, append_assoc}
 use Rattle.std.proofs.lemmas.Bool.{or_parts, and_parts, not-true, eqb-false, ltb-false}
 use Rattle.std.specs.List.{list_all}

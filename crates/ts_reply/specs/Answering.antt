@@ -1,6 +1,6 @@
--- The reply to an InfluxQL text, over all facts ever accepted.
--- (InfluxData 1.8, API reference: /query, multiple queries. Own rules: an error in the text refuses all of it. A query
--- without a plan has its error, and the others are answered. A given certificate is for one query.)
+-- The reply to an InfluxQL text, over all facts ever accepted. (InfluxData 1.8, API reference: /query, multiple
+-- queries. Own rules: an error in the text refuses all of it. A query without a plan has its error, and the others are
+-- answered. A certificate may come only with a single query.)
 use Rattle.std.specs.Prelude.{◌≡◌, ℤ, Bool, true, false, nat_lt, List, [], ◌∷◌, length, ⊤, Option, Some, None, Ok, Err}
 use Rattle.ts_core.specs.facts.Facts.{Text}
 use Rattle.ts_core.specs.declared.text.fault_code.FaultCode.TheVariants.{SeveralStatements}
@@ -33,8 +33,8 @@ pub data IsPlannedOutcome (opening : Settings) (h : History) (s : Select) : Outc
   answered : (plan : List Piece) → IsPlanFor (settings_of opening h) (marks_of opening h) s.query (Ok plan) → IsPlannedOutcome opening h s (rows_over (latest_of h) s)
   refused : (fault : PlanFault) → IsPlanFor (settings_of opening h) (marks_of opening h) s.query (Err (errors.Fault fault)) → IsPlannedOutcome opening h s (Fault (plan_fault_text fault))
 
--- Outcome of a query by given pieces: their first error, or the query's rows over all facts ever accepted if they are
--- valid.
+-- Outcome of a query by the pieces of a certificate: their first error, or else the query's rows over all facts ever
+-- accepted.
 pub data IsChecked (opening : Settings) (h : History) (pieces : List Piece) (s : Select) : Outcome → Type 0 where
   invalid : (fault : CheckFault) → first_fault (settings_of opening h) (marks_of opening h) s.query pieces ≡ Some (fault.kind, fault.piece) → IsChecked opening h pieces s (Fault (check_fault_text fault))
   valid : IsValid (settings_of opening h) (marks_of opening h) s.query pieces → IsChecked opening h pieces s (rows_over (latest_of h) s)

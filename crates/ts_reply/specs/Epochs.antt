@@ -1,6 +1,5 @@
--- Time formats of replies, and their names.
--- (InfluxData 1.8, API reference: /query, the parameter `epoch`: ns, u or µ, ms, s, m, h. Own rules: also `n`, as for a
--- precision, and `text` for RFC 3339.)
+-- Time formats of replies, and their names. (InfluxData 1.8, API reference, /query, the parameter `epoch`: ns, u or µ,
+-- ms, s, m, h. Own rules: also `n`, as for a precision, and `text` for RFC 3339.)
 use Rattle.std.specs.Prelude.{[], ◌∷◌, Option, Some, option_map, bytes_eq, codes, if◌then◌else◌}
 use Rattle.ts_core.specs.facts.Facts.{Text}
 use Rattle.ts_core.specs.facts.TimeUnits.{UnitNames, unit_called}

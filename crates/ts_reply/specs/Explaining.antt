@@ -1,6 +1,5 @@
--- The explanation of an InfluxQL text: the certificate of each query's plan, after a history.
--- (Own rules: a plan is returned as the text of its certificate, which can be given with the query. A query without a
--- plan has its error.)
+-- The explanation of an InfluxQL text: the certificate of each query's plan, after a history. (Own rules: a plan is
+-- returned as the text of its certificate, which can be passed with the query. A query without a plan has its error.)
 use Rattle.std.specs.Prelude.{ℤ, Bool, true, false, List, Ok, Err}
 use Rattle.ts_core.specs.facts.Facts.{Text}
 use Rattle.ts_core.specs.store.History.{History, settings_of}

@@ -1,4 +1,4 @@
--- Values of outcomes and of given certificates in memory. (Own rules.)
+-- Values of outcomes and of certificates in memory. (Own rules.)
 use Rattle.std.specs.Borrow.{Bor}
 use Rattle.std.specs.Prelude.{Option, option_map, string_bytes}
 use Rattle.ts_core.specs.facts.Facts.{Text}
