@@ -1,4 +1,4 @@
--- The lines of a batch, as they are taken one by one.
+-- The lines of a batch, one by one.
 use Rattle.std.proofs.Common.{◌≡◌, ◌≢◌, ℕ, ℤ, suc, ◌+◌, ◌<◌, ◌==◌, cond, List, [], ◌∷◌, ◌++◌, length, map, get_or, Option, Some, None, option_map, Result, Ok, Err, refl, sym, ap, ◌∙◌, subst, arith, append_assoc, append-nil, length-append}
 use Rattle.std.proofs.lemmas.Bool.Decides.{nat_tests}
 use Rattle.std.proofs.lemmas.List.{map-append}
@@ -102,7 +102,7 @@ next_line text first others e none = ap body_lines e ∙ first_line first others
 
 -- ---- the loop
 
--- how far a batch has come: these lines of a body were taken, and these come before the rest of it
+-- the progress of a batch: these lines of a body were written, and these come before the rest of it
 pub record SoFar (precision : TimeUnit) (now : ℤ) (s : State) (lines : List Text) (t : Tally) (left : List Text) (new : StoreData) : Type 0 where
   pub done : List Text
   pub outcomes : List LineOutcome

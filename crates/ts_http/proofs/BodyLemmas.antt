@@ -1,4 +1,4 @@
--- A body, of which a part came with the head.
+-- A body with a part that came with the head.
 use Rattle.std.proofs.Common.{◌≡◌, ℕ, zero, suc, [], ◌∷◌, ◌++◌, length, take, drop, refl, sym, ap, ◌∙◌, subst, arith}
 use Rattle.std.proofs.Math.Seq.{take-append_seam}
 use Rattle.ts_core.specs.facts.Facts.{Text}

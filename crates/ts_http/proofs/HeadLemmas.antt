@@ -1,4 +1,4 @@
--- Heads of a request, as more of it comes.
+-- Heads of a request, as more bytes are read.
 use Rattle.std.proofs.Common.{◌≡◌, ℕ, ◌≤◌, ◌<◌, List, [], ◌∷◌, ◌++◌, length, take, map, Option, Some, None, unwrap_or, zero, suc, refl, sym, ap, ◌∙◌, subst, arith, append_assoc, append-nil}
 use Rattle.std.proofs.lemmas.List.{drop-append-le, length-append}
 use Rattle.std.proofs.Math.Seq.{take-append_seam}

@@ -1,4 +1,4 @@
--- The first parameter of a name, as pairs are passed over.
+-- The first parameter of a name, as pairs are skipped.
 use Rattle.std.proofs.Common.{◌≡◌, true, false, [], ◌∷◌, map, Option, Some, None, sym, ap, ◌∙◌, cond}
 use Rattle.ts_core.specs.facts.Facts.{Text, same_text}
 use Rattle.ts_http.specs.Parameters.{Parameters, first_named, decoded, decoded_pair}

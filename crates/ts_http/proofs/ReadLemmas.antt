@@ -1,4 +1,4 @@
--- Bytes that are read into a buffer, after those that it holds.
+-- Bytes that are read into a buffer, after those already in it.
 use Rattle.std.proofs.Common.{◌≡◌, ℕ, ◌+◌, ◌-◌, ◌≤◌, ◌++◌, length, take, Option, refl, sym, ap, ◌∙◌, subst, arith, add-zero}
 use Rattle.std.proofs.KnownBytes.{Consumes-trans}
 use Rattle.std.specs.Io.KnownBytes.{Consumes}

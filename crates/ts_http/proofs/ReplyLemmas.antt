@@ -1,4 +1,4 @@
--- Texts that are put one after another.
+-- Texts appended one after another.
 use Rattle.std.proofs.Common.{◌≡◌, [], ◌++◌, ap, ◌∙◌, append_assoc}
 use Rattle.ts_core.specs.facts.Facts.{Text}
 

@@ -73,7 +73,7 @@ abbrev pub epoch_parameter : Option Text → Option Epoch
 epoch_parameter None = Some epochs.Text
 epoch_parameter (Some name) = if same_text name (codes "text") then None else epoch_of name
 
--- whether the reply has plans
+-- the parameter `explain`: true if the reply has plans
 abbrev pub explain_parameter : Option Text → Option Bool
 explain_parameter None = Some false
 explain_parameter (Some value) =

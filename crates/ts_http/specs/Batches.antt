@@ -17,7 +17,7 @@ module _ (precision : TimeUnit) (now : ℤ) where
   TakesLines old [] (o ∷ os) new = ⊥
   TakesLines old (text ∷ texts) [] new = ⊥
 
-  -- One of these lines ran out of memory; the lines before it were taken, and those after it were not.
+  -- One of these lines ran out of memory; the lines before it were written, and those after it were not.
   pub record StopsAtLine (old : State) (texts : List Text) (new : State) : Type 0 where
     pub done : List Text
     pub line : Text
@@ -35,7 +35,7 @@ abbrev pub onto_first : ℕ → List Text → List Text
 onto_first b [] = (b ∷ []) ∷ []
 onto_first b (line ∷ lines) = (b ∷ line) ∷ lines
 
--- the lines of a body, between its LFs; after the last LF comes another line, which may be blank
+-- the lines of a body, between its LFs; the last LF is followed by another line, which may be blank
 abbrev pub body_lines : Text → List Text
 body_lines [] = [] ∷ []
 body_lines (b ∷ bs) = if b == 10 then [] ∷ body_lines bs else onto_first b (body_lines bs)
@@ -48,7 +48,7 @@ refusals_from n [] = []
 refusals_from n (None ∷ os) = refusals_from (n + 1) os
 refusals_from n (Some text ∷ os) = (n, text) ∷ refusals_from (n + 1) os
 
--- those of outcomes, counted from 1
+-- the refusals of outcomes, counted from 1
 abbrev pub refusals_of : List LineOutcome → List (ℕ × Text)
 refusals_of outcomes = refusals_from 1 (map refusal_text outcomes)
 

@@ -11,7 +11,7 @@ use Rattle.ts_http.specs.declared.head.HeadFault.TheVariants.{EndsEarly, TooLarg
 abbrev pub head_limit : ℕ
 head_limit = 8192
 
--- and the most fields
+-- the most fields of a head
 abbrev pub field_limit : ℕ
 field_limit = 64
 
@@ -29,7 +29,7 @@ pub record IsWholeHead (bytes : Text) (head : RequestHead) (rest : Text) : Type 
   pub short : length (print_request head) ≤ head_limit
   pub few : length head.fields ≤ field_limit
 
--- The bytes have no whole head, and may be the beginning of one.
+-- The bytes have no whole head, and may be a prefix of one.
 abbrev pub IsUnfinishedHead : Text → Type 0
 IsUnfinishedHead bytes = HasNoRequest bytes × MayBecomeRequest bytes
 
@@ -38,7 +38,7 @@ IsUnfinishedHead bytes = HasNoRequest bytes × MayBecomeRequest bytes
 pub data ReadsHead (bytes : Text) : HeadOutcome → Type 0 where
   nothing : bytes ≡ [] → ReadsHead bytes Nothing
   whole : (head : RequestHead) (rest : Text) → IsWholeHead bytes head rest → ReadsHead bytes (Whole head rest)
-  -- all of the bytes are the beginning of a head, or end inside its target
+  -- all of the bytes are a prefix of a head, or end inside its target
   ends_early : bytes ≢ [] → length bytes < head_limit → IsUnfinishedHead bytes → ReadsHead bytes (Fault EndsEarly)
   too_long : head_limit ≤ length bytes → IsUnfinishedHead (take head_limit bytes) → ReadsHead bytes (Fault TooLarge)
   -- the bytes begin with a start line and too many fields

@@ -1,4 +1,4 @@
--- Reading a head and a body from a reader, by the bytes that came. (Own rules.)
+-- Reading a head and a body from a reader, by the received bytes. (Own rules.)
 use Rattle.std.specs.Prelude.{◌≡◌, ℕ, ◌+◌, ◌≤◌, ◌<◌, Bool, List, [], ◌++◌, length, take, drop, Option, Some, None, unwrap_or, Result, IfOk}
 use Rattle.std.specs.Bool.{OnTrue, OnFalse}
 use Rattle.std.specs.Io.KnownBytes.{Consumes, IsAtEnd}
@@ -12,7 +12,7 @@ use Rattle.ts_http.specs.declared.head.HeadFault.TheVariants.{EndsEarly, TooLarg
 use Rattle.ts_http.specs.declared.head.HeadRead.{HeadRead}
 use Rattle.ts_http.specs.declared.head.HeadRead.TheVariants as read
 
--- all bytes of a request: those that came, and those that are left, if known
+-- all bytes of a request: those received, and those that are left, if known
 abbrev pub request_of : Text → Input → Text
 request_of came left = came ++ unwrap_or left.remaining []
 
@@ -26,7 +26,7 @@ pub record IsReadBehind {E : Type 0} (old : Input) (count : ℕ) (room : Text) (
   pub failures : new.failures ≡ old.failures + one_if_err result
   pub turns : new.turns ≡ old.turns + 1
 
--- the outcome is one of reading the request's head, of which these bytes came
+-- the outcome is one of reading the request's head, of which these bytes were received
 abbrev pub TellsHead : Text → Text → List HeaderSpan → HeadRead → Type 0
 TellsHead bytes came spans read.Nothing = ReadsHead bytes Nothing
 TellsHead bytes came spans (read.Fault fault) = ReadsHead bytes (Fault fault)
@@ -41,7 +41,7 @@ pub record IsHeadRead {E : Type 0} (old : Input) (result : Result (ℕ × HeadRe
   pub failures : new.failures ≡ old.failures + one_if_err result
   pub turns : new.turns ≤ old.turns + head_limit
 
--- the rest of a body is read, whose first `count` bytes are there; the result is whether it is whole
+-- the rest of a body is read after its first `count` bytes; the result is true if the body is whole
 pub record IsBodyRead {E : Type 0} (old : Input) (count : ℕ) (body : Text) (result : Result Bool E) (body' : Text) (new : Input) : Type 0 where
   pub size : length body' ≡ length body
   pub whole : IfOk result (λ whole. OnTrue whole ((got : Text) × (body' ≡ take count body ++ got) × Consumes old.remaining new.remaining got))

@@ -1,5 +1,5 @@
--- The bytes of a reply. (RFC 9112, section 4; InfluxData 1.8, API reference: status codes and responses. Own rules:
--- which fields a reply has, and that the connection is closed after it.)
+-- The bytes of a reply. (RFC 9112, section 4; InfluxData 1.8, API reference: status codes and responses. Own rules: the
+-- fields of a reply, and closing the connection after it.)
 use Rattle.std.specs.Prelude.{ℕ, Bool, [], ◌∷◌, ◌++◌, length, codes, if◌then◌else◌, Option, Some, None, option_map, unwrap_or, decimal}
 use Rattle.http.specs.StatusCode.{code_digits, reason_phrase}
 use Rattle.ts_core.specs.facts.Facts.{Text}

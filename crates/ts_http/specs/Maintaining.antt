@@ -12,7 +12,7 @@ use Rattle.ts_store.specs.write.LineTexts.{State}
 use Rattle.ts_http.specs.Parameters.{parameters, first_named}
 use Rattle.ts_http.specs.Requests.{is_number}
 
--- ---- how many steps: 1 to 5 digits, at most 10,000
+-- ---- the number of steps: 1 to 5 digits, at most 10,000
 
 abbrev pub is_step_count : Text → Bool
 is_step_count value = is_number value && (nat_le (length value) 5 && nat_le (digits_value 10 value) 10000)
@@ -26,12 +26,12 @@ steps_in query = steps_parameter (first_named (codes "steps") (parameters query)
 
 -- ---- the run
 
--- an open run goes on; otherwise one begins
+-- an open run continues; otherwise one begins
 pub data OpensRun (now : ℤ) (old : State) : State → Type 0 where
   goes_on : IsRunOpen old.history → OpensRun now old old
   begins : (IsRunOpen old.history → ⊥) → OpensRun now old (record old { history = Begin now ∷ old.history })
 
--- the same of a store, and how many steps the run then has left
+-- the same of a store, and the number of steps that the run has left then
 abbrev pub run_opened : ℤ → StoreData → StoreData
 run_opened now k = if k.running then k else run_begun now k
 
@@ -45,7 +45,7 @@ stepped n left h = if nat_lt n left then steps_taken n h else Step true ∷ step
 abbrev pub with_steps : ℕ → ℕ → State → State
 with_steps n left s = record s { history = stepped n left s.history }
 
--- ---- the reply: whether the run ended, the raw mark, and the number of steps taken
+-- ---- the reply: true if the run ended, the raw mark, and the number of steps taken
 
 abbrev pub bool_text : Bool → Text
 bool_text true = codes "true"

@@ -16,7 +16,7 @@ use Rattle.ts_http.specs.declared.route.Method.TheVariants as by
 -- The kinds of requests.
 pub data Request : Type 0 where
   NoRequest : Request
-  -- it is refused before anything is executed; whether its head was read whole, and was a HEAD
+  -- The request is refused before anything is executed. The boolean is true if its head was read whole, and was a HEAD.
   Refuses : Refusal → Route → Bool → Request
   -- a path and its method, the parameters of the target, and a body
   Wants : Route → Method → Text → Text → Request

@@ -1,6 +1,6 @@
--- The parts of a request's head, and why it is refused before its body is read.
--- (InfluxData 1.8, API reference: /ping, /query, /write. RFC 9110: methods, Content-Length, Content-Encoding; names of
--- fields ignore case. Own rules: /maintain, /rules, no chunked bodies, at most 1,048,576 bytes, and the order of refusals.)
+-- The parts of a request's head, and the reasons to refuse it before its body is read. (InfluxData 1.8, API reference:
+-- /ping, /query, /write. RFC 9110: methods, Content-Length, Content-Encoding; names of fields ignore case. Own rules:
+-- /maintain, /rules, no chunked bodies, at most 1,048,576 bytes, and the order of refusals.)
 use Rattle.std.specs.Prelude.{ℕ, nat_le, Bool, true, false, not, ◌&&◌, ◌||◌, ◌==◌, List, [], ◌∷◌, length, map, codes, if◌then◌else◌, Option, None}
 use Rattle.std.specs.List.{list_any, before_first, after_first}
 use Rattle.std.specs.Char.{to_ascii_lowercase}
@@ -57,7 +57,7 @@ is_allowed to.Ping by.Get = true
 is_allowed to.Ping by.Head = true
 is_allowed route method = false
 
--- and as `Allow` writes them
+-- the methods as `Allow` writes them
 abbrev pub allowed_methods : Route → Text
 allowed_methods to.Write = codes "POST"
 allowed_methods to.Query = codes "GET, POST"

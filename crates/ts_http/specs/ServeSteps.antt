@@ -17,7 +17,7 @@ use Rattle.ts_http.specs.declared.serve.IoFault.TheVariants.{Writer}
 use Rattle.ts_http.specs.declared.serve.Served.{Served}
 use Rattle.ts_http.specs.declared.serve.Served.TheVariants as served
 
--- the length of the body, or why the head is refused
+-- the length of the body, or the reason why the head is refused
 abbrev pub IsLengthAnswer : Route → Method → Fields → Result ℕ Refusal → Type 0
 IsLengthAnswer route method fields (Ok n) = (refused route method fields ≡ None) × (n ≡ body_length method fields) × (n ≤ body_limit)
 IsLengthAnswer route method fields (Err r) = refused route method fields ≡ Some r
@@ -35,7 +35,7 @@ pub record IsActedOn {E : Type 0} (now : ℤ) (route : Route) (method : Method) 
   pub failures : source'.failures ≡ source.failures + one_if_err result
   pub turns : source'.turns ≤ source.turns + len
 
--- a reply is sent, or a beginning of it
+-- a reply is sent, or a prefix of it
 pub record IsSent (outcome : Outcome) (route : Route) (to_head : Bool) (old : Output) (result : Result Served IoFault) (new : Output) : Type 0 where
   pub ok : IfOk result (λ s. (s ≡ served.Reply (reply_of to_head outcome).0 route) × Appends old.contents new.contents (reply_of to_head outcome).1)
   pub err : OnErr result (AppendsFront old.contents new.contents (reply_of to_head outcome).1)

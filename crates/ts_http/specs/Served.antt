@@ -33,11 +33,11 @@ pub data Serves (now : ℤ) (left : ℕ) (old : State) (bytes : Text) : Served �
   refuses : (r : Refusal) (route : Route) (to_head : Bool) → Asks bytes (Refuses r route to_head) → Serves now left old bytes (served.Reply (refusal_status r) route) (refusal_reply to_head r) old
   acts : (route : Route) (method : Method) (query body : Text) (reply : Replied) (new : State) → Asks bytes (Wants route method query body) → Acts now left old query body route method reply new → Serves now left old bytes (served.Reply reply.0 route) reply.1 new
 
--- In each state that the store was in, the request was served so, and its whole reply or a beginning of it was sent.
+-- In each state that the store was in, the request was served so, and its whole reply or a prefix of it was sent.
 abbrev pub ServedAs : ℤ → Text → StoreData → Served → StoreData → (Text → Type 0) → Type 0
 ServedAs now bytes old served new Sent = (s : State) → IsIn s old → (text : Text) × (s' : State) × Serves now (left_in now old) s bytes served text s' × IsIn s' new × Sent text
 
--- each in the table of all faults
+-- the code of each in the table of all faults
 abbrev pub io_fault_code : IoFault → FaultCode
 io_fault_code Reader = code.ConnectionReaderFailed
 io_fault_code Writer = code.ConnectionWriterFailed
@@ -59,7 +59,7 @@ one_if_writer (Err Writer) = 1
 -- One request served. If a reader's bytes are unknown, the request's are those that were read.
 pub record IsServed (now : ℤ) (old : StoreData) (source : Input) (sink : Output) (result : Result Served IoFault) (new : StoreData) (source' : Input) (sink' : Output) : Type 0 where
   pub answered : IfOk result (λ served. (came : Text) × Consumes source.remaining source'.remaining came × ServedAs now (request_of came source') old served new (Appends sink.contents sink'.contents))
-  -- the request was executed, and a beginning of the reply went out
+  -- the request was executed, and a prefix of the reply was sent
   pub begun : result ≡ Err Writer → (came : Text) × Consumes source.remaining source'.remaining came × ((served : Served) × ServedAs now (request_of came source') old served new (AppendsFront sink.contents sink'.contents))
   -- nothing was executed, and nothing was written
   pub unread : result ≡ Err Reader → (new ≡ old) × (sink' ≡ sink)

@@ -1,4 +1,4 @@
-//! Header fields, as spans of the bytes that came.
+//! Header fields, as spans of the received bytes.
 ghost use Rattle.std.specs.Prelude.{◌≡◌, length, map, false, IsTrue};
 ghost use Rattle.std.specs.List.{AllByRecursion, list_any};
 ghost use Rattle.std.specs.Str.Parse.{digits_value};
@@ -12,7 +12,7 @@ use httparse::spans::{HeaderSpan, Span};
 use std::str;
 use ts_core::are_digits;
 
-/// The most bytes that a body may have.
+/// Most bytes of a body.
 pub(crate) const BODY_LIMIT: usize = 1_048_576;
 
 /// The Content-Length fields of a head.
@@ -26,14 +26,14 @@ pub(crate) enum ContentLengths<'a> {
     Repeated,
 }
 
-/// Returns whether two texts are equal, ignoring the case of ASCII letters.
+/// Returns true if two texts are equal, ignoring the case of ASCII letters.
 fn is_same(text: &[u8], other: &[u8]) -> bool
     ensures { result ≡ same_ignoring_case text.now other.now }
 {
     text.eq_ignore_ascii_case(other)
 }
 
-/// Returns whether a field has that name.
+/// Returns true if a field has that name.
 fn is_named(came: &[u8], span: &HeaderSpan, name: &[u8]) -> bool
     requires { IsHeaderWithin (length came.now) span.now }
     ensures { result ≡ is_named name.now (header_bytes came.now span.now) }
@@ -41,7 +41,7 @@ fn is_named(came: &[u8], span: &HeaderSpan, name: &[u8]) -> bool
     is_same(span.name.of(came), name)
 }
 
-/// Returns whether there is a field of that name.
+/// Returns true if there is a field of that name.
 fn has_field(came: &[u8], spans: &[HeaderSpan], name: &[u8]) -> bool
     requires { AllByRecursion (IsHeaderWithin (length came.now)) spans.now }
     ensures { result ≡ has_field name.now (map (header_bytes came.now) spans.now) }
@@ -52,7 +52,7 @@ fn has_field(came: &[u8], spans: &[HeaderSpan], name: &[u8]) -> bool
     }
 }
 
-/// Returns whether a field is a Content-Encoding other than `identity`.
+/// Returns true if a field is a Content-Encoding other than `identity`.
 fn is_coded(came: &[u8], span: &HeaderSpan) -> bool
     requires { IsHeaderWithin (length came.now) span.now }
     ensures { result ≡ is_coded (header_bytes came.now span.now) }
@@ -60,7 +60,7 @@ fn is_coded(came: &[u8], span: &HeaderSpan) -> bool
     is_named(came, span, b"content-encoding") && !is_same(span.value.of(came), b"identity")
 }
 
-/// Returns whether some field is a Content-Encoding other than `identity`.
+/// Returns true if some field is a Content-Encoding other than `identity`.
 fn is_any_coded(came: &[u8], spans: &[HeaderSpan]) -> bool
     requires { AllByRecursion (IsHeaderWithin (length came.now)) spans.now }
     ensures { result ≡ list_any is_coded (map (header_bytes came.now) spans.now) }
@@ -91,7 +91,7 @@ fn lengths<'a>(came: &'a [u8], spans: &[HeaderSpan]) -> ContentLengths<'a>
     }
 }
 
-/// Returns whether a value is 1 to 18 digits.
+/// Returns true if a value is 1 to 18 digits.
 pub(crate) fn is_number(value: &[u8]) -> bool
     ensures { result ≡ is_number value.now }
 {

@@ -19,7 +19,7 @@ use std::alloc::Allocator;
 use ts_core::Time;
 use ts_store::{StepAnswer, Store, View};
 
-/// The most steps that a request may ask for.
+/// The most steps that a request may take.
 const MAX_STEPS: usize = 10_000;
 
 /// The steps that a request took.
@@ -40,7 +40,7 @@ fn step_count(value: &[u8]) -> Option<usize>
     if count > MAX_STEPS { None } else { Some(count) }
 }
 
-/// Returns the number of steps that a request asks for.
+/// Returns the number of steps of a request.
 fn steps<A: Allocator + Copy>(alloc: A, query: &[u8]) -> Result<usize, Refusal>
     ensures { IsValueOr (steps_in query.now) Refusal.BadSteps result }
 {
@@ -84,7 +84,7 @@ fn take_steps<A: Allocator + Copy>(store: &mut Store<A>, limit: usize) -> Progre
     }
 }
 
-/// Returns JSON with the steps taken, whether the run ended, and the raw mark.
+/// Returns JSON with the number of steps taken, true if the run ended, and the raw mark.
 fn progress_note(progress: Progress, raw: Time) -> Note
     ensures { result.bytes ≡ progress_text progress.done raw progress.taken }
 {
@@ -99,7 +99,7 @@ fn progress_note(progress: Progress, raw: Time) -> Note
     note
 }
 
-/// Takes the steps that a request asks for. After the number of steps is known this does not allocate.
+/// Takes the steps of a request. Does not allocate once the number of steps is known.
 pub(crate) fn maintain<A: Allocator + Copy>(
     alloc: A,
     store: &mut Store<A>,

@@ -97,7 +97,7 @@ pub(crate) fn add_rule<A: Allocator + Copy>(
 fn drop_named<A: Allocator + Copy>(store: &mut Store<A>, name: &str) -> Outcome
     ensures { DropsNamed name.now store.old result store.new }
 {
-    // states that settings have no fault, so their names have at most 32 bytes
+    // for the proof: settings have no fault, so their names have at most 32 bytes
     let _ = store.settings().rules();
     match store.drop_rule(name) {
         Ok(()) => Outcome::Brief(Status::Success, dropped_note(name)),

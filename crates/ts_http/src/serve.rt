@@ -44,7 +44,7 @@ pub enum Served {
 pub enum IoFault {
     /// The reader failed. Nothing was executed.
     Reader,
-    /// The writer failed. The request was executed, and a beginning of the reply went out.
+    /// The writer failed. The request was executed, and a prefix of the reply was sent.
     Writer,
 }
 
@@ -90,7 +90,7 @@ impl From<Refused> for IoFault {
     }
 }
 
-/// A head that is whole, with the bytes that came after it.
+/// A whole head, with the bytes that followed it.
 #[derive(Clone, Copy, Drop)]
 struct HeadParts<'a> {
     route: Route,
@@ -226,8 +226,8 @@ fn reply<W: Write>(
     }
 }
 
-/// Serves one request at a moment: reads it whole, executes it, and sends the reply. Replies but the answer to a query
-/// do not allocate. JSON is parsed and written in `json`, everything else is allocated in `alloc`.
+/// Serves one request at a moment: reads it whole, executes it, and sends the reply. Every reply but the answer to a
+/// query is sent without allocating. JSON is parsed and written in `json`; all other allocations are in `alloc`.
 pub fn serve_one<R: Read, W: Write, A: Allocator + Copy>(
     alloc: A,
     json: Global,
