@@ -1,4 +1,4 @@
--- Where a certificate has its `;`.
+-- Offsets of the `;` of a certificate.
 use Rattle.std.proofs.Common.{◌≡◌, ◌≢◌, ◌∙◌, ℕ, suc, ◌<◌, ◌==◌, cond, [], ◌∷◌, ◌++◌, length, get_or, refl, ap, ap₂, sym, append_assoc, arith}
 use Rattle.std.proofs.lemmas.Bool.Decides.{nat_tests}
 use Rattle.std.proofs.lemmas.List.{map-append}

@@ -1,4 +1,4 @@
--- Where a line begins with a name.
+-- Lines that begin with a name.
 use Rattle.std.proofs.Common.{◌≡◌, ℕ, ◌+◌, List, [], ◌∷◌, length, drop, true, false, true≢false, refl, sym, ap, ◌∙◌, Option, Some, None, MatchOption, nat_eq, arith}
 use Rattle.std.specs.Borrow.{Bor}
 use Rattle.std.specs.List.{starts_with}

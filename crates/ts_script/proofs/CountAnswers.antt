@@ -1,4 +1,4 @@
--- A query that counts in one bucket is matched by the counted facts.
+-- Counted facts, which match the query that counts in one bucket.
 use Rattle.std.proofs.Common.{◌≡◌, ℤ, ap, List, length, filter, Bool, true, false, ◌&&◌, refl}
 use Rattle.ts_core.specs.facts.Facts.{Text, Fact, is_of, is_within, is_asked}
 use Rattle.ts_core.specs.queries.Queries.{matches}

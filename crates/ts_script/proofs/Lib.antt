@@ -1,4 +1,4 @@
--- Script, Serving: how far a run has come
+-- Script, MachineState: the progress of a run
 pub mod Progress
 -- Script: the same by the input of a known reader
 pub mod ScriptLaws
@@ -14,7 +14,7 @@ pub mod NumberLemmas
 -- Counted: the output of a count
 pub mod CountLemmas
 pub mod CountAnswers
--- ScriptLines, ReaderState, LineReading: how lines are cut
+-- ScriptLines, ReaderState, LineReading: cutting bytes into lines
 pub mod LineScan
 -- ScriptCertificates, MarksTexts: texts
 pub mod CertificateTextLemmas

@@ -1,4 +1,4 @@
--- The text of marks, and how long it is.
+-- The text of marks, and its length.
 use Rattle.std.proofs.Common.{◌≡◌, ◌∙◌, ◌≤◌, ◌++◌, List, ◌∷◌, ℕ, ℤ, length, append_assoc, Result, Ok, Err, OnOk, arith, ap, sym, subst}
 use Rattle.std.specs.List.{AllByRecursion}
 use Rattle.ts_core.specs.facts.Facts.{Text}

@@ -1,4 +1,4 @@
--- A store that stands for a history is reloaded, unless out of memory.
+-- Reloading a store that represents a history: it succeeds, unless out of memory.
 use Rattle.std.proofs.Common.{◌≡◌, List, ℕ, Option, Some, IfSome, refl, sym, subst}
 use Rattle.ts_core.specs.io.Devices.{Input}
 use Rattle.ts_core.specs.store.StoreData.{StoreData, OfEachHistory}

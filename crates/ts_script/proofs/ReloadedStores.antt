@@ -1,4 +1,5 @@
--- A store that is loaded from the image of another stands for its history, and the machine's state is the reloaded one.
+-- A store that is loaded from the image of another: it represents the same history, and the machine's state is the
+-- reloaded one.
 use Rattle.std.proofs.Common.{◌≡◌, List, [], ◌∷◌, ℕ, map, filter, Option, Some, IfSome, refl, sym, ◌∙◌, ap, subst}
 use Rattle.ts_core.specs.facts.Facts.{Text, Series, Column}
 use Rattle.ts_core.specs.settings.Settings.{Settings}

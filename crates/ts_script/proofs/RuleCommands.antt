@@ -1,4 +1,4 @@
--- Commands that add and drop rules, in whatever state the machine is.
+-- Commands that add and drop rules, in every state of the machine.
 use Rattle.std.proofs.Common.{◌≡◌, ◌⊎◌, ◌↔◌, ℤ, Bool, true, false, true≢false, refl, sym, ◌∙◌, subst, Result, Ok, Err, IsErr, is_err, inl, inr}
 use Rattle.ts_core.specs.facts.Facts.{Text}
 use Rattle.ts_core.specs.text.FaultTexts.{memory_text}

@@ -42,7 +42,7 @@ abbrev pub AreLines : Bool → List ℕ → List (List ℕ) → Type 0
 AreLines false bytes lines = AreEnded bytes lines
 AreLines true bytes lines = lines_of bytes ≡ lines
 
--- the line that was found has this text; the text of a long line isn't kept
+-- the current line has this text; the text of a long line isn't stored
 abbrev pub IsTextOf : List ℕ → Next → List ℕ → Type 0
 IsTextOf text Line line = line ≡ text
 IsTextOf text TooLong line = script_line_limit < length text
@@ -69,7 +69,7 @@ pub record IsLineEnd (bytes : List ℕ) (end : ℕ) : Type 0 where
   pub rest : drop (end + 1) bytes ≡ after_line bytes
   pub found : IsTrue (has_lf bytes) ↔ (end < length bytes)
 
--- the buffered bytes go to the line, up to an LF; `lf` is true if there was one
+-- appends buffered bytes to the line, up to an LF; `lf` is true if there was one
 pub record TakesBuffered (old : ReaderState) (lf : Bool) (new : ReaderState) : Type 0 where
   pub found : lf ≡ has_lf old.ahead.buffered
   pub buffered : new.ahead.buffered ≡ after_line old.ahead.buffered
@@ -111,7 +111,7 @@ pub record IsNext (old : ReaderState) (source : Input) (next : Next) (new : Read
   pub line : next ≢ End → (old.ahead.ended ≡ false) × ((text : List ℕ) × IsTextOf text next new.line × AreLines new.ahead.ended bytes (text ∷ []))
   pub over : next ≡ End → (bytes ≡ []) × (new.ahead.ended ≡ true)
 
--- a fault in a line: the bytes that came of it have no LF, nor is one buffered
+-- a fault in a line: the bytes of it that were read have no LF, nor is one buffered
 pub record IsCut (old : ReaderState) (source : Input) (new : ReaderState) (source' : Input) : Type 0 where
   pub going : old.ahead.ended ≡ false
   pub no_lf : has_lf old.ahead.buffered ≡ false

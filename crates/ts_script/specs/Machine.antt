@@ -53,7 +53,7 @@ pub record State : Type 0 where
   pub certificate : Option Text
   -- the settings that the script opened with, the events since, and the registered series
   pub store : StoreState
-  -- the columns, those that wait, and the cells of each rule
+  -- the columns, the waiting ones, and the cells of each rule
   pub inventory : Inventory
 
 abbrev pub start : State
@@ -99,7 +99,7 @@ with_history h inventory s = with_store (record s.store { history = h }) invento
 abbrev pub with_begin : State → State
 with_begin s = with_history (Begin s.moment ∷ s.store.history) (all_waiting s.inventory) s
 
--- whether a step was the last one of its run
+-- true for the last step of a run
 abbrev pub is_last : StepAnswer → Bool
 is_last Moved = false
 is_last Done = true
@@ -123,8 +123,8 @@ lows_in s = (marks_of s.store.opening s.store.history).lows
 abbrev pub facts_of_line : State → Text → List Fact
 facts_of_line s text = facts_of_text (parts_in s.precision s.moment text)
 
--- A whole run takes this number of steps before the last one, and leaves this inventory: of each rule the cells from
--- its new low index on.
+-- A whole run takes this number of steps before the last one, and leaves this inventory. Of each rule it has the cells
+-- from its new low index on.
 pub record RunsWhole (old : State) (steps : ℕ) (new : Inventory) : Type 0 where
   pub count : steps + 1 ≡ steps_in (lows_in (with_begin old)) (all_waiting old.inventory)
   pub left : LeavesRecent (rules_in old) (lows_in (with_begin old)) old.inventory new

@@ -2,7 +2,7 @@
 use Rattle.std.specs.Prelude.{ℕ, List, Bool, Option, Some, None, slice_range}
 use Rattle.ts_core.specs.io.ReadingAhead.{Ahead}
 
--- the read buffer, the line so far, and whether it is too long and so skipped
+-- the read buffer, the line so far, and a flag that is true if the line is too long and so skipped
 pub record ReaderState : Type 0 where
   pub ahead : Ahead
   pub line : List ℕ

@@ -34,7 +34,7 @@ pub record IsReloadOf (old new : StoreData) : Type 0 where
 
 -- ---- errors
 
--- a vector takes all bytes that there is memory for
+-- a vector accepts all bytes, unless out of memory
 abbrev pub save_failed : SaveFault → ReloadFault
 save_failed saving.Device = OutOfMemory
 save_failed saving.OutOfMemory = OutOfMemory

@@ -1,4 +1,4 @@
--- A store that was saved and loaded back: what its series, columns and cells are then. (Own rules.)
+-- A store that was saved and loaded back: its series, columns and cells. (Own rules.)
 use Rattle.std.specs.Prelude.{◌≡◌, ℤ, List, [], ◌∷◌, ◌++◌, map, filter}
 use Rattle.ts_core.specs.facts.Facts.{Series, Column}
 use Rattle.ts_core.specs.settings.Settings.{Rule}

@@ -10,7 +10,7 @@ use Rattle.ts_core.specs.declared.io.read_ahead.ReadFault.TheVariants as read
 use Rattle.ts_script.specs.declared.run_fault.RunFault.{RunFault}
 use Rattle.ts_script.specs.declared.run_fault.RunFault.TheVariants.{OutOfMemory, Reader, Writer, Turns}
 
--- each in the table of all faults; out of memory has no number
+-- the code of each in the table of all faults; out of memory has none
 abbrev pub run_fault_code : RunFault → Option FaultCode
 run_fault_code Reader = Some code.ReaderFailed
 run_fault_code Writer = Some code.WriterFailed

@@ -41,7 +41,7 @@ pub record HasRead (source : Input) (came : Text) (ended : Bool) (source' : Inpu
 
 -- the effect on its devices of a replay that reads at most `turns` times, with this result
 pub record IsReplay {T : Type 0} (turns : ℕ) (source : Input) (sink : Output) (result : Result T RunFault) (source' : Input) (sink' : Output) : Type 0 where
-  -- the bytes that were read, and whether the end of input was; without a fault it was
+  -- the bytes that were read, and a flag that is true if the end of input was read; without a fault it was
   pub came : Text
   pub ended : Bool
   pub read : HasRead source came ended source'

@@ -25,7 +25,7 @@ const BUFFER_SIZE: usize = 8_192;
 /// Limit of the number of reads.
 const TURN_LIMIT: u64 = 4_294_967_296;
 
-/// Answers the line that was read.
+/// Answers the line that was read last.
 fn answer(machine: &mut Machine, next: Next, line: &[u8]) -> Reply
     requires { length line.now ≤ script_line_limit }
     ensures { (text : Text) (s : State) → IsTextOf text next line.now → IsMachineIn s machine.old → Stepped text s (text_of result) machine.new }

@@ -61,7 +61,7 @@ impl LineReader {
         })
     }
 
-    /// Returns the line that `next` found.
+    /// Returns the line that `next` read.
     pub fn line(&self) -> &[u8]
         ensures line { result.now ≡ self.now.line }
         ensures short { length result.now ≤ script_line_limit }

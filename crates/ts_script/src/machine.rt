@@ -24,8 +24,8 @@ use ts_core::{Settings, SettingsError, Time, TimeUnit};
 use ts_reply::{Epoch, answer, explain};
 use ts_store::{LineOutcome, Store, View};
 
-/// State of a script: what its commands have set, whether settings may still come, and its store. `line_room` is an
-/// arena for the tags and fields of a line.
+/// State of a script: the settings of its commands, and its store. A command `settings` may still come until the first
+/// line that isn't skipped. `line_room` is an arena for the tags and fields of a line.
 #[derive(Drop)]
 pub struct Machine {
     alloc: Global,
@@ -202,7 +202,7 @@ impl Machine {
         Reply::Stepped(self.store.step())
     }
 
-    /// Saves the store to memory and loads it back, in place of itself.
+    /// Saves the store to memory, and replaces it by the store that is loaded back.
     fn reload(&mut self) -> Reply
         ensures { (s : State) → IsMachineIn s self.old → Did ReloadCommand s (text_of result) self.new }
     {
@@ -272,7 +272,7 @@ impl Machine {
         }
     }
 
-    /// Answers queries, by the certificate if one is set, which is consumed.
+    /// Answers queries. If a certificate is set, answers by it and clears it.
     fn query(&mut self, text: &str) -> Reply
         ensures { (s : State) → IsMachineIn s self.old → Did (QueryCommand text.now) s (text_of result) self.new }
     {
@@ -299,7 +299,7 @@ impl Machine {
         ended(reply.body)
     }
 
-    /// Answers with the plans of queries.
+    /// Answers queries with their plans.
     fn explain(&self, text: &str) -> Reply
         ensures { (s : State) → IsMachineIn s self.now → Did (ExplainCommand text.now) s (text_of result) self.now }
     {
@@ -336,7 +336,7 @@ impl Machine {
         let written = self
             .store
             .write_text(&self.line_room, text, self.precision, self.moment);
-        // nothing borrows from the arena any more
+        // no borrow of the arena is left
         let _ = self.line_room.reset();
         written_reply(written)
     }

@@ -1,4 +1,4 @@
-//! A store that is saved to memory and loaded back.
+//! Saves a store to memory and loads it back.
 ghost use Rattle.std.specs.Prelude.{◌≡◌, IfOk, IfErr, Result};
 ghost use Rattle.ts_core.specs.store.StoreData.{OfEachHistory};
 ghost use Rattle.ts_script.specs.ReloadResults.{IsImageIn, DoesNotFit, IsReloadOf, save_failed, load_failed};
@@ -62,7 +62,7 @@ pub fn reloaded(alloc: Global, store: &Store<Global>) -> Result<Store<Global>, R
     ensures reloaded { IfOk result (IsReloadOf store.now) }
     ensures memory { OfEachHistory store.now (λ opening h. IfErr result (λ e. e ≡ ReloadFault.OutOfMemory)) }
 {
-    // states that the store is well formed
+    // for the proof: the contract states that the store is well formed
     let _ = store.accepted();
     let bytes = match saved(alloc, store) {
         Ok(bytes) => bytes,
