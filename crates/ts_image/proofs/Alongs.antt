@@ -1,4 +1,4 @@
--- One for each member of a list, all of the same format, are so many; and such a list that is read in a loop.
+-- Lists of values of one format, one value per item of another list, and reading such a list in a loop.
 use Rattle.std.proofs.Common.{◌≡◌, ◌≤◌, arith, ℕ, suc, ◌+◌, ◌<◌, map, drop, get_or, add-one, drop-cons, List, [], ◌∷◌, ◌++◌, length, replicate, Result, Ok, Err, refl, sym, ap, subst, ◌∙◌, append_assoc}
 use Rattle.std.proofs.lemmas.List.{append-nil, nil_from_length, length-drop}
 use Rattle.ts_core.specs.io.Devices.{Input}

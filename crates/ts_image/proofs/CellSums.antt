@@ -1,4 +1,5 @@
--- Distinct cells of a rule have distinct facts: their counts together are no more than the facts that the rule rolls up.
+-- Distinct cells of a rule, which have distinct facts: the sum of their counts is at most the number of facts that the
+-- rule rolls up.
 use Rattle.std.proofs.Common.{◌≡◌, ℕ, ◌+◌, ◌≤◌, ◌≤ℤ◌, ℤ, Bool, true, false, cond, not, ◌&&◌, List, [], ◌∷◌, length, filter, refl, ◌∙◌, ap, ap₂, subst, inl, inr, arith}
 use Rattle.std.specs.List.{sum_by}
 use Rattle.std.proofs.lemmas.List.Sums.{sum_by-cons}
@@ -22,7 +23,7 @@ use Rattle.ts_image.specs.Pictures.{part_at}
 use Rattle.ts_core.specs.store.Cells.{Cell, is_rolled, is_in_cell, same_cell, cell_of, frozen_of}
 use Rattle.ts_core.proofs.plans.PieceCells.{same_cell-eq}
 
--- how many members of a list pass
+-- the number of members of a list that pass
 abbrev pub number_of : {X : Type 0} → (X → Bool) → List X → ℕ
 number_of p xs = length (filter p xs)
 
@@ -154,7 +155,7 @@ frozen-sum cut r low m fs h (k ∷ ks) from =
     let rest = frozen-sum cut r low m fs h ks from.1 in
     omega (arith, a, b, one, rest)
 
--- what is held of a rule's measurement is as many as are kept of the latest
+-- the number of facts in columns of a rule's measurement is that of the latest ones that the cut keeps
 held-count : (cut : Column → ℤ) (r : Rule) (fs held : List Fact) → Holds cut fs held → AllDistinct fs → number_of (is_rolled r) held ≡ number_of (λ (f : Fact). is_rolled r f && is_kept cut f) fs
 held-count cut r fs held s d =
     length-same (filter (is_rolled r) held) (filter (λ (f : Fact). is_rolled r f && is_kept cut f) fs) (AllDistinct-filter (is_rolled r) held s.once) (AllDistinct-filter (λ (f : Fact). is_rolled r f && is_kept cut f) fs d)
@@ -162,7 +163,8 @@ held-count cut r fs held s d =
     (λ f a. let t = and_parts (is_rolled r f) (is_kept cut f) (Among-filter_passes (λ (g : Fact). is_rolled r g && is_kept cut g) f fs a) in
     Among-filter_stays (is_rolled r) f held (s.all f (Among-filter_was (λ (g : Fact). is_rolled r g && is_kept cut g) f fs a) t.1) t.0)
 
--- the frozen parts of distinct cells of a rule, with the raw facts of its measurement, are no more than the accepted facts
+-- the frozen parts of distinct cells of a rule, with the raw facts of its measurement, are no more than the accepted
+-- facts
 pub rule_counted : (opening : Settings) (h : History) (k : StoreData) → StandsFor opening h (state_of k) → (r : Rule) (low : ℤ) (m : CellMap) → ((q : Cell) → low ≤ℤ q.index → part_at m q ≡ frozen_of (kept_from opening h k.waiting) r q (latest_of h))
     → (ks : List Cell) → AllDistinct ks → AreFrom low ks → sum_by (λ (q : Cell). (part_at m q).count) ks + number_of (is_rolled r) (facts_of k.columns) ≤ k.accepted
 rule_counted opening h k st r low m parts ks once from =

@@ -1,4 +1,4 @@
--- What the tests of an image say of counts is what a store of its data rests on: no cell holds more facts than were accepted.
+-- Counts that pass the tests of an image: no cell of a store of its data has more facts than were accepted.
 use Rattle.std.proofs.Common.{◌≡◌, ◌⊎◌, ℕ, zero, ℤ, ◌+◌, ◌≤◌, ◌<◌, Bool, true, false, cond, ◌&&◌, List, [], ◌∷◌, ◌++◌, length, map, filter, suc, refl, sym, ◌∙◌, ap, inl, inr, ⊎_elim, arith, length-append, append_assoc}
 use Rattle.std.specs.List.{sum_by}
 use Rattle.std.proofs.lemmas.List.Sums.{sum_by-cons}

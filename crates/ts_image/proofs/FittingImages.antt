@@ -1,4 +1,4 @@
--- What is written of a store that stands for a history fits the form of images.
+-- The data written of a store that represents a history, which fits the form of images.
 use Rattle.std.proofs.Common.{◌≡◌, ℕ, ◌+◌, ◌≤◌, ◌<◌, ◌^◌, ℤ, pos, negsuc, unsigned_abs, ◌≤ℤ◌, ◌+ℤ◌, ◌-ℤ◌, FitsSigned, w64, List, [], ◌∷◌, length, map, drop, refl, sym, ◌∙◌, ap, subst, inl, inr, arith}
 use Rattle.std.specs.List.{AllByRecursion, sum_by}
 use Rattle.std.specs.FinMap as finmap

@@ -1,4 +1,5 @@
--- The frozen part of a pictured cell is the aggregate of facts of the cell from before the raw mark: so its image passes the tests.
+-- The frozen part of a pictured cell: the aggregate of the cell's facts from before the raw mark, so its image passes
+-- the tests.
 use Rattle.std.proofs.Common.{◌≡◌, ℤ, ◌≤ℤ◌, ◌<ℤ◌, Bool, true, false, cond, not, ◌&&◌, List, [], ◌∷◌, filter, sym, ◌∙◌, ap, subst, inl, inr, ◌⊎◌, ⊎_elim, true≢false, arith}
 use Rattle.std.specs.List.{AllByRecursion}
 use Rattle.std.specs.Int.Signed.{≤ℤ_refl}

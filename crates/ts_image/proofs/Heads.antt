@@ -1,4 +1,4 @@
--- What an input begins with, byte after byte.
+-- The first bytes of an input, one after another.
 use Rattle.std.proofs.Common.{◌≡◌, ℕ, ◌+◌, true, false, not, ltb, List, [], ◌∷◌, ◌++◌, length, take, Ok, Err, refl, sym, ap, ap₂, ◌∙◌, arith, w8}
 use Rattle.std.specs.Prelude.{◌≢◌}
 use Rattle.std.specs.Int.{from_be_bytes}

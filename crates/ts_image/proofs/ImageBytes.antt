@@ -1,4 +1,4 @@
--- Images consist of bytes.
+-- The bytes of images, each below 256.
 use Rattle.std.proofs.Common.{◌≡◌, ℕ, zero, suc, ◌+◌, ◌<◌, ℤ, ◌≤◌, ◌%◌, ◌/◌, Bool, true, false, cond, ltb, List, [], ◌∷◌, ◌++◌, length, replicate, ap, sym, subst, arith, refl, ⊎_elim}
 use Rattle.std.specs.Int.{Width, byte_len, w8, w32, w64, w128, byte_at, bytes_high_first, to_be_bytes, cast_unsigned}
 use Rattle.std.specs.Str.{IsUtf8}

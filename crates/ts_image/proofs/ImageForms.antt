@@ -1,4 +1,4 @@
--- The format of images is one.
+-- The laws of the format of images.
 use Rattle.std.proofs.Common.{List, refl}
 use Rattle.std.specs.Int.{w8, w32, w64, w128}
 use Rattle.ts_core.specs.facts.Facts.{Text}

@@ -1,4 +1,4 @@
--- An image that was read, and is tested then.
+-- Loading an image: reading it, and testing it then.
 use Rattle.std.proofs.Common.{◌≡◌, ◌≤ℤ◌, ℕ, List, [], ◌∷◌, map, Option, Some, None, Result, Ok, Err, ap, subst}
 use Rattle.std.specs.Prelude.{pos, IfSome}
 use Rattle.std.specs.List.{AllByRecursion}
@@ -50,7 +50,7 @@ never_read : (S : Type 0) (x : S) → (let r : Result S LoadFault = Ok x in r �
 never_read S x h = cc
 
 module _ (A : Type 0) (s : Input) (turns : ℕ) (t : Input) where
-  -- what isn't read isn't loaded
+  -- an image that isn't read isn't loaded
   pub not_read : (e : LoadFault) → LoadsParts {A = A} s turns (Err e) t → LoadsImage {A = A} s turns (Err e) t
   not_read e p = record { ok = tt; err = p.err; rest = p.rest; failures = p.failures; ends = tt; within = p.within; spent = λ z. p.spent (turns_again (LoadedImage A) (Version × ImageParts A) e z) }
 
@@ -92,7 +92,7 @@ module _ (A : Type 0) (s : Input) (turns : ℕ) (t : Input) where
 -- ---- the store that is made of it
 
 module _ (s : Input) (turns : ℕ) (t : Input) where
-  -- what isn't loaded gives no store
+  -- an image that isn't loaded gives no store
   pub no_store : (A : Type 0) (e : LoadFault) → LoadsImage {A = A} s turns (Err e) t → LoadsStore s turns (Err e) t
   no_store A e p = record { ok = tt; err = p.err; rest = p.rest; failures = p.failures; ends = tt; within = p.within; spent = λ z. p.spent (turns_again StoreData (LoadedImage A) e z) }
 

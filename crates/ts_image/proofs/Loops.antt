@@ -60,7 +60,7 @@ module _ {Y : Type 0} (f : Format Y) (count : ℕ) (a : FieldsRead) (s : Input) 
       calls = calls_more a.ahead b.ahead c.ahead s t u tt (faulty Z e) so_far.calls (calls_on X Z b.ahead c.ahead t u e r.calls);
     }
 
-    -- what was read finds no room
+    -- there is no capacity for the value that was read
     pub no_room : {Z : Type 0} (views : Z → List Y) (x : X) → Reads f view b t (fine x) c u → Reads (times count f) views a s (faulty Z OutOfMemory) c u
     no_room {Z} views x r = record {
       stays = λ k. tt;

@@ -1,4 +1,4 @@
--- The cells that are made of an image's are just those, each with its frozen part.
+-- The cells created from an image's: exactly those, each with its frozen part.
 use Rattle.std.proofs.Common.{◌≡◌, ◌⊎◌, ℕ, ◌+◌, ◌≤◌, ◌<◌, ℤ, true, false, cond, List, [], ◌∷◌, map, refl, sym, ◌∙◌, ap, subst, inl, inr, ⊎_elim, true≢false, arith, Some, None, Option}
 use Rattle.std.specs.FinMap as finmap
 use Rattle.std.specs.FinMap.{get-insert, get-empty}
@@ -31,7 +31,7 @@ inserted m c k = get-insert cells_total m c.cell (parts_of c) k
 other_cell : (a b : Cell) → (a ≡ b → ⊥) → same_cell a b ≡ false
 other_cell a b n = elim (same_cell a b) as (λ t. same_cell a b ≡ t → t ≡ false) [ true ↦ λ e. absurd (n (same_cell-eq a b e)) | false ↦ λ e. refl ] refl
 
--- what isn't in the image stays
+-- a cell that isn't in the image stays
 pub elsewhere : (cs : List ImageCell) (m : CellMap) (k : Cell) → (Among k (map cell_at cs) → ⊥) → finmap.get (with_image_cells cs m) k ≡ finmap.get m k
 elsewhere [] m k n = refl
 elsewhere (c ∷ cs) m k n =

@@ -1,4 +1,4 @@
--- The names that a line can state are those that the tests of an image take.
+-- Names that a line can state: exactly those that pass the tests of an image.
 use Rattle.std.proofs.Common.{◌≡◌, ◌≢◌, List, [], ◌∷◌, length, refl, ap, arith}
 use Rattle.std.specs.List.{AllByRecursion}
 use Rattle.std.proofs.lemmas.Cmp.{nat_list_cmp_total}

@@ -1,4 +1,5 @@
--- Lists in rising order: no two members are equal. Distinct members of a list are no more than the list has.
+-- Lists in ascending order, in which no two items are equal; the number of distinct items of a list, at most the
+-- list's.
 use Rattle.std.proofs.Common.{◌≡◌, ◌≤◌, Bool, true, false, List, [], ◌∷◌, ◌++◌, T, length, map, refl, sym, ◌∙◌, ap, subst, inl, inr, ⊎_elim, true≢false, Ordering, Less, Equal, Greater, is_lt, arith, length-append, ◌&&◌}
 use Rattle.std.specs.Cmp.{IsTotalOrder}
 use Rattle.std.specs.List.{AllByRecursion}

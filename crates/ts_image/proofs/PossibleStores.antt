@@ -1,4 +1,4 @@
--- What the tests of an image give to the making of a store.
+-- Consequences of the tests of an image for creating a store.
 use Rattle.std.proofs.Common.{◌≡◌, ℕ, ◌≤◌, ◌^◌, ℤ, ◌==◌, Bool, false, List, [], ◌∷◌, ◌++◌, length, map, refl, ap, arith}
 use Rattle.std.specs.FinMap as finmap
 use Rattle.std.specs.List.{AllByRecursion}

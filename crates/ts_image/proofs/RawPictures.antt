@@ -1,4 +1,4 @@
--- The raw facts of an image that is the picture of a store, and how many they are.
+-- The raw facts of an image that is the picture of a store, and their number.
 use Rattle.std.proofs.Common.{◌≡◌, ◌≤◌, ℤ, Bool, true, false, cond, List, [], ◌∷◌, ◌++◌, length, map, filter, refl, sym, ◌∙◌, ap, subst, inl, inr, ⊎_elim, arith, length-append, ◌==◌}
 use Rattle.std.proofs.lemmas.List.{map-append}
 use Rattle.std.proofs.lemmas.List.Sums.{sum_by-cons}

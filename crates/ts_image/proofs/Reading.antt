@@ -45,7 +45,7 @@ all_used (Some x) (Some y) (Some z) xs p q e k = p ∙ ap (λ (t : List ℕ). xs
 pub ends_short : (a b c : FieldsRead) (s t u : Input) (xs : List ℕ) → UsesBytes a s xs b t → FindsEnd b t c u → IsKnown a s → (place_of a s).rest ≡ xs
 ends_short a b c s t u xs p q k = all_used (to_come a s) (to_come b t) (to_come c u) xs p.used q.bytes q.end k
 
--- what is known stays known
+-- known bytes stay known
 known_after : (a b : Option (List ℕ)) (xs : List ℕ) → Consumes a b xs → IsSome a → IsSome b
 known_after None b xs p k = absurd cc
 known_after (Some x) None xs p k = absurd p

@@ -1,5 +1,5 @@
--- A store that was read back stands for whatever it stood for: columns in another order keep all facts and cuts, and cells with the same
--- frozen parts are those of the same facts.
+-- A store that was read back represents the same histories. Columns in another order have all facts and cuts, and cells
+-- with the same frozen parts are those of the same facts.
 use Rattle.std.proofs.Common.{◌≡◌, IsTrue, ℤ, ◌≤ℤ◌, Bool, true, false, cond, not, ◌&&◌, ◌||◌, ◌+◌, ◌<◌, List, [], ◌∷◌, ◌++◌, map, filter, refl, sym, ◌∙◌, ap, ap₂, subst, inl, inr, ⊎_elim, true≢false, arith, Option, Some, None}
 use Rattle.std.specs.FinMap as finmap
 use Rattle.std.specs.List.{AllByRecursion}

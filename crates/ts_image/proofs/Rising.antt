@@ -1,4 +1,4 @@
--- Members of rising lists: what comes before one of them.
+-- Ascending lists: the items before one of them.
 use Rattle.std.proofs.Common.{◌≡◌, ℕ, zero, suc, ◌<◌, List, [], ◌∷◌, ◌++◌, length, map, take, get_or, refl, ap, subst, inl, inr, arith}
 use Rattle.std.specs.declared.cmp.Ordering.{Ordering}
 use Rattle.std.specs.Cmp.{IsTotalOrder}
@@ -7,7 +7,7 @@ use Rattle.ts_core.specs.lists.Members.{Among}
 use Rattle.ts_image.specs.ImageTests.{AreRising}
 use Rattle.ts_image.proofs.Orders.{rising_distinct, rising_rest}
 
--- what holds of all members holds of one in the middle
+-- a property of all members is one of a member in the middle
 pub all_mid : {P X : Type 0} (Q : X → Type 0) (v : P → X) (xs : List P) (p : P) (ys : List P) → AllByRecursion Q (map v (xs ++ p ∷ ys)) → Q (v p)
 all_mid Q v [] p ys h = h.0
 all_mid Q v (x ∷ xs) p ys h = all_mid Q v xs p ys h.1

@@ -17,7 +17,7 @@ pub length-owned : {A : Type 0} (tags : List (String A × String A)) → length 
 length-owned [] = refl
 length-owned (t ∷ ts) = ap suc (length-owned ts)
 
--- what holds of all members holds of each
+-- a property of all members is one of each
 pub all_at : {P : Type 0} (Q : P → Type 0) (ps : List P) (i : ℕ) (p : P) → i < length ps → p ≡ get_or ps i p → AllByRecursion Q ps → Q p
 all_at Q [] i p lt e h = absurd (omega arith)
 all_at Q (x ∷ xs) zero p lt e h = subst Q (sym e) h.0

@@ -1,4 +1,4 @@
--- The image of a store that stands for a history passes each test for contradictions.
+-- The image of a store that represents a history: it passes each test for contradictions.
 use Rattle.std.proofs.Common.{◌≡◌, ◌⊎◌, ℕ, suc, ◌+◌, ◌≤◌, ◌^◌, ℤ, pos, ◌≤ℤ◌, int_le, ◌==◌, Bool, true, false, cond, List, [], ◌∷◌, length, map, filter, refl, sym, ◌∙◌, ap, subst, inl, inr, true≢false, arith, None}
 use Rattle.std.specs.List.{AllByRecursion, sum_by}
 use Rattle.std.proofs.lemmas.List.{length-map}

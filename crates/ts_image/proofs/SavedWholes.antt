@@ -1,4 +1,4 @@
--- An image is saved, or isn't.
+-- Saving an image, with success or without.
 use Rattle.std.proofs.Common.{◌≡◌, ◌<◌, ℕ, zero, suc, List, [], ◌∷◌, ◌++◌, length, map, refl, subst, append-nil, arith, Result, Ok, Err, inl, inr}
 use Rattle.std.proofs.lemmas.List.{length-map}
 use Rattle.std.specs.List.{AllByRecursion}

@@ -1,4 +1,4 @@
--- A field that can't be read, and what it is a part of, which can't be read either.
+-- A field that can't be read, and the values that it is part of, which can't be read either.
 use Rattle.std.proofs.Common.{◌≡◌, Err, ap, ◌∙◌}
 use Rattle.ts_core.specs.io.Devices.{Input}
 use Rattle.ts_image.specs.declared.field_fault.FieldFault.{FieldFault}

@@ -86,7 +86,7 @@ map_next f v ps i p lt e = ap (λ (n : ℕ). map f (map v (take n ps))) (add-one
 pub map_done : {P X Y : Type 0} (f : X → Y) (v : P → X) (ps : List P) (i : ℕ) → length ps ≤ i → map f (map v (take i ps)) ≡ map f (map v ps)
 map_done {P} f v ps i le = ap (λ (xs : List P). map f (map v xs)) (take_all i ps le)
 
--- what holds of all holds of each
+-- a property of all members is one of each
 pub all_at : {P X : Type 0} (Q : X → Type 0) (v : P → X) (ps : List P) (i : ℕ) (p : P) → i < length ps → p ≡ get_or ps i p → AllByRecursion Q (map v ps) → Q (v p)
 all_at Q v [] i p lt e h = absurd (omega arith)
 all_at {P} Q v (x ∷ xs) zero p lt e h = subst (λ (y : P). Q (v y)) (sym e) h.0

@@ -1,4 +1,4 @@
--- Parts that are read one after another are read as the whole.
+-- Parts that are read one after another: they are read as the whole.
 use Rattle.std.proofs.Common.{◌≡◌, ap, ◌∙◌}
 use Rattle.ts_core.specs.io.Devices.{Input}
 use Rattle.ts_image.specs.Formats.{◌>>=◌, Format, and, also, iso}

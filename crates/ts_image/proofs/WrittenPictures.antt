@@ -1,4 +1,4 @@
--- What is written of a store is its picture, in the image's order.
+-- The data written of a store: its picture, in the image's order.
 use Rattle.std.proofs.Common.{◌≡◌, ℕ, zero, suc, ◌+◌, ◌≤◌, ◌<◌, ℤ, pos, ◌≤ℤ◌, int_le, nat_lt, not, ◌==◌, Bool, true, false, cond, ◌&&◌, List, [], ◌∷◌, T, length, map, filter, drop, refl, sym, ◌∙◌, ap, subst, true≢false, arith, Some, None, Option, MatchOption, is_lt}
 use Rattle.std.specs.Prelude.{slice_index_or}
 use Rattle.std.specs.Ordering.{int_cmp}

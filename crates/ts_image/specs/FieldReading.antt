@@ -19,7 +19,7 @@ abbrev pub known_bytes : Option (List ℕ) → List ℕ
 known_bytes None = []
 known_bytes (Some bytes) = bytes
 
--- the reader's place, if the bytes to come are known
+-- the reader's position, if the bytes to come are known
 abbrev pub place_of : FieldsRead → Input → Place
 place_of r input = record { at = r.at; rest = known_bytes (to_come r input) }
 
@@ -55,7 +55,7 @@ pub record FindsEnd (old : FieldsRead) (source : Input) (new : FieldsRead) (sour
   pub at : new.at ≡ old.at
   pub end : IsAtEnd (to_come new source')
 
--- the room is filled with the next bytes, or the input ends before
+-- the buffer is filled with the next bytes, or the input ends before
 abbrev pub FillsRoom : FieldsRead → Input → Result (Unit {0}) FieldFault → List ℕ → FieldsRead → Input → Type 0
 FillsRoom old source (Ok u) room new source' = UsesBytes old source room new source'
 FillsRoom old source (Err (Misshapen n)) room new source' = (n ≡ old.at) × (IsKnown old source → length (place_of old source).rest < length room)
@@ -99,7 +99,7 @@ abbrev pub TakesByte : FieldsRead → Input → Option ℕ → FieldsRead → In
 TakesByte old source None new source' = FindsEnd old source new source'
 TakesByte old source (Some b) new source' = UsesBytes old source (b ∷ []) new source'
 
--- moves some buffered bytes behind others, at most `most`
+-- appends some buffered bytes to others, at most `most`
 pub record TakesChunk (old : FieldsRead) (before : List ℕ) (most : ℕ) (new : FieldsRead) (after : List ℕ) : Type 0 where
   pub chunk : List ℕ
   pub some : 0 < length chunk

@@ -6,18 +6,18 @@ use Rattle.ts_image.specs.Formats.{Place, Read, Format, concat, spelling}
 abbrev pub AreBytes : List ℕ → Type 0
 AreBytes bytes = (i : ℕ) → get_or bytes i 0 < 256
 
--- the offset where reading stops: behind the value, or at the first field that isn't whole
+-- the offset where reading stops: after the value, or at the first field that isn't whole
 abbrev pub reach : {X : Type 0} → Read X → ℕ
 reach (Ok x) = x.1.at
 reach (Err n) = n
 
--- the value stands at a place, and the other place is behind it
+-- the value is at a position, and the other position is after it
 pub record Takes {X : Type 0} (f : Format X) (p : Place) (x : X) (q : Place) : Type 0 where
   pub fits : f.fits x
   pub rest : p.rest ≡ spelling f x ++ q.rest
   pub at : q.at ≡ p.at + length (spelling f x)
 
--- the first fields of some value are whole from this place up to this offset
+-- the first fields of some value are whole from this position up to this offset
 pub record Reaches {X : Type 0} (f : Format X) (p : Place) (n : ℕ) : Type 0 where
   pub value : X
   pub fits : f.fits value
@@ -39,7 +39,7 @@ pub record IsFormat {X : Type 0} (f : Format X) : Type 0 where
 
 -- ---- all of the bytes
 
--- The bytes from a place on spell no value. The first field at fault is at this offset: up to it some value's fields
+-- The bytes from a position on spell no value. The first field at fault is at this offset: up to it some value's fields
 -- are whole, and no value's whole fields reach further.
 pub record IsMisshapen {X : Type 0} (f : Format X) (p : Place) (n : ℕ) : Type 0 where
   pub none : (x : X) → f.fits x → p.rest ≡ spelling f x → ⊥

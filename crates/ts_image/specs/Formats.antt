@@ -1,12 +1,12 @@
--- Formats: how values are spelled field by field, and read from left to right up to the first field that isn't whole.
--- The format of a record is composed of the formats of its parts, so laws are proved once per way. (Own rules.)
+-- Formats: values as fields, which are read from left to right up to the first field that isn't whole. The format of a
+-- record is composed of the formats of its parts, so laws are proved once per way of composing. (Own rules.)
 use Rattle.std.specs.Prelude.{◌≡◌, ℕ, ◌+◌, ◌<◌, ◌^◌, ℤ, Bool, false, nat_lt, List, [], ◌∷◌, ◌++◌, length, take, drop, replicate, Result, Ok, Err, ◌==◌, if◌then◌else◌, FitsSigned}
 use Rattle.std.specs.Int.{Width, w64, byte_len, cast_unsigned, cast_signed, to_be_bytes, from_be_bytes}
 use mir.Val.{bits}
 use Rattle.std.specs.Str.{IsUtf8, is_utf8}
 use Rattle.ts_core.specs.facts.Facts.{Text}
 
--- a place in bytes: its offset, and the bytes from there on
+-- a position in bytes: its offset, and the bytes from there on
 pub record Place : Type 0 where
   pub at : ℕ
   pub rest : List ℕ
@@ -20,7 +20,7 @@ abbrev pub concat : List (List ℕ) → List ℕ
 concat [] = []
 concat (f ∷ fs) = f ++ concat fs
 
--- a reading: a value and the place behind it, or the offset of the first field that isn't whole
+-- a reading: a value and the position after it, or the offset of the first field that isn't whole
 abbrev pub Read : Type 0 → Type 0
 Read X = Result (X × Place) ℕ
 
@@ -29,7 +29,7 @@ abbrev pub ◌>>=◌ : {A B : Type 0} → Read A → (A × Place → Read B) →
 (Ok x) >>= f = f x
 (Err n) >>= f = Err n
 
--- the values that have a spelling, their fields, and the reading at a place
+-- the values that have a spelling, their fields, and the reading at a position
 pub record Format (X : Type 0) : Type 1 where
   pub fits : X → Type 0
   pub fields : X → List (List ℕ)

@@ -9,7 +9,7 @@ use Rattle.ts_image.specs.Formats.{Place}
 use Rattle.ts_image.specs.Images.{image_mark, version_byte}
 use Rattle.ts_image.specs.FieldReading.{FieldsRead, place_of, IsKnown, CallsSource}
 
--- the head read between two places
+-- the head read between two positions
 abbrev pub GivesHead : Result Head FieldFault → Place → Place → Type 0
 GivesHead (Ok (head.Of v)) p q = (p.rest ≡ image_mark ++ (version_byte v ∷ q.rest)) × (q.at ≡ p.at + 5)
 GivesHead (Ok head.Other) p q = (b : ℕ) × (rest : List ℕ) × (p.rest ≡ image_mark ++ (b ∷ rest)) × (b ≢ 1) × (b ≢ 2)

@@ -1,4 +1,4 @@
--- Faults of bytes that no store is made of. (Own rules.)
+-- Faults of bytes that aren't the image of a store. (Own rules.)
 use Rattle.std.specs.Prelude.{◌≡◌, ◌≢◌, ◌⊎◌, ℕ, List, ◌∷◌, ◌++◌, take}
 use Rattle.ts_image.specs.declared.load_fault.LoadFault.{LoadFault}
 use Rattle.ts_image.specs.declared.load_fault.LoadFault.TheVariants.{NotAnImage, OtherVersion, Misshapen, Contradiction, Device, Turns, OutOfMemory}
@@ -22,12 +22,12 @@ IsFaultOf bytes OtherVersion = (b : ℕ) × (rest : List ℕ) × (bytes ≡ imag
 IsFaultOf bytes (Misshapen n) = ((bytes ≡ image_mark) × (n ≡ 4)) ⊎ ((v : Version) × (rest : List ℕ) × (bytes ≡ image_mark ++ (version_byte v ∷ rest)) × IsMisshapen (image v) (body rest) n)
 -- they are of the form and contradictory
 IsFaultOf bytes Contradiction = (v : Version) × (d : ImageData) × IsImageOf v d bytes × (IsPossible v d → ⊥)
--- devices, limits and memory say nothing of the bytes
+-- errors of devices, of limits and of memory don't depend on the bytes
 IsFaultOf bytes Device = Unit {0}
 IsFaultOf bytes Turns = Unit {0}
 IsFaultOf bytes OutOfMemory = Unit {0}
 
--- the fault says something of the bytes
+-- the fault is one of the bytes
 abbrev pub IsOfBytes : LoadFault → Type 0
 IsOfBytes NotAnImage = Unit {0}
 IsOfBytes OtherVersion = Unit {0}

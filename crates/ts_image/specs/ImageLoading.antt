@@ -14,7 +14,7 @@ use Rattle.ts_image.specs.ImageReading.{image_of, Loads, HadImage}
 use Rattle.ts_image.specs.Pictures.{IsPictureOf}
 use Rattle.ts_image.specs.StoresMade.{IsStoreOf}
 
--- the source had the image's bytes, the image has no contradiction, and the settings are made of it
+-- the source had the image's bytes, the image has no contradiction, and the settings are those of the image
 pub record IsLoaded {A : Type 0} (source : Input) (image : LoadedImage A) : Type 0 where
   pub bytes : HadImage source image.version (image_of image.parts)
   pub possible : IsPossible image.version (image_of image.parts)
@@ -24,7 +24,7 @@ pub record IsLoaded {A : Type 0} (source : Input) (image : LoadedImage A) : Type
 abbrev pub LoadsImage : {A : Type 0} → Input → ℕ → Result (LoadedImage A) LoadFault → Input → Type 0
 LoadsImage source turns result source' = Loads (IsLoaded source) source turns result source'
 
--- the source had the bytes of an image without contradictions, and the store is made of its data
+-- the source had the bytes of an image without contradictions, and the store is created from its data
 pub record IsLoadedStore (source : Input) (k : StoreData) : Type 0 where
   pub version : Version
   pub image : ImageData
@@ -36,7 +36,7 @@ pub record IsLoadedStore (source : Input) (k : StoreData) : Type 0 where
 abbrev pub LoadsStore : Input → ℕ → Result StoreData LoadFault → Input → Type 0
 LoadsStore source turns result source' = Loads (IsLoadedStore source) source turns result source'
 
--- if the source had the image of a store, the loaded store stands for each history that this one stood for
+-- if the source had the image of a store, the loaded store represents each history that this one represented
 abbrev pub StandsAsSaved : Input → StoreData → Type 0
 StandsAsSaved source k =
     IfSome source.remaining (λ bytes. AreBytes bytes → (v : Version) (d : ImageData) (saved : StoreData) → IsImageOf v d bytes → IsPictureOf saved d → StaysFor saved k)

@@ -45,13 +45,13 @@ one_if_device_failed (Err Device) = 1
 one_if_device_failed (Err Turns) = 0
 one_if_device_failed (Err OutOfMemory) = 0
 
--- a source is read to its end and gives what is wanted, or it has this fault
+-- a source is read to its end with a wanted result, or it has this fault
 pub record Loads {T : Type 0} (IsWanted : T → Type 0) (source : Input) (turns : ℕ) (result : Result T LoadFault) (source' : Input) : Type 0 where
   pub ok : IfOk result IsWanted
   pub err : IfErr result (λ e. IfSome source.remaining (λ bytes. AreBytes bytes → IsFaultOf bytes e))
   -- once the end was read, the source has no byte left
   pub rest : source'.ends ≢ source.ends → IsAtEnd source'.remaining
-  -- a read failed exactly if the fault says so
+  -- a read failed exactly if the fault is `Device`
   pub failures : source'.failures ≡ source.failures + one_if_device_failed result
   -- the end was read
   pub ends : IfOk result (λ r. source'.ends ≡ source.ends + 1)

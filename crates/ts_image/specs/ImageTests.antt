@@ -15,7 +15,7 @@ use Rattle.ts_image.specs.declared.version.Version.{Version}
 use Rattle.ts_image.specs.declared.version.Version.TheVariants.{V1, V2}
 use Rattle.ts_image.specs.Images.{ImageRule, ImageSettings, ImageColumn, ImageSeries, ImageCell, ImageData}
 
--- each comes before the next
+-- each item is before the next
 abbrev pub AreRising : {X : Type 0} → (X → X → Ordering) → List X → Type 0
 AreRising cmp [] = Unit {0}
 AreRising cmp (x ∷ []) = Unit {0}
@@ -45,7 +45,8 @@ pub record AreImageSettings (s : ImageSettings) : Type 0 where
   pub rules : AllByRecursion IsImageRule s.rules
   pub faultless : settings_fault (settings_in s) ≡ None
 
--- How far a low index may lie above the index of the raw mark: the first bucket of an added rule may be the next one.
+-- The greatest distance of a low index above the index of the raw mark. The first bucket of an added rule may be the
+-- next one.
 abbrev pub ahead_of_mark : Version → ℤ
 ahead_of_mark V1 = pos 0
 ahead_of_mark V2 = pos 1
@@ -114,7 +115,7 @@ pub record AreImageCells (mark : ℤ) (r : ImageRule) (low : ℤ) (cells : List 
 abbrev pub points_of_series : ImageSeries → ℕ
 points_of_series s = sum_by (λ (c : ImageColumn). length c.points) s.columns
 
--- the raw points of all series, and of those of a measurement
+-- the number of raw points of all series, and of those of a measurement
 abbrev pub points_in_all : List ImageSeries → ℕ
 points_in_all ss = sum_by points_of_series ss
 

@@ -22,7 +22,7 @@ pub record ImageSettings : Type 0 where
   pub raw_duration : ℤ
   pub rules : List ImageRule
 
--- a column: its field, whether it waits for the open run (1, else 0), and its points
+-- a column: its field, 1 if it waits for the open run and 0 otherwise, and its points
 pub record ImageColumn : Type 0 where
   pub field : Text
   pub waits : ℕ
@@ -96,7 +96,7 @@ image_cell r =
     iso (also (image_cell_key r) (also (number w64) (also (signed w128) image_extremes))) (λ a. record { cell = a.0; count = a.1.0; sum = a.1.1.0; extremes = a.1.1.1 })
     (λ c. (c.cell, (c.count, (c.sum, c.extremes))))
 
--- settings; marks; whether a run is open; accepted facts; series with their columns; cells per rule
+-- settings; marks; 1 if a run is open, else 0; accepted facts; series with their columns; cells per rule
 abbrev pub image : Version → Format ImageData
 image v =
     iso
@@ -117,6 +117,6 @@ version_byte V2 = 2
 abbrev pub image_text : Version → ImageData → List ℕ
 image_text v d = image_mark ++ (version_byte v ∷ spelling (image v) d)
 
--- the place behind the version's byte
+-- the position after the version's byte
 abbrev pub body : List ℕ → Place
 body rest = record { at = 5; rest = rest }

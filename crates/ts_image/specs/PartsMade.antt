@@ -1,4 +1,4 @@
--- What parts of an image must be, so that parts of a store are made of them. (Own rules.)
+-- Conditions for creating parts of a store from parts of an image. (Own rules.)
 use Rattle.std.specs.Prelude.{◌≤◌, ◌^◌}
 use Rattle.ts_core.specs.aggregates.Aggregates.{IsSpread}
 use Rattle.ts_core.specs.facts.Times.{IsTime}

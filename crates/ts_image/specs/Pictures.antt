@@ -1,5 +1,5 @@
--- The picture of a store in its image: all its data but live parts, empty cells and cells below a low index, in the
--- image's order. (Own rules.)
+-- The picture of a store in its image, in the image's order: all data except live parts, empty cells, and cells below a
+-- low index. (Own rules.)
 use Rattle.std.specs.Prelude.{◌≡◌, ◌↔◌, ℤ, ◌≤ℤ◌, ◌<◌, ◌==◌, List, [], ◌∷◌, ◌++◌, map, filter, Some}
 use Rattle.std.specs.FinMap as finmap
 use Rattle.ts_core.specs.lists.Members.{Among, AllDistinct}
@@ -20,7 +20,7 @@ column_in s c = record { series = s; field = c.field }
 abbrev pub points_in : Series → ImageColumn → ColumnPoints
 points_in s c = record { column = column_in s c; points = c.points }
 
--- the columns of series with their points, and those of them that wait
+-- the columns of series with their points, and the waiting ones
 abbrev pub columns_in : List ImageSeries → List ColumnPoints
 columns_in [] = []
 columns_in (s ∷ ss) = map (points_in s.series) s.columns ++ columns_in ss
@@ -61,8 +61,8 @@ pub record IsPictureOf (k : StoreData) (d : ImageData) : Type 0 where
   pub waiting : (c : Column) → Among c (waiting_in d.series) ↔ Among c k.waiting
   pub cells : PictureCells k.marks.lows k.cells d.cells
 
--- The store is made of the data: the data is its picture, each column is there once, raw facts have their cells, and
--- live parts are folded from the raw facts.
+-- The store is created from the data: the data is its picture, and each column occurs once. Raw facts have their cells,
+-- and live parts are folded from the raw facts.
 pub record IsMadeOf (d : ImageData) (k : StoreData) : Type 0 where
   pub picture : IsPictureOf k d
   pub waiting_once : AllDistinct k.waiting

@@ -1,4 +1,4 @@
--- A store that was saved and loaded again: what is the same, and what may differ. (Own rules.)
+-- A store that was saved and loaded again: the parts that stay, and those that may differ. (Own rules.)
 use Rattle.std.specs.Prelude.{◌≡◌, ◌↔◌, ℤ, ◌≤ℤ◌, true, None, List, [], ◌∷◌, map}
 use Rattle.std.specs.FinMap as finmap
 use Rattle.ts_core.specs.lists.Members.{Among, AllDistinct}
@@ -15,7 +15,7 @@ pub record HasSameParts (r : Rule) (low : ℤ) (facts : List Fact) (m n : CellMa
   pub parts : (k : Cell) → low ≤ℤ k.index → (or_else no_parts (finmap.get n k)).frozen ≡ (or_else no_parts (finmap.get m k)).frozen
   pub there : (f : Fact) → Among f facts → is_rolled r f ≡ true → low ≤ℤ (cell_of r f).index → finmap.get n (cell_of r f) ≡ None → ⊥
 
--- so for each rule
+-- the same for each rule
 abbrev pub HaveSameParts : List Rule → List ℤ → List Fact → List CellMap → List CellMap → Type 0
 HaveSameParts rs lows facts [] [] = Unit {0}
 HaveSameParts rs lows facts [] (n ∷ ns) = ⊥
@@ -24,8 +24,9 @@ HaveSameParts [] lows facts (m ∷ ms) (n ∷ ns) = Unit {0}
 HaveSameParts (r ∷ rs) [] facts (m ∷ ms) (n ∷ ns) = Unit {0}
 HaveSameParts (r ∷ rs) (low ∷ lows) facts (m ∷ ms) (n ∷ ns) = HasSameParts r low facts m n × HaveSameParts rs lows facts ms ns
 
--- The same settings, marks, count of accepted facts and open run; the same columns with the same points in any order,
--- of which the same wait; each series is still registered; live parts are those of the raw facts.
+-- The settings, marks, count of accepted facts and open run are the same. The columns have the same points, in any
+-- order of columns, and the same of them wait. Each series is still registered, and live parts are those of the raw
+-- facts.
 pub record IsReloaded (old new : StoreData) : Type 0 where
   pub settings : new.settings ≡ old.settings
   pub marks : new.marks ≡ old.marks
@@ -39,6 +40,6 @@ pub record IsReloaded (old new : StoreData) : Type 0 where
   pub cells : HaveSameParts old.settings.rules old.marks.lows (facts_of old.columns) old.cells new.cells
   pub live : AreLive new.columns old.settings.rules new.cells
 
--- the new store stands for each history that the old one stood for
+-- the new store represents each history that the old one represented
 abbrev pub Reloads : Type 0
 Reloads = (old new : StoreData) → IsReloaded old new → StaysFor old new

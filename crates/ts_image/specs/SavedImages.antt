@@ -1,4 +1,4 @@
--- What a writer of images sees to, beyond the picture of a store; and that such an image has no contradiction. (Own rules.)
+-- Properties of a written image beyond the picture of a store; such an image has no contradiction. (Own rules.)
 use Rattle.std.specs.Prelude.{ℤ, pos, ◌≤◌, ◌≤ℤ◌, List, [], ◌∷◌, map}
 use Rattle.std.specs.Ordering.{int_cmp}
 use Rattle.std.specs.List.{AllByRecursion}
@@ -26,7 +26,7 @@ pub record IsOrderlySeries (s : ImageSeries) : Type 0 where
   pub columns : AllByRecursion IsOrderlyColumn s.columns
   pub rising : AreRising text_cmp (map (λ (c : ImageColumn). c.field) s.columns)
 
--- the cells of each rule are in order, and none lies below its low index
+-- the cells of each rule are in order, and none is below its low index
 abbrev pub AreOrderlyCells : List ℤ → List (List ImageCell) → Type 0
 AreOrderlyCells lows [] = Unit {0}
 AreOrderlyCells [] (c ∷ cs) = Unit {0}
@@ -40,14 +40,14 @@ pub record IsOrderly (d : ImageData) : Type 0 where
   pub rising : AreRising series_cmp (map (λ (s : ImageSeries). s.series) d.series)
   pub cells : AreOrderlyCells d.marks.lows d.cells
 
--- Any store in memory: the rules are possible, the raw mark is a valid time, counts fit, a line can state each name, and
--- the points of each column are in order of time.
+-- Any store in memory: the rules are possible, the raw mark is a valid time, and counts fit. A line can state each
+-- name, and the points of each column are in the order of time.
 pub record IsWellFormed (k : StoreData) : Type 0 where
   pub rules : AllByRecursion IsPossibleRule k.settings.rules
   pub mark : IsTime k.marks.raw
   pub sized : IsSized k
   pub points : AllByRecursion (λ (c : ColumnPoints). IsRising c.points) k.columns
 
--- the image of a store that stands for a history has no contradiction
+-- the image of a store that represents a history has no contradiction
 abbrev pub SavedImagesArePossible : Type 0
 SavedImagesArePossible = (opening : Settings) (h : History) (k : StoreData) (d : ImageData) → StandsFor opening h (state_of k) → IsWellFormed k → IsPictureOf k d → IsOrderly d → IsPossible V2 d

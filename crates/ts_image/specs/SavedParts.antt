@@ -1,4 +1,4 @@
--- Parts of an image as they are made of parts of a store. (Own rules.)
+-- Parts of an image, as parts of a store determine them. (Own rules.)
 use Rattle.std.specs.Prelude.{pos, map, Option, Some, None}
 use Rattle.ts_core.specs.settings.Settings.{Rule, Settings}
 use Rattle.ts_core.specs.declared.aggregates.aggregate.Extremes.{Extremes}

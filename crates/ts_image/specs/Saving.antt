@@ -23,11 +23,11 @@ use Rattle.ts_image.specs.Images.{ImageColumn, ImageSeries, ImageCell, ImageData
 abbrev pub image_cell_of : FrozenCell → ImageCell
 image_cell_of c = image_cell_with c.cell c.frozen
 
--- the saved cells of the rule with this number
+-- the saved cells of the rule with this index
 abbrev pub frozen_cells_at : StoreData → ℕ → List FrozenCell
 frozen_cells_at k n = frozen_from (slice_index_or k.marks.lows n (pos 0)) (slice_index_or k.cells n finmap.empty)
 
--- those of each of the rules from a number on
+-- the same for each of the rules from an index on
 abbrev pub image_cells_from : StoreData → ℕ → List Rule → List (List ImageCell)
 image_cells_from k n [] = []
 image_cells_from k n (r ∷ rs) = map image_cell_of (frozen_cells_at k n) ∷ image_cells_from k (n + 1) rs
@@ -56,7 +56,7 @@ image_of k saved = record {
   cells = image_cells_from k 0 k.settings.rules;
 }
 
--- ---- what the form needs
+-- ---- requirements of the form
 
 -- the index fits in 64 bits, and the group has a value for each kept tag
 pub record FitsCell (r : Rule) (c : FrozenCell) : Type 0 where
@@ -67,7 +67,7 @@ pub record FitCells (r : Rule) (cells : List FrozenCell) : Type 0 where
   pub each : AllByRecursion (FitsCell r) cells
   pub few : length cells < 2 ^ 64
 
--- the cells of each of the rules from a number on
+-- the cells of each of the rules from an index on
 abbrev pub FitCellsFrom : StoreData → ℕ → List Rule → Type 0
 FitCellsFrom k n [] = Unit {0}
 FitCellsFrom k n (r ∷ rs) = FitCells r (frozen_cells_at k n) × FitCellsFrom k (n + 1) rs
@@ -96,8 +96,8 @@ one_if_device (Err Unfit) = 0
 abbrev pub IsOrder : StoreData → List SavedSeries → Type 0
 IsOrder k order = SavesSeries k.series (map column_of k.columns) order
 
--- Writes the image of a store in version 2. After a device fault a beginning of it was written. Without memory, or if
--- the data doesn't fit, nothing was.
+-- Writes the image of a store in version 2. After a device error, a prefix of it was written. When out of memory, or if
+-- the data doesn't fit, nothing was written.
 pub record IsSaved {T : Type 0} (k : StoreData) (old : Output) (result : Result T SaveFault) (new : Output) : Type 0 where
   pub ok : OnOk result ((order : List SavedSeries) × IsOrder k order × (image V2).fits (image_of k order) × Appends old.contents new.contents (image_text V2 (image_of k order)))
   pub device : result ≡ Err Device → (order : List SavedSeries) × IsOrder k order × AppendsFront old.contents new.contents (image_text V2 (image_of k order))

@@ -1,4 +1,4 @@
--- Stores made of images. (Own rules.)
+-- Stores created from images. (Own rules.)
 use Rattle.std.specs.Prelude.{◌≡◌, ◌==◌, ℕ, ℤ, Bool, List, [], ◌∷◌, ◌++◌, map, set}
 use Rattle.std.specs.FinMap as finmap
 use Rattle.std.specs.Ordering.{int_cmp}
@@ -16,7 +16,7 @@ use Rattle.ts_image.specs.ImageTests.{IsKeyName, IsImageSeriesKey, AreRising, se
 use Rattle.ts_image.specs.PartsMade.{HasPart}
 use Rattle.ts_image.specs.Pictures.{points_in, columns_in, waiting_in, part_of, IsMadeOf}
 
--- ---- what can be added to a store
+-- ---- parts that can be added to a store
 
 pub record IsAddedColumn (c : ImageColumn) : Type 0 where
   pub field : IsKeyName c.field
@@ -40,7 +40,7 @@ pub record AreAddedCells (cs : List ImageCell) : Type 0 where
 abbrev pub is_waiting : ImageColumn → Bool
 is_waiting c = c.waits == 1
 
--- for each column of series, whether it waits
+-- for each column of series, true if it waits
 abbrev pub waits_in : List ImageSeries → List Bool
 waits_in [] = []
 waits_in (s ∷ ss) = map is_waiting s.columns ++ waits_in ss
@@ -132,8 +132,8 @@ built_in d = record {
 
 -- ---- the store
 
--- The store is made of the data of an image, and has its series and columns in its order. Besides the image's cells it
--- has those of raw facts from the low index on, and no others.
+-- The store is created from the data of an image, and has its series and columns in its order. Besides the image's
+-- cells it has those of raw facts from the low index on, and no others.
 pub record IsStoreOf (d : ImageData) (k : StoreData) : Type 0 where
   pub made : IsMadeOf d k
   pub series : k.series ≡ map key_in d.series

@@ -1,4 +1,4 @@
--- What is written of a store that stands for a history. (Own rules.)
+-- The data that is written of a store that represents a history. (Own rules.)
 use Rattle.ts_core.specs.settings.Settings.{Settings}
 use Rattle.ts_core.specs.store.History.{History}
 use Rattle.ts_core.specs.store.StoreStates.{StandsFor}

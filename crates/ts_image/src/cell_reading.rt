@@ -1,4 +1,4 @@
-//! Reads marks, and cells with their frozen parts, from an image. Whether they are possible is tested later.
+//! Reads marks, and cells with their frozen parts, from an image. They are tested later.
 ghost use Rattle.std.specs.Prelude.{◌≡◌, map, length};
 ghost use Rattle.std.specs.Int.{w64};
 ghost use Rattle.ts_core.specs.io.ReadingAhead.{EndIsEnd};
@@ -96,7 +96,7 @@ pub(crate) fn read_marks<R: Read, A: Allocator + Copy>(
     Ok(MarksParts { raw, lows })
 }
 
-/// Reads a value for each tag that a rule keeps.
+/// Reads a value for each kept tag of a rule.
 fn read_group<R: Read, A: Allocator + Copy>(
     alloc: A,
     reader: &mut FieldReader<A>,
@@ -109,7 +109,7 @@ fn read_group<R: Read, A: Allocator + Copy>(
     read_texts(alloc, reader, source, rule.kept_tags.len() as u64)
 }
 
-/// Reads the key of a cell, which has a value for each tag that its rule keeps.
+/// Reads the key of a cell, with a value for each kept tag of its rule.
 fn read_cell_key<R: Read, A: Allocator + Copy>(
     alloc: A,
     reader: &mut FieldReader<A>,

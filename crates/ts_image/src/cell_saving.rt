@@ -74,7 +74,7 @@ fn put_rule_cells<W: Write, A: Allocator + Copy>(
     put_frozen_cells(rule, store.frozen_cells(number), out, sink)
 }
 
-/// Writes the saved cells of these rules, of which the first has this number.
+/// Writes the saved cells of these rules; the first rule has this index.
 pub(crate) fn put_cells_from<W: Write, A: Allocator + Copy>(
     store: &Store<A>,
     rules: &[Rule<A>],

@@ -36,7 +36,7 @@ fn is_between(low: &i64, high: &i64, value: &i64) -> bool
     *low <= *value && *value <= *high
 }
 
-/// Returns whether a time is in the bucket with this index, and below the raw mark.
+/// Returns true if a time is in the bucket with this index, and below the raw mark.
 fn is_frozen_time<A: Allocator>(mark: &i64, rule: &RuleParts<A>, index: &i64, time: &i64) -> bool
     requires { pos 1 ≤ℤ rule.now.interval }
     ensures { IsTrue result ↔ IsFrozenTime mark.now (rule_of rule.now) index.now time.now }
@@ -138,7 +138,7 @@ fn are_cells_rising<A: Allocator>(cells: &[CellParts<A>]) -> bool
     true
 }
 
-/// Returns whether the cells of a rule are possible.
+/// Returns true if the cells of a rule are possible.
 pub(crate) fn are_cells<A: Allocator>(
     mark: &i64,
     rule: &RuleParts<A>,

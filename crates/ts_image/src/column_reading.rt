@@ -25,7 +25,7 @@ pub(crate) fn read_point<R: Read, A: Allocator + Copy>(
     Ok((time, value))
 }
 
-/// Reads `count` points. Allocates as they come, not by the count.
+/// Reads `count` points. Allocates for points that were read, not by `count`.
 fn read_points<R: Read, A: Allocator + Copy>(
     alloc: A,
     reader: &mut FieldReader<A>,

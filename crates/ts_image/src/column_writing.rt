@@ -39,7 +39,7 @@ fn put_counted_points<W: Write, A: Allocator>(
     put_points(points, out, sink)
 }
 
-/// Writes a column: its field, whether it waits for the open run, and its points.
+/// Writes a column: its field, 1 if it waits for the open run and 0 otherwise, and its points.
 pub(crate) fn put_column<W: Write, A: Allocator>(
     field: &str,
     waits: bool,

@@ -1,5 +1,5 @@
-//! Tests whether an image has more points and cell counts than accepted facts. Each function subtracts from the number
-//! that is left, so no sum overflows; `None` means that there are too many. Does not allocate.
+//! Tests if an image has more points and cell counts than accepted facts. Each function subtracts from the number that
+//! is left, so no sum overflows; `None` means that there are too many. Does not allocate.
 ghost use Rattle.std.specs.Prelude.{◌≡◌, ◌+◌, ◌≤◌, ◌↔◌, map, string_bytes, length, IsSome, IfSome};
 ghost use Rattle.std.specs.List.{sum_by};
 ghost use Rattle.ts_image.specs.Images.{ImageColumn, ImageCell};

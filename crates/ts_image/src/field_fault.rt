@@ -11,7 +11,7 @@ pub(crate) enum FieldFault {
     Misshapen(u64),
     /// A read failed.
     Device,
-    /// The allowed number of reads saw no end.
+    /// The limit of reads was reached without an end of input.
     Turns,
     /// Out of memory.
     OutOfMemory,

@@ -30,7 +30,7 @@ impl<A: Allocator + Copy> Model for FieldReader<A> {
 }
 
 impl<A: Allocator + Copy> FieldReader<A> {
-    /// Creates a reader with a buffer of 64 KiB, which makes at most `limit` reads.
+    /// Creates a reader with a buffer of 64 KiB, and a limit on the number of reads.
     pub(crate) fn new(alloc: A, limit: u64) -> Result<FieldReader<A>, AllocError>
         requires { limit ≤ 2 ^ 32 }
         ensures { IfOk result (λ r. r ≡ record { ahead = nothing_ahead limit; at = 0 }) }
@@ -51,7 +51,7 @@ impl<A: Allocator + Copy> FieldReader<A> {
         self.at += count as u64;
     }
 
-    /// Refills the empty buffer. Returns whether there are more bytes.
+    /// Refills the empty buffer. Returns false at the end of the input.
     fn fill<R: Read>(&mut self, source: &mut Source<R>) -> Result<bool, FieldFault>
         requires empty { self.old.ahead.buffered ≡ [] }
         requires end { EndIsEnd self.old.ahead source.old }
@@ -194,7 +194,7 @@ impl<A: Allocator + Copy> FieldReader<A> {
         Ok(i128::from_be_bytes(bytes))
     }
 
-    /// Moves buffered bytes behind others, at most `most`.
+    /// Appends buffered bytes to `bytes`, at most `most`.
     fn take_chunk(&mut self, bytes: &mut Vec<u8, A>, most: u64) -> Result<(), AllocError>
         requires some { 0 < length self.old.ahead.buffered }
         requires most { 0 < most }
@@ -212,7 +212,8 @@ impl<A: Allocator + Copy> FieldReader<A> {
         Ok(())
     }
 
-    /// Takes `length` bytes, or returns false if the input ends before. Allocates for bytes that came, not by `length`.
+    /// Appends the next `length` bytes, or returns false if the input ends before. Allocates for bytes that were read,
+    /// not by `length`.
     fn take_text<R: Read>(
         &mut self,
         source: &mut Source<R>,

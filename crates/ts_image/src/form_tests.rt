@@ -1,4 +1,4 @@
-//! Tests of whether the data of a store fits the form of images.
+//! Tests if the data of a store fits the form of images.
 ghost use Rattle.std.specs.Prelude.{◌≡◌, ◌↔◌, ◌+◌, ◌<◌, ◌≤◌, ◌^◌, FitsSigned, length, IsTrue};
 ghost use Rattle.std.specs.Int.{w64};
 ghost use Rattle.std.specs.List.{AllByRecursion};
@@ -68,7 +68,7 @@ fn are_cells<A: Allocator + Copy>(rule: &Rule<A>, cells: FrozenCells<'_, A>) -> 
     true
 }
 
-/// Returns true if the cells of these rules fit, of which the first has this number.
+/// Returns true if the cells of these rules fit; the first rule has this index.
 fn are_cells_from<A: Allocator + Copy>(store: &Store<A>, rules: &[Rule<A>], number: usize) -> bool
     requires few { length store.now.settings.rules ≤ 32 }
     requires last { number + length rules.now ≡ length store.now.settings.rules }

@@ -17,10 +17,10 @@ use std::io::Read;
 use ts_core::{Settings, Source};
 use ts_store::Store;
 
-/// How many reads `load` makes at most: 2^32.
+/// Limit of the reads of `load`: 2^32.
 const MOST_TURNS: u64 = 4_294_967_296;
 
-/// What an image without contradictions says, and the settings made of it.
+/// An image without contradictions, and its settings.
 #[derive(Drop)]
 pub struct LoadedImage<A: Allocator> {
     pub version: Version,

@@ -1,4 +1,4 @@
-//! Reads an image up to its form. Whether it contradicts itself is tested later.
+//! Reads an image up to its form. It is tested for contradictions later.
 ghost use Rattle.std.specs.Prelude.{◌≡◌, ◌≤◌, ◌^◌};
 ghost use Rattle.ts_core.specs.io.ReadingAhead.{EndIsEnd};
 ghost use Rattle.ts_image.specs.Images.{image};
@@ -66,7 +66,7 @@ fn read_head<R: Read, A: Allocator + Copy>(
     }
 }
 
-/// Reads the fields behind the head.
+/// Reads the fields after the head.
 fn read_body<R: Read, A: Allocator + Copy>(
     alloc: A,
     reader: &mut FieldReader<A>,
@@ -92,7 +92,7 @@ fn read_body<R: Read, A: Allocator + Copy>(
     })
 }
 
-/// Reads the fields behind the head and the end of the input.
+/// Reads the fields after the head, and the end of the input.
 fn read_whole_body<R: Read, A: Allocator + Copy>(
     alloc: A,
     reader: &mut FieldReader<A>,

@@ -1,4 +1,5 @@
-//! Tests an image for contradictions. Its settings are tested where they are made. Does not allocate.
+//! Tests an image for contradictions, except for its settings, which are tested when they are created. Does not
+//! allocate.
 ghost use Rattle.std.specs.Prelude.{◌↔◌, map, IsTrue};
 ghost use Rattle.std.specs.List.{AllByRecursion};
 ghost use Rattle.ts_core.specs.facts.Facts.{series_cmp};
@@ -56,7 +57,7 @@ fn are_rules_possible<A: Allocator>(version: Version, parts: &ImageParts<A>) -> 
     are_counted(parts.accepted, &parts.series, rules, &parts.cells)
 }
 
-/// Returns whether an image with possible settings is possible.
+/// Returns true if an image with possible settings is possible.
 pub(crate) fn is_rest_possible<A: Allocator>(version: Version, parts: &ImageParts<A>) -> bool
     requires settings { AreImageSettings (settings_of_parts parts.now.settings) }
     requires long { AllByRecursion IsLong parts.now.settings.rules.items }

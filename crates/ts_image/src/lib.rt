@@ -1,9 +1,10 @@
 //! Images: the data of a store as bytes, and back. An image has settings, marks, series with their raw points, and the
-//! frozen parts of cells. It depends on ts_core, on ts_line for what a line can name, and on ts_store, whose builder makes
-//! the store.
-//! It promises exactness: each image is read as its data and only that. Other bytes are refused with the offset of the
-//! first field at fault, and so is an image that contradicts itself, which that of a store with a history never does. A
-//! loaded store has the data of its image, and stands for each history that the saved store stood for.
+//! frozen parts of cells. Depends on ts_core, on ts_line for valid names, and on ts_store, whose builder creates the
+//! store.
+//!
+//! Proved: each image is read as its data and only that. Other bytes are refused with the offset of the first field at
+//! fault. An image that contradicts itself is refused; that of a store with a history never is. A loaded store has the
+//! data of its image, and represents each history that the saved store represented.
 //!
 //! ```text
 //! save(alloc, &store, &mut sink)?;            // the store's image is written; or a SaveFault
@@ -61,20 +62,20 @@ pub use saving::save;
 pub use series_reading::{ColumnParts, KeyParts, SeriesParts};
 pub use version::Version;
 
-/// States that a store made of an image stands for each history that the saved store stood for.
+/// Proves that a store created from an image represents each history that the saved store represented.
 pub fn reloads()
     ensures any { Reloads }
     ensures pictured { (k n : StoreData) (d : ImageData) → IsPictureOf k d → IsMadeOf d n → StaysFor k n }
 {}
 
-/// States that reading an image is exact.
+/// Proves that reading an image is exact.
 pub fn images_are_exact()
     ensures unambiguous { AreUnambiguous }
     ensures format { (v : Version) → IsFormat (image v) }
     ensures exact { (v : Version) (p : Place) → AreBytes p.rest → IsExact (image v) p (read_whole (image v) p) }
 {}
 
-/// States that the image of a store that stands for a history has no contradiction.
+/// Proves that the image of a store that represents a history has no contradiction.
 pub fn saved_images_are_possible()
     ensures any { SavedImagesArePossible }
     ensures written { WrittenImagesAreAcceptable }

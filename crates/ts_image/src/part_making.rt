@@ -1,4 +1,4 @@
-//! Marks, tags, points and frozen parts made of what an image says of them.
+//! Creates marks, tags, points and frozen parts from the parts of an image.
 ghost use Rattle.std.specs.Prelude.{◌≡◌, ◌≤◌, [], length, map, string_bytes, IfOk};
 ghost use Rattle.ts_core.specs.text.Texts.{lent_pairs};
 ghost use Rattle.ts_core.specs.facts.Times.{IsTime};
@@ -15,7 +15,7 @@ use arrayvec::ArrayVec;
 use std::alloc::{AllocError, Allocator};
 use ts_core::{Agg, Extremes, Marks, Time};
 
-/// Makes marks. The raw mark must be a valid time.
+/// Creates marks. The raw mark must be a valid time.
 pub(crate) fn make_marks<A: Allocator + Copy>(
     alloc: A,
     parts: &MarksParts<A>,
@@ -31,7 +31,7 @@ pub(crate) fn make_marks<A: Allocator + Copy>(
     Ok(Marks::new(raw, lows))
 }
 
-/// Lends the texts of tags.
+/// Borrows the texts of tags.
 pub(crate) fn lend_tags<'a, A: Allocator>(
     tags: &'a [(String<A>, String<A>)],
     lent: &mut ArrayVec<(&'a str, &'a str), 64>,
@@ -45,7 +45,7 @@ pub(crate) fn lend_tags<'a, A: Allocator>(
     }
 }
 
-/// Lends texts.
+/// Borrows texts.
 pub(crate) fn lend_texts<'a, A: Allocator + Copy>(
     alloc: A,
     texts: &'a [String<A>],
@@ -59,7 +59,7 @@ pub(crate) fn lend_texts<'a, A: Allocator + Copy>(
     Ok(lent)
 }
 
-/// Makes a point whose time is valid.
+/// Creates a point. The time must be valid.
 fn make_point(point: (i64, i64)) -> (Time, i64)
     requires { IsTime point.0 }
     ensures { result ≡ point_of point }
@@ -67,7 +67,7 @@ fn make_point(point: (i64, i64)) -> (Time, i64)
     (Time::new(point.0).unwrap(), point.1)
 }
 
-/// Makes points whose times are valid.
+/// Creates points. Their times must be valid.
 pub(crate) fn make_points<A: Allocator + Copy>(
     alloc: A,
     points: &[(i64, i64)],
@@ -82,7 +82,7 @@ pub(crate) fn make_points<A: Allocator + Copy>(
     Ok(made)
 }
 
-/// Makes the frozen part of a cell that was tested.
+/// Creates the frozen part of a cell that was tested.
 pub(crate) fn make_part<A: Allocator>(parts: &CellParts<A>) -> Agg
     requires { HasPart (cell_of_parts parts.now) }
     ensures { result ≡ part_of (cell_of_parts parts.now) }

@@ -1,4 +1,4 @@
-//! Reads rules and settings from an image. Whether they are possible is tested later.
+//! Reads rules and settings from an image. They are tested later.
 ghost use Rattle.std.specs.Prelude.{◌≡◌, map, string_bytes};
 ghost use Rattle.std.specs.Int.{w8};
 ghost use Rattle.ts_core.specs.io.ReadingAhead.{EndIsEnd};

@@ -17,7 +17,7 @@ use crate::series_reading::SeriesParts;
 use crate::version::Version;
 use std::alloc::Allocator;
 
-/// Returns how far a low index may lie above the index of the raw mark.
+/// Returns the greatest distance of a low index above the index of the raw mark.
 fn ahead_of_mark(version: Version) -> i128
     ensures { result ≡ ahead_of_mark version }
 {
@@ -27,7 +27,7 @@ fn ahead_of_mark(version: Version) -> i128
     }
 }
 
-/// Returns the index of the rule's bucket that holds a time.
+/// Returns the index of the rule's bucket that contains a time.
 fn index_at<A: Allocator>(rule: &RuleParts<A>, time: &i64) -> i128
     requires { pos 1 ≤ℤ rule.now.interval }
     ensures index { result ≡ index_of (rule_in (rule_of rule.now)) time.now }
@@ -66,7 +66,7 @@ fn is_low<A: Allocator>(version: Version, mark: &i64, rule: &RuleParts<A>, low: 
     is_up_to(most_low(version, mark, rule), low)
 }
 
-/// Returns whether each rule has a possible low index.
+/// Returns true if each rule has a possible low index.
 pub(crate) fn are_lows<A: Allocator>(
     version: Version,
     mark: &i64,
@@ -97,7 +97,7 @@ fn are_cells_of<A: Allocator>(
     are_cells(mark, rule, low, cells)
 }
 
-/// Returns whether the cells of each rule are possible.
+/// Returns true if the cells of each rule are possible.
 pub(crate) fn are_all_cells<A: Allocator>(
     mark: &i64,
     rules: &[RuleParts<A>],
@@ -115,7 +115,7 @@ pub(crate) fn are_all_cells<A: Allocator>(
     }
 }
 
-/// Returns whether the counts of a rule's cells and the points of its measurement are at most the accepted facts.
+/// Returns true if the counts of a rule's cells and the points of its measurement are at most the accepted facts.
 fn is_counted<A: Allocator>(
     accepted: u64,
     series: &[SeriesParts<A>],
@@ -130,7 +130,7 @@ fn is_counted<A: Allocator>(
     }
 }
 
-/// Returns the same for each rule.
+/// Returns true if the same is true of each rule.
 pub(crate) fn are_counted<A: Allocator>(
     accepted: u64,
     series: &[SeriesParts<A>],

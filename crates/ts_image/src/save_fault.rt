@@ -9,13 +9,14 @@ use ts_core::{FaultCode, FaultDetail, Refused};
 /// Error of saving an image.
 #[derive(Clone, Copy, Debug, PartialEq, Eq, Error)]
 pub enum SaveFault {
-    /// A write failed. A beginning of the image was written.
+    /// A write failed. A prefix of the image was written.
     #[error("{}", FaultCode::ImageDevice.words())]
     Device,
     /// Out of memory. Nothing was written.
     #[error("out of memory")]
     OutOfMemory,
-    /// The data doesn't fit the form of images. Nothing was written. That of a store that represents a history fits.
+    /// The data doesn't fit the form of images. Nothing was written. The data of a store that represents a history
+    /// fits.
     #[error("{}", FaultCode::ContradictoryImage.words())]
     Unfit,
 }

@@ -58,8 +58,8 @@ fn put_image<W: Write, A: Allocator + Copy>(
     out.flush(sink)
 }
 
-/// Writes the image of a store in version 2. After a device fault a beginning of it was written. Without memory, or if
-/// the data doesn't fit the form of images, nothing was.
+/// Writes the image of a store in version 2. After a device error, a prefix of it was written. When out of memory, or
+/// if the data doesn't fit the form of images, nothing was written.
 pub fn save<W: Write, A: Allocator + Copy>(
     alloc: A,
     store: &Store<A>,

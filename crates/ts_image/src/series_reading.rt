@@ -1,4 +1,4 @@
-//! Reads series with their columns from an image. Whether they are possible is tested later.
+//! Reads series with their columns from an image. They are tested later.
 ghost use Rattle.std.specs.Prelude.{string_bytes};
 ghost use Rattle.std.specs.Int.{w8, w32, w64};
 ghost use Rattle.ts_core.specs.io.ReadingAhead.{EndIsEnd};

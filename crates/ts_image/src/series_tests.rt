@@ -14,7 +14,7 @@ use crate::series_reading::{ColumnParts, KeyParts, SeriesParts};
 use std::alloc::Allocator;
 use std::cmp::Ordering;
 
-/// Returns whether a text may be the key of a tag or a field.
+/// Returns true if a text may be the key of a tag or a field.
 pub(crate) fn is_name(text: &str) -> bool
     ensures { IsTrue result ↔ IsKeyName text.now }
 {
@@ -64,7 +64,7 @@ fn is_key<A: Allocator>(key: &KeyParts<A>) -> bool
     are_tags(&key.tags) && are_tags_rising(&key.tags)
 }
 
-/// Returns whether a number of nanoseconds is a valid time.
+/// Returns true if a number of nanoseconds is a valid time.
 pub(crate) fn is_time(nanos: &i64) -> bool
     ensures { IsTrue result ↔ IsTime nanos.now }
 {
@@ -151,7 +151,7 @@ fn is_series<A: Allocator>(mark: &i64, runs: u8, series: &SeriesParts<A>) -> boo
     are_columns(mark, runs, &series.columns) && are_columns_rising(&series.columns)
 }
 
-/// Returns whether each series is possible.
+/// Returns true if each series is possible.
 pub(crate) fn are_series<A: Allocator>(mark: &i64, runs: u8, series: &[SeriesParts<A>]) -> bool
     ensures { IsTrue result ↔ AllByRecursion (IsImageSeries mark.now runs) (map series_of_parts series.now) }
 {
@@ -178,7 +178,7 @@ fn is_series_before<A: Allocator>(a: &SeriesParts<A>, b: &SeriesParts<A>) -> boo
     compare_keys(&a.key, &b.key) == Ordering::Less
 }
 
-/// Returns whether series are in rising order.
+/// Returns true if series are in ascending order.
 pub(crate) fn are_series_rising<A: Allocator>(series: &[SeriesParts<A>]) -> bool
     ensures { IsTrue result ↔ AreRising series_cmp (map series_key_of series.now) }
 {

@@ -1,4 +1,4 @@
-//! Settings made of what an image says of them.
+//! Creates settings from their parts in an image.
 ghost use Rattle.std.specs.Prelude.{◌↔◌, ◌≤ℤ◌, pos, map, IsTrue, IfOk};
 ghost use Rattle.std.specs.List.{AllByRecursion};
 ghost use Rattle.ts_image.specs.ImageTests.{IsImageRule, AreImageSettings, rule_in, settings_in};

@@ -1,4 +1,4 @@
-//! Makes a store of an image that was tested.
+//! Creates a store from an image that was tested.
 ghost use Rattle.std.specs.Prelude.{◌≡◌, ◌<◌, ◌≤◌, ◌==◌, ◌∷◌, [], length, map, string_bytes, None, IfOk, OnOk};
 ghost use Rattle.std.specs.FinMap as finmap;
 ghost use Rattle.std.specs.List.{AllByRecursion};
@@ -46,7 +46,7 @@ fn add_column<A: Allocator + Copy>(
     builder.add_column(series, parts.field.as_str(), parts.waits == 1, points)
 }
 
-/// Adds the columns of a series that has none yet. Consumes their parts.
+/// Adds the columns of a series that has none. Consumes their parts.
 fn add_columns<A: Allocator + Copy>(
     alloc: A,
     builder: &mut StoreBuilder<A>,
@@ -113,7 +113,7 @@ fn add_series<A: Allocator + Copy>(
     add_columns(alloc, builder, series, columns)
 }
 
-/// Adds series to a store that has none yet. Consumes their parts.
+/// Adds series to a store that has none. Consumes their parts.
 fn add_all_series<A: Allocator + Copy>(
     alloc: A,
     builder: &mut StoreBuilder<A>,
@@ -155,7 +155,7 @@ fn add_cell<A: Allocator + Copy>(
     )
 }
 
-/// Adds the cells of a rule that has none yet.
+/// Adds the cells of a rule that has none.
 fn add_cells<A: Allocator + Copy>(
     alloc: A,
     builder: &mut StoreBuilder<A>,
@@ -174,7 +174,7 @@ fn add_cells<A: Allocator + Copy>(
     Ok(())
 }
 
-/// Adds the cells of each rule to a store that has none yet.
+/// Adds the cells of each rule to a store that has none.
 fn add_all_cells<A: Allocator + Copy>(
     alloc: A,
     builder: &mut StoreBuilder<A>,
@@ -204,7 +204,7 @@ fn begin<A: Allocator + Copy>(
     StoreBuilder::new(alloc, settings, marks, parts.accepted, parts.runs == 1)
 }
 
-/// Makes a store of an image that was tested. Consumes its parts.
+/// Creates a store from an image that was tested. Consumes its parts.
 pub(crate) fn make_store<A: Allocator + Copy>(
     alloc: A,
     image: LoadedImage<A>,
