@@ -1,9 +1,9 @@
--- Saving
+-- SavedContent
 pub mod SavedOrders
 pub mod ListedColumns
 pub mod FrozenShown
 pub mod WaitingAt
--- Building: a store that is made of parts
+-- Building: a store created from parts
 pub mod ColumnsInTurn
 pub mod PartsBuilt
 pub mod BuildersKept

@@ -1,6 +1,6 @@
 -- PointsRead
 pub mod RawReads
 pub mod ColumnsReads
--- Seats, LiveCells: what a view lends
+-- ViewResults, LiveCells: the results of a view
 pub mod ShownCells
 pub mod ColumnRefLemmas

@@ -4,7 +4,7 @@ pub mod RollupLemmas
 -- LivePoints
 pub mod LanePoints
 pub mod LiveParts
--- Rollups: cells of given points
+-- Rollups: the cells of points
 pub mod CellsCreated
 pub mod LivesFilled
 pub mod RulesFilled

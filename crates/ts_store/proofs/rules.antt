@@ -1,8 +1,8 @@
--- RuleTexts: a rule comes by its text
+-- RuleTexts: adding a rule by its text
 pub mod ShortNames
 pub mod RuleStates
 pub mod RuleTextLemmas
--- RulesChanged: a rule is added or dropped
+-- RulesChanged: adding and dropping rules
 pub mod RuleRollupLemmas
 pub mod RulesAdded
 pub mod RulesDropped

@@ -1,4 +1,4 @@
--- StandsFor of ts_core, LinesPut, Refusals: a store goes on standing for its history
+-- StandsFor of ts_core, LinesPut, Refusals: the history that a store represents after a call
 pub mod Stands
 -- Inventories: columns and cells that exist
 pub mod InventoriesKept
@@ -6,7 +6,7 @@ pub mod InventoriesKept
 pub mod SizesKept
 -- CellIndices
 pub mod IndicesKept
--- ColumnsKept
+-- ColumnStates
 pub mod ColumnsLemmas
 -- CellCounts
 pub mod CountsKept

@@ -5,13 +5,13 @@ pub mod NamesKept
 -- CellIndices
 pub mod SeriesLimit
 pub mod LivesGrown
--- ColumnsKept, Registered, PointsRead: columns and their points
+-- ColumnStates, Registered, PointsRead: columns and their points
 pub mod ColumnsAside
--- Rollups, Rooms: what is kept for rules, when a lane, a column or room is made and a line is put
+-- Rollups, Rooms: rollups when a lane, a column or a cell is created, and when a line is inserted
 pub mod RollupsPut
 pub mod RoomLemmas
 pub mod CellsMade
--- Seats, LiveCells: what a view lends
+-- LivePuts, LiveCells: the effect of a fact on cells
 pub mod PointsPut
 pub mod CellsPut
 -- LineTexts: the outcome of a line's text

@@ -1,4 +1,4 @@
--- Reads of columns, and what a view lends.
+-- Reads of columns, and the results of a view.
 -- cited by public contracts and laws
 pub mod PointsRead
 pub mod ViewResults

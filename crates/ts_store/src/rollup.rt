@@ -204,14 +204,14 @@ impl<A: Allocator + Copy> Rollup<A> {
         self.next = None;
         let lane = listed_lane(&mut self.cells, &mut self.columns, field, group)?;
         self.cells.make_room(index, lane)?;
-        // `freeze` needs a bound of the count, which the contract of `sum` states.
+        // for the proof: the contract of `sum` states the bound of the count that `freeze` needs
         let _ = frozen.sum();
         self.cells.freeze(index, lane, frozen);
         Ok(())
     }
 
-    /// Merges a part into the frozen part of the cell of a column in a bucket, if the cell exists and the counts add up
-    /// to at most 2^62. Does not allocate.
+    /// Merges a part into the frozen part of the cell of a column in a bucket. Does nothing if the cell doesn't exist,
+    /// or if the counts add up to more than 2^62. Does not allocate.
     pub(crate) fn freeze(&mut self, column: usize, index: &i128, part: Agg)
         requires { column < length self.old.lanes }
         ensures { self.new ≡ with_frozen (frozen_in self.old (lane_at self.old column) index.now part) self.old }
@@ -221,8 +221,8 @@ impl<A: Allocator + Copy> Rollup<A> {
         }
     }
 
-    /// Merges a part into the live part of the cell of a bucket in a lane, if the cell exists and the counts add up to
-    /// at most 2^62. Does not allocate.
+    /// Merges a part into the live part of the cell of a bucket in a lane. Does nothing if the cell doesn't exist, or
+    /// if the counts add up to more than 2^62. Does not allocate.
     pub(crate) fn add(&mut self, index: &i128, lane: LaneId, part: Agg)
         requires { lane < length self.old.grid.lanes }
         ensures { self.new ≡ with_frozen (added_in self.old lane index.now part) self.old }

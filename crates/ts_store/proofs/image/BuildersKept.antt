@@ -1,4 +1,4 @@
--- A store under construction stays in order when parts are added, and a store is made of it.
+-- A store under construction: its order when parts are added, and the resulting store.
 use Rattle.std.proofs.Common.{◌≡◌, ◌<◌, ◌≤◌, ℕ, Bool, true, false, not, List, [], ◌∷◌, ◌++◌, length, map, set, Result, Ok, Err, OnOk, OnErr, refl, sym, ◌∙◌, ap, subst, ⊎_elim, arith}
 use Rattle.std.specs.FinMap as finmap
 use Rattle.std.proofs.lemmas.List.{length_push, map-append}
@@ -85,7 +85,7 @@ built_column settings marks running n held after passed passed' c w columns seri
     let waits : map not passed' ≡ map not passed ++ w ∷ [] = ap (map not) flags ∙ map-append not passed (not w ∷ []) ∙ ap (λ (b : Bool). map not passed ++ b ∷ []) (not_not w) in
     λ i. record { settings = settings; marks = marks; running = running; accepted = n; series = series i; columns = columns i; waits = waits i; cells = cells i }
 
--- what stays when nothing that shows has changed
+-- the order stays if columns, series and cells do
 pub order_same : (settings : Settings) (held after : StoreContent) (passed : List Bool) → after.columns ≡ held.columns → after.series ≡ held.series → cells_of after.rollups ≡ cells_of held.rollups
     → AreRollups settings.rules (map column_of after.columns) after.rollups → IsInOrder settings held passed → IsInOrder settings after passed
 order_same settings held after passed columns series cells rollups h = record {

@@ -1,4 +1,4 @@
--- The facts of columns, one column after another.
+-- Facts of columns, one column after another.
 use Rattle.std.proofs.Common.{◌≡◌, ◌<◌, ◌≤◌, ℕ, zero, suc, List, [], ◌∷◌, ◌++◌, length, take, drop, get_or, Some, refl, sym, ◌∙◌, ap, arith, append_assoc}
 use Rattle.std.specs.FinMap as finmap
 use Rattle.std.specs.List.{slice_get}

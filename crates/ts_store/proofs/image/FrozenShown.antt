@@ -1,4 +1,4 @@
--- The cells of a walk that have frozen facts are those of the map, from the low index on.
+-- Cells of a walk with frozen facts: exactly those of the map, from the low index on.
 use Rattle.std.proofs.Common.{◌≡◌, ℕ, zero, suc, length, get_or, Some, ◌&&◌, ◌<◌, ◌≤◌, ◌^◌, ℤ, pos, negsuc, ◌≤ℤ◌, ◌<ℤ◌, int_le, nat_lt, Bool, true, false, cond, List, [], ◌∷◌, map, filter, unsigned_abs, FitsSigned, w64, refl, sym, ◌∙◌, ap, subst, inl, inr, arith}
 use Rattle.std.proofs.lemmas.Int.{ints}
 use Rattle.std.specs.FinMap as finmap

@@ -1,4 +1,4 @@
--- Columns and cells of given parts.
+-- Columns and cells created from parts.
 use Rattle.std.proofs.Common.{◌≡◌, ◌<◌, ◌≤◌, ◌^◌, ℕ, zero, suc, ℤ, List, [], ◌∷◌, ◌++◌, length, map, set, get_or, Some, None, Result, Ok, Err, OnOk, OnErr, refl, sym, ◌∙◌, ap, ap₂, subst, inr, ⊎_elim, arith, cond, true, false, option_map}
 use Rattle.std.specs.FinMap as finmap
 use Rattle.std.specs.FinMap.{same_map, get-insert, get-empty}

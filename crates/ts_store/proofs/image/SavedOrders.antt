@@ -1,4 +1,4 @@
--- Lists that a sort put in the order of distinct keys.
+-- Lists sorted in the order of distinct keys.
 use Rattle.std.proofs.Common.{◌≡◌, ◌≢◌, suc, ◌+◌, Bool, true, false, List, [], ◌∷◌, map, get_or, refl, sym, ◌∙◌, ap, subst, inl, inr, arith, true≢false, Ordering, Less, Equal, Greater, is_lt, is_eq}
 use Rattle.std.specs.Prelude.{IsPermutation, String}
 use Rattle.std.specs.Ordering.{ordering_reverse, ordering_then}

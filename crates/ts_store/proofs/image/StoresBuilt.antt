@@ -1,4 +1,4 @@
--- The store that is made of parts is as a store must be, and has these parts.
+-- The store created from parts: it has the invariant of a store, and these parts.
 use Rattle.std.proofs.Common.{◌≡◌, ◌≤◌, ◌+◌, ℕ, suc, ℤ, Bool, true, false, not, List, [], ◌∷◌, length, map, Option, None, refl, sym, ◌∙◌, ap, subst, arith, true≢false}
 use Rattle.std.specs.List.{AllByRecursion}
 use Rattle.std.specs.Option.{is_some}

@@ -1,4 +1,4 @@
--- A column waits exactly where it is among the columns that its run hasn't moved.
+-- Waiting columns, exactly those that the run hasn't moved.
 use Rattle.std.proofs.Common.{◌≡◌, ◌↔◌, ◌⊎◌, ⊎_elim, ℕ, zero, suc, ◌+◌, ◌-◌, ◌<◌, Option, None, ap, ◌∙◌, Bool, true, false, true≢false, List, [], ◌∷◌, map, take, drop, get_or, refl, sym, subst, inl, inr, arith, slice_get, Some}
 use Rattle.std.proofs.lemmas.Option.{none-some, same_Some}
 use Rattle.ts_core.specs.lists.Members.{Among, AllDistinct}

@@ -1,4 +1,4 @@
--- Columns that are lent by number are those of the index, and the points of one of them are its points.
+-- Columns of a view, which are those of the index by their ids, and the points of one of them.
 use Rattle.std.proofs.Common.{◌≡◌, ℕ, zero, suc, ◌+◌, ◌<◌, Bool, ◌&&◌, true, false, cond, filter, List, [], ◌∷◌, length, replicate, map, get_or, refl, sym, ◌∙◌, ap, ap₂, subst, arith}
 use Rattle.std.specs.List.{AllByRecursion}
 use Rattle.std.specs.FinMap as finmap

@@ -1,4 +1,4 @@
--- The raw facts of a history are what a store reads from its columns, also while a run is open.
+-- The raw facts of a history: those that a store reads from its columns, also during an open run.
 use Rattle.std.proofs.Common.{◌≡◌, ℕ, ℤ, Bool, length, refl}
 use Rattle.ts_core.specs.lists.Members.{Among}
 use Rattle.ts_core.specs.facts.Facts.{Fact, is_within}

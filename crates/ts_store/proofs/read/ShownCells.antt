@@ -1,4 +1,4 @@
--- The cells of a walk with their parts are those that a store shows of the rule.
+-- The cells of a walk with their parts: those that a store shows of the rule.
 use Rattle.std.proofs.Common.{◌≡◌, ℕ, zero, suc, ℤ, pos, ◌<◌, ◌≤◌, ◌^◌, true, false, cond, List, [], ◌∷◌, length, map, filter, get_or, Option, Some, refl, sym, ◌∙◌, ap, ap₂, subst, inl, inr, arith}
 use Rattle.std.specs.FinMap as finmap
 use Rattle.std.specs.FinMap.{get-entries, entries_sorted}

@@ -1,4 +1,5 @@
--- Points that are frozen go from the live to the frozen part: no cell holds more than before, and so their counts fit.
+-- Counts when points are frozen: they go from the live to the frozen part, so no cell has more facts than before, and
+-- counts fit.
 use Rattle.std.proofs.Common.{◌≡◌, ℕ, ℤ, ◌+◌, ◌≤◌, ◌^◌, Bool, true, false, cond, not, ◌&&◌, List, [], ◌∷◌, length, filter, map, refl, ◌∙◌, ap, arith}
 use Rattle.ts_core.specs.lists.Members.{Among, AllDistinct}
 use Rattle.ts_core.specs.facts.Facts.{Column, Fact, same_text}

@@ -1,4 +1,4 @@
--- The points of a column below a mark come first.
+-- The points of a column below a mark: a prefix of all.
 use Rattle.std.proofs.Common.{◌≡◌, ◌∙◌, ℤ, ◌<ℤ◌, ◌≤ℤ◌, int_lt, false, cond, List, [], ◌∷◌, ap, sym, arith}
 use Rattle.std.proofs.lemmas.Int.{ints}
 use Rattle.std.specs.Cmp.{int_cmp_total}

@@ -1,4 +1,4 @@
--- Points of a bucket that are folded first and frozen at once: as if each were frozen by itself.
+-- Points of a bucket that are folded first and frozen at once: the same as freezing each.
 use Rattle.std.proofs.Common.{◌≡◌, ℕ, ℤ, ◌+◌, ◌≤◌, ◌^◌, Bool, true, false, cond, ◌&&◌, List, ◌∷◌, length, filter, refl, sym, ◌∙◌, ap, subst, arith, Option, Some, None, option_map, nat_lt, get_or}
 use Rattle.std.proofs.lemmas.Option.{get_or_from_slice_get}
 use Rattle.std.specs.FinMap as finmap
@@ -105,7 +105,7 @@ frozen_in-lane before s column n r c index part e at is =
 -- ---- points of a column, of which those of the last bucket are folded and not yet frozen
 
 module _ (r : Rule) (c : Column) where
-  -- what is left gives the same end, and fits
+  -- the points left have the same result, and fit
   pub record IsFolded (all : List (ℤ × ℤ)) (before : CellMap) (left : List (ℤ × ℤ)) (m : CellMap) (q : Cell) (part : Aggregate) : Type 0 where
     pub same : frozen_points r c left (changed m q (in_frozen (frozen_with part))) ≡ frozen_points r c all before
     pub fit : (k : Cell) → frozen_count m k + cond (same_cell k q) part.count 0 + points_in_cell r c k left ≤ 2 ^ 62

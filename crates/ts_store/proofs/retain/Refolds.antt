@@ -1,4 +1,5 @@
--- The live parts of the cells of a column's points below a mark, folded anew without these: bucket after bucket, as if for each point.
+-- Live parts of the cells of a column's points below a mark, folded anew without these bucket by bucket: the same as
+-- for each point.
 use Rattle.std.proofs.Common.{◌≡◌, ℕ, ℤ, true, false, cond, List, ◌∷◌, length, map, set, get_or, Option, Some, None, option_map, refl, sym, ◌∙◌, ap, subst}
 use Rattle.std.specs.FinMap as finmap
 use Rattle.std.specs.FinMap.{same_map}
@@ -49,7 +50,7 @@ refolded-twice r q facts m =
 -- ---- point by point
 
 module _ (r : Rule) (c : Column) (facts : List Fact) (all : List (ℤ × ℤ)) (before : CellMap) where
-  -- what is left gives the same end; the cell of the last bucket is done
+  -- the points left have the same result; the cell of the last bucket is done
   pub record IsRefolded (left : List (ℤ × ℤ)) (m : CellMap) (last : Option ℤ) : Type 0 where
     pub same : refolded_points r c left facts m ≡ refolded_points r c all facts before
     pub done : (i : ℤ) → last ≡ Some i → refolded r (cell_at i (lane_under r c)) facts m ≡ m

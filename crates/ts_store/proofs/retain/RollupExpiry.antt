@@ -1,4 +1,4 @@
--- What removing cells below low indices leaves.
+-- The effect of removing cells below low indices.
 use Rattle.std.proofs.Common.{◌≡◌, ℕ, ℤ, ◌<◌, List, [], ◌∷◌, refl, sym, ◌∙◌, ap, ap₂, subst, inl, inr, arith}
 use Rattle.ts_core.specs.store.StoreData.{CellMap}
 use Rattle.ts_cells.specs.Expiry.{Removes, IsAbove, LosesBelow}
@@ -10,7 +10,7 @@ pub same_lanes : (ss : List RollupState) → ss ≡ with_frozen_all (cells_of ss
 same_lanes [] = refl
 same_lanes (s ∷ ss) = ap (λ ts. s ∷ ts) (same_lanes ss)
 
--- what is called of the first rule
+-- the result of the call for the first rule
 pub record IsExpired (low : ℤ) (n : ℕ) (s t : RollupState) : Type 0 where
   pub cells : t ≡ with_frozen t.grid.cells s
   pub below : LosesBelow low n s.grid.cells t.grid.cells

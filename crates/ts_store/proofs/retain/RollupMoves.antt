@@ -1,4 +1,4 @@
--- What moving a column leaves: of rollups, and of columns with their points.
+-- The effect of moving a column: on rollups, and on columns with their points.
 use Rattle.std.proofs.Common.{◌≡◌, ℕ, zero, suc, ℤ, ◌<◌, ◌≤◌, true, false, cond, List, [], ◌∷◌, length, filter, map, set, get_or, refl, sym, ◌∙◌, ap, ap₂, subst, inl, inr, arith, Some, None, is_some, true≢false, int_le, Equal}
 use Rattle.std.specs.Ordering.{int_cmp}
 use Rattle.std.specs.List.{slice_get, AllByRecursion}

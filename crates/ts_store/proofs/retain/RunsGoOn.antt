@@ -1,4 +1,4 @@
--- A begin and the steps of a run, on what a store keeps: it goes on standing for its history, and is kept.
+-- A begin and the steps of a run, on a store's content: it still represents its history, and has its invariant.
 use Rattle.std.proofs.Common.{◌≡◌, ◌⊎◌, ℕ, ℤ, ◌+◌, ◌≤◌, ◌^◌, true, false, true≢false, List, [], ◌∷◌, length, map, refl, sym, ◌∙◌, ap, ap₂, subst, inl, inr, arith, Option, Some, None, cond, filter, int_le, get_or}
 use Rattle.std.specs.Int.{int_max}
 use Rattle.std.proofs.lemmas.List.{length-map, append-nil}

@@ -1,4 +1,4 @@
--- A step of a run keeps settings, the number of accepted facts, and the cells from low indices on.
+-- Steps of a run: settings, the number of accepted facts, and the cells from low indices on stay.
 use Rattle.std.proofs.Common.{◌≡◌, ◌⊎◌, ⊎_elim, ℕ, suc, ℤ, List, refl, sym, ◌∙◌, ap, subst}
 use Rattle.ts_core.specs.store.Marks.{Marks}
 use Rattle.ts_core.specs.settings.Settings.{Rule}
@@ -10,7 +10,7 @@ use Rattle.ts_store.specs.declared.store.retention.StepAnswer.{StepAnswer}
 use Rattle.ts_store.specs.declared.store.retention.StepAnswer.TheVariants.{Moved, Done}
 use Rattle.ts_store.proofs.store.InventoriesKept.{KeptSince, HasEnded, none_taken, one_taken, run_over}
 
--- what has stayed since a run began, after some steps
+-- the parts that are unchanged since a run began, after some steps
 pub record Stays (old new : StoreData) (taken : ℕ) : Type 0 where
   pub settings : new.settings ≡ old.settings
   pub accepted : new.accepted ≡ old.accepted

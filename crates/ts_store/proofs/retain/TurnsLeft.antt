@@ -1,4 +1,5 @@
--- How many turns of removal are left: one fewer after cells below a low index were removed, and as many after points were frozen.
+-- The number of removal steps left: one less after cells below a low index were removed, and the same after points were
+-- frozen.
 use Rattle.std.proofs.Common.{◌≡◌, ℕ, zero, suc, ℤ, ◌+◌, ◌≤◌, ◌<ℤ◌, ◌≤ℤ◌, Bool, true, false, true≢false, cond, List, [], ◌∷◌, length, filter, refl, sym, ◌∙◌, ap, ap₂, subst, inl, inr, ⊎_elim, arith, None, Some, int_lt}
 use Rattle.std.specs.FinMap as finmap
 use Rattle.std.specs.FinMap.{get-remove}
@@ -26,7 +27,7 @@ use Rattle.ts_store.specs.retain.WholeRuns.{AreAbove, LosesCells, FirstLoses}
 
 -- ---- cells below an index
 
--- how many cells are below an index
+-- the number of cells below an index
 abbrev below_count : ℤ → CellMap → ℕ
 below_count low m = length (filter (λ (k : Cell). int_lt k.index low) (finmap.keys m))
 

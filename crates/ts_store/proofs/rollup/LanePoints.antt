@@ -1,4 +1,5 @@
--- The points of a lane's columns in a bucket are no more than all points, also when a column has only those from a mark on.
+-- The number of points of a lane's columns in a bucket: at most that of all points, also if a column has only those
+-- from a mark on.
 use Rattle.std.proofs.Common.{◌≡◌, subst, ℕ, zero, suc, ℤ, ◌+◌, ◌<◌, ◌≤◌, Bool, true, false, cond, List, [], ◌∷◌, length, filter, get_or, Option, refl, sym, ◌∙◌, ap, arith, int_le, ◌≤ℤ◌, drop}
 use Rattle.std.specs.Ordering.{int_eq}
 use Rattle.std.specs.FinMap as finmap
@@ -124,7 +125,8 @@ column_same r mark moved m ss col index bucket interval offset ps within is is_i
     e ∙ (λ i. points_in_bucket (col_is i).points (is_index i) (is_interval i) (is_offset i))
     ∙ ap (λ (x : ColumnState). points_in_bucket x.points index r.interval r.offset) (sym (left_else mark moved m ss (λ q. apart (sym q))))
 
--- a walk over the columns of a lane, of which one has only points from a mark on, has come to the next one, whose points in the bucket are these
+-- a walk over the columns of a lane, of which one has only points from a mark on, has come to the next one, whose
+-- points in the bucket are these
 pub next_left : (r : Rule) (columns : List ColumnState) (index : ℤ) (ns : List ℕ) (i d n : ℕ) (total : Aggregate) (ps : List (ℤ × ℤ)) (whole : Aggregate) (few : ℕ) → i < length ns
     → n ≡ get_or ns i d → AllByRecursion (λ m. m < length columns) ns → ps ≡ points_in_bucket (get_or columns n no_column).points index r.interval r.offset
     → merged total (aggregate_of_points (points_in r columns index (drop i ns))) ≡ whole → total.count + length (points_in r columns index (drop i ns)) ≤ few

@@ -1,4 +1,4 @@
--- The raw facts of a cell are the points of its lane's columns in its bucket, in the same order.
+-- The raw facts of a cell: the points of its lane's columns in its bucket, in the same order.
 use Rattle.std.proofs.Common.{◌≡◌, ℕ, zero, suc, ℤ, ◌+◌, ◌<◌, ◌≤◌, Bool, true, false, cond, ◌&&◌, ◌==◌, List, [], ◌∷◌, ◌++◌, length, filter, get_or, drop, Option, Some, None, refl, sym, ◌∙◌, ap, ap₂, subst, arith, true≢false}
 use Rattle.std.specs.Ordering.{int_eq}
 use Rattle.std.specs.FinMap as finmap
@@ -114,7 +114,7 @@ pub cell_points : (r : Rule) (s : RollupState) (k : Cell) (l : ℕ) (cs : List C
 cell_points r s k l cs ss d at len have =
     columns_parts r k l s.grid.lanes d at ss 0 cs ss s.lanes len have (λ i below. let e : 0 + i ≡ i = omega arith in ap (λ j. get_or ss j no_column) e)
 
--- what they add up to
+-- the aggregate of these points
 pub cell_total : (r : Rule) (s : RollupState) (k : Cell) (l : ℕ) (cs : List Column) (ss : List ColumnState) → AllDistinct s.grid.lanes → IsAt s.grid.lanes l (lane_of k) → length ss ≡ length cs → HaveLanes r s.grid.lanes cs s.lanes
     → aggregate_of_points (points_in r ss k.index (columns_of_lane l s)) ≡ total_of r k (facts_of (with_points cs (point_maps ss)))
 cell_total r s k l cs ss d at len have =

@@ -33,7 +33,7 @@ use Rattle.ts_store.proofs.write.RoomLemmas.{lane_known}
 
 -- ---- the first rule, and the others
 
--- what is known of the first rollup, and of the others
+-- the properties of the first rollup, and of the others
 pub rollups_first : (r : Rule) (rs rs' : List Rule) (cs : List Column) (s : RollupState) (ss ss' : List RollupState) → rs' ≡ r ∷ rs → ss' ≡ s ∷ ss → AreRollups rs' cs ss' → HaveLanes r s.grid.lanes cs s.lanes × AreRollups rs cs ss
 rollups_first r rs rs' cs s ss ss' d e h = subst (λ (us : List RollupState). AreRollups (r ∷ rs) cs us) e (subst (λ (qs : List Rule). AreRollups qs cs ss') d h)
 

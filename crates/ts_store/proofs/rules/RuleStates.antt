@@ -1,4 +1,4 @@
--- The state and the inventory of a store after a rule came or went.
+-- The state and the inventory of a store after a rule was added or dropped.
 use Rattle.std.proofs.Common.{◌≡◌, ◌↔◌, ◌∙◌, ℤ, Bool, true, false, true≢false, List, refl, sym, ap}
 use Rattle.ts_core.specs.lists.Members.{Among}
 use Rattle.ts_core.specs.facts.Facts.{Text, Fact}

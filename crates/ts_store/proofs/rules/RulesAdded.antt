@@ -1,4 +1,4 @@
--- A store with one more rule: its invariant, and what it stands for.
+-- A store with one more rule: its invariant, and the history that it represents.
 use Rattle.std.proofs.Common.{◌≡◌, ◌≤ℤ◌, ◌≤◌, ◌^◌, ℕ, ℤ, pos, List, [], ◌∷◌, ◌++◌, length, map, Option, Some, None, Result, Ok, Err, IfSome, is_some, refl, sym, ◌∙◌, ap, subst, inl, inr, unsigned_abs, FitsSigned, true≢false, arith}
 use Rattle.std.specs.Int.{w64}
 use Rattle.std.specs.FinMap as finmap

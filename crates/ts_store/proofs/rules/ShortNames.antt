@@ -1,4 +1,4 @@
--- Names of rules have at most 32 bytes.
+-- Lengths of the names of rules, at most 32 bytes.
 use Rattle.std.proofs.Common.{◌≡◌, ◌≤◌, ◌++◌, List, [], ◌∷◌, ℕ, length, Option, Some, None, Bool, true, false, ◌&&◌, nat_le, nat_lt, cond, arith, refl, sym, subst, true≢false, inl, inr}
 use Rattle.std.specs.List.{AllByRecursion}
 use Rattle.std.proofs.lemmas.Bool.{and_parts, or_cases}

@@ -1,4 +1,4 @@
--- No cell holds more facts than were accepted, and a line adds at most its own facts.
+-- Counts of cells: at most the number of accepted facts, to which a line adds at most its own facts.
 use Rattle.std.proofs.Common.{◌≡◌, ℕ, ℤ, ◌+◌, ◌≤◌, Bool, true, false, cond, sym, List, [], ◌∷◌, ◌++◌, length, filter, map, refl, ap, subst, inl, inr, ⊎_elim, arith}
 use Rattle.std.specs.FinMap as finmap
 use Rattle.std.specs.FinMap.{get-empty}

@@ -1,4 +1,4 @@
--- The bucket of each cell contains a valid time, after each move.
+-- Buckets of cells, each with a valid time, after each transition.
 use Rattle.std.proofs.Common.{◌≡◌, ℤ, suc, List, [], ◌∷◌, length, map, refl, sym, ◌∙◌, ap, subst, ⊎_elim, Some, None, arith}
 use Rattle.std.specs.List.{AllByRecursion}
 use Rattle.std.specs.FinMap as finmap

@@ -164,7 +164,7 @@ first_turn (low ∷ lows) (a ∷ old) (b ∷ new) e =
     (λ p. let one = turn_taken low a b p.0 in let others : turns_in lows new ≡ turns_in lows old = ap (turns_in lows) p.1 in omega arith)
     (λ p. let same : turns_of (expired_in low b) ≡ turns_of (expired_in low a) = ap (λ (x : List Cell). turns_of (expired_in low x)) p.1 in let others = first_turn lows old new p.2 in omega arith) e
 
--- what has been kept since a run began, and the number of steps that were taken
+-- the parts that are unchanged since a run began, and the number of steps that were taken
 pub record KeptSince (lows : List ℤ) (old new : Inventory) (taken : ℕ) : Type 0 where
   pub columns : new.columns ≡ old.columns
   cells : KeepAll lows old.cells new.cells

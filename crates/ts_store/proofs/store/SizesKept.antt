@@ -1,4 +1,4 @@
--- The plain facts about a store's data hold of a new store, and each move keeps them.
+-- The plain facts about a store's data, which hold of a new store and after each transition.
 use Rattle.std.proofs.Common.{◌≡◌, ℕ, ℤ, pos, ◌+ℤ◌, ◌+◌, ◌≤◌, ◌≤ℤ◌, ◌^◌, suc, List, [], ◌∷◌, ◌++◌, length, filter, map, refl, sym, ◌∙◌, ap, subst, inl, inr, ⊎_elim, None, arith}
 use Rattle.std.specs.Int.{int_max}
 use Rattle.std.specs.Int.Signed.{≤ℤ_refl}

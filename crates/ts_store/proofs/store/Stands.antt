@@ -1,4 +1,4 @@
--- A store goes on standing for its history, and what it tells is of that history.
+-- The history that a store represents after a call, and results by that history.
 use Rattle.std.proofs.Common.{◌≡◌, ℕ, ℤ, ◌+◌, ◌<◌, ◌≤◌, ◌≤ℤ◌, ◌^◌, Bool, int_le, int_lt, Less, Equal, Greater, true, false, cond, not, ◌&&◌, ◌||◌, nat_le, List, [], ◌∷◌, ◌++◌, length, map, replicate, refl, sym, ◌∙◌, ap, subst, inl, inr, ⊎_elim, arith, true≢false, Option, Some, None, IfSome, IfNone}
 use Rattle.std.specs.Option.{is_some}
 use Rattle.std.specs.FinMap as finmap
@@ -321,7 +321,7 @@ taken_more mark (g ∷ facts) f all one = (all.0, taken_more mark facts f all.1 
 
 -- ---- refusals
 
--- what is looked for in an index is registered, or not
+-- a series that is looked up in an index is registered, or not
 is_refused : (series : List Series) (s : Series) (r : Option ℕ) → IfSome r (λ id. slice_get series id ≡ Some s) → IfNone r (Among s series → ⊥) → not (is_registered series s) ≡ not (is_some r)
 is_refused series s None found absent = ap not (registered-not s series absent)
 is_refused series s (Some id) found absent = ap not (registered-there s series (at_among series id s found))
@@ -335,7 +335,7 @@ nat_le_from x y h = grind arith
 nat_le_not : (x y : ℕ) → y < x → nat_le x y ≡ false
 nat_le_not x y h = grind arith
 
--- whether a series is too many, by what was found of it
+-- the result of a look-up decides if a series is too many
 full_or_not : (series : List Series) (s : Series) (none : Bool) → not (is_registered series s) ≡ none → 1000000 ≤ length series → none ≡ is_too_many series s
 full_or_not series s none e full = sym (ap (λ b. b && not (is_registered series s)) (nat_le_yes 1000000 (length series) full) ∙ e)
 
@@ -346,7 +346,7 @@ not_not false = refl
 pub looked_for : (series : List Series) (s : Series) (r : Option ℕ) (none : Bool) → is_some r ≡ not none → IfSome r (λ id. slice_get series id ≡ Some s) → IfNone r (Among s series → ⊥) → 1000000 ≤ length series → none ≡ is_too_many series s
 looked_for series s r none e found absent full = full_or_not series s none (is_refused series s r found absent ∙ ap not e ∙ not_not none) full
 
--- what isn't refused
+-- a line that isn't refused
 pub record IsWelcome (mark : ℤ) (series : List Series) (n : ℕ) (p : Parts) : Type 0 where
   pub late : mark ≤ℤ p.time
   pub registers : is_too_many series (series_of p) ≡ false

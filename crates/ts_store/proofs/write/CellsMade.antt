@@ -1,4 +1,4 @@
--- A line creates the missing cells of its facts at or above low indices, and no others.
+-- The created cells of a line: exactly the missing ones of its facts, at or above low indices.
 use Rattle.std.proofs.Common.{◌≡◌, ◌≢◌, ◌⊎◌, ◌≤ℤ◌, ◌<◌, ℕ, zero, suc, ℤ, int_lt, true, false, cond, ◌&&◌, List, [], ◌∷◌, length, take, get_or, Option, Some, None, refl, sym, ◌∙◌, ap, ap₂, subst, inl, inr, ⊎_elim, true≢false}
 use Rattle.std.specs.FinMap as finmap
 use Rattle.std.specs.List.{slice_get}

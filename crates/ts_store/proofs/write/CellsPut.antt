@@ -1,4 +1,4 @@
--- A fact that was put into its column is put into its cell: one fact more is added, or the live part is corrected.
+-- A fact inserted into its column, and then into its cell: it is added, or the live part is corrected.
 use Rattle.std.proofs.Common.{◌≡◌, ℕ, ℤ, false, cond, List, length, filter, Option, Some, None, option_map, refl, sym, ◌∙◌, ap, subst, arith}
 use Rattle.std.specs.FinMap as finmap
 use Rattle.std.proofs.lemmas.Option.{get_or_from_slice_get, none-some, same_Some}

@@ -1,4 +1,4 @@
--- What the facts of columns become when points that were set aside are put in.
+-- Facts of columns after staged points are committed.
 use Rattle.std.proofs.Common.{◌≡◌, ℕ, zero, suc, ℤ, ◌+◌, ◌<◌, not, cond, List, [], ◌∷◌, ◌++◌, length, map, filter, set, get_or, refl, sym, ◌∙◌, ap, subst, take, drop, true≢false, inl, inr, ⊎_elim, arith, Option, Some, None, IsSome, IfSome}
 use Rattle.std.specs.List.{slice_get}
 use Rattle.std.specs.FinMap as finmap
@@ -39,7 +39,7 @@ one_committed cs ss n f d l at is =
     subst (λ (ms : List PointMap). Puts (facts_of_columns cs (point_maps ss)) (facts_of_columns cs ms) f) all
     (columns_puts cs (point_maps ss) n f.column f.time f.value d (length-map ss (λ (t : ColumnState). t.points) ∙ l) at)
 
--- what is aside in other columns stays there
+-- staged points of other columns stay
 pub aside_others : (cs : List Column) (ss : List ColumnState) (ns : List ℕ) (fs : List Fact) (n : ℕ) (s : ColumnState) → (Among n ns → ⊥) → AreAside cs ss ns fs → AreAside cs (set ss n s) ns fs
 aside_others cs ss [] [] n s away a = tt
 aside_others cs ss [] (f ∷ fs) n s away a = absurd a
@@ -98,7 +98,7 @@ aside_grown cs ss (n ∷ ns) (f ∷ fs) c s l a =
       aside_grown cs ss ns fs c s l a.2,
     )
 
--- what is set aside changes no points
+-- staging a point changes no points
 pub aside_leaves : (ss : List ColumnState) (n : ℕ) (old new : ColumnState) → old ≡ get_or ss n old → new.points ≡ old.points → point_maps (set ss n new) ≡ point_maps ss
 aside_leaves ss n old new is e = map-set_same (λ (t : ColumnState). t.points) ss n new old (e ∙ ap (λ (t : ColumnState). t.points) is)
 
@@ -142,7 +142,7 @@ next_committed ss n ns s t r is put none =
     let after : t ≡ committed (get_or ss n no_column) = committed_is s t put (subst (λ (u : ColumnState). IsSome u.aside) (sym same) r.1) none ∙ ap committed same in
     (ap (λ (u : ColumnState). all_committed (set ss n u) ns) (sym after), ready_others ss ns n t r.2 r.3)
 
--- what is aside in different columns is ready
+-- staged points of distinct columns are ready
 pub ready_of : (cs : List Column) (ss : List ColumnState) (ns : List ℕ) (fs : List Fact) → length ss ≡ length cs → AreAside cs ss ns fs → AllDistinct ns → AreReady ss ns
 ready_of cs ss [] fs l a d = tt
 ready_of cs ss (n ∷ ns) [] l a d = absurd a
@@ -264,7 +264,7 @@ made_next p index series field before cs' ss ss' fields i x grown there name e o
     subst (λ (fs : List (LinePart × ℤ)). MakesAll before (with_points cs' (point_maps ss')) (map (fact_of p) (take (i + 1) fs))) (sym e)
     (next_made p before index.columns cs' ss ss' i x l may here at whole front)
 
--- what is made is a beginning of what all fields make
+-- the created columns are the first of those of all fields
 pub first_made : (p : Parts) (before after : List ColumnPoints) (fields : List (LinePart × ℤ)) (i : ℕ) → fields ≡ p.fields → MakesAll before after (map (fact_of p) (take i fields)) → MakesFirst before after (line_facts p)
 first_made p before after fields i e so =
     let names : List Column = map column_of before in

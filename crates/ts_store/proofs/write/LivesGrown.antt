@@ -1,4 +1,4 @@
--- After room is made, the live part of each existing cell is still that of its raw facts: a new cell has none.
+-- Live parts after cells are created: still those of the raw facts, as a new cell has none.
 use Rattle.std.proofs.Common.{◌≡◌, ℤ, ◌≤ℤ◌, List, [], ◌∷◌, length, filter, sym, ◌∙◌, ap, subst, refl, Some, None, arith}
 use Rattle.std.specs.FinMap as finmap
 use Rattle.std.specs.List.{AllByRecursion}

@@ -1,4 +1,4 @@
--- The series and the columns that a line makes have names that a line can state.
+-- Names of the series and columns that a line creates: a line can state them.
 use Rattle.std.proofs.Common.{ℤ, not, List, [], ◌∷◌, map, sym, subst, ⊎_elim}
 use Rattle.ts_core.specs.lists.Members.{Among}
 use Rattle.ts_core.specs.facts.Facts.{Series, Column, Fact}

@@ -1,4 +1,4 @@
--- A point that was aside is put into its column: which value was there, and what the cells of all rules then are.
+-- A staged point that is committed to its column: the value that it replaces, and the resulting cells of all rules.
 use Rattle.std.proofs.Common.{◌≡◌, ℕ, zero, suc, ℤ, ◌+◌, ◌<◌, ◌≤◌, ◌^◌, Bool, true, false, true≢false, cond, List, [], ◌∷◌, length, map, set, get_or, Option, Some, None, refl, sym, ◌∙◌, ap, ap₂, subst, ◌⊎◌, inl, inr, ⊎_elim, arith, slice_get, IsSome, IfSome, drop}
 use Rattle.std.specs.List.{AllByRecursion}
 use Rattle.std.specs.Bool.{OnFalse}

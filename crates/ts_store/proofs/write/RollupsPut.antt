@@ -1,4 +1,4 @@
--- What is kept for rules, when a line is put.
+-- Rollups of rules, when a line is inserted.
 use Rattle.std.proofs.Common.{◌≡◌, ◌∙◌, ◌<◌, ℕ, ℤ, List, [], ◌∷◌, length, map, ap, sym, subst, inl, inr, refl, ⊎_elim}
 use Rattle.std.specs.List.{AllByRecursion}
 use Rattle.std.proofs.lemmas.Option.{slice_get_within}

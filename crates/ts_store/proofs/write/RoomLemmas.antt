@@ -1,4 +1,4 @@
--- Room for the cells of facts, made column after column.
+-- The cells of facts, created column after column.
 use Rattle.std.proofs.Common.{◌≡◌, ◌≤ℤ◌, ◌<ℤ◌, int_lt, Result, Ok, Err, OnErr, ℕ, zero, suc, ℤ, true, false, cond, List, [], ◌∷◌, ◌++◌, ◌+◌, ◌<◌, length, take, get_or, Option, Some, None, refl, sym, ◌∙◌, ap, subst, inl, ⊎_elim, true≢false, arith}
 use Rattle.std.specs.FinMap as finmap
 use Rattle.std.specs.List.{slice_get}

@@ -1,4 +1,4 @@
--- How long the texts of a store's faults are.
+-- Lengths of the messages of a store's errors.
 use Rattle.std.proofs.Common.{◌+◌, ◌≤◌, ℤ, pos, negsuc, ◌≤ℤ◌, length, length-append, arith}
 use Rattle.std.specs.Fmt.{decimal, signed_decimal}
 use Rattle.std.proofs.lemmas.Fmt.{length-decimal-le, length_signed_le}

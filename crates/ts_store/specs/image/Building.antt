@@ -1,5 +1,5 @@
--- A store that is made of parts: settings, marks, columns with their points, and frozen parts of cells. Whatever follows
--- from these, such as live parts, is computed. (Own rules.)
+-- A store from parts: settings, marks, columns with their points, and frozen parts of cells. All that follows from
+-- these, such as live parts, is computed. (Own rules.)
 use Rattle.std.specs.Prelude.{◌≡◌, ℕ, ℤ, pos, ◌+ℤ◌, ◌≤◌, ◌≤ℤ◌, ◌^◌, Bool, true, false, List, [], ◌∷◌, ◌++◌, length, map, set, get_or, None, if◌then◌else◌, refl}
 use Rattle.std.specs.FinMap as finmap
 use Rattle.std.specs.List.{AllByRecursion}
@@ -27,7 +27,7 @@ pub record Built : Type 0 where
   -- the registered series, and the columns with their points, each in creation order
   pub series : List Series
   pub columns : List ColumnPoints
-  -- for each column, whether it waits for the open run
+  -- for each column, true if it waits for the open run
   pub waits : List Bool
   -- the cells of each rule; live parts are empty
   pub cells : List CellMap
@@ -70,11 +70,11 @@ with_column c waits b = record {
   cells = b.cells;
 }
 
--- the cells of the rule with this number
+-- the cells of the rule with this index
 abbrev pub cell_map_at : List CellMap → ℕ → CellMap
 cell_map_at ms rule = get_or ms rule finmap.empty
 
--- a cell of the rule with this number, with a frozen part
+-- a cell of the rule with this index, with a frozen part
 abbrev pub with_cell : ℕ → Cell → Aggregate → Built → Built
 with_cell rule k frozen b = record {
   settings = b.settings;
@@ -87,7 +87,7 @@ with_cell rule k frozen b = record {
   cells = set b.cells rule (finmap.insert (cell_map_at b.cells rule) k (record { frozen = frozen; live = empty_aggregate }));
 }
 
--- ---- a store can be made of the parts
+-- ---- conditions for a store of the parts
 
 -- a low index: at least that of the least time, and at most one more than that of the raw mark
 pub record IsLowIndex (mark : ℤ) (r : Rule) (low : ℤ) : Type 0 where
@@ -101,8 +101,8 @@ AreLowIndices mark [] (low ∷ lows) = ⊥
 AreLowIndices mark (r ∷ rs) [] = ⊥
 AreLowIndices mark (r ∷ rs) (low ∷ lows) = IsLowIndex mark r low × AreLowIndices mark rs lows
 
--- no count overflows, each rule has a low index, each cell is of a bucket with a valid time, and no column waits unless a
--- run is in progress
+-- No count overflows, each rule has a low index, and the bucket of each cell has a valid time. No column waits unless a
+-- run is in progress.
 pub record IsBuildable (b : Built) : Type 0 where
   pub accepted : b.accepted ≤ 2 ^ 62
   pub facts : length (facts_of b.columns) ≤ b.accepted
@@ -111,7 +111,7 @@ pub record IsBuildable (b : Built) : Type 0 where
   pub indices : HaveIndices b.settings.rules b.cells
   pub idle : b.running ≡ false → AllByRecursion (λ (w : Bool). w ≡ false) b.waits
 
--- ---- the store that is made of them
+-- ---- the store of the parts
 
 -- the columns that wait, in creation order
 abbrev pub waiting_of : List ColumnPoints → List Bool → List Column
@@ -127,8 +127,8 @@ HaveCells (r ∷ rs) (low ∷ lows) facts [] = Unit {0}
 HaveCells (r ∷ rs) (low ∷ lows) facts (m ∷ ms) =
     ((f : Fact) → Among f facts → is_rolled r f ≡ true → low ≤ℤ (cell_of r f).index → finmap.get m (cell_of r f) ≡ None → ⊥) × HaveCells rs lows facts ms
 
--- The store has these parts. Besides the given cells it has those of raw facts from the low index on, and no others.
--- Frozen parts are the given ones, and live parts those of the raw facts.
+-- The store has these parts. Besides the cells of the parts it has those of raw facts from the low index on, and no
+-- others. Frozen parts are those of the parts, and live parts those of the raw facts.
 pub record IsBuiltFrom (b : Built) (k : StoreData) : Type 0 where
   pub settings : k.settings ≡ b.settings
   pub marks : k.marks ≡ b.marks
@@ -143,7 +143,7 @@ pub record IsBuiltFrom (b : Built) (k : StoreData) : Type 0 where
 
 -- ---- codes
 
--- as the data of a store, and which columns wait
+-- as the data of a store, and the columns that wait
 abbrev pub coded_built : Coded Built
 coded_built =
     code_by (StoreData × List Bool) (coded× coded_store_data (coded_list coded_bool))

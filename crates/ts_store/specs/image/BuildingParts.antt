@@ -1,4 +1,4 @@
--- What a store under construction is made of in memory. (Own rules.)
+-- The parts of a store under construction in memory. (Own rules.)
 use Rattle.std.specs.Prelude.{◌≡◌, ◌≤◌, ◌≤ℤ◌, ℕ, ℤ, Bool, true, not, List, [], ◌∷◌, length, map, Some, None, option_map}
 use Rattle.std.specs.FinMap as finmap
 use Rattle.std.specs.List.{AllByRecursion}
@@ -53,14 +53,14 @@ pub record IsInOrder (settings : Settings) (held : StoreContent) (passed : List 
 abbrev pub HasCellsOf : List Fact → Rule → ℤ → CellMap → Type 0
 HasCellsOf facts r low m = (f : Fact) → Among f facts → is_rolled r f ≡ true → low ≤ℤ (cell_of r f).index → finmap.get m (cell_of r f) ≡ None → ⊥
 
--- the missing cells of these facts are created, without content, but none below the low index, and none whose bucket has
--- no valid time
+-- the missing cells of these facts are created, without content, but none below the low index, and none whose bucket
+-- has no valid time
 pub record MakesCells (facts : List Fact) (r : Rule) (low : ℤ) (m n : CellMap) : Type 0 where
   pub gains : GainsCells facts r low m n
   pub there : HasCellsOf facts r low n
   pub indices : HasIndices r m → HasIndices r n
 
--- no cell comes or goes, and each frozen part stays
+-- no cell is created or removed, and each frozen part stays
 abbrev pub KeepsFrozen : CellMap → CellMap → Type 0
 KeepsFrozen m n = (k : Cell) → option_map (λ (p : CellParts). p.frozen) (finmap.get n k) ≡ option_map (λ (p : CellParts). p.frozen) (finmap.get m k)
 
@@ -79,7 +79,8 @@ AreFilledBut left all [] ms = Unit {0}
 AreFilledBut left all (r ∷ rs) [] = Unit {0}
 AreFilledBut left all (r ∷ rs) (m ∷ ms) = IsFilledBut left all r m × AreFilledBut left all rs ms
 
--- the missing cells of raw facts are created, and the facts are added to empty live parts; series, columns and lanes stay
+-- the missing cells of raw facts are created, and the facts are added to empty live parts; series, columns and lanes
+-- stay
 pub record FillsCells (rules : List Rule) (lows : List ℤ) (old new : StoreContent) : Type 0 where
   pub others : new ≡ content_with_cells (cells_of new.rollups) old
   pub cells : OfEachRule (PutsCells (facts_of old.columns)) rules lows (cells_of old.rollups) (cells_of new.rollups)

@@ -18,7 +18,7 @@ pub record ListsFirst (columns : List Column) (n : ℕ) (s : SavedSeries) : Type
   pub once : AllDistinct (map saved_field s.columns)
   pub each : (x : SavedColumn) → Among x s.columns ↔ ((x.number < n) × IsAt columns x.number (record { series = s.series; field = x.field }))
 
--- so for each series of an index
+-- the same for each series of an index
 pub record ListsColumns (index : Indexed) (n : ℕ) (all : List SavedSeries) : Type 0 where
   pub keys : map saved_key all ≡ index.series
   pub lists : AllByRecursion (ListsFirst index.columns n) all

@@ -1,4 +1,4 @@
--- The remaining cells of an iterator over frozen parts, and buckets that it doesn't leave out. (Own rules.)
+-- The remaining cells of an iterator over frozen parts, and the buckets in its range. (Own rules.)
 use Rattle.std.specs.Prelude.{ℕ, ◌<◌, pos, ◌≤ℤ◌, FitsSigned, Bool, nat_lt, List, length, map, filter}
 use Rattle.std.specs.Int.{w64}
 use Rattle.ts_core.specs.settings.Settings.{Rule}

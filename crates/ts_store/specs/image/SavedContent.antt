@@ -1,4 +1,5 @@
--- What an image takes of a store: its series and columns in order, and the frozen parts of cells. (Own rules.)
+-- The parts of a store that an image saves: its series and columns in order, and the frozen parts of cells. (Own
+-- rules.)
 use Rattle.std.specs.Prelude.{◌≡◌, ◌↔◌, ◌&&◌, ℕ, ℤ, int_le, nat_lt, true, List, [], ◌∷◌, map, filter}
 use Rattle.std.specs.declared.cmp.Ordering.{Ordering}
 use Rattle.std.specs.Ordering.{is_lt}
@@ -12,7 +13,7 @@ use Rattle.ts_core.specs.store.Cells.{Cell}
 use Rattle.ts_core.specs.store.StoreStates.{CellParts}
 use Rattle.ts_core.specs.store.StoreData.{CellMap}
 
--- each comes before the next
+-- each item is before the next
 abbrev pub AreRising : {X : Type 0} → (X → X → Ordering) → List X → Type 0
 AreRising cmp [] = Unit {0}
 AreRising cmp (x ∷ []) = Unit {0}

@@ -32,8 +32,8 @@ rollup_at ss n = get_or ss n new_rollup
 abbrev pub cells_of_rule : StoreContent → Rule → ℕ → ℤ → ℤ → List SeenCell
 cells_of_rule held r n a b = cells_within (rule_cells r (pos 0) (rollup_at held.rollups n).grid.cells) a b
 
--- the live part of each cell of the rule with this index is that of its raw facts, and no cell has more facts than can
--- be counted
+-- the live part of each cell of the rule with this index is that of its raw facts, and its facts are few enough to
+-- count
 pub record IsRuled (held : StoreContent) (r : Rule) (n : ℕ) : Type 0 where
   pub there : n < length held.rollups
   pub live : IsLive held.columns r (rollup_at held.rollups n).grid.cells

@@ -70,7 +70,7 @@ pub record AreAllNamed (columns : List Column) (ns : List ℕ) : Type 0 where
   pub field : Text
   pub are : ns ≡ numbers_where (is_of measurement field) columns
 
--- columns of an index, all those of one measurement and one field if `whole` says so
+-- columns of an index; if `whole`, they are all those of one measurement and one field
 pub record AreColumns (columns : List Column) (ns : List ℕ) (whole : Bool) : Type 0 where
   pub there : AllByRecursion (λ n. n < length columns) ns
   pub all : whole ≡ true → AreAllNamed columns ns

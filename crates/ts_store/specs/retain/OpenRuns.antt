@@ -1,5 +1,5 @@
--- An open retention run: the range of columns that it goes over, and those in it that it has no need to move; and the
--- invariant of a store. (Own rules.)
+-- An open retention run, with its range of columns and those in it that are passed; and the invariant of a store. (Own
+-- rules.)
 use Rattle.std.specs.Prelude.{◌≡◌, ◌<◌, ◌≤◌, ℕ, List, [], ◌∷◌, length, map, take, drop, get_or, Bool, true, false, if◌then◌else◌, Option, Some, None, IfSome, IfNone, refl}
 use Rattle.std.specs.Option.{is_some}
 use Rattle.std.specs.Coded.{Coded, code_by, coded×, coded_ℕ, coded_bool, coded_list}
@@ -15,8 +15,8 @@ use Rattle.ts_store.specs.rollup.Rollups.{AreRollups, cells_of}
 use Rattle.ts_store.specs.store.CellIndices.{HaveIndices}
 use Rattle.ts_store.specs.store.SizedStores.{IsSized}
 
--- an open run: the index of the column that it moves next, the number of columns when it began, and whether each of
--- these is passed, that is, counts as moved already; a column without a flag isn't passed
+-- An open run: the index of the column that it moves next, the number of columns when it began, and a flag per column.
+-- The flag is true if the column is passed, that is, counts as moved already. A column without a flag isn't passed.
 pub record Run : Type 0 where
   pub next : ℕ
   pub end : ℕ
@@ -42,7 +42,7 @@ abbrev pub IsToMove : Option Run → ℕ → Type 0
 IsToMove None n = ⊥
 IsToMove (Some run) n = (run.next ≤ n) × (n < run.end) × (get_or run.passed n false ≡ false)
 
--- the run ends at a column that was there
+-- the run ends at an existing column
 abbrev pub IsWithin : Option Run → List ColumnPoints → Type 0
 IsWithin run columns = IfSome run (λ r. (r.next ≤ r.end) × (r.end ≤ length columns))
 

@@ -1,4 +1,4 @@
--- What a step of a run does to the cells of rules: points of a column are frozen. (Own rules.)
+-- The effect of a step of a run on the cells of rules: points of a column are frozen. (Own rules.)
 use Rattle.std.specs.Prelude.{ℕ, ℤ, ◌+◌, ◌^◌, ◌≤◌, List, [], ◌∷◌, filter, length, map}
 use Rattle.ts_core.specs.facts.Facts.{Column, Fact}
 use Rattle.ts_core.specs.settings.Settings.{Rule}
@@ -34,13 +34,14 @@ points_in_cell r c k ps = length (filter (λ (p : ℤ × ℤ). is_in_cell r k (f
 abbrev pub FreezesFit : Rule → Column → List (ℤ × ℤ) → CellMap → Type 0
 FreezesFit r c ps m = (k : Cell) → frozen_count m k + points_in_cell r c k ps ≤ 2 ^ 62
 
--- so for each rule
+-- the same for each rule
 abbrev pub FreezeFit : List Rule → Column → List (ℤ × ℤ) → List CellMap → Type 0
 FreezeFit [] c ps ms = Unit {0}
 FreezeFit (r ∷ rs) c ps [] = Unit {0}
 FreezeFit (r ∷ rs) c ps (m ∷ ms) = FreezesFit r c ps m × FreezeFit rs c ps ms
 
--- the points of a column below a mark are frozen under each rule, and leave it; the live parts of their cells are what is left
+-- the points of a column below a mark are frozen under each rule and removed; the live parts of their cells are folded
+-- from the remaining points
 abbrev pub content_moved : List Rule → ColumnPoints → ℤ → StoreContent → StoreContent
 content_moved rs s mark held = record {
   series = held.series;

@@ -71,8 +71,8 @@ pub record TakesStep (old new : StoreData) (answer : StepAnswer) : Type 0 where
   pub marks : new.marks ≡ old.marks
   pub series : new.series ≡ old.series
 
--- A whole run goes by: what stood for a history stands for it with the run. Columns keep their order. Of each rule the
--- cells from its low index on stay, and no others.
+-- A whole run: a history that the store represented is represented with the run. Columns keep their order. The cells of
+-- each rule from its low index on stay, and no others.
 pub record Retains (now : ℤ) (old new : StoreData) : Type 0 where
   pub steps : ℕ
   -- with the last step, as many as were left after the begin

@@ -4,7 +4,7 @@ use Rattle.std.specs.Coded.{Coded, code_by, coded×, coded_ℕ, coded_list, code
 use Rattle.ts_store.specs.declared.rollup.lane_columns.Storage.{Storage}
 use Rattle.ts_store.specs.declared.rollup.lane_columns.Storage.TheVariants.{One, Many}
 
--- the columns, and whether there is capacity for one more
+-- the columns, and a flag that is true if there is capacity for one more
 pub record ColumnList : Type 0 where
   pub items : List ℕ
   pub place : Bool
@@ -21,10 +21,10 @@ coded_list_of_columns = code_by (List ℕ × Bool) (coded× (coded_list coded_�
 abbrev pub lists_in : List ColumnList → List (List ℕ)
 lists_in ls = map (λ (l : ColumnList). l.items) ls
 
--- whether each lane has capacity for one more
+-- for each lane, true if it has capacity for one more
 abbrev pub places_in : List ColumnList → List Bool
 places_in ls = map (λ (l : ColumnList). l.place) ls
 
--- the lane with this index has it
+-- the lane with this index has capacity for one more
 abbrev pub HasPlaceAt : List ColumnList → ℕ → Type 0
 HasPlaceAt ls n = get_or (places_in ls) n false ≡ true

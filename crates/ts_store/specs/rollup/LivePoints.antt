@@ -6,12 +6,12 @@ use Rattle.ts_raw.specs.Columns.{ColumnState, points_from, points_in_bucket}
 use Rattle.ts_store.specs.store.ColumnStates.{no_column}
 use Rattle.ts_store.specs.rollup.Rollups.{RollupState, columns_of_lane}
 
--- the points of columns, by their numbers, in a bucket of a rule
+-- the points of columns, by their indices, in a bucket of a rule
 abbrev pub points_in : Rule → List ColumnState → ℤ → List ℕ → List (ℤ × ℤ)
 points_in r columns index [] = []
 points_in r columns index (n ∷ ns) = points_in_bucket (get_or columns n no_column).points index r.interval r.offset ++ points_in r columns index ns
 
--- what the points of a lane's columns in a bucket add up to
+-- the aggregate of the points of a lane's columns in a bucket
 abbrev pub lane_total : Rule → RollupState → List ColumnState → ℕ → ℤ → Aggregate
 lane_total r s columns lane index = aggregate_of_points (points_in r columns index (columns_of_lane lane s))
 
@@ -23,6 +23,6 @@ points_since mark ps = filter (λ (p : ℤ × ℤ). int_le mark p.0) ps
 abbrev pub left_state : ℤ → ColumnState → ColumnState
 left_state mark s = record { points = points_from s.points mark; aside = None }
 
--- so the column of a number
+-- the same for the column with an index
 abbrev pub left_states : ℤ → ℕ → List ColumnState → List ColumnState
 left_states mark n states = set states n (left_state mark (get_or states n no_column))

@@ -129,7 +129,7 @@ abbrev pub joined_lane : List (Option ℕ) → Option (Option ℕ) → List (Opt
 joined_lane lanes None = lanes
 joined_lane lanes (Some o) = lanes ++ o ∷ []
 
--- the column is created: it gets the lane that was found for it
+-- the column is created: it gets its prepared lane
 abbrev pub with_next : RollupState → RollupState
 with_next s = record { grid = s.grid; lanes = joined_lane s.lanes s.next; next = None }
 

@@ -17,8 +17,8 @@ use Rattle.ts_store.specs.store.Inventories.{Inventory, inventory_of, AreFilled}
 
 -- ---- a rule is added
 
--- The inventory of a store that got a rule: one more list of cells, which are exactly those of the raw facts from the
--- low index on. The columns stay, and the same of them wait.
+-- The inventory of a store with an added rule: one more list of cells, exactly those of the raw facts from the low
+-- index on. The columns stay, and the same of them wait.
 pub record GainsRule (facts : List Fact) (r : Rule) (low : ℤ) (old new : Inventory) : Type 0 where
   pub columns : new.columns ≡ old.columns
   pub waiting : new.waiting ≡ old.waiting
@@ -26,9 +26,9 @@ pub record GainsRule (facts : List Fact) (r : Rule) (low : ℤ) (old new : Inven
   pub cells : new.cells ≡ old.cells ++ made ∷ []
   pub filled : AreFilled facts r low made
 
--- The rule stands last in the settings. Its low index is the first bucket that starts at or above the raw mark. It has
--- exactly the cells of the raw facts from there on: their frozen parts are empty, and their live parts are those of the
--- raw facts. Nothing else changes, and as many steps of an open run are left.
+-- The rule is last in the settings. Its low index is the first bucket that starts at or above the raw mark. It has
+-- exactly the cells of the raw facts from there on. Their frozen parts are empty, and their live parts are those of the
+-- raw facts. Nothing else changes, and the number of steps left of an open run stays.
 pub record RuleComes (old new : StoreData) (r : Rule) (low : ℤ) : Type 0 where
   pub first : low ≡ first_from r old.marks.raw
   pub cells : CellMap
@@ -48,8 +48,8 @@ pub record AddsRule (old new : StoreData) (r : Rule) (result : Result ℤ Settin
 
 -- ---- a rule is dropped
 
--- The rule with this name is taken out of the settings, with its low index and its cells. Nothing else changes, and no
--- more steps of an open run are left than before.
+-- The rule with this name is removed from the settings, with its low index and its cells. Nothing else changes, and the
+-- number of steps left of an open run isn't greater than before.
 pub record RuleGoes (old new : StoreData) (name : Text) : Type 0 where
   pub whole : new ≡ rule_dropped name old
   pub history : GoesOn old (DropRule name) new

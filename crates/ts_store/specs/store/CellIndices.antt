@@ -1,4 +1,5 @@
--- Indices of existing cells. With the range of times, the interval and the offset of a rule, they fit in 64 bits. (Own rules.)
+-- Indices of existing cells. With the range of times, the interval and the offset of a rule, they fit in 64 bits. (Own
+-- rules.)
 use Rattle.std.specs.Prelude.{◌≡◌, ℤ, List, [], ◌∷◌}
 use Rattle.std.specs.FinMap as finmap
 use Rattle.ts_core.specs.lists.Members.{Among}

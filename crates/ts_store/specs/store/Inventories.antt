@@ -1,5 +1,5 @@
--- The inventory of a store: which columns and cells exist, and which columns the open run hasn't moved yet. Writes add
--- to it, and the steps of a run go by it. (Own rules.)
+-- The inventory of a store: its columns and cells, and the columns that the open run hasn't moved yet. Writes add to
+-- it, and it determines the steps of a run. (Own rules.)
 use Rattle.std.specs.Prelude.{◌≡◌, ◌⊎◌, ◌↔◌, ◌+◌, ◌-◌, ◌<◌, ℕ, ℤ, int_lt, ◌≤ℤ◌, List, [], ◌∷◌, ◌++◌, map, filter, length, Result, Ok, Err, Option, Some, None}
 use Rattle.std.specs.FinMap as finmap
 use Rattle.ts_core.specs.lists.Members.{Among, AllDistinct}
@@ -34,7 +34,7 @@ inventory_of k = record { columns = map column_of k.columns; waiting = k.waiting
 abbrev pub new_inventory : Settings → Inventory
 new_inventory settings = record { columns = []; waiting = []; cells = map (λ (r : Rule). []) settings.rules }
 
--- the relation holds of each rule, its low index, and its cells before and after; no list of cells comes or goes
+-- the relation holds of each rule, its low index, and its cells before and after; the number of lists of cells stays
 abbrev pub OfRules : (Rule → ℤ → List Cell → List Cell → Type 0) → List Rule → List ℤ → List (List Cell) → List (List Cell) → Type 0
 OfRules P rules lows before after =
     (length after ≡ length before) × ((i : ℕ) (r : Rule) (low : ℤ) (old new : List Cell) → IsAt rules i r → IsAt lows i low → IsAt before i old → IsAt after i new → P r low old new)
@@ -52,8 +52,8 @@ pub record AddsSome (facts : List Fact) (r : Rule) (low : ℤ) (old new : List C
   pub created : (k : Cell) → Among k new → Among k old ⊎ ((low ≤ℤ k.index) × IsOfFacts facts r k)
   pub once : AllDistinct new
 
--- Facts were accepted: their missing columns are appended, in the order of the facts, and their missing cells are created.
--- No new column waits.
+-- Facts were accepted: their missing columns are appended, in the order of the facts, and their missing cells are
+-- created. No new column waits.
 pub record InventoryGrows (rules : List Rule) (lows : List ℤ) (facts : List Fact) (old new : Inventory) : Type 0 where
   pub columns : new.columns ≡ old.columns ++ new_columns old.columns facts
   pub waiting : new.waiting ≡ old.waiting

@@ -1,5 +1,5 @@
--- Plain facts about the data of a store, which its calls rely on and keep, and which a loader can check. They also hold of
--- a store that was loaded from an image that no store wrote, and that represents no history. (Own rules.)
+-- Plain facts about the data of a store, which its calls rely on and keep, and which a loader can check. They also hold
+-- of a store that was loaded from an image that no store wrote, and that represents no history. (Own rules.)
 use Rattle.std.specs.Prelude.{◌≡◌, ℤ, pos, ◌+ℤ◌, ◌≤◌, ◌≤ℤ◌, ◌^◌, IsTrue, List, length, map, None}
 use Rattle.std.specs.List.{AllByRecursion}
 use Rattle.ts_core.specs.lists.Members.{Among, AllDistinct}
@@ -12,8 +12,8 @@ use Rattle.ts_core.specs.store.StoreStates.{RuleCells, column_of, facts_of}
 use Rattle.ts_core.specs.store.StoreData.{StoreData, rules_of}
 use Rattle.ts_line.specs.Names.{IsKey, IsNamed}
 
--- The low index of a rule is at least that of the least time, and at most one more than that of the raw mark. From its low
--- index on, the rule has the cell of each of these raw facts that it rolls up.
+-- The low index of a rule is at least that of the least time, and at most one more than that of the raw mark. From its
+-- low index on, the rule has the cell of each of these raw facts that it rolls up.
 pub record IsSizedRule (mark : ℤ) (facts : List Fact) (r : RuleCells) : Type 0 where
   pub least : index_of r.rule least_time ≤ℤ r.low
   pub most : r.low ≤ℤ (index_of r.rule mark +ℤ pos 1)

@@ -48,7 +48,7 @@ with_line parts series s = record s { history = Line (line_facts parts) ∷ s.hi
 abbrev pub with_series : List Series → State → State
 with_series series s = record s { series = series }
 
--- the error that a line is refused with
+-- the error of a refused line
 abbrev pub refusal_in : State → Parts → Option WriteFault
 refusal_in s parts = write_fault (marks_of s.opening s.history).raw s.series (length (accepted s.history)) parts
 

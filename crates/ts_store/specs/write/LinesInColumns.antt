@@ -1,4 +1,4 @@
--- What a line leaves in columns and in what is kept for rules: its facts are put, or there was no memory. (Own rules.)
+-- The effect of a line on columns and on rollups: its facts are inserted, or the call ran out of memory. (Own rules.)
 use Rattle.std.specs.Prelude.{◌≡◌, ◌⊎◌, ℕ, ℤ, List, [], map, Result, OnOk}
 use Rattle.std.specs.List.{AllByRecursion}
 use Rattle.ts_core.specs.settings.Settings.{Rule}
@@ -16,8 +16,8 @@ use Rattle.ts_store.specs.rollup.Rollups.{AreRollups, cells_of}
 use Rattle.ts_store.specs.write.LinesPut.{OfEachRule, PutsCells, GainsCells}
 use Rattle.ts_store.specs.write.Registered.{MayGain, MakesAll, MakesFirst, new_columns, with_columns}
 
--- what is left by a call that sets a line's points aside, each in its column, and answers the numbers of these: columns that weren't
--- there are made, in the order in which fields first stand, and without memory the first of them
+-- The effect of a call that stages a line's points, each in its column, and returns the indices of these columns.
+-- Missing columns are created, in the order in which fields first occur; when out of memory, the first of them.
 pub record SetsAside {E : Type 0} (p : Parts) (before : Indexed) (states : List ColumnState) (after : Indexed) (states' : List ColumnState) (numbers : List ℕ) (result : Result (Unit {0}) E) : Type 0 where
   pub aside : OnOk result (AreAside after.columns states' numbers (line_facts p))
   pub taken : OnOk result (AllByRecursion (MayBeTaken least_time) (line_facts p))
@@ -26,11 +26,12 @@ pub record SetsAside {E : Type 0} (p : Parts) (before : Indexed) (states : List 
   pub held : IsSoundContent after states'
   pub series : after.series ≡ before.series
 
--- under these rules the line's series is registered, its new columns are made, there is room for its facts in cells from low indices on,
--- and they are put, into columns and cells: facts that may be taken from the least time on
+-- Under these rules the line's series is registered, and its new columns and the missing cells of its facts from low
+-- indices on are created. Then the facts are inserted, into columns and cells. Their times are at or above the least
+-- time.
 pub record PutsLine (rules : List Rule) (lows : List ℤ) (old new : StoreContent) (p : Parts) : Type 0 where
   pub series : Gains old.series new.series (series_of p)
-  -- the cells before the first fact is put
+  -- the cells before the first fact is inserted
   pub roomy : List CellMap
   pub facts : PutsFacts rules (with_columns old.columns (new_columns (map column_of old.columns) (line_facts p))) roomy new.columns (cells_of new.rollups) (line_facts p)
   pub taken : AllByRecursion (MayBeTaken least_time) (line_facts p)
@@ -39,7 +40,7 @@ pub record PutsLine (rules : List Rule) (lows : List ℤ) (old new : StoreConten
   pub rooms : HaveRoom rules lows (line_facts p) (cells_of old.rollups) roomy
   pub cells : OfEachRule (PutsCells (line_facts p)) rules lows (cells_of old.rollups) (cells_of new.rollups)
 
--- without memory the series may be registered, and the first of the new columns and cells made
+-- when out of memory, the series may be registered, and the first of the new columns and some of the cells created
 pub record GrowsForLine (rules : List Rule) (lows : List ℤ) (old new : StoreContent) (p : Parts) : Type 0 where
   pub series : MayGain old.series new.series (series_of p)
   pub columns : MakesFirst old.columns new.columns (line_facts p)
@@ -47,5 +48,5 @@ pub record GrowsForLine (rules : List Rule) (lows : List ℤ) (old new : StoreCo
   pub rollups : AreRollups rules (map column_of new.columns) new.rollups
   pub rooms : HaveRoom rules lows [] (cells_of old.rollups) (cells_of new.rollups)
   pub cells : OfEachRule (GainsCells (line_facts p)) rules lows (cells_of old.rollups) (cells_of new.rollups)
-  -- cells are created only for facts that may be taken
+  -- cells are created only for facts that may be accepted
   pub taken : (cells_of new.rollups ≡ cells_of old.rollups) ⊎ AllByRecursion (MayBeTaken least_time) (line_facts p)

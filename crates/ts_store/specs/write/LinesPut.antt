@@ -18,7 +18,7 @@ use Rattle.ts_store.specs.declared.write.fault.WriteFault.TheVariants.{OutOfMemo
 use Rattle.ts_store.specs.write.Refusals.{write_fault}
 use Rattle.ts_store.specs.write.Registered.{MayGain, MakesFirst, new_columns, with_columns}
 
--- the relation holds of each rule, its low index, and its cells before and after; no list of cells comes or goes
+-- the relation holds of each rule, its low index, and its cells before and after; the number of lists of cells stays
 abbrev pub OfEachRule : (Rule → ℤ → CellMap → CellMap → Type 0) → List Rule → List ℤ → List CellMap → List CellMap → Type 0
 OfEachRule P rules lows before after =
     (length after ≡ length before) × ((i : ℕ) (r : Rule) (low : ℤ) (m n : CellMap) → IsAt rules i r → IsAt lows i low → IsAt before i m → IsAt after i n → P r low m n)
@@ -27,21 +27,21 @@ OfEachRule P rules lows before after =
 abbrev pub IsOfFacts : List Fact → Rule → Cell → Type 0
 IsOfFacts facts r k = (f : Fact) × Among f facts × IsTrue (is_in_cell r k f)
 
--- The cells of a rule after facts were put. The missing cells of these facts are created, but none below the low
+-- The cells of a rule after facts were inserted. The missing cells of these facts are created, but none below the low
 -- index, and no others. A frozen part stays, and so does each cell of no such fact.
 pub record PutsCells (facts : List Fact) (r : Rule) (low : ℤ) (m n : CellMap) : Type 0 where
   pub there : (k : Cell) → (finmap.get n k ≢ None) ↔ ((finmap.get m k ≢ None) ⊎ ((low ≤ℤ k.index) × IsOfFacts facts r k))
   pub frozen : (k : Cell) → (or_else no_parts (finmap.get n k)).frozen ≡ (or_else no_parts (finmap.get m k)).frozen
   pub others : (k : Cell) → (IsOfFacts facts r k → ⊥) → finmap.get n k ≡ finmap.get m k
 
--- The cells of a rule after out of memory: each cell stays. Some missing cells of these facts may be created, without
+-- The cells of a rule when out of memory: each cell stays. Some missing cells of these facts may be created, without
 -- content, but none below the low index.
 pub record GainsCells (facts : List Fact) (r : Rule) (low : ℤ) (m n : CellMap) : Type 0 where
   pub stays : (k : Cell) (p : CellParts) → finmap.get m k ≡ Some p → finmap.get n k ≡ Some p
   pub created : (k : Cell) (p : CellParts) → finmap.get m k ≡ None → finmap.get n k ≡ Some p → (p ≡ no_parts) × (low ≤ℤ k.index) × IsOfFacts facts r k
 
--- The line is accepted. Its new columns and its missing cells are created. An open run stays as it is: no new column
--- waits, and as many steps are left.
+-- The line is accepted. Its new columns and its missing cells are created. An open run stays the same: no new column
+-- waits, and the number of steps left stays.
 pub record Accepts (old new : StoreData) (p : Parts) : Type 0 where
   pub history : GoesOn old (Line (line_facts p)) new
   pub series : Gains old.series new.series (series_of p)

@@ -1,4 +1,4 @@
--- A fact that is put into its column, and what its cells then have. (Own rules.)
+-- A fact that is inserted into its column, and the resulting cells. (Own rules.)
 use Rattle.std.specs.Prelude.{◌≡◌, ℕ, ℤ, ◌+◌, ◌≤◌, ◌^◌, false, List, [], ◌∷◌, length, slice_get, Option, Some, None}
 use Rattle.ts_core.specs.lists.Members.{Among, AllDistinct}
 use Rattle.ts_core.specs.facts.Facts.{Column, Fact, id_of, same_id}
@@ -18,12 +18,12 @@ pub record IsOver (r : Rule) (cs : List Column) (states : List ColumnState) (s :
   pub once : AllDistinct cs
   pub lanes : HaveLanes r s.grid.lanes cs s.lanes
 
--- this value was there under the fact's id, or none
+-- the id of the fact had this value, or none
 abbrev pub WasThere : List ColumnPoints → Fact → Option ℤ → Type 0
 WasThere before f None = (g : Fact) → Among g (facts_of before) → same_id (id_of g) (id_of f) ≡ false
 WasThere before f (Some v) = IsOldOf before f (record { column = f.column; time = f.time; value = v })
 
--- the fact was put into the column of a number, where this value was, or none
+-- the fact was inserted into the column with this index, whose value there was this, or none
 pub record IsPut (cs : List Column) (states : List ColumnState) (before : List ColumnPoints) (n : ℕ) (f : Fact) (old : Option ℤ) : Type 0 where
   pub at : slice_get cs n ≡ Some f.column
   pub distinct : AllDistinct (facts_of before)
@@ -38,6 +38,6 @@ AreOfFields time [] (f ∷ fs) = ⊥
 AreOfFields time (x ∷ xs) [] = ⊥
 AreOfFields time (x ∷ xs) (f ∷ fs) = (f.time ≡ time) × (f.value ≡ x.1) × AreOfFields time xs fs
 
--- whatever room is made, the live part of each cell that is there is that of its raw facts
+-- with more cells created, the live part of each existing cell is still that of its raw facts
 abbrev pub StayLive : List Rule → List ℤ → List ColumnPoints → List CellMap → Type 0
 StayLive rs lows columns ms = (facts : List Fact) (ns : List CellMap) → HaveRoom rs lows facts ms ns → AreLive columns rs ns

@@ -13,6 +13,6 @@ write_fault_text TooManySeries = fault_text code.TooManySeries Alone
 write_fault_text TooManyFacts = fault_text code.TooManyFacts Alone
 write_fault_text OutOfMemory = memory_text
 
--- the message of a run that didn't begin
+-- the message of a run that was refused
 abbrev pub run_in_progress_text : Text
 run_in_progress_text = fault_text code.RunInProgress Alone

@@ -1,4 +1,4 @@
-//! Series, columns and cells that are made of given parts.
+//! Series, columns and cells of a store under construction.
 ghost use Rattle.std.specs.Prelude.{◌≡◌, ◌≤◌, ◌<◌, ◌++◌, ◌∷◌, [], ◌^◌, pos, ◌≤ℤ◌, length, map, None, set, IfOk, OnOk, OnErr, List};
 ghost use Rattle.std.specs.FinMap as finmap;
 ghost use Rattle.std.specs.List.{AllByRecursion};

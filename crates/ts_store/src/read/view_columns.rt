@@ -11,7 +11,7 @@ use std::alloc::{AllocError, Allocator};
 use std::marker::Model;
 use ts_raw::{ColumnId, Index};
 
-/// Iterator over columns. Its model is the list of those that remain. Knows whether they are all columns of a
+/// Iterator over columns. Its model is the list of those that remain. Has a flag: true if they are all columns of a
 /// measurement and a field, which the index can narrow by a tag.
 #[derive(Drop)]
 pub struct Columns<'a, A: Allocator> {
@@ -120,8 +120,8 @@ impl<'a, A: Allocator + Copy> Columns<'a, A> {
         }
     }
 
-    /// Returns those of the columns that remain whose series has this value of a tag, in the same order. Finds them by the
-    /// index if it can, without visiting the others.
+    /// Returns those of the columns that remain whose series has this value of a tag, in the same order. Finds them by
+    /// the index if it can, without visiting the others.
     pub fn with_tag(
         &self,
         alloc: A,

@@ -36,7 +36,7 @@ fn expire_first<A: Allocator + Copy>(rollups: &mut [Rollup<A>], lows: &[i128]) -
 }
 
 impl<A: Allocator + Copy> ColumnFacts<A> {
-    /// Returns the number of columns. Also states that the points of each column are in the order of time.
+    /// Returns the number of columns. Its contract also states that the points of each column are in the order of time.
     pub(crate) fn column_count(&self) -> usize
         ensures count { result ≡ length self.now.columns }
         ensures rising { AllByRecursion HasRisingPoints self.now.columns }

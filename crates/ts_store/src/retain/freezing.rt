@@ -86,8 +86,8 @@ fn refold_points<A: Allocator + Copy>(
     }
 }
 
-/// Freezes a column's points below a mark under a rule, if the column is of the rule's measurement, and folds the live
-/// parts of their cells again without them.
+/// Freezes a column's points below a mark under a rule, and folds the live parts of their cells again without them.
+/// Does nothing if the column is of another measurement.
 fn move_points<A: Allocator + Copy>(
     rule: &Rule<A>,
     rollup: &mut Rollup<A>,

@@ -1,4 +1,4 @@
-//! The retention run of a store: the columns that it still has to move.
+//! The retention run of a store, with the columns that it still has to move.
 ghost use Rattle.std.specs.Prelude.{◌≡◌, ◌↔◌, IsTrue, ◌≤◌, ◌<◌, true, false, get_or, is_some, Some, None, MatchOption};
 ghost use Rattle.ts_store.specs.retain.OpenRuns.{ArePassed, IsToMove, TakesFirst, run_of, run_over};
 
@@ -18,7 +18,8 @@ fn first_waiting(passed: &[bool], next: usize, end: usize) -> Option<usize>
 }
 
 /// The retention run of a store. If it is open: the column that it moves next, the number of columns at its start, and
-/// which of these count as moved already. Columns created since then count as moved too.
+/// a flag per column. The flag is true if the column counts as moved already. Columns created since then count as moved
+/// too.
 #[derive(Drop)]
 pub(crate) struct Run<A: Allocator> {
     running: bool,
@@ -52,7 +53,7 @@ impl<A: Allocator> Run<A> {
         }
     }
 
-    /// Creates a run over this many columns, open or not, of which those with a true flag count as moved.
+    /// Creates a run over this many columns, open or not; those with a true flag count as moved.
     pub(crate) fn over(running: bool, columns: usize, passed: Vec<bool, A>) -> Run<A>
         ensures { result ≡ run_of running 0 columns passed.items }
     {
@@ -81,7 +82,7 @@ impl<A: Allocator> Run<A> {
         self.passed.clear();
     }
 
-    /// Takes the first waiting column off the open run, and returns its index. Returns `None` if no column waits.
+    /// Removes the first waiting column from the open run, and returns its index. Returns `None` if no column waits.
     pub(crate) fn take_first(&mut self) -> Option<usize>
         requires { is_some self.old ≡ true }
         ensures { TakesFirst self.old self.new result }

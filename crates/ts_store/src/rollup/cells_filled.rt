@@ -1,4 +1,4 @@
-//! Cells that are made for raw points, and filled with them.
+//! Creates the cells of raw points, and adds the points to them.
 ghost use Rattle.std.specs.Prelude.{◌≡◌, ◌⊎◌, ◌≤◌, ◌<◌, ◌<ℤ◌, ◌++◌, ◌^◌, pos, ◌≤ℤ◌, List, length, map, OnOk, true, false, Some};
 ghost use Rattle.std.specs.FinMap as finmap;
 ghost use Rattle.std.specs.List.{AllByRecursion};
@@ -99,8 +99,8 @@ pub(crate) fn make_all_cells<A: Allocator + Copy>(
     Ok(())
 }
 
-/// Adds points of a column to the live parts of their cells under a rule. Points of one bucket mostly follow one another,
-/// so it folds them first and adds them at once.
+/// Adds points of a column to the live parts of their cells under a rule. Points of one bucket mostly follow one
+/// another, so it folds them first and adds them at once.
 fn add_points<A: Allocator + Copy>(
     rule: &Rule<A>,
     rollup: &mut Rollup<A>,
@@ -172,8 +172,8 @@ pub(crate) fn add_all_points<A: Allocator + Copy>(
 }
 
 impl<A: Allocator + Copy> ColumnFacts<A> {
-    /// Creates the missing cells of raw facts, from low indices on, and adds the facts to live parts. After out of memory,
-    /// some cells may be missing.
+    /// Creates the missing cells of raw facts, from low indices on, and adds the facts to live parts. After out of
+    /// memory, some cells may be missing.
     pub(crate) fn fill_cells(&mut self, rules: &[Rule<A>], lows: &[i128]) -> Result<(), AllocError>
         requires intervals { AllByRecursion (λ r. pos 1 ≤ℤ r.interval) rules.now }
         requires rollups { AreRollups rules.now (map column_of self.old.columns) self.old.rollups }

@@ -44,7 +44,8 @@ impl<A: Allocator + Copy> ColumnFacts<A> {
         *self.columns.allocator()
     }
 
-    /// Creates the rollup of a rule: makes the cells of the raw facts from the low index on, and folds their live parts.
+    /// Creates the rollup of a rule: creates the cells of the raw facts from the low index on, and folds their live
+    /// parts.
     pub(crate) fn rollup_of(&self, rule: &Rule<A>, low: &i128) -> Result<Rollup<A>, AllocError>
         requires interval { pos 1 ≤ℤ rule.now.interval }
         requires few { length (facts_of self.now.columns) ≤ 2 ^ 62 }

@@ -17,8 +17,9 @@ pub struct AddedRule {
 }
 
 impl<A: Allocator + Copy> Store<A> {
-    /// Parses a rule, which is a JSON object as in settings, and adds it as `add_rule` does. Returns its name and its low
-    /// index. An error of the text or of the rule, or out of memory, changes nothing. The JSON parser allocates in `json`.
+    /// Parses a rule, which is a JSON object as in settings, and adds it as `add_rule` does. Returns its name and its
+    /// low index. An error of the text or of the rule, or out of memory, changes nothing. The JSON parser allocates in
+    /// `json`.
     pub fn add_rule_text(
         &mut self,
         alloc: A,

@@ -1,4 +1,4 @@
-//! A store made of parts that were read from elsewhere: series, columns with their points, and frozen parts of cells.
+//! Creates a store from parts that were read elsewhere: series, columns with their points, and frozen parts of cells.
 ghost use Rattle.std.specs.Prelude.{◌≡◌, ◌<◌, [], length, map, None, IfOk, OnOk, OnErr};
 ghost use Rattle.std.specs.FinMap as finmap;
 ghost use Rattle.ts_core.specs.facts.Facts.{Series};
@@ -19,7 +19,7 @@ use std::marker::Model;
 use ts_core::{Agg, KeyRef, Marks, Settings, Time};
 use ts_raw::SeriesId;
 
-/// A store under construction. What is added becomes part of the store; live parts of cells are computed at the end.
+/// A store under construction. Parts are added one by one; live parts of cells are computed at the end.
 #[derive(Drop)]
 pub struct StoreBuilder<A: Allocator> {
     settings: Settings<A>,
@@ -27,7 +27,7 @@ pub struct StoreBuilder<A: Allocator> {
     running: bool,
     accepted: u64,
     facts: ColumnFacts<A>,
-    /// For each column, whether it counts as moved, that is, doesn't wait for the open run.
+    /// For each column, true if it counts as moved, that is, doesn't wait for the open run.
     passed: Vec<bool, A>,
 }
 
@@ -78,8 +78,8 @@ impl<A: Allocator + Copy> StoreBuilder<A> {
         self.facts.add_series(key)
     }
 
-    /// Adds a column, which must be new, with its points. These must be in the order of time, each time once. `waits` says
-    /// whether the column waits for the open run. On allocation failure, nothing changes.
+    /// Adds a column, which must be new, with its points. These must be in the order of time, each time once. `waits`
+    /// is true if the column waits for the open run. On allocation failure, nothing changes.
     pub fn add_column(
         &mut self,
         series: SeriesId,
@@ -120,7 +120,7 @@ impl<A: Allocator + Copy> StoreBuilder<A> {
         self.facts.add_cell(rule, index, field, group, frozen)
     }
 
-    /// Creates the store: makes the cells of raw facts from low indices on, and folds live parts.
+    /// Creates the store: creates the cells of raw facts from low indices on, and folds live parts.
     pub fn finish(self) -> Result<Store<A>, AllocError>
         requires { IsBuildable self }
         ensures { IfOk result (IsBuiltFrom self) }

@@ -1,4 +1,4 @@
-//! Facts in columns, which an index finds.
+//! Index of columns with their facts.
 ghost use Rattle.std.specs.Prelude.{◌≡◌, ◌≤◌, ◌<◌, ◌+◌, ◌*◌, ◌^◌, [], false, length, map, pos, ◌≤ℤ◌, replicate, slice_index_or, IfOk, OnOk, OnErr};
 ghost use Rattle.std.specs.List.{AllByRecursion};
 ghost use Rattle.ts_core.specs.facts.Facts.{is_of};

@@ -12,7 +12,7 @@ use ts_core::{Rule, SettingsError, UnknownRule, first_index};
 impl<A: Allocator + Copy> Store<A> {
     /// Appends a rule to the settings, and creates its cells from its low index on, folded from the raw points. Returns
     /// the low index: the first bucket that starts at or above the raw mark. If `check_rule` finds a fault, returns
-    /// that. On an error, nothing changes. An open run goes on.
+    /// that. On an error, nothing changes. An open run continues.
     pub fn add_rule(&mut self, rule: Rule<A>) -> Result<i64, SettingsError>
         ensures { AddsRule self.old self.new rule result }
     {
@@ -24,14 +24,14 @@ impl<A: Allocator + Copy> Store<A> {
         Ok(low)
     }
 
-    /// Returns the low index of a rule that is added now: the first bucket that starts at or above the raw mark. Also
-    /// states that the mark is a valid time.
+    /// Returns the low index of a rule that is added now: the first bucket that starts at or above the raw mark. Its
+    /// contract also states that the mark is a valid time.
     fn start_of(&self, rule: &Rule<A>) -> i64
         requires { added_fault self.now.settings rule.now ≡ None }
         ensures low { result ≡ first_from rule.now self.now.marks.raw }
         ensures mark { IsTime self.now.marks.raw }
     {
-        // The contract of this call states that the offset fits.
+        // for the proof: the contract of this call states that the offset fits
         let _ = rule.duration();
         first_index(rule, self.marks.raw()) as i64
     }
@@ -58,7 +58,7 @@ impl<A: Allocator + Copy> Store<A> {
     }
 
     /// Removes a rule from the settings, with its low index and its cells. Returns an error if no rule has the name;
-    /// nothing changes then. Does not allocate. An open run goes on.
+    /// nothing changes then. Does not allocate. An open run continues.
     pub fn drop_rule(&mut self, name: &str) -> Result<(), UnknownRule>
         ensures { DropsRule self.old self.new name.now result }
     {

@@ -1,4 +1,4 @@
-//! What an image takes of a store.
+//! The parts of a store that an image saves.
 ghost use Rattle.std.specs.Prelude.{◌≡◌, ◌↔◌, ◌<◌, IfOk, IsTrue, length, map, pos, slice_index_or};
 ghost use Rattle.std.specs.FinMap as finmap;
 ghost use Rattle.ts_core.specs.lists.Members.{Among};
@@ -40,8 +40,8 @@ impl<A: Allocator + Copy> Store<A> {
         self.facts.points_of(column)
     }
 
-    /// Returns an iterator over the cells of a rule, by its number, from its low index on: those whose frozen part isn't
-    /// empty, in the order of index, field and group.
+    /// Returns an iterator over the cells of the rule with this index that have frozen facts, from its low index on.
+    /// They are ordered by index, field and group.
     pub fn frozen_cells(&self, rule: usize) -> FrozenCells<'_, A>
         requires { rule < length self.now.settings.rules }
         ensures { result ≡ frozen_from (slice_index_or self.now.marks.lows rule (pos 0)) (slice_index_or self.now.cells rule finmap.empty) }

@@ -32,8 +32,8 @@ fn is_rolled<A: Allocator + Copy>(rollups: &[Rollup<A>], column: usize) -> bool
     }
 }
 
-/// Adds a fact, which is in its column already, to the cell of its bucket, if the rule rolls the column up and the cell
-/// exists. `old` is the value that the fact replaced.
+/// Adds a fact, which is in its column already, to the cell of its bucket. Does nothing if the rule doesn't roll the
+/// column up, or if the cell doesn't exist. `old` is the value that the fact replaced.
 fn put_under<A: Allocator + Copy>(
     rule: &Rule<A>,
     rollup: &mut Rollup<A>,

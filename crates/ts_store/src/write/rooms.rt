@@ -1,4 +1,4 @@
-//! Room for the cells of facts, before any of them is put in.
+//! Creates the cells of a line's facts before any fact is inserted.
 ghost use Rattle.std.specs.Prelude.{◌≡◌, ◌<◌, ◌≤ℤ◌, pos, length, OnOk, OnErr};
 ghost use Rattle.std.specs.List.{AllByRecursion};
 ghost use Rattle.ts_core.specs.store.Marks.{index_of};
@@ -10,8 +10,8 @@ use std::alloc::{AllocError, Allocator};
 use ts_core::{Rule, Time, index_of};
 use ts_raw::ColumnId;
 
-/// Makes room under a rule for the cells of points of columns at one time, if that is not below the low index. After
-/// out of memory, there is room for those of the first columns.
+/// Creates the cells of columns' points at one time under a rule, unless the time is below the low index. When out of
+/// memory, the cells of the first columns may exist.
 fn make_rooms_of<A: Allocator + Copy>(
     rule: &Rule<A>,
     low: &i128,
@@ -35,8 +35,8 @@ fn make_rooms_of<A: Allocator + Copy>(
     Ok(())
 }
 
-/// Makes room under each rule for the cells of points of columns at one time, from its low index on. After out of
-/// memory, there is room for some of them.
+/// Creates the cells of columns' points at one time under each rule, from its low index on. When out of memory, some of
+/// them may exist.
 pub(crate) fn make_rooms<A: Allocator + Copy>(
     rules: &[Rule<A>],
     lows: &[i128],

@@ -17,7 +17,7 @@ use Rattle.ts_store.proofs.write.ColumnsAside.{grown_aside, made_next, first_mad
 use Rattle.ts_store.proofs.store.Stands.{taken_more}
 use Rattle.ts_store.proofs.write.columns.prepare_line.Goals as goal
 
--- what a refusal leaves
+-- the state after a refusal
 refused : {E : Type 0} (p : Parts) (before : Indexed) (states : List ColumnState) (after : Indexed) (states' : List ColumnState) (ns : List ℕ) (r : Result (Unit {0}) E) (e : E) → r ≡ Err e
     → MakesFirst (columns_in before states) (columns_in after states') (line_facts p) → IsSoundContent after states' → after.series ≡ before.series → SetsAside p before states after states' ns r
 refused {E} p before states after states' ns r e is made held series =

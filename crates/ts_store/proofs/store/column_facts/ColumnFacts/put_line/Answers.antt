@@ -49,7 +49,7 @@ still_rollups rules old before after states us was same held have =
     subst (λ (cs : List Column). AreRollups rules cs us) (names_held before states held.each ∙ sym same)
     (subst (λ (h : StoreContent). AreRollups rules (map column_of h.columns) h.rollups) (sym was) have)
 
--- what is left without memory
+-- the state after the call ran out of memory
 grown : (rules : List Rule) (lows : List ℤ) (p : Parts) (key : Series) (old : StoreContent) (before between after : Indexed) (states states' : List ColumnState) (us us' us'' : List RollupState) → key ≡ series_of p → content_of before states us ≡ old
     → MayGain before.series between.series key → between.columns ≡ before.columns → after.series ≡ between.series → MakesFirst (columns_in between states) (columns_in after states') (line_facts p)
     → IsSoundContent after states' → us'' ≡ us' → AreRollups rules after.columns us' → HaveRoom rules lows [] (cells_of us) (cells_of us')
