@@ -1,4 +1,4 @@
-//! Coded blocks: bytes with their points, and bytes that are no block with their fault.
+//! Coded blocks: bytes with their points, and bytes that aren't a block with their fault.
 
 use std::alloc::Global;
 use ts_block::{BlockFault, Decoder, check, encode};
@@ -21,7 +21,7 @@ const BLOCKS: [(&[u8], &[(i64, i64)]); 3] = [
 const LEAST_BLOCK: &[u8] =
     b"\x00\x80\x00\x00\x00\x00\x00\x00\x02\xff\xff\xff\xff\xff\xff\xff\xff\xff\x01";
 
-/// Bytes that are no block, and their fault.
+/// Bytes that aren't a block, and their fault.
 const FAULTS: [(&[u8], BlockFault); 4] = [
     (
         b"\x00\x80\x00\x00\x00\x00\x00\x00\x01\x00",
@@ -38,7 +38,7 @@ const FAULTS: [(&[u8], BlockFault); 4] = [
     ),
 ];
 
-/// Returns the points of a block; none if the bytes are no block, or out of memory.
+/// Returns the points of a block; none if the bytes aren't a block, or when out of memory.
 fn points_of(alloc: Global, bytes: &[u8]) -> Option<Vec<(i64, i64)>> {
     if check(bytes).is_err() {
         return None;

@@ -1,4 +1,4 @@
-//! The cells of a rule at their limits: counts of 2^62, buckets at both ends, and cells that are removed in portions.
+//! The cells of a rule at their limits: counts of 2^62, buckets at both ends, and cells that are removed in batches.
 ghost use Rattle.std.specs.Prelude.{◌<◌, length, IfOk};
 
 use crate::stores::at_second;
@@ -39,7 +39,7 @@ fn cells_are_removed_in_portions(rt: HostRuntime) -> Result<(), Fail> {
     Ok(())
 }
 
-/// Returns true if these buckets have cells, and no others from one on and before another.
+/// Returns true if exactly these buckets have cells, of those from one, inclusive, to another, exclusive.
 fn has_buckets(cells: &Cells<Agg, Global>, from: i128, to: i128, indices: &[i128]) -> bool {
     let mut left = indices;
     for cell in cells.walk(&from, &to) {
@@ -89,13 +89,13 @@ fn a_count_has_a_limit(rt: HostRuntime) -> Result<(), Fail> {
     let one = Agg::single(time, 1);
     let most = all_but_one(time)?;
     let mut cells = Cells::new(rt.alloc());
-    // without a cell nothing is kept
+    // without a cell nothing is added
     add_to_both(&mut cells, one)?;
     assert_eq!(rt; counts(&mut cells)?, None);
     make_room(&mut cells, 0)?;
     add_to_both(&mut cells, most)?;
     assert_eq!(rt; counts(&mut cells)?, Some((MAX_COUNT - 1, MAX_COUNT - 1)));
-    // the second of two points would pass 2^62, and is left out
+    // the second of two points would exceed 2^62, and is left out
     for _ in 0..2 {
         add_to_both(&mut cells, one)?;
         assert_eq!(rt; counts(&mut cells)?, Some((MAX_COUNT, MAX_COUNT)));

@@ -1,4 +1,4 @@
-//! One list of calls and answers for each way to keep a column.
+//! One list of calls with their expected results, for each kind of column.
 
 use std::alloc::Global;
 use std::test::Fail;
@@ -6,26 +6,26 @@ use ts_block::check;
 use ts_core::Time;
 use ts_raw::{BlockColumn, Column, PlainColumn};
 
-/// Times: the first one, how far the next one lies from each, and how many there are.
+/// Times: the first one, the distance of each to the next, and their number.
 #[derive(Clone, Copy)]
 struct Times(i64, i64, usize);
 
-/// A call on a column, or an answer to expect. The points of `Times` have 3 times their time as a value.
+/// A call on a column, or an expected result. The points of `Times` have 3 times their time as a value.
 #[derive(Clone, Copy)]
 enum Call {
-    /// Puts points, one after another.
+    /// Inserts points, one after another.
     Put(Times),
-    /// Puts a point.
+    /// Inserts a point.
     PutOne(i64, i64),
     /// Stages a point.
     Stage(i64, i64),
     /// Removes the points before a time.
     DropBelow(i64),
-    /// From one time to another there are these points.
+    /// There are these points from one time, inclusive, to another, exclusive.
     Range(i64, i64, Times),
-    /// From one time to another there is one point, with this time and value.
+    /// There is one point from one time, inclusive, to another, exclusive, with this time and value.
     One(i64, i64, i64, i64),
-    /// There are so many points.
+    /// The number of points is this.
     Live(usize),
 }
 
@@ -80,7 +80,7 @@ const ROWS: [&[Call]; 6] = [
         Call::DropBelow(GREATEST),
         Call::One(i64::MIN, i64::MAX, GREATEST, i64::MIN),
     ],
-    // a staged point is none, and the next one takes its place
+    // a staged point isn't counted, and the next one replaces it
     &[
         Call::Stage(1, 2),
         Call::Live(0),
@@ -91,7 +91,7 @@ const ROWS: [&[Call]; 6] = [
         Call::DropBelow(2),
         Call::One(0, 9, 3, 4),
     ],
-    // late points in turn with new ones
+    // late points alternating with new ones
     &[
         Call::Put(Times(1_000, 1, 300)),
         Call::Put(Times(700, 1, 300)),
@@ -109,7 +109,7 @@ fn stage<C: Column>(column: &mut C, time: i64, value: i64) -> Result<(), Fail> {
     Ok(())
 }
 
-/// Puts a point.
+/// Inserts a point.
 fn put<C: Column>(column: &mut C, time: i64, value: i64) -> Result<(), Fail> {
     let time = Time::new(time).ok_or("a time")?;
     column.prepare(time, value)?;
@@ -117,7 +117,7 @@ fn put<C: Column>(column: &mut C, time: i64, value: i64) -> Result<(), Fail> {
     Ok(())
 }
 
-/// Puts points, one after another.
+/// Inserts points, one after another.
 fn put_all<C: Column>(column: &mut C, times: Times) -> Result<(), Fail> {
     let mut time = times.0;
     for _ in 0..times.2 {
@@ -155,7 +155,7 @@ fn has_one<C: Column>(column: &C, from: i64, to: i64, time: i64, value: i64) -> 
     first.is_some_and(|point| point.0.nanos() == time && point.1 == value) && points.len() == 0
 }
 
-/// Makes a call on a column; returns false if the answer is another than the expected one.
+/// Calls a column; returns false if the result isn't the expected one.
 fn answers<C: Column>(column: &mut C, call: Call) -> Result<bool, Fail> {
     match call {
         Call::Put(times) => put_all(column, times)?,
@@ -169,8 +169,8 @@ fn answers<C: Column>(column: &mut C, call: Call) -> Result<bool, Fail> {
     Ok(true)
 }
 
-/// Returns the index of the first call that is answered otherwise than expected, or after which more than 256 points
-/// more are held than there are.
+/// Returns the index of the first call with an unexpected result, or after which more than 256 removed points are in
+/// memory.
 fn first_wrong<C: Column>(column: &mut C, calls: &[Call]) -> Result<Option<usize>, Fail> {
     for (at, call) in calls.iter().enumerate() {
         let right = answers(column, *call)?;
@@ -182,7 +182,7 @@ fn first_wrong<C: Column>(column: &mut C, calls: &[Call]) -> Result<Option<usize
     Ok(None)
 }
 
-/// Returns the first wrong answer of a plain column.
+/// Returns the index of the first call with an unexpected result on a plain column.
 fn first_wrong_plain(alloc: Global, calls: &[Call]) -> Result<Option<usize>, Fail> {
     let mut column = PlainColumn::new(alloc);
     first_wrong(&mut column, calls)
@@ -196,7 +196,7 @@ fn plain_columns_answer(rt: HostRuntime) -> Result<(), Fail> {
     Ok(())
 }
 
-/// Returns the first wrong answer of a column of coded blocks.
+/// Returns the index of the first call with an unexpected result on a column of coded blocks.
 fn first_wrong_coded(alloc: Global, calls: &[Call]) -> Result<Option<usize>, Fail> {
     let mut column = BlockColumn::new(alloc);
     first_wrong(&mut column, calls)

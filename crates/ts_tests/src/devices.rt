@@ -1,4 +1,4 @@
-//! Devices over memory: a reader and a writer that take bytes in pieces, and fail at one call.
+//! Devices over memory: a reader and a writer that transfer bytes in pieces, and fail at one call.
 
 use std::io;
 use std::io::{ErrorKind, Read, Write};
@@ -6,7 +6,8 @@ use std::io::{ErrorKind, Read, Write};
 /// A call that no test makes.
 pub(crate) const NEVER: usize = usize::MAX;
 
-/// A reader of at most `piece` bytes a call. The call `fails_at`, counted from 0, fails; the next one goes on.
+/// A reader that returns at most `piece` bytes per call. The call with the index `fails_at` fails; the next one
+/// succeeds.
 #[derive(Drop)]
 pub(crate) struct PieceReader<'a> {
     pub(crate) left: &'a [u8],
@@ -16,7 +17,7 @@ pub(crate) struct PieceReader<'a> {
 }
 
 impl<'a> PieceReader<'a> {
-    /// Creates a reader that no call was made to.
+    /// Creates a reader before its first call.
     pub(crate) fn new(left: &'a [u8], piece: usize, fails_at: usize) -> PieceReader<'a> {
         PieceReader {
             left,
@@ -41,7 +42,7 @@ impl Read for PieceReader<'_> {
     }
 }
 
-/// How a call of a writer goes wrong.
+/// Failure of a writer's call.
 #[derive(Clone, Copy, Debug, PartialEq, Eq)]
 pub(crate) enum Failure {
     /// It returns an error.
@@ -50,7 +51,8 @@ pub(crate) enum Failure {
     Nothing,
 }
 
-/// A writer of at most `piece` bytes a call. The call `fails_at`, counted from 0, goes wrong; the next one goes on.
+/// A writer that accepts at most `piece` bytes per call. The call with the index `fails_at` fails; the next one
+/// succeeds.
 #[derive(Drop)]
 pub(crate) struct PieceWriter {
     pub(crate) written: Vec<u8>,
@@ -61,7 +63,7 @@ pub(crate) struct PieceWriter {
 }
 
 impl PieceWriter {
-    /// Creates a writer, over an empty vector, that no call was made to.
+    /// Creates a writer over an empty vector, before its first call.
     pub(crate) fn new(
         written: Vec<u8>,
         piece: usize,

@@ -1,4 +1,4 @@
-//! An image of which one byte is changed, or which ends early.
+//! Images with one byte changed, and images that end early.
 
 use crate::images::{FIELDS, IMAGE_LEN, loaded, saved, worked_image};
 use crate::stores::{at_second, planned, write};
@@ -8,7 +8,7 @@ use ts_exec::{count_points, execute};
 use ts_image::LoadFault;
 use ts_store::Store;
 
-/// Makes calls of every kind on a store. Returns true if what it reports of its points agrees.
+/// Calls each kind of function of a store. Returns true if its results agree.
 fn answers_calls(alloc: Global, store: &mut Store<Global>) -> Result<bool, Fail> {
     let now = at_second(400)?;
     let _accepted = write(alloc, store, "cpu,host=a v=4i 300")?;
@@ -47,7 +47,7 @@ fn change(bytes: &mut [u8], at: usize) {
     }
 }
 
-/// Returns true if each other value of a byte gives a fault or a store. Gives the byte its value back.
+/// Returns true if each other value of a byte gives a fault or a store. Restores the byte.
 fn holds_at(alloc: Global, bytes: &mut [u8], at: usize) -> Result<bool, Fail> {
     for _ in 0..255 {
         change(bytes, at);
@@ -59,8 +59,8 @@ fn holds_at(alloc: Global, bytes: &mut [u8], at: usize) -> Result<bool, Fail> {
     Ok(true)
 }
 
-/// Returns the offset of the first byte, from one on and before another, of which some value gives neither a fault nor a
-/// store.
+/// Returns the offset of the first byte with a value that gives neither a fault nor a store. Tests the bytes from one
+/// offset, inclusive, to another, exclusive.
 fn first_wrong(alloc: Global, from: usize, to: usize) -> Result<Option<usize>, Fail> {
     let mut image = worked_image(alloc)?;
     for at in from..to {
@@ -110,8 +110,8 @@ fn ends_in_field(alloc: Global, bytes: &[u8], start: usize) -> bool {
     }
 }
 
-/// Returns the first length at which an image that ends there hasn't the fault of its last field, by the lengths of
-/// its fields.
+/// Returns the first length at which an image that ends there doesn't have the fault of its last field, by the lengths
+/// of its fields.
 fn first_wrong_end(alloc: Global, image: &[u8]) -> Option<usize> {
     let mut start: usize = 0;
     for size in FIELDS {

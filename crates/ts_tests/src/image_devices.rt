@@ -1,4 +1,4 @@
-//! Images over devices that take bytes in pieces or fail.
+//! Images over devices that transfer bytes in pieces, or fail.
 
 use crate::devices::{Failure, NEVER, PieceReader, PieceWriter};
 use crate::images::{IMAGE_LEN, saved, worked_image, worked_store};
@@ -8,7 +8,7 @@ use ts_core::{Sink, Source};
 use ts_image::{LoadFault, SaveFault, load, load_within, save};
 use ts_store::Store;
 
-/// Lengths of pieces, and in how many of them the image is read or written.
+/// Lengths of pieces, and the number of them in which the image is read or written.
 const PIECES: [(usize, usize); 4] = [(1, IMAGE_LEN), (2, 269), (100, 6), (1_000, 1)];
 
 /// Loads an image from a reader; returns the number of its calls, too.
@@ -60,7 +60,7 @@ fn a_failed_read_stops_a_load(rt: HostRuntime) -> Result<(), Fail> {
     Ok(())
 }
 
-/// Returns the fault of loading bytes one by one with at most so many reads, if there is one.
+/// Returns the fault of loading bytes one by one with at most `turns` reads, if there is one.
 fn fault_within(alloc: Global, bytes: &[u8], turns: u32) -> Option<LoadFault> {
     let mut source = Source::new(PieceReader::new(bytes, 1, NEVER));
     load_within(alloc, &mut source, u64::from(turns)).err()
@@ -92,7 +92,7 @@ fn save_to(
     (result, sink.into_inner())
 }
 
-/// Returns true if saving fails at each call that goes wrong, when the pieces before it are written and no other.
+/// Returns true if saving fails at each call that fails, when exactly the pieces before it are written.
 fn fails_at_each_write(
     alloc: Global,
     store: &Store<Global>,

@@ -7,7 +7,7 @@ use ts_core::{Sink, Source};
 use ts_image::{LoadFault, load, save};
 use ts_store::Store;
 
-/// Lengths of the fields of the image of `worked_store`, by the description of the form: a text is its length in eight
+/// Lengths of the fields of the image of `worked_store`, by the description of the form. A text is its length in eight
 /// bytes and its bytes.
 pub(crate) const FIELDS: [usize; 68] = [
     // head; raw duration, rules; name, measurement, interval, offset, duration, kept tags, the kept tag
@@ -27,7 +27,7 @@ pub(crate) const FIELDS: [usize; 68] = [
 /// Length of that image.
 pub(crate) const IMAGE_LEN: usize = 537;
 
-/// Returns a store with two series and three cells, of which one has a raw point too.
+/// Returns a store with two series and three cells; one of these has a raw point too.
 pub(crate) fn worked_store(alloc: Global) -> Result<Store<Global>, Fail> {
     let now = at_second(200)?;
     let mut store = store_of(alloc, alloc, ONE_RULE)?;

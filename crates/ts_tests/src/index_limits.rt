@@ -1,4 +1,4 @@
-//! An index with as many series as it takes.
+//! An index with as many series as the limit allows.
 
 use itoa::Buffer;
 use std::alloc::Global;
@@ -12,7 +12,7 @@ fn register(index: &mut Index<Global>, number: usize) -> Result<SeriesId, IndexF
     index.register(&KeyRef::new(digits.format(number), &[]))
 }
 
-/// Returns an index with so many series.
+/// Returns an index with `count` series.
 fn index_of(alloc: Global, count: usize) -> Result<Index<Global>, Fail> {
     let mut index = Index::new(alloc);
     for number in 0..count {
@@ -29,7 +29,7 @@ fn one_series_too_many_is_refused(rt: HostRuntime) -> Result<(), Fail> {
     let next = register(&mut index, SERIES_LIMIT);
     assert!(rt; next == Err(IndexFault::TooManySeries));
     assert_eq!(rt; index.series_count(), SERIES_LIMIT);
-    // those that are there are found
+    // registered series are found
     for number in [0, 500_000, 999_999] {
         assert!(rt; register(&mut index, number).is_ok(), "{number}");
     }

@@ -1,6 +1,7 @@
-//! Tests of what only a call shows: bytes of blocks and images, devices that fail, stale plans, a view that shows no
-//! history, columns, spans of lines, limits, and an allocator that refuses one request. It depends on libraries, and
-//! nothing depends on it, so no other crate is proved once more for its tests. All its code is tests; it promises nothing.
+//! Tests of properties that only a call shows: bytes of blocks and images, failing devices, stale plans, columns, spans
+//! of lines, and limits. Others are of a view that shows no history, and of an allocator that refuses one request.
+//! Depends on libraries, and nothing depends on it, so no other crate is proved again for its tests. All its code is
+//! tests; it proves nothing.
 #![tactic(auto)]
 
 #[cfg(test)]

@@ -1,4 +1,4 @@
-//! Where the parts of a line stand in its text.
+//! Offsets of the parts of a line in its text.
 
 use std::alloc::Global;
 use std::test::Fail;
@@ -21,7 +21,7 @@ struct Row {
 /// The time of a line without one.
 const NOW: i64 = 77;
 
-/// Lines that were taken apart by hand.
+/// Lines that were parsed by hand.
 const ROWS: [Row; 4] = [
     Row {
         text: "m f=1i 5",
@@ -37,7 +37,7 @@ const ROWS: [Row; 4] = [
         fields: &[((12, "f", "f"), 5), ((17, "g", "g"), -3)],
         time: 7,
     },
-    // a field that is named twice stands where it is named first
+    // a field that is named twice is at its first name
     Row {
         text: " m  f=1i,f=2i  3 ",
         measurement: (1, "m", "m"),
@@ -58,7 +58,7 @@ const ROWS: [Row; 4] = [
     },
 ];
 
-/// Returns true if a part is this one, and its bytes stand at its offset in the text.
+/// Returns true if a part is this one, and its bytes are at its offset in the text.
 fn is_part(text: &str, part: &Part<'_, Global>, span: Span) -> bool {
     let end = part.start().saturating_add(part.raw().len());
     part.start() == span.0

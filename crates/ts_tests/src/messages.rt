@@ -1,4 +1,4 @@
-//! Messages of faults, and what stands in a text that can't grow.
+//! Messages of faults, and the content of a text that can't grow.
 
 use crate::refusing::Refusing;
 use std::alloc::{AllocError, Global};
@@ -47,7 +47,7 @@ fn is_whole(text: &str, message: &str) -> bool {
     text.strip_prefix(FRONT) == Some(message)
 }
 
-/// Returns true if a text is the front with a beginning of a message, but not with all of it.
+/// Returns true if a text is the front with a prefix of a message, but not with all of it.
 fn is_begun(text: &str, message: &str) -> bool {
     match text.strip_prefix(FRONT) {
         Some(part) => message.starts_with(part) && part.len() < message.len(),
@@ -60,15 +60,15 @@ fn append(text: &mut Text<'_>, fault: (FaultCode, FaultDetail<'_>)) -> Result<()
     fault.0.text_to(fault.1, text)
 }
 
-/// Returns a text that has the front, and capacity for so many bytes more.
+/// Returns a text that has the front, and capacity for `room` bytes more.
 fn front(heap: &Refusing<Global>, room: usize) -> Result<Text<'_>, AllocError> {
     let mut text = String::with_capacity(heap, FRONT.len().saturating_add(room))?;
     text.push_str(FRONT)?;
     Ok(text)
 }
 
-/// Returns true if a text without capacity for a message has a beginning of it, when the first growth is refused; and
-/// all of it, when none is.
+/// Returns true if a text without capacity for a message has a prefix of it after a refused growth, and all of it after
+/// none.
 fn grows_or_begins(
     heap: &Refusing<Global>,
     fault: (FaultCode, FaultDetail<'_>),

@@ -1,4 +1,4 @@
-//! Calls with each of their requests for memory refused in turn.
+//! Calls with each of their allocation requests refused in turn.
 
 mod columns;
 mod images;

@@ -20,7 +20,7 @@ fn is_refused(left: &Cell<u64>) -> bool {
 }
 
 impl<B: Allocator> Refusing<B> {
-    /// Creates an allocator that refuses nothing yet.
+    /// Creates an allocator that refuses nothing.
     pub(crate) fn new(inner: B) -> Refusing<B> {
         Refusing {
             inner,
@@ -28,12 +28,12 @@ impl<B: Allocator> Refusing<B> {
         }
     }
 
-    /// From now on, refuses the request after `left` others.
+    /// Refuses the request after `left` others, from now on.
     pub(crate) fn refuse_after(&self, left: u64) {
         self.left.set(left);
     }
 
-    /// From now on, refuses nothing.
+    /// Refuses nothing, from now on.
     pub(crate) fn refuse_none(&self) {
         self.left.set(NEVER);
     }

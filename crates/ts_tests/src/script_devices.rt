@@ -1,4 +1,5 @@
-//! Scripts over devices that take bytes in pieces or fail: a script with a run of retention, and what each line prints.
+//! Scripts over devices that transfer bytes in pieces or fail: a script with a run of retention, and the output of each
+//! line.
 
 use crate::devices::{Failure, NEVER, PieceReader, PieceWriter};
 use std::alloc::{AllocError, Global};
@@ -6,7 +7,7 @@ use std::test::Fail;
 use ts_core::{Sink, Source};
 use ts_script::{RunFault, run, run_within};
 
-/// The lines of the script, and what each prints.
+/// The lines of the script, and the output of each.
 const SCRIPT: [(&str, &str); 11] = [
     (
         "settings {\"raw\":\"2m\",\"rules\":[{\"name\":\"m1\",\"measurement\":\"cpu\",\"interval\":\"1m\",\"offset\":\"0s\",\"keep\":[\"host\"],\"duration\":\"INF\"}]}\n",
@@ -39,7 +40,7 @@ fn script(alloc: Global) -> Result<Vec<u8>, AllocError> {
     Ok(bytes)
 }
 
-/// Returns what the lines print of which so many bytes were read.
+/// Returns the output of the lines within the first `read` bytes.
 fn answers_to(alloc: Global, read: usize) -> Result<Vec<u8>, AllocError> {
     let mut answers = Vec::new(alloc);
     let mut end: usize = 0;
@@ -52,7 +53,7 @@ fn answers_to(alloc: Global, read: usize) -> Result<Vec<u8>, AllocError> {
     Ok(answers)
 }
 
-/// A run of a script: what it came to, and its devices after it.
+/// A run of a script: its result, and its devices after it.
 #[derive(Drop)]
 struct Played<'a> {
     result: Result<(), RunFault>,
@@ -60,7 +61,7 @@ struct Played<'a> {
     writer: PieceWriter,
 }
 
-/// Runs a script within so many reads, or within the usual limit.
+/// Runs a script with at most `turns` reads, or with the usual limit.
 fn play<'a>(
     alloc: Global,
     reader: PieceReader<'a>,
@@ -80,12 +81,13 @@ fn play<'a>(
     }
 }
 
-/// Returns a writer that takes all.
+/// Returns a writer that accepts all bytes.
 fn ample(alloc: Global) -> PieceWriter {
     PieceWriter::new(Vec::new(alloc), NEVER, NEVER, Failure::Error)
 }
 
-/// Returns true if a failed read ends the run: nothing after it is read, and what the lines before it print is written.
+/// Returns true if a failed read ends the run: nothing is read after it, and the output of the lines before it is
+/// written.
 fn stops_at_read(
     alloc: Global,
     script: &[u8],
@@ -121,7 +123,7 @@ fn a_failed_read_stops_a_script(rt: HostRuntime) -> Result<(), Fail> {
     Ok(())
 }
 
-/// Returns true if a write that goes wrong ends the run, when the bytes before it are written and no other.
+/// Returns true if a failed write ends the run, when exactly the bytes before it are written.
 fn stops_at_write(alloc: Global, script: &[u8], answers: &[u8], piece: usize, call: usize) -> bool {
     let mut failure = Failure::Error;
     for _ in 0..2 {
@@ -153,7 +155,7 @@ fn a_failed_write_stops_a_script(rt: HostRuntime) -> Result<(), Fail> {
     Ok(())
 }
 
-/// Returns true if a script that is read byte by byte hasn't ended within so many reads, and its lines up to there are
+/// Returns true if a script that is read byte by byte hasn't ended within `turns` reads, and its lines up to there are
 /// answered.
 fn runs_out_of_reads(alloc: Global, script: &[u8], turns: usize) -> Result<bool, AllocError> {
     let reader = PieceReader::new(script, 1, NEVER);

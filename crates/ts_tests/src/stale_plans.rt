@@ -33,7 +33,7 @@ const CHANGES: [(Option<&str>, Option<&str>, &[i128]); 3] = [
     (Some("m1"), Some(MINUTES), &[2]),
 ];
 
-/// Returns the raw mark that a stale plan is answered with; none if the plan is executed.
+/// Returns the raw mark in the error of a stale plan; none if the plan is executed.
 fn stale_mark<A: Allocator + Copy>(alloc: A, store: &Store<A>, plan: &Checked<A>) -> Option<i64> {
     match execute(alloc, store, plan) {
         Err(ExecFault::Stale(_, marks)) => Some(marks.raw().nanos()),
@@ -41,12 +41,12 @@ fn stale_mark<A: Allocator + Copy>(alloc: A, store: &Store<A>, plan: &Checked<A>
     }
 }
 
-/// Returns true if a plan isn't executed by a count, since it is stale.
+/// Returns true if a count refuses a plan as stale.
 fn is_stale<A: Allocator + Copy>(store: &Store<A>, plan: &Checked<A>) -> bool {
     matches!(count_points(store, plan), Err(ExecFault::Stale(_, _)))
 }
 
-/// Returns the marks that a plan is answered with before a run of retention at this moment, and after it.
+/// Returns the marks in the results of a plan before a run of retention at this moment, and after it.
 fn marks_around<A: Allocator + Copy>(
     alloc: A,
     store: &mut Store<A>,
@@ -72,7 +72,7 @@ fn checked(
     }
 }
 
-/// Returns the marks that a plan is answered with before a run at 200 seconds, and after it.
+/// Returns the marks in the results of a plan before a run at 200 seconds, and after it.
 fn marks_of(
     alloc: Global,
     certificate: Option<&str>,
@@ -119,7 +119,7 @@ fn change_rules(
     Ok(())
 }
 
-/// Returns true if a plan is stale: it is answered with a raw mark at 80 seconds, these low indices and as many rules.
+/// Returns true if a plan is stale: its error has a raw mark at 80 seconds, these low indices and as many rules.
 fn is_stale_with(
     alloc: Global,
     store: &Store<Global>,

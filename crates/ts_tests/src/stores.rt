@@ -23,7 +23,7 @@ pub(crate) const OLD_LINES: [&str; 3] = [
     "cpu,host=b v=1i 70",
 ];
 
-/// Lines after it, of which three replace a point.
+/// Lines after it; three of them replace a point.
 pub(crate) const NEW_LINES: [&str; 5] = [
     "cpu,host=a v=9i 100",
     "cpu,host=a v=2i 100",
@@ -50,7 +50,7 @@ pub(crate) fn store_of<A: Allocator + Copy>(
     }
 }
 
-/// Writes a line with a time in seconds; returns whether its facts are accepted.
+/// Writes a line with a time in seconds; returns true if its facts are accepted.
 pub(crate) fn write<A: Allocator + Copy>(
     alloc: A,
     store: &mut Store<A>,
@@ -60,7 +60,7 @@ pub(crate) fn write<A: Allocator + Copy>(
     Ok(outcome == LineOutcome::Accepted)
 }
 
-/// Writes lines with times in seconds; returns whether all were accepted.
+/// Writes lines with times in seconds; returns true if all were accepted.
 pub(crate) fn write_all<A: Allocator + Copy>(
     alloc: A,
     store: &mut Store<A>,
@@ -74,7 +74,7 @@ pub(crate) fn write_all<A: Allocator + Copy>(
     Ok(true)
 }
 
-/// Writes the lines, with a run of retention between the old and the new ones; returns whether all went well.
+/// Writes the lines, with a run of retention between the old and the new ones; returns true if all calls succeeded.
 pub(crate) fn fill<A: Allocator + Copy>(
     alloc: A,
     store: &mut Store<A>,
@@ -86,7 +86,7 @@ pub(crate) fn fill<A: Allocator + Copy>(
     write_all(alloc, store, &NEW_LINES)
 }
 
-/// Begins a run of retention and moves one of its columns; returns whether that went well.
+/// Begins a run of retention and moves one of its columns; returns true if both calls succeeded.
 pub(crate) fn open_run<A: Allocator + Copy>(store: &mut Store<A>, begin_at: Time) -> bool {
     store.begin(begin_at).is_ok() && store.step() == StepAnswer::Moved
 }

@@ -1,4 +1,5 @@
-//! Plans over a view that isn't a store: it shows a cell of its own beside a store's points, and so need not show a history.
+//! Plans over a view that isn't a store. It shows a cell of its own beside a store's points, and so need not show a
+//! history.
 ghost use Rattle.std.specs.Prelude.{◌≡◌, ◌∷◌, [], map};
 ghost use Rattle.ts_core.specs.facts.Facts.{is_within};
 ghost use Rattle.ts_core.specs.store.StoreData.{state_of};
@@ -17,7 +18,7 @@ use ts_store::{CellWalk, Columns, Store, View, ViewCell};
 /// Raw points for the first minute, and the rule's cells for the second.
 const TWO_PIECES: &str = "plan 1\nraw 0 60000000000\nrollup m1 60000000000 120000000000\nend\n";
 
-/// Returns true if an index lies from one on and before another.
+/// Returns true if an index is in the range from one, inclusive, to another, exclusive.
 fn is_within(from: &i128, to: &i128, index: &i128) -> bool
     ensures { result ≡ is_within from.now to.now index.now }
 {
@@ -88,7 +89,7 @@ fn first_row<A: Allocator>(table: &Table<'_, A>) -> Option<(u64, i128)> {
     Some((row.count(), row.sum()))
 }
 
-/// Returns count and sum of the first row that a plan gives. A count by the plan returns, too.
+/// Returns count and sum of the first row of a plan's answer. A count by the plan must succeed, too.
 fn answered<A: Allocator + Copy>(
     alloc: A,
     view: &OneCell<'_, A>,
@@ -103,7 +104,7 @@ fn answered<A: Allocator + Copy>(
     }
 }
 
-/// Returns count and sum that a plan gives over a store's points in the first minute and a cell with this total in the second.
+/// Returns count and sum of a plan over a store's points in the first minute and a cell with this total in the second.
 fn with_cell<A: Allocator + Copy>(
     alloc: A,
     store: &Store<A>,
@@ -114,7 +115,7 @@ fn with_cell<A: Allocator + Copy>(
     Ok(answered(alloc, &OneCell { store, cell }, &plan))
 }
 
-/// The same, where the store has one point, of value 5.
+/// Returns the same over a store with one point, of value 5.
 fn both<A: Allocator + Copy>(
     alloc: A,
     json: Global,

@@ -14,7 +14,7 @@ const UNCHANGED: Shown<'static> = Shown {
     reply: REPLY,
 };
 
-/// Loads the image of a store, in place of the store.
+/// Loads the image of a store, and replaces the store.
 #[derive(Clone, Copy)]
 struct Load<'i> {
     image: &'i [u8],
@@ -34,7 +34,7 @@ impl<'i, A: Allocator + Copy> Call<A> for Load<'i> {
     }
 }
 
-/// Saves a store into a vector, where a failed write is want of memory.
+/// Saves a store into a vector, whose writes fail only when out of memory.
 #[derive(Clone, Copy)]
 struct Save<'i> {
     image: &'i [u8],

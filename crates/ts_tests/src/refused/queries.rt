@@ -197,7 +197,7 @@ fn checked<A: Allocator + Copy>(alloc: A, store: &Store<A>) -> Result<Checked<A>
     }
 }
 
-/// Returns true if each request of a call is refused in turn, of which so many are absorbed.
+/// Returns true if each request of a call is refused in turn, and `absorbed` of the refusals are absorbed.
 fn are_answered<'h, C: Call<&'h Refusing<Global>>>(
     trial: &Trial<'h>,
     call: &C,
@@ -207,7 +207,7 @@ fn are_answered<'h, C: Call<&'h Refusing<Global>>>(
     Ok(found.answered > 0 && found.absorbed == absorbed)
 }
 
-/// Tries to parse the query, of whose group tags the first room is absorbed, and the certificate.
+/// Tries to parse the query and the certificate. The first allocation for the query's group tags is absorbed.
 fn are_parsed(trial: &Trial<'_>) -> Result<bool, Fail> {
     let json = trial.json;
     Ok(are_answered(trial, &Parse, 1)? && are_answered(trial, &ReadCertificate { json }, 0)?)
@@ -263,7 +263,7 @@ fn answers_need_their_memory(rt: HostRuntime) -> Result<(), Fail> {
             json,
             is_open,
         };
-        // the first room for the group tags of a query
+        // the first allocation for the group tags of a query
         assert!(rt; are_answered(&trial, &Reply { json }, 1)?);
     }
     Ok(())

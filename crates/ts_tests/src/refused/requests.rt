@@ -1,4 +1,4 @@
-//! Requests to a connection in memory, and the batch that meets a refusal at a line.
+//! Requests to a connection in memory, and a batch with a refused allocation at a line.
 
 use super::trial::{Answer, Call, QUERIES, REPLY, Shown, Trial, replies};
 use crate::refusing::Refusing;
@@ -8,7 +8,7 @@ use ts_core::{Sink, Source, Time};
 use ts_http::serve_one;
 use ts_store::Store;
 
-/// The reply to a request without memory.
+/// The reply to a request when out of memory.
 const OUT_OF_MEMORY: &[u8] =
     b"HTTP/1.1 500 Internal Server Error\r\nContent-Type: application/json\r\nContent-Length: 25\r\nConnection: close\r\n\r\n{\"error\":\"out of memory\"}";
 
@@ -48,7 +48,8 @@ impl<A: Allocator + Copy> Call<A> for Request {
     }
 }
 
-/// Requests with their replies, what shows afterwards that they were executed, and how many refusals they absorb.
+/// Requests with their replies, the query that shows afterwards that they were executed, and the number of refusals
+/// that they absorb.
 const REQUESTS: [(&[u8], &[u8], Shown<'static>, u32); 3] = [
     // a line of a new series; the first block of the arena is absorbed
     (
@@ -60,7 +61,7 @@ const REQUESTS: [(&[u8], &[u8], Shown<'static>, u32); 3] = [
         },
         1,
     ),
-    // a query; the first room for a parameter with escapes is absorbed
+    // a query; the first allocation for a parameter with escapes is absorbed
     (
         b"GET /query?epoch=s&q=SELECT+SUM(v)+FROM+cpu+WHERE+time+%3E%3D+60s+AND+time+%3C+120s+GROUP+BY+time(1m) HTTP/1.1\r\n\r\n",
         b"HTTP/1.1 200 OK\r\nContent-Type: application/json\r\nContent-Length: 102\r\nConnection: close\r\n\r\n{\"results\":[{\"series\":[{\"columns\":[\"time\",\"sum\"],\"name\":\"cpu\",\"values\":[[60,30]]}],\"statement_id\":0}]}",
@@ -118,7 +119,7 @@ const SUMS: [&str; 4] = [
     r#"{"results":[{"series":[{"columns":["time","sum"],"name":"m","values":[[110,7]]}],"statement_id":0}]}"#,
 ];
 
-/// Returns how many lines of the batch were written: the first ones, or `None` if it was others.
+/// Returns the number of lines of the batch that were written, or `None` if they weren't the first ones.
 fn lines_written<A: Allocator + Copy>(
     alloc: A,
     json: Global,
@@ -132,8 +133,8 @@ fn lines_written<A: Allocator + Copy>(
     Ok(None)
 }
 
-/// Serves the batch, with the request for memory after `left` others refused, and again. Returns how many lines were
-/// written at first, and whether there was a refusal.
+/// Serves the batch, with the allocation request after `left` others refused, and then again. Returns the number of
+/// lines that were written at first, and true if there was a refusal.
 fn batch_round(trial: &Trial<'_>, left: u64) -> Result<(usize, bool), Fail> {
     let mut store = trial.store()?;
     let call = Request {

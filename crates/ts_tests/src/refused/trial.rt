@@ -15,7 +15,7 @@ const MOST_REQUESTS: u64 = 1_000;
 const THREE_RULES: &str =
     r#"{"raw":"2m","rules":[{"name":"m1","measurement":"cpu","interval":"1m","offset":"0s","keep":["host"],"duration":"INF"},{"name":"m5","measurement":"cpu","interval":"5m","offset":"0s","keep":["host"],"duration":"INF"},{"name":"h1","measurement":"cpu","interval":"1h","offset":"0s","keep":[],"duration":"INF"}]}"#;
 
-/// Lines after those of a filled store. From now on, a point more in the column of host `a` needs more memory.
+/// Lines after those of a filled store. One more point in the column of host `a` then needs an allocation.
 const LAST_LINES: [&str; 2] = ["cpu,host=a v=6i 101", "cpu,host=a v=5i 105"];
 
 /// Queries that raw points and cells answer together, and one that has no plan.
@@ -26,7 +26,7 @@ pub(super) const QUERIES: &str =
 pub(super) const REPLY: &str =
     r#"{"results":[{"series":[{"columns":["time","count","sum","min","max","first","last","mean"],"name":"cpu","values":[[60,6,30,1,8,7,3,"5/1"]]}],"statement_id":0},{"series":[{"columns":["time","max"],"name":"cpu","tags":{"host":"a"},"values":[[0,5],[60,8],[120,8],[180,8]]},{"columns":["time","max"],"name":"cpu","tags":{"host":"b"},"values":[[0,null],[60,3],[120,3],[180,3]]}],"statement_id":1},{"error":"fault 91","statement_id":2}]}"#;
 
-/// What a call answered.
+/// Result of a call.
 #[derive(Clone, Copy, Debug, PartialEq, Eq)]
 pub(super) enum Answer {
     /// The right answer.
@@ -50,16 +50,16 @@ impl Answer {
 
 /// A call that is tried.
 pub(super) trait Call<A: Allocator> {
-    /// Makes the call, and judges its answer without allocating in `alloc`.
+    /// Calls, and judges the result without allocating in `alloc`.
     fn make(&self, alloc: A, store: &mut Store<A>) -> Answer;
 }
 
-/// How many requests of a call were refused, one at a time.
+/// Numbers of refused requests of a call, one at a time.
 #[derive(Clone, Copy, Debug, PartialEq, Eq)]
 pub(super) struct Refusals {
-    /// Those after which the call was out of memory.
+    /// Number of requests after which the call was out of memory.
     pub answered: u32,
-    /// Those without which the call gave the right answer.
+    /// Number of requests without which the call had the right result.
     pub absorbed: u32,
 }
 
@@ -70,7 +70,7 @@ pub(super) struct Shown<'q> {
     pub reply: &'q str,
 }
 
-/// What a call is tried on: an allocator, and whether a run of retention is open.
+/// The setting of a call that is tried: an allocator, and a flag that is true if a run of retention is open.
 #[derive(Clone, Copy)]
 pub(super) struct Trial<'h> {
     pub heap: &'h Refusing<Global>,
@@ -120,7 +120,7 @@ impl<'h> Trial<'h> {
         worked(self.heap, self.json, self.is_open)
     }
 
-    /// Makes a call once, with the request after `left` others refused. Returns its answer, and whether there was such a
+    /// Calls once, with the request after `left` others refused. Returns the result, and true if there was such a
     /// request.
     pub(super) fn make<C: Call<&'h Refusing<Global>>>(
         &self,
@@ -144,7 +144,7 @@ impl<'h> Trial<'h> {
         Ok(())
     }
 
-    /// Tries a call on a new store, with the request after `left` others refused. Returns its answer, and whether there
+    /// Tries a call on a new store, with the request after `left` others refused. Returns its result, and true if there
     /// was such a request.
     fn round<C: Call<&'h Refusing<Global>>>(
         &self,

@@ -22,7 +22,7 @@ impl<A: Allocator + Copy> Call<A> for Write {
     }
 }
 
-/// Lines, and what shows that they are accepted.
+/// Lines, and the queries that show that they are accepted.
 const WRITES: [(&str, Shown<'static>); 5] = [
     // a new series
     (

@@ -3,7 +3,7 @@ use Rattle.std.proofs.lemmas.Option.{slice_get_within}
 use Rattle.ts_core.specs.lists.Numbered.{IsAt}
 use Rattle.ts_tests.proofs.cell_limits.lane_of.Goals as goal
 
--- what is at an index of a list lies within it
+-- an index of an item is within the list
 within : {X E : Type 0} (xs : List X) (x : X) (r : Result ℕ E) → IfOk r (λ n. IsAt xs n x) → IfOk r (λ n. n < length xs)
 within xs x (Ok n) at = slice_get_within xs n x at
 within xs x (Err e) at = at

@@ -1,4 +1,4 @@
--- It answers `Err` for the request to refuse, and else what the inner allocator answers. Assumes `Logic`.
+-- `Err` for the request to refuse, and otherwise the result of the inner allocator. Assumes `Logic`.
 use Rattle.std.proofs.Common.{◌≡◌, ℕ, Bool, ◌+◌, ◌^◌, ◌<◌, true, false, List, [], ◌∷◌, Ok, Err, refl, ap, w64, Bor}
 use seplogic.Ra.Ura.{Ura}
 use mir.Syntax.{Ty, Args, Fn, a_type, dnil, dcons}
