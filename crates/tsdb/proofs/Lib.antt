@@ -1,6 +1,6 @@
 -- FaultTables
 pub mod FaultTableLemmas
--- Requests
+-- ServedRequests
 pub mod RequestLemmas
 -- CommandLines
 pub mod CommandLineLemmas

@@ -19,7 +19,7 @@ use Rattle.tsdb.specs.declared.outcome.Outcome.{Outcome}
 use Rattle.tsdb.specs.declared.outcome.Outcome.TheVariants.{Answered, Stopped, NoScript, NoFault}
 use Rattle.ts_script.specs.declared.run_fault.RunFault.{RunFault}
 
--- how a run of a script came out
+-- the outcome of a run of a script
 abbrev pub outcome_of : {T : Type 0} → Result T RunFault → Outcome
 outcome_of (Ok x) = Answered
 outcome_of (Err fault) = Stopped fault
@@ -27,7 +27,7 @@ outcome_of (Err fault) = Stopped fault
 abbrev pub IsReplayed : Input → Output → Outcome → Input → Output → Type 0
 IsReplayed source sink outcome source' sink' = (result : Result ⊤ RunFault) × (outcome ≡ outcome_of result) × IsReplay turn_limit source sink result source' sink'
 
--- The rows are printed, or a beginning of them if the device fails. There may be none, or the call runs out of memory.
+-- The rows are printed, or a prefix of them if the device fails. There may be none, or the call runs out of memory.
 abbrev pub PrintsFaults : Text → Output → Outcome → Output → Type 0
 PrintsFaults table old (NoScript cli_outcome.Done) new = (table ≢ []) × Appends old.contents new.contents table × (new.failures ≡ old.failures)
 PrintsFaults table old (NoScript cli_outcome.Device) new = (table ≢ []) × AppendsFront old.contents new.contents table × (new.failures ≡ old.failures + 1)
@@ -35,7 +35,7 @@ PrintsFaults table old (NoScript cli_outcome.OutOfMemory) new = new ≡ old
 PrintsFaults table old NoFault new = (table ≡ []) × (new ≡ old)
 PrintsFaults table old other new = ⊥
 
--- a call with this command line may come out so, and leave this of its source and its sink
+-- a call with this command line may have this outcome, and leave this of its source and its sink
 abbrev pub Executes : Result Action Error → Input → Output → Answer → Input → Output → Type 0
 Executes (Ok Replay) source sink (answer.Outcome outcome) source' sink' = IsReplayed source sink outcome source' sink'
 Executes (Ok (Faults number)) source sink (answer.Outcome outcome) source' sink' = PrintsFaults (fault_table (handed_in number)) sink outcome sink' × (source' ≡ source)
@@ -43,6 +43,6 @@ Executes (Ok (Serve service)) source sink (answer.Service service') source' sink
 Executes (Err error) source sink (answer.Outcome (NoScript cli_outcome)) source' sink' = IsPrintedAs (outcome_of_kind (kind_of error)) cli_outcome × (source' ≡ source) × (sink' ≡ sink)
 Executes _ source sink answer source' sink' = ⊥
 
--- and so may one with these words, of which the first is the program's name
+-- the same for a call with these words, of which the first is the program's name
 abbrev pub IsCall : List Text → Input → Output → Answer → Input → Output → Type 0
 IsCall words source sink answer source' sink' = (result : Result Action Error) × ParsesAs words result × Executes result source sink answer source' sink'

@@ -1,5 +1,5 @@
--- The commands of the program with their arguments, and the action that a command line requests. (Own rule. How words
--- are matched with commands, and which errors they have, are definitions of the library clap.)
+-- The commands of the program with their arguments, and the action that a command line requests. (Own rule. The library
+-- clap defines how words match commands, and their errors.)
 use Rattle.std.specs.Prelude.{⊤, true, false, ◌≡◌, ◌⊎◌, ℕ, codes, List, [], ◌∷◌, pos, Option, Some, None, Result, Ok, Err, fold}
 use Rattle.std.specs.Str.Parse.{ParsesUnsigned}
 use Rattle.clap.specs.Words.{App, HasKind, Row, Rule, Text, app_of, fault_of, first_of, kind_of, new_app, new_rule, one_of, rule_of, subcommand_of, with_rule, with_subcommand}
@@ -84,8 +84,8 @@ IsActionOf (Some (name, rows)) Replay = name ≡ codes "replay"
 IsActionOf (Some (name, rows)) (Faults number) = (name ≡ codes "faults") × (handed_in number ≡ first_of (codes "N") rows)
 IsActionOf (Some (name, rows)) (Serve service) = (name ≡ codes "serve") × IsServiceOf rows service
 
--- The words, of which the first is the program's name, request an action if clap takes them. Otherwise the error is
--- one of clap's, or out of memory, or clap takes the words but no action fits them.
+-- The words, of which the first is the program's name, request an action if clap accepts them. Otherwise the error is
+-- one of clap's, or out of memory, or clap accepts the words but no action fits them.
 abbrev pub ParsesAs : List Text → Result Action Error → Type 0
 ParsesAs words (Ok action) = (fault_of program_app words ≡ []) × IsActionOf (subcommand_of program_app words) action
 ParsesAs words (Err error) = HasKind (fault_of program_app words) error
@@ -93,14 +93,14 @@ ParsesAs words (Err error) = HasKind (fault_of program_app words) error
 
 -- ---- clap's answers
 
--- how an answer with an error of this kind ends if its text is printed
+-- the outcome of an answer with an error of this kind if its text is printed
 abbrev pub outcome_of_kind : ErrorKind → CliOutcome
 outcome_of_kind kind.OutOfMemory = OutOfMemory
 outcome_of_kind kind.DisplayHelp = Done
 outcome_of_kind kind.DisplayVersion = Done
 outcome_of_kind _ = Wrong
 
--- the device may fail that the text is printed to; without memory none is printed
+-- the device to which the text is printed may fail; when out of memory, none is printed
 abbrev pub IsPrintedAs : CliOutcome → CliOutcome → Type 0
 IsPrintedAs OutOfMemory cli_outcome = cli_outcome ≡ OutOfMemory
 IsPrintedAs said cli_outcome = (cli_outcome ≡ said) ⊎ (cli_outcome ≡ Device)

@@ -7,7 +7,7 @@ use Rattle.ts_core.specs.text.FaultCodes.{code_number, code_words, all_codes}
 use Rattle.ts_core.specs.declared.text.fault_code.FaultCode.{FaultCode}
 use Rattle.ts_script.specs.ScriptReplies.{line}
 
--- a row is wanted if its digits are these, or if none are given
+-- a row is wanted if these are its digits, or if no number is requested
 abbrev pub is_wanted : Option Text → Text → Bool
 is_wanted None digits = true
 is_wanted (Some number) digits = same_text digits number

@@ -1,4 +1,4 @@
--- the actions of command lines, and how the program ends
+-- the actions of command lines, and the outcomes of the program
 pub mod FaultTables
 pub mod CommandLines
 pub mod RunOutcomes

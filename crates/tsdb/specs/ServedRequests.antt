@@ -1,4 +1,4 @@
--- What becomes of a store by HTTP requests, one after another. (Own rule.)
+-- The effect of HTTP requests on a store, one after another. (Own rule.)
 use Rattle.std.specs.Prelude.{◌≡◌, ℕ, ℤ, Bool, true, false, List, [], ◌∷◌}
 use Rattle.ts_core.specs.facts.Facts.{Text}
 use Rattle.ts_core.specs.store.StoreData.{StoreData}
@@ -9,10 +9,10 @@ use Rattle.ts_http.specs.declared.serve.Served.{Served}
 use Rattle.ts_http.specs.declared.serve.Served.TheVariants as served
 use Rattle.ts_http.specs.declared.status.Status.TheVariants as status
 
--- one request: at which moment it was served, its bytes, how it was served, and the whole of its reply
+-- one request: the moment at which it was served, its bytes, the way it was served, and the whole of its reply
 pub record ServedRequest : Type 0 where
   pub now : ℤ
-  -- how many steps the run had left once one was open
+  -- the number of steps that the run had left once one was open
   pub left : ℕ
   pub bytes : Text
   pub served : Served
@@ -23,11 +23,11 @@ abbrev pub Leave : List ServedRequest → State → State → Type 0
 Leave [] old new = new ≡ old
 Leave (r ∷ rs) old new = (mid : State) × Leave rs old mid × Serves r.now r.left mid r.bytes r.served r.reply new
 
--- From each state that a store was in, some requests may leave the one that it is in.
+-- From each state that the old store was in, some requests may lead to a state that the new one is in.
 abbrev pub WentBy : StoreData → StoreData → Type 0
 WentBy old new = (s : State) → IsIn s old → (rs : List ServedRequest) × (s' : State) × Leave rs s s' × IsIn s' new
 
--- the image is saved after a retention run was taken on, or rules were changed
+-- the image is saved after steps of a retention run were taken, or rules were changed
 abbrev pub is_saved_after : Served → Bool
 is_saved_after (served.Reply status.Success to.Maintain) = true
 is_saved_after (served.Reply status.Success to.Rules) = true

@@ -1,4 +1,4 @@
--- What a service begins with, and what it reports if it can't begin or isn't saved. (Own rule.)
+-- The first store of a service, and its report if it can't begin or isn't saved. (Own rule.)
 use Rattle.std.specs.Prelude.{◌≡◌, ◌^◌, ◌++◌, ℕ, codes, Ok}
 use Rattle.ts_core.specs.facts.Facts.{Text}
 use Rattle.ts_core.specs.io.Devices.{Input}

@@ -20,7 +20,7 @@ use std::{env, io};
 use ts_core::{Sink, Source};
 use ts_script::run;
 
-/// Returns the words of the command line, the first of which is the program's name.
+/// Returns the words of the command line; the first is the program's name.
 pub fn read_words(rt: &(impl Env + AllocGlobal)) -> Result<Vec<String>, Outcome>
     ensures { IfErr result (λ outcome. (outcome ≡ NoText) ⊎ (outcome ≡ NoScript OutOfMemory)) }
 {

@@ -63,8 +63,8 @@ impl<'a> Action<'a> {
     }
 }
 
-/// Parses the words of a command line, of which the first is the program's name. Returns clap's error for wrong words,
-/// and also for help and the version, which are its text.
+/// Parses the words of a command line; the first is the program's name. Returns clap's error for wrong words. Help and
+/// the version are errors too, with their text.
 pub fn parse<'a, S: AsStr>(alloc: Global, words: &'a [S]) -> Result<Action<'a>, Error>
     ensures { ParsesAs (map S.text words.entry.now) result }
 {
@@ -76,7 +76,7 @@ pub fn parse<'a, S: AsStr>(alloc: Global, words: &'a [S]) -> Result<Action<'a>, 
     }
 }
 
-/// How clap's answer to a command line ended; the exit status shows it.
+/// Outcome of clap's answer to a command line; the exit status shows it.
 #[derive(Clone, Copy, Drop)]
 pub enum CliOutcome {
     /// Help or the version was printed.
@@ -89,7 +89,7 @@ pub enum CliOutcome {
     OutOfMemory,
 }
 
-/// Returns how clap's answer ends if the text of this error is printed.
+/// Returns the outcome of clap's answer if the text of this error is printed.
 pub fn cli_outcome_of(error: &Error) -> CliOutcome
     ensures { result ≡ outcome_of_kind (kind_of error.now) }
 {

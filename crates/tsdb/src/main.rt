@@ -1,5 +1,5 @@
-//! The program `tsdb`: it runs scripts from standard input (`tsdb replay`), serves HTTP requests (`tsdb serve`) and
-//! prints what faults mean (`tsdb faults`). Depends on ts_script, ts_http and ts_store.
+//! The program `tsdb`. It runs scripts from standard input (`tsdb replay`), serves HTTP requests (`tsdb serve`) and
+//! prints the meaning of faults (`tsdb faults`). Depends on ts_script, ts_http and ts_store.
 //!
 //! Proved: a call has the effect that specs/Calls defines for its words and standard input (`call::answer_words`), and
 //! requests change a store as ts_http defines them (`requests::serve_on`). Sockets, the clock and files have no

@@ -14,13 +14,13 @@ use ts_http::{Route, Served, Status, serve_one};
 use ts_image::SaveFault;
 use ts_store::Store;
 
-/// How many seconds a client has to send its request, and as many to take the reply.
+/// Seconds that a client has to send its request, and as many to receive the reply.
 const PATIENCE: u64 = 10;
 
-/// How many seconds the rest of a refused request is read and dropped at most.
+/// Most seconds for reading and dropping the rest of a refused request.
 const DRAIN_PATIENCE: u64 = 2;
 
-/// How many reads of that rest there are at most, of 4 KiB each.
+/// Most reads of that rest, of 4 KiB each.
 const DRAINS: u32 = 512;
 
 /// Returns the moment by the machine's clock, or the least one if the clock fails or is beyond all moments.
@@ -37,8 +37,8 @@ fn moment(clock: &impl Clock) -> Time {
     }
 }
 
-/// Closes a connection after a refusal so that its client gets the reply: reads and drops what it still sends, at most
-/// 2 MiB. A connection that is closed with unread bytes is reset.
+/// Closes a connection after a refusal so that its client receives the reply: reads and drops the rest of its bytes, at
+/// most 2 MiB. A connection that is closed with unread bytes is reset.
 fn drain(stream: &TcpStream, clock: &impl Clock) {
     if stream.shutdown(Shutdown::Write).is_err() {
         return;
@@ -65,8 +65,8 @@ fn finish(stream: &TcpStream, clock: &impl Clock, served: Served) {
     }
 }
 
-/// Returns true if the image is to be saved after a request that was served this way: steps of a retention run were
-/// taken, or a rule was added or dropped.
+/// Returns true if the image is to be saved after a request that was served this way. It is if steps of a retention run
+/// were taken, or if a rule was added or dropped.
 fn is_saved_after(served: Served) -> bool
     ensures { result ≡ is_saved_after served }
 {
@@ -101,8 +101,8 @@ fn serve_stream(
 }
 
 /// Serves `count` connections of a listener, one request each, at the moments of a clock. A connection that fails is
-/// closed, and the next one is served. Saves the image after each `/maintain` and each `/rules` that was answered with
-/// 200; a failed save is reported on standard error, and the next connection is served.
+/// closed, and the next one is served. Saves the image after each `/maintain` and each `/rules` with status 200. A
+/// failed save is reported on standard error, and the next connection is served.
 #[tactic(auto, using(crate::proofs::RequestLemmas::stayed))]
 fn serve_all<R>(rt: &R, store: &mut Store<Global>, listener: &TcpListener, image: &str, count: u64)
 where

@@ -6,7 +6,7 @@ use std::rt::Clock;
 use std::time::{Duration, Instant};
 
 /// A connection whose reads or writes fail with `TimedOut` after a number of seconds since the first of them began.
-/// Reads and writes each take one of their own, so that the time that a query takes counts for neither.
+/// Reads and writes have one each, so that the time of a query counts for neither.
 #[derive(Drop)]
 pub struct Timed<'a, C: Clock> {
     stream: &'a TcpStream,
@@ -26,7 +26,7 @@ impl<'a, C: Clock> Timed<'a, C> {
         }
     }
 
-    /// Returns the time that is left, or `TimedOut`. The first call begins it.
+    /// Returns the time left, or `TimedOut`. Begins the time at the first call.
     fn time_left(&mut self) -> io::Result<Duration> {
         let all = Duration::from_secs(self.seconds);
         let now = Instant::now(self.clock)?;
