@@ -1,25 +1,22 @@
-use Rattle.std.proofs.Common.{◌≡◌, ◌-◌, length, sym, ap, ◌∙◌, arith}
+use Rattle.std.proofs.Common.{◌≡◌, ◌-◌, ◌≤◌, ◌+◌, length, sym, ap, ◌∙◌, arith}
 use Rattle.std.specs.FinMap as map
 use Rattle.ts_raw.specs.Columns.{ColumnState}
 use Rattle.ts_raw.specs.CodedPoints.{coded_points}
 use Rattle.ts_raw.proofs.CutLemmas.{cut_length}
 use Rattle.ts_raw.proofs.ColumnBlocks.{cut_few}
-use Rattle.ts_raw.proofs.block_column.BlockColumnColumn.held.Given.{Over}
-use Rattle.ts_raw.proofs.block_column.BlockColumnColumn.held.Goals.{After-self}
 use Rattle.ts_raw.proofs.block_column.BlockColumnColumn.held.Goals as goal
-
-len : (g : Over) (c : After-self g) → map.len c.args.self.now.points ≡ length (coded_points c.self.inside.bytes.items c.self.inside.marks.items) - c.self.inside.cut
-len g c = sym (ap (λ (s : ColumnState). map.len s.points) c.self.view_is) ∙ cut_length c.self.inside.cut (coded_points c.self.inside.bytes.items c.self.inside.marks.items) c.self.invariant.counted.coded.rising
 
 pub returns-clause-all : goal.returns-clause-all
 returns-clause-all g c =
-    let n = len g (goal.at.returns-clause-all g c).After-self in
+    let points = coded_points c.self.inside.bytes.items c.self.inside.marks.items in
+    let n : map.len c.args.self.now.points ≡ length points - c.self.inside.cut = sym (ap (λ (s : ColumnState). map.len s.points) c.self.view_is) ∙ cut_length c.self.inside.cut points c.self.invariant.counted.coded.rising in
     let total = c.self.invariant.counted.total_is in
     omega arith
 
-pub returns-clause-few_more : goal.returns-clause-few_more
-returns-clause-few_more g c =
-    let n = len g (goal.at.returns-clause-few_more g c).After-self in
-    let total = c.self.invariant.counted.total_is in
+pub returns-clause-few : goal.returns-clause-few
+returns-clause-few g c =
+    let points = coded_points c.self.inside.bytes.items c.self.inside.marks.items in
+    let n : map.len c.args.self.now.points ≡ length points - c.self.inside.cut = sym (ap (λ (s : ColumnState). map.len s.points) c.self.view_is) ∙ cut_length c.self.inside.cut points c.self.invariant.counted.coded.rising in
     let few = cut_few c.self.inside.bytes.items c.self.inside.marks.items c.self.inside.cut c.self.invariant.counted.coded.marked c.self.invariant.cut_fits in
+    let total = c.self.invariant.counted.total_is in
     omega arith
