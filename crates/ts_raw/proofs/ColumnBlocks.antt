@@ -29,7 +29,7 @@ use Rattle.ts_raw.proofs.PointMaps.{rising-put, timed-put, from_sorted-put}
 use Rattle.ts_raw.proofs.PointRanges.{drop-before}
 use Rattle.ts_raw.proofs.PushLemmas.{none_counted, coded_less, all_within, others_by}
 use Rattle.ts_raw.proofs.BlockLists.{blocks_of_marks, mark_at, mark_stays, same_points, take_next}
-use Rattle.ts_raw.proofs.RewriteLemmas.{counts_are, coded_join, rising_first, put_after, put_within, last_after_drop, length_put, numbered_marks, numbered_blocks}
+use Rattle.ts_raw.proofs.RewriteLemmas.{counts_are, marks_numbered, coded_join, rising_first, put_after, put_within, last_after_drop, length_put, numbered_marks, numbered_blocks}
 
 -- ---- the removed points are within the first block
 
@@ -519,3 +519,6 @@ next_map ps i d s l =
     let first : IsRising (take i ps ++ (x ∷ [])) = subst IsRising next (rising_first (i + 1) ps s) in
     sym (from_sorted-put int_cmp_total (take i ps) (rising_first i ps s) x.0 x.1)
     ∙ ap (map.from_sorted {R = int_cmp}) (ap (put int_cmp x.0 x.1) (sym (append-nil (take i ps))) ∙ put_after x.0 x.1 (take i ps) [] (rising_splits (take i ps) x first) ∙ sym next)
+
+pub numbered_front : (bytes : List ℕ) (ms : List Mark) (at : ℕ) → AreMarks bytes 0 ms → numbered 0 (take at ms) ≡ take at ms
+numbered_front bytes ms at h = marks_numbered bytes 0 (take at ms) (marks_front bytes 0 at ms h)

@@ -1,7 +1,9 @@
 -- Encoding a block anew, with a point inserted or replaced.
-use Rattle.std.proofs.Common.{◌≡◌, ℕ, zero, suc, ◌+◌, ◌<◌, ◌≤◌, ℤ, ◌<ℤ◌, ◌≤ℤ◌, int_cmp, true, false, Bool, ◌&&◌, is_lt, T, Less, Equal, Greater, List, [], ◌∷◌, ◌++◌, length, take, drop, get_or, set, insert, append_assoc, append-nil, length-append, length-drop, drop-cons, refl, sym, ◌∙◌, ap, subst, arith}
+use Rattle.std.proofs.Common.{◌-◌, ◌≡◌, ℕ, zero, suc, ◌+◌, ◌<◌, ◌≤◌, ℤ, ◌<ℤ◌, ◌≤ℤ◌, int_cmp, true, false, Bool, ◌&&◌, is_lt, T, Less, Equal, Greater, List, [], ◌∷◌, ◌++◌, length, take, drop, get_or, set, insert, append_assoc, append-nil, length-append, length-drop, drop-cons, refl, sym, ◌∙◌, ap, subst, arith}
 use Rattle.std.proofs.lemmas.Int.{ints}
-use Rattle.std.proofs.lemmas.List.{take-append-drop, length-take-le}
+use Rattle.std.proofs.lemmas.List.{take_all, take-append-drop, length-take-le}
+use Rattle.std.proofs.Math.ListN.{drop_of_length-le}
+use Rattle.std.proofs.Math.Seq.{take-append_seam}
 use Rattle.std.specs.Int.{w64}
 use Rattle.std.specs.Prelude.{FitsSigned}
 use Rattle.std.specs.List.{AllByRecursion}
@@ -15,7 +17,8 @@ use Rattle.ts_raw.specs.declared.mark.Mark.{Mark}
 use Rattle.ts_raw.specs.Columns.{AreTimed}
 use Rattle.ts_raw.specs.PlainColumns.{IsRising}
 use Rattle.ts_raw.specs.CodedPoints.{points_at, coded_points, blocks_at, IsMark, AreBlocks, AreMarks, numbered, count_of}
-use Rattle.ts_raw.specs.Rewriting.{IsEncoded, AreEncodable}
+use Rattle.ts_raw.specs.declared.rewriting.Rewritten.{Rewritten}
+use Rattle.ts_raw.specs.Rewriting.{marks_replaced, blocks_of, IsEncoded, AreEncodable}
 use Rattle.ts_raw.proofs.PointMaps.{rising-put, timed-put}
 use Rattle.ts_raw.proofs.CutLemmas.{is_rising_behind, timed_behind, timed_first}
 use Rattle.ts_raw.proofs.BlockLists.{mark_stays, take_next}
@@ -188,7 +191,7 @@ get_seam : (xs ys : List Mark) (y d : Mark) → get_or (xs ++ y ∷ ys) (length 
 get_seam [] ys y d = refl
 get_seam (x ∷ xs) ys y d = get_seam xs ys y d
 
-count_join : (xs ys : List Mark) → count_of (xs ++ ys) ≡ count_of xs + count_of ys
+pub count_join : (xs ys : List Mark) → count_of (xs ++ ys) ≡ count_of xs + count_of ys
 count_join [] ys = let n : count_of ys ≡ 0 + count_of ys = omega arith in n
 count_join (m ∷ xs) ys = let a = count_join xs ys in omega arith
 
@@ -299,3 +302,59 @@ insert_replaced ms at x y l =
     let size : length front ≡ at + 1 = length-append (take at ms) (x ∷ []) ∙ ap (λ k. k + 1) (length-take-le at ms (omega arith)) in
     let split : set ms at x ≡ front ++ drop (at + 1) ms = set_replaced ms at x l ∙ sym (append_assoc (take at ms) (x ∷ []) (drop (at + 1) ms)) in
     (λ i. insert (split i) (sym size i) y) ∙ insert_seam front (drop (at + 1) ms) y ∙ append_assoc (take at ms) (x ∷ []) (y ∷ drop (at + 1) ms)
+
+-- marks that are right are numbered
+pub marks_numbered : (bytes : List ℕ) (before : ℕ) (ms : List Mark) → AreMarks bytes before ms → numbered before ms ≡ ms
+marks_numbered bytes before [] h = refl
+marks_numbered bytes before (m ∷ ms) h =
+    let next : before + m.count ≡ before + length (points_at bytes m) = let a = h.0.count_is in omega arith in
+    (λ i. record { start = m.start; values = m.values; end = m.end; count = m.count; before = sym h.1 i; last = m.last } ∷ numbered (next i) ms)
+    ∙ ap (λ (x : List Mark). m ∷ x) (marks_numbered bytes (before + length (points_at bytes m)) ms h.2)
+
+-- the count up to a numbered block, and its own
+pub numbered_up_to : (before : ℕ) (ms : List Mark) (k : ℕ) (d : Mark) → numbered before (take (suc k) ms) ≡ take (suc k) ms → k < length ms → (get_or ms k d).before + (get_or ms k d).count ≡ before + count_of (take (suc k) ms)
+numbered_up_to before [] k d e l = absurd (omega arith)
+numbered_up_to before (m ∷ ms) zero d e l =
+    let b : before ≡ m.before = ap (λ (x : List Mark). (get_or x 0 m).before) e in
+    omega arith
+numbered_up_to before (m ∷ ms) (suc k) d e l =
+    let rest = numbered_up_to (before + m.count) ms k d (ap (drop 1) e) (omega arith) in
+    omega arith
+
+pub numbered_seam : (ms : List Mark) (from : ℕ) → numbered 0 (take from ms) ≡ take from ms → ms ≡ numbered 0 (take from ms) ++ drop from ms
+numbered_seam ms from e = sym (take-append-drop from ms) ∙ ap (λ (x : List Mark). x ++ drop from ms) (sym e)
+
+take_replaced : (r : Rewritten) (ms : List Mark) → r.at < length ms → take r.at (marks_replaced r ms) ≡ take r.at ms
+take_replaced r ms l =
+    let size : length (take r.at ms) ≡ r.at = length-take-le r.at ms (omega arith) in
+    (λ i. take (sym size i) (marks_replaced r ms)) ∙ take-append_seam (take r.at ms) (blocks_of r ++ drop (r.at + 1) ms)
+
+pub replaced_front : (r : Rewritten) (ms : List Mark) → r.at < length ms → numbered 0 (take r.at ms) ≡ take r.at ms → numbered 0 (take r.at (marks_replaced r ms)) ≡ take r.at (marks_replaced r ms)
+replaced_front r ms l e = subst (λ (x : List Mark). numbered 0 x ≡ x) (sym (take_replaced r ms l)) e
+
+pub replaced_length : (r : Rewritten) (ms : List Mark) → r.at < length ms → r.at ≤ length (marks_replaced r ms)
+replaced_length r ms l =
+    let a = length-append (take r.at ms) (blocks_of r ++ drop (r.at + 1) ms) in
+    let b = length-take-le r.at ms (omega arith) in
+    omega arith
+
+pub none_counted_to : (ms : List Mark) (at : ℕ) → at ≡ 0 → 0 ≡ count_of (take at ms)
+none_counted_to ms zero e = refl
+none_counted_to ms (suc at) e = absurd (omega arith)
+
+pub counted_before : (ms : List Mark) (at : ℕ) (m : Mark) → numbered 0 (take at ms) ≡ take at ms → (at ≡ 0 → ⊥) → at ≤ length ms → m ≡ get_or ms (at - 1) m → m.before + m.count ≡ count_of (take at ms)
+counted_before ms zero m front some l is = absurd (some refl)
+counted_before ms (suc k) m front some l is =
+    let place : suc k - 1 ≡ k = omega arith in
+    let there : m ≡ get_or ms k m = is ∙ ap (λ n. get_or ms n m) place in
+    (λ i. (there i).before + (there i).count) ∙ numbered_up_to 0 ms k m front (omega arith) ∙ (let n : 0 + count_of (take (suc k) ms) ≡ count_of (take (suc k) ms) = omega arith in n)
+
+pub count_front : (ms : List Mark) (at : ℕ) → count_of (take at ms) ≤ count_of ms
+count_front ms at =
+    let a = ap count_of (take-append-drop at ms) in
+    let b = count_join (take at ms) (drop at ms) in
+    omega arith
+
+pub numbered_whole : (all cur : List Mark) (i : ℕ) → length all ≤ i → cur ≡ numbered 0 (take i all) ++ drop i all → cur ≡ numbered 0 all
+numbered_whole all cur i l is =
+    is ∙ (λ j. numbered 0 (take_all i all l j) ++ drop_of_length-le all l j) ∙ append-nil (numbered 0 all)

@@ -144,16 +144,33 @@ pub(crate) fn rewrite<A: Allocator + Copy>(
     })
 }
 
-/// Counts the points before each block. Returns the number of all points.
-fn renumber(marks: &mut [Mark]) -> usize
-    requires { count_of marks.old ≤ 18446744073709551615 }
+/// Returns the number of points in the first `at` blocks, whose counts are right.
+fn counted_to(marks: &[Mark], at: usize) -> usize
+    requires bound { at ≤ length marks.now }
+    requires front { numbered 0 (take at marks.now) ≡ take at marks.now }
+    requires few { count_of marks.now ≤ 18446744073709551615 }
+    ensures { result ≡ count_of (take at marks.now) }
+{
+    if at == 0 {
+        return 0;
+    }
+    let last = &marks[at - 1];
+    last.before + last.count
+}
+
+/// Counts the points before each block from the index `from` on. Returns the number of all points.
+fn renumber(marks: &mut [Mark], from: usize) -> usize
+    requires bound { from ≤ length marks.old }
+    requires front { numbered 0 (take from marks.old) ≡ take from marks.old }
+    requires few { count_of marks.old ≤ 18446744073709551615 }
     ensures marks { marks.new ≡ numbered 0 marks.old }
     ensures total { result ≡ count_of marks.old }
 {
-    let mut total = 0;
-    for mark in marks.iter_mut() {
-        mark.before = total;
-        total += mark.count;
+    let mut total = counted_to(marks, from);
+    for i in from..marks.len() {
+        let count = marks[i].count;
+        marks[i].before = total;
+        total += count;
     }
     total
 }
@@ -175,12 +192,13 @@ fn put_blocks<A: Allocator>(marks: &mut Vec<Mark, A>, new: &Rewritten)
 pub(crate) fn replace<A: Allocator>(marks: &mut Vec<Mark, A>, new: &Rewritten) -> usize
     requires within { new.now.at < length marks.old.items }
     requires room { vec_len marks.old < vec_capacity marks.old }
+    requires front { numbered 0 (take new.now.at marks.old.items) ≡ take new.now.at marks.old.items }
     requires few { count_of (marks_replaced new.now marks.old.items) ≤ 18446744073709551615 }
     ensures marks { marks.new.items ≡ numbered 0 (marks_replaced new.now marks.old.items) }
     ensures total { result ≡ count_of (marks_replaced new.now marks.old.items) }
 {
     put_blocks(marks, new);
-    renumber(marks.as_mut_slice())
+    renumber(marks.as_mut_slice(), new.at)
 }
 
 /// Removes the first `count` blocks. Returns the number of points of the others.
@@ -191,5 +209,5 @@ pub(crate) fn remove_front<A: Allocator>(marks: &mut Vec<Mark, A>, count: usize)
     ensures total { result ≡ count_of (drop count marks.old.items) }
 {
     drop(marks.drain(..count));
-    renumber(marks.as_mut_slice())
+    renumber(marks.as_mut_slice(), 0)
 }

@@ -9,7 +9,7 @@ use Rattle.ts_raw.specs.Rewriting.{IsRewritten, marks_replaced, cut_after}
 use Rattle.ts_raw.proofs.PointMaps.{from_sorted-put}
 use Rattle.ts_raw.proofs.CutLemmas.{is_rising_behind}
 use Rattle.ts_raw.proofs.PushLemmas.{coded_less}
-use Rattle.ts_raw.proofs.ColumnBlocks.{cut_within, appended_map, replaced_few, replaced_count, replaced_points, replaced_column}
+use Rattle.ts_raw.proofs.ColumnBlocks.{cut_within, numbered_front, appended_map, replaced_few, replaced_count, replaced_points, replaced_column}
 use Rattle.ts_raw.proofs.block_column.BlockColumnColumn.commit.Given.{Over}
 use Rattle.ts_raw.proofs.block_column.BlockColumnColumn.commit.Goals.{After-unwrap-staged, In-Some, After-replace-self-inside}
 use Rattle.ts_raw.proofs.block_column.BlockColumnColumn.commit.Goals as goal
@@ -21,6 +21,9 @@ staged g c =
 
 rewritten : (g : Over) (c : In-Some g) (s : IsStaged c.self.inside.bytes.items c.self.inside.marks.items c.self.inside.total c.self.inside.cut (vec_capacity c.self.inside.bytes) (vec_capacity c.self.inside.marks) c.unwrap-staged.result) → IsRewritten c.self.inside.bytes.items c.self.inside.marks.items c.self.inside.cut c.unwrap-staged.result.point c.in-Some.new
 rewritten g c s = subst (CanCommit c.self.inside.bytes.items c.self.inside.marks.items c.self.inside.cut (vec_capacity c.self.inside.bytes) c.unwrap-staged.result.point) c.in-Some.is s.can
+
+pub replace-self-inside-requires-clause-front : goal.replace-self-inside-requires-clause-front
+replace-self-inside-requires-clause-front g c = numbered_front c.self.inside.bytes.items c.self.inside.marks.items c.in-Some.new.at c.self.invariant.counted.coded.marked
 
 pub replace-self-inside-requires-clause-few : goal.replace-self-inside-requires-clause-few
 replace-self-inside-requires-clause-few g c =
