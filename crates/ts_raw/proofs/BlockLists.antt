@@ -92,6 +92,10 @@ marks_stay old new ms front h =
     let text : new ≡ old ++ drop (length old) new = sym (take-append-drop (length old) new) ∙ ap (λ (x : List ℕ). x ++ drop (length old) new) front in
     subst (λ (x : List ℕ). AreMarks x 0 ms × (blocks_at x ms ≡ blocks_at old ms)) (sym text) (blocks_longer old (drop (length old) new) ms 0 h)
 
+pub stays : (old new : List ℕ) (ms ns : List Mark) (n : ℕ) → n ≡ length old → take n new ≡ old → ns ≡ ms → AreMarks old 0 ms → AreMarks new 0 ns × (blocks_at new ns ≡ blocks_at old ms)
+stays old new ms ns n size front items marked =
+    subst (λ (x : List Mark). AreMarks new 0 x × (blocks_at new x ≡ blocks_at old ms)) (sym items) (marks_stay old new ms (subst (λ k. take k new ≡ old) size front) marked)
+
 pub mark_stays : (old new : List ℕ) (m : Mark) → take (length old) new ≡ old → IsMark old m → IsMark new m × (points_at new m ≡ points_at old m)
 mark_stays old new m front h =
     let text : new ≡ old ++ drop (length old) new = sym (take-append-drop (length old) new) ∙ ap (λ (x : List ℕ). x ++ drop (length old) new) front in

@@ -147,7 +147,7 @@ above_last (p ∷ ps) qs h s = after p ps qs s
     after p [] qs s = all_below p.0 qs (both_of _ _ s).0
     after p (r ∷ ps) qs s = after r ps qs (both_of _ _ s).1
 
-rising_rest : (ps qs : List (ℤ × ℤ)) → IsRising (ps ++ qs) → IsRising qs
+pub rising_rest : (ps qs : List (ℤ × ℤ)) → IsRising (ps ++ qs) → IsRising qs
 rising_rest [] qs s = s
 rising_rest (p ∷ ps) qs s = rising_rest ps qs (both_of _ _ s).1
 

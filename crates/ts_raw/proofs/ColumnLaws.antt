@@ -11,7 +11,6 @@ use Rattle.std.proofs.lemmas.Bool.{and_parts, and_from}
 use Rattle.ts_core.specs.lists.Members.{Among, AllDistinct}
 use Rattle.ts_core.specs.aggregates.Buckets.{bucket_of}
 use Rattle.ts_core.specs.facts.Facts.{is_within}
-use Rattle.ts_core.specs.moves.StoreMoves.{points_below}
 use Rattle.ts_core.proofs.lists.MembersLemmas.{Among-filter_passes, Among-filter_was, Among-filter_stays}
 use Rattle.ts_core.proofs.lists.Sorted.{sorted-distinct, found_among, among_found}
 use Rattle.ts_core.proofs.lists.Comparisons.{le_from, le_true, lt_from, lt_true}
@@ -44,10 +43,7 @@ among-within m a b p =
 pub within-rising : (m : PointMap) (a b : ℤ) → IsRising (points_within m a b)
 within-rising m a b = is_sorted-where_key int_cmp (is_within a b) (entries m) (entries_sorted m)
 
--- the points before a mark, and those of a bucket, are in order too
-pub below-rising : (m : PointMap) (mark : ℤ) → IsRising (points_below mark (entries m))
-below-rising m mark = is_sorted-where_key int_cmp (λ t. int_lt t mark) (entries m) (entries_sorted m)
-
+-- the points of a bucket are in order too
 pub in_bucket-rising : (m : PointMap) (k i o : ℤ) → IsRising (points_in_bucket m k i o)
 in_bucket-rising m k i o = is_sorted-where_key int_cmp (λ t. int_eq (bucket_of t i o) k) (entries m) (entries_sorted m)
 

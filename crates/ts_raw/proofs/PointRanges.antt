@@ -1,11 +1,10 @@
--- Points before a time and after it, in the order of time.
-use Rattle.std.proofs.Common.{◌≡◌, ℕ, ℤ, ◌≤◌, true, false, List, length, take, drop, filter, sym, ◌∙◌, ap, subst, arith, slice_index_or, int_lt, int_le}
+-- Points from a time on, in the order of time.
+use Rattle.std.proofs.Common.{◌≡◌, ℕ, ℤ, ◌≤◌, true, false, List, length, drop, filter, sym, ◌∙◌, ap, subst, arith, slice_index_or, int_lt, int_le}
 use Rattle.std.proofs.lemmas.Int.{ints}
 use Rattle.std.specs.Ordering.{int_cmp}
 use Rattle.std.specs.FinMap.{from_sorted}
 use Rattle.std.specs.FinMap.Entries.{is_sorted-where_key}
-use Rattle.ts_core.specs.moves.StoreMoves.{points_below}
-use Rattle.ts_core.proofs.lists.Windows.{filter-window, filter-rest}
+use Rattle.ts_core.proofs.lists.Windows.{filter-rest}
 use Rattle.ts_raw.specs.Columns.{AreTimed, points_from}
 use Rattle.ts_raw.specs.PlainColumns.{IsRising, IsStartOf}
 use Rattle.ts_raw.proofs.PointMaps.{kept_map, timed-where}
@@ -15,15 +14,6 @@ below_mark mark t p = grind (arith, ints)
 
 at_mark : (mark t : ℤ) → int_lt t mark ≡ false → int_le mark t ≡ true
 at_mark mark t p = grind (arith, ints)
-
--- those before a time come first
-pub filter-before : (points : List (ℤ × ℤ)) (t : ℤ) (i : ℕ) → IsStartOf t points i → i ≤ length points → take i points ≡ points_below t points
-filter-before points t i f l =
-    sym (filter-window (λ (p : ℤ × ℤ). int_lt p.0 t) points 0 i
-    (λ k d m n. absurd (omega arith))
-    (λ k d m n. f.0 k d m (omega arith))
-    (λ k d m n. f.1 k d (omega arith) n)
-    (omega arith))
 
 pub drop-before : (points : List (ℤ × ℤ)) (mark : ℤ) (i : ℕ) → IsStartOf mark points i → i ≤ length points → drop i points ≡ filter (λ (p : ℤ × ℤ). int_le mark p.0) points
 drop-before points mark i f l =

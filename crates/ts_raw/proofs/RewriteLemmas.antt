@@ -1,5 +1,5 @@
 -- Encoding a block anew, with a point inserted or replaced.
-use Rattle.std.proofs.Common.{◌-◌, ◌≡◌, ℕ, zero, suc, ◌+◌, ◌<◌, ◌≤◌, ℤ, ◌<ℤ◌, ◌≤ℤ◌, int_cmp, true, false, Bool, ◌&&◌, is_lt, T, Less, Equal, Greater, List, [], ◌∷◌, ◌++◌, length, take, drop, get_or, set, insert, append_assoc, append-nil, length-append, length-drop, drop-cons, refl, sym, ◌∙◌, ap, subst, arith}
+use Rattle.std.proofs.Common.{◌-◌, ◌≡◌, ℕ, zero, suc, ◌+◌, ◌<◌, ◌≤◌, ℤ, ◌<ℤ◌, ◌≤ℤ◌, int_cmp, is_lt, T, Less, Equal, Greater, List, [], ◌∷◌, ◌++◌, length, take, drop, get_or, set, insert, append_assoc, append-nil, length-append, length-drop, drop-cons, refl, sym, ◌∙◌, ap, subst, arith}
 use Rattle.std.proofs.lemmas.Int.{ints}
 use Rattle.std.proofs.lemmas.List.{take_all, take-append-drop, length-take-le}
 use Rattle.std.proofs.Math.ListN.{drop_of_length-le}
@@ -21,18 +21,12 @@ use Rattle.ts_raw.specs.declared.rewriting.Rewritten.{Rewritten}
 use Rattle.ts_raw.specs.Rewriting.{marks_replaced, blocks_of, IsEncoded, AreEncodable}
 use Rattle.ts_raw.proofs.PointMaps.{rising-put, timed-put}
 use Rattle.ts_raw.proofs.CutLemmas.{is_rising_behind, timed_behind, timed_first}
+use Rattle.ts_raw.proofs.PushLemmas.{and_T, less_T}
 use Rattle.ts_raw.proofs.BlockLists.{mark_stays, take_next}
 
 -- ---- points that make a block
 
-and_T : (a b : Bool) → T a → T b → T (a && b)
-and_T true b p q = q
-and_T false b p q = absurd p
-
-less_T : (x y : ℤ) → x <ℤ y → T (is_lt (int_cmp x y))
-less_T x y h = let e : int_cmp x y ≡ Less = grind (arith, ints) in subst (λ o. T (is_lt o)) (sym e) tt
-
-T_less : (x y : ℤ) → T (is_lt (int_cmp x y)) → x <ℤ y
+pub T_less : (x y : ℤ) → T (is_lt (int_cmp x y)) → x <ℤ y
 T_less x y h = grind (arith, ints, h)
 
 below_later : (t u : ℤ) (ps : List (ℤ × ℤ)) → t <ℤ u → AreLater u (times_of ps) → T (below_all int_cmp t ps)

@@ -56,7 +56,6 @@ fn push_block<A: Allocator>(
     ensures points { coded_points bytes.new.items marks.new.items ≡ coded_points bytes.old.items marks.old.items ++ point.now ∷ [] }
     ensures blocks { blocks_at bytes.new.items marks.new.items ≡ blocks_at bytes.old.items marks.old.items ++ ((point.now ∷ []) ∷ []) }
 {
-    let _valid = point.0.nanos();
     let start = bytes.len();
     begin(bytes, point);
     let mark = Mark {

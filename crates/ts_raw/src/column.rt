@@ -1,7 +1,6 @@
 //! Interface of a column to the store: its points, and at most one staged point.
 ghost use Rattle.std.specs.Prelude.{◌≡◌, ◌+◌, ◌≤◌, ◌≤ℤ◌, pos, ℤ, Option, IsSome, IfSome, is_ok, if◌then◌else◌};
 ghost use Rattle.std.specs.FinMap as map;
-ghost use Rattle.ts_core.specs.moves.StoreMoves.{points_below};
 ghost use Rattle.ts_raw.specs.Columns.{PointMap, AreTimed, points_within, points_from, points_in_bucket};
 
 use crate::points::Points;
@@ -33,11 +32,6 @@ pub trait Column {
     /// `from` is below `to`.
     fn range(&self, from: i64, to: i64) -> Points<'_>
         ensures points { result ≡ points_within (points self.now) from to }
-        ensures timed { AreTimed result };
-
-    /// Returns the points before the mark, ordered by time.
-    fn below(&self, mark: Time) -> Points<'_>
-        ensures points { result ≡ points_below mark (map.entries (points self.now)) }
         ensures timed { AreTimed result };
 
     /// Returns the points of the bucket with this index, ordered by time. `interval` and `offset` are in nanoseconds.

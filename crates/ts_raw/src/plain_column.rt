@@ -7,8 +7,7 @@ ghost use Rattle.std.specs.List.Sorted.{IsSearchInRange};
 ghost use Rattle.ts_core.specs.aggregates.Buckets.{bucket_of};
 ghost use Rattle.ts_core.specs.aggregates.Edges.{IsEdgeAt};
 ghost use Rattle.ts_core.specs.facts.Facts.{is_within};
-ghost use Rattle.ts_core.specs.moves.StoreMoves.{points_below};
-ghost use Rattle.ts_raw.specs.Columns.{AreTimed};
+ghost use Rattle.ts_raw.specs.Columns.{AreTimed, points_within};
 ghost use Rattle.ts_raw.specs.PlainColumns.{IsRising, IsPlaceOf, IsStartOf};
 
 use crate::column::Column;
@@ -94,14 +93,6 @@ fn between<'a>(points: &'a [(Time, i64)], from: i64, to: i64) -> &'a [(Time, i64
     } else {
         &[]
     }
-}
-
-/// Returns the points before a time in nanoseconds.
-fn before(points: &[(Time, i64)], time: i64) -> &[(Time, i64)]
-    requires { IsRising points.now }
-    ensures { result.now ≡ points_below time points.now }
-{
-    &points[..count_before(points, time)]
 }
 
 /// Returns true if a time is before a bound.
@@ -204,7 +195,42 @@ impl<A: Allocator> PlainColumn<A> {
         ensures points { result ≡ map.entries self.now.points }
         ensures timed { AreTimed result }
     {
-        Points::plain(self.points.as_slice())
+        Points::plain(self.as_slice())
+    }
+
+    /// Returns all points in the order of time.
+    pub(crate) fn as_slice(&self) -> &[(Time, i64)]
+        ensures points { result.now ≡ map.entries self.now.points }
+        ensures timed { AreTimed result.now }
+    {
+        self.points.as_slice()
+    }
+
+    /// Returns the points from `from`, inclusive, to `to`, exclusive (nanoseconds).
+    pub(crate) fn window(&self, from: i64, to: i64) -> &[(Time, i64)]
+        ensures points { result.now ≡ points_within self.now.points from to }
+        ensures timed { AreTimed result.now }
+        ensures all_timed { AreTimed (map.entries self.now.points) }
+    {
+        between(self.points.as_slice(), from, to)
+    }
+
+    /// Removes the first `count` points. No point is staged afterwards.
+    pub(crate) fn remove_front(&mut self, count: usize)
+        requires { count ≤ length (map.entries self.old.points) }
+        ensures points { map.entries self.new.points ≡ drop count (map.entries self.old.points) }
+        ensures none_aside { self.new.aside ≡ None }
+    {
+        self.aside = None;
+        drop_front(&mut self.points, count);
+    }
+
+    /// Forgets the staged point.
+    pub(crate) fn unstage(&mut self)
+        ensures points { self.new.points ≡ self.old.points }
+        ensures none_aside { self.new.aside ≡ None }
+    {
+        self.aside = None;
     }
 
     /// Returns the value at a time, if there is a point. Doesn't search if the time is after all others.
@@ -232,11 +258,7 @@ impl<A: Allocator> Column for PlainColumn<A> {
     }
 
     fn range(&self, from: i64, to: i64) -> Points<'_> {
-        Points::plain(between(self.points.as_slice(), from, to))
-    }
-
-    fn below(&self, mark: Time) -> Points<'_> {
-        Points::plain(before(self.points.as_slice(), mark.nanos()))
+        Points::plain(self.window(from, to))
     }
 
     fn bucket(&self, index: &i128, interval: i64, offset: i64) -> Points<'_> {

@@ -62,7 +62,7 @@ fn decoded<A: Allocator>(
 }
 
 /// Encodes points as a block at the end of the bytes. Returns its mark; the number of points before it is 0.
-fn push_points<A: Allocator + Copy>(
+pub(crate) fn push_points<A: Allocator + Copy>(
     bytes: &mut Vec<u8, A>,
     points: &[(Time, i64)],
 ) -> Result<Mark, AllocError>

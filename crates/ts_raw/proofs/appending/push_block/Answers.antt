@@ -1,9 +1,9 @@
 use Rattle.std.proofs.Common.{◌≡◌, ℕ, List, [], ◌∷◌, ◌++◌, ◌+◌, length, vec_len, take, ◌∙◌, ap, sym, subst, refl, arith, is_ok, if◌then◌else◌}
-use Rattle.ts_core.specs.facts.Times.{IsTime}
 use Rattle.ts_block.specs.Appending.{EndsInBlock}
 use Rattle.ts_raw.specs.declared.mark.Mark.{Mark}
 use Rattle.ts_raw.specs.CodedPoints.{coded_points, blocks_at, IsCounted, OthersEndBy}
-use Rattle.ts_raw.proofs.PushLemmas.{all_within, others_from, started}
+use Rattle.ts_raw.proofs.PushLemmas.{all_within, others_from, new_mark, rising_push, coded_less}
+use Rattle.ts_raw.proofs.SealingLemmas.{sealed, joined_push}
 use Rattle.ts_raw.proofs.appending.push_block.Given.{Over}
 use Rattle.ts_raw.proofs.appending.push_block.Goals.{After-unwrap}
 use Rattle.ts_raw.proofs.appending.push_block.Goals as goal
@@ -18,13 +18,16 @@ unfolding mark
 both g c =
     let bytes : List ℕ = c.args.bytes.now.items in
     let new : List ℕ = c.begin.new.bytes.items in
+    let ms : List Mark = c.args.marks.now.items in
     let start : c.len-start.result ≡ length bytes = omega (arith, c.len-start.ensures, c.args.bytes.now.ok.0) in
     let end : c.len.result ≡ length new = omega (arith, c.len.ensures, c.begin.new.bytes.ok.0) in
-    let valid : IsTime c.args.point.now.0 = subst IsTime c.nanos-valid.ensures.value c.nanos-valid.ensures.valid in
     let same : take (length bytes) new ≡ bytes = ap (λ n. take n new) (let n : length bytes ≡ vec_len c.args.bytes.now = omega (arith, c.args.bytes.now.ok.0) in n) ∙ c.begin.ensures.before in
     let block : EndsInBlock new c.len-start.result (c.len-start.result + 9) c.args.point.now.0 (c.args.point.now ∷ []) =
     subst (λ n. EndsInBlock new n (n + 9) c.args.point.now.0 (c.args.point.now ∷ [])) (let n : vec_len c.args.bytes.now ≡ c.len-start.result = omega (arith, c.len-start.ensures) in n) c.begin.ensures.ends in
-    started bytes new c.args.marks.now.items (mark g c) c.args.total c.args.point.now c.requires.counted c.requires.later valid start refl refl refl end same block
+    let encoded = new_mark new (mark g c) (c.args.point.now ∷ []) block end refl in
+    let rising = rising_push (coded_points bytes ms) c.args.point.now c.requires.counted.coded.rising (coded_less bytes c.args.point.now.0 ms 0 c.requires.counted.coded.marked c.requires.later) in
+    let s = sealed bytes new ms (mark g c) c.args.total (c.args.point.now ∷ []) c.requires.counted same (record { mark = encoded.0; points_are = encoded.1 }) block.block.points_are rising in
+    (s.0, joined_push bytes new ms (ms ++ mark g c ∷ []) (c.args.point.now ∷ []) s.1, s.1)
 
 items : (g : Over) (c : After-unwrap g) → c.push.new.self.items ≡ c.args.marks.now.items ++ mark g c ∷ []
 unfolding mark

@@ -4,7 +4,7 @@ use Rattle.ts_core.specs.facts.Times.{IsTime}
 use Rattle.ts_block.specs.Appending.{EndsInBlock}
 use Rattle.ts_raw.specs.declared.mark.Mark.{Mark}
 use Rattle.ts_raw.specs.CodedPoints.{points_at, coded_points, blocks_at, IsCounted, OthersEndBy}
-use Rattle.ts_raw.proofs.PushLemmas.{last_block, last_count, last_before, last_values, marks_split, others_from, extended}
+use Rattle.ts_raw.proofs.PushLemmas.{last_block, last_before, last_values, marks_split, others_from, extended}
 use Rattle.ts_raw.proofs.appending.push_last.Given.{Over}
 use Rattle.ts_raw.proofs.appending.push_last.Goals.{After-unwrap}
 use Rattle.ts_raw.proofs.appending.push_last.Goals as goal

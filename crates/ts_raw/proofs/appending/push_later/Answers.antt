@@ -1,4 +1,4 @@
-use Rattle.std.proofs.Common.{rules, ◌≡◌, ◌≤◌, [], ◌∷◌, ◌++◌, sym, ap, subst, ◌∙◌, option_to_list}
+use Rattle.std.proofs.Common.{rules, ◌≡◌, ◌≤◌, [], ◌∷◌, ◌++◌, sym, ap, subst, ◌∙◌, arith, option_to_list}
 use Rattle.ts_raw.specs.CodedPoints.{AllEndBy, OthersEndBy, CutFits, points_at, blocks_at}
 use Rattle.ts_raw.proofs.PushLemmas.{others_of, all_by, blocks_push, cut_longer, cut_more}
 use Rattle.ts_raw.proofs.appending.push_later.Given.{Over}
@@ -31,4 +31,4 @@ returns-in-Some-clause-cut g c = λ cut h.
 
 pub returns-in_default-clause-cut : goal.returns-in_default-clause-cut
 returns-in_default-clause-cut g c = λ cut h.
-    subst (CutFits cut) (sym c.push_block.ensures.blocks) (cut_more cut (blocks_at c.args.bytes.now.items c.args.marks.now.items) c.args.point.now h)
+    subst (CutFits cut) (sym c.push_block.ensures.blocks) (cut_more cut (blocks_at c.args.bytes.now.items c.args.marks.now.items) (c.args.point.now ∷ []) (omega arith) h)

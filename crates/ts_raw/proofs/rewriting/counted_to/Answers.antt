@@ -1,4 +1,4 @@
-use Rattle.std.proofs.Common.{◌≡◌, ◌≤◌, ◌+◌, arith}
+use Rattle.std.proofs.Common.{arith}
 use Rattle.ts_raw.proofs.RewriteLemmas.{none_counted_to, counted_before, count_front}
 use Rattle.ts_raw.proofs.rewriting.counted_to.Goals as goal
 

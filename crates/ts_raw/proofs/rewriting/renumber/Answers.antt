@@ -1,8 +1,8 @@
-use Rattle.std.proofs.Common.{rules, ◌≡◌, ◌+◌, ◌<◌, ◌≤◌, ℕ, List, length, take, get_or, sym, ap, subst, ◌∙◌, arith}
+use Rattle.std.proofs.Common.{List, ap, ◌∙◌, arith}
 use Rattle.std.proofs.lemmas.List.{take_all}
 use Rattle.ts_raw.specs.declared.mark.Mark.{Mark}
-use Rattle.ts_raw.specs.CodedPoints.{numbered, count_of}
-use Rattle.ts_raw.proofs.RewriteLemmas.{with_before, here, numbered_next, count_next, count_within, numbered_seam, numbered_whole}
+use Rattle.ts_raw.specs.CodedPoints.{count_of}
+use Rattle.ts_raw.proofs.RewriteLemmas.{with_before, numbered_next, count_next, count_within, numbered_seam, numbered_whole}
 use Rattle.ts_raw.proofs.rewriting.renumber.Goals as goal
 
 pub loop-i-init : goal.loop-i-init

@@ -1,6 +1,6 @@
-use Rattle.std.proofs.Common.{◌≡◌, ◌≤◌, List, length, take, sym, ap, subst, ◌∙◌}
+use Rattle.std.proofs.Common.{◌≡◌, ◌≤◌, List, length, take, sym, subst, ◌∙◌}
 use Rattle.ts_raw.specs.declared.mark.Mark.{Mark}
-use Rattle.ts_raw.specs.CodedPoints.{numbered, count_of}
+use Rattle.ts_raw.specs.CodedPoints.{numbered}
 use Rattle.ts_raw.specs.Rewriting.{marks_replaced}
 use Rattle.ts_raw.proofs.RewriteLemmas.{replaced_front, replaced_length}
 use Rattle.ts_raw.proofs.rewriting.replace.Given.{Over}

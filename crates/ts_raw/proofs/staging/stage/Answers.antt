@@ -1,8 +1,8 @@
-use Rattle.std.proofs.Common.{◌≡◌, ℕ, List, length, vec_len, take, sym, ap, subst, ◌∙◌, arith}
+use Rattle.std.proofs.Common.{◌≡◌, List, length, vec_len, take, sym, ap, subst, ◌∙◌, arith}
 use Rattle.std.proofs.Math.Seq.{take-length}
 use Rattle.ts_raw.specs.declared.mark.Mark.{Mark}
-use Rattle.ts_raw.specs.CodedPoints.{IsCounted, AreMarks, AreOrdered, AllEndBefore, IsLastBefore, blocks_at}
-use Rattle.ts_raw.proofs.BlockLists.{counted_again, marks_stay}
+use Rattle.ts_raw.specs.CodedPoints.{IsCounted, AreOrdered, AllEndBefore, IsLastBefore}
+use Rattle.ts_raw.proofs.BlockLists.{counted_again, stays}
 use Rattle.ts_raw.proofs.ColumnBlocks.{ends_before}
 use Rattle.ts_raw.proofs.staging.stage.Given.{Over}
 use Rattle.ts_raw.proofs.staging.stage.Goals.{After-make_room, After-stage_last}
@@ -32,11 +32,6 @@ returns-in_err-stage_last-clause-counted g c = let a = goal.at.returns-in_err-st
 
 pub returns-then-at-len-clause-counted : goal.returns-then-at-len-clause-counted
 returns-then-at-len-clause-counted g c = let a = goal.at.returns-then-at-len-clause-counted g c in appended g a.After-stage_last (moved g a.After-make_room)
-
--- the blocks stay where bytes are appended
-stays : (old new : List ℕ) (ms ns : List Mark) (n : ℕ) → n ≡ length old → take n new ≡ old → ns ≡ ms → AreMarks old 0 ms → AreMarks new 0 ns × (blocks_at new ns ≡ blocks_at old ms)
-stays old new ms ns n size front items marked =
-    subst (λ (x : List Mark). AreMarks new 0 x × (blocks_at new x ≡ blocks_at old ms)) (sym items) (marks_stay old new ms (subst (λ k. take k new ≡ old) size front) marked)
 
 pub returns-in_err-new-clause-counted : goal.returns-in_err-new-clause-counted
 returns-in_err-new-clause-counted g c =

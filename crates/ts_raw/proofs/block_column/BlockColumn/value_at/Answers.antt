@@ -4,10 +4,10 @@ use Rattle.std.specs.FinMap.{get-entries}
 use Rattle.ts_core.specs.facts.Facts.{is_within}
 use Rattle.ts_raw.proofs.ColumnBlocks.{value_first}
 use Rattle.ts_raw.proofs.block_column.BlockColumn.value_at.Given.{Over}
-use Rattle.ts_raw.proofs.block_column.BlockColumn.value_at.Goals.{After-next}
+use Rattle.ts_raw.proofs.block_column.BlockColumn.value_at.Goals.{After-step}
 use Rattle.ts_raw.proofs.block_column.BlockColumn.value_at.Goals as goal
 
-there : (g : Over) (c : After-next g) → c.window.result ≡ filter (λ (p : ℤ × ℤ). is_within c.args.time (c.args.time +ℤ pos 1) p.0) (map.entries c.args.self.now.points)
+there : (g : Over) (c : After-step g) → c.window.result ≡ filter (λ (p : ℤ × ℤ). is_within c.args.time (c.args.time +ℤ pos 1) p.0) (map.entries c.args.self.now.points)
 there g c =
     let points : List (ℤ × ℤ) = map.entries c.args.self.now.points in
     let from_fits : SFits w64 c.nanos-nanos.result = search rules in
@@ -19,14 +19,14 @@ there g c =
 
 pub returns-in_err-value : goal.returns-in_err-value
 returns-in_err-value g c =
-    let at = (goal.at.returns-in_err-value g c).After-next in
+    let at = (goal.at.returns-in_err-value g c).After-step in
     let points : List (ℤ × ℤ) = map.entries c.args.self.now.points in
-    c.from_residual.ensures ∙ sym (get-entries c.args.self.now.points c.args.time ∙ value_first c.args.time points [] None (sym (there g at) ∙ c.in_err-value.ensures.steps.0, refl))
+    c.from_residual.ensures ∙ sym (get-entries c.args.self.now.points c.args.time ∙ value_first c.args.time points [] None (sym (there g at) ∙ c.in_err-value.ensures.0, refl))
 
 pub returns : goal.returns
 returns g c =
-    let at = (goal.at.returns g c).After-next in
+    let at = (goal.at.returns g c).After-step in
     let points : List (ℤ × ℤ) = map.entries c.args.self.now.points in
     let fits : SFits w64 c.in_ok-value.value = search rules in
     ap Some (to_z-of_z fits)
-    ∙ sym (get-entries c.args.self.now.points c.args.time ∙ value_first c.args.time points c.next.new.self (Some (c.in_ok-value.field-0-0, c.in_ok-value.value)) (sym (there g at) ∙ c.in_ok-value.ensures.steps))
+    ∙ sym (get-entries c.args.self.now.points c.args.time ∙ value_first c.args.time points c.step.new.self (Some (c.in_ok-value.field-0-0, c.in_ok-value.value)) (sym (there g at) ∙ c.in_ok-value.ensures))

@@ -26,7 +26,7 @@ returns-clause-points g c =
     let a : IsEdgeAt (bucket_start k i o) c.near.result = c.near.ensures (bucket_start k i o) (subst (IsEdgeAt (bucket_start k i o)) (sym (to_z-of_z first_fits)) first) in
     let b : IsEdgeAt (bucket_start (k +ℤ pos 1) i o) c.near-2.result = c.near-2.ensures (bucket_start (k +ℤ pos 1) i o) (subst (IsEdgeAt (bucket_start (k +ℤ pos 1) i o)) (sym (to_z-of_z next_fits)) next) in
     let within : ℤ → ℤ → List (ℤ × ℤ) → List (ℤ × ℤ) = λ x y ps. filter (λ (p : ℤ × ℤ). is_within x y p.0) ps in
-    c.window.ensures.points
+    c.coded.ensures ∙ c.window.ensures.points
     ∙ (λ j. within (to_z-of_z a_fits j) (to_z-of_z b_fits j) points)
     ∙ edges_within points (bucket_start k i o) (bucket_start (k +ℤ pos 1) i o) c.near.result c.near-2.result a b c.window.ensures.all_timed
     ∙ filter-inside i o k points c.requires

@@ -1,10 +1,10 @@
-use Rattle.std.proofs.Common.{rules, ◌≡◌, ◌≤◌, ◌+◌, ℕ, ℤ, List, length, drop, int_cmp, Some, None, sym, ap, subst, ◌∙◌, arith, vec_capacity}
+use Rattle.std.proofs.Common.{rules, ◌≡◌, ◌+◌, ℕ, ℤ, List, length, drop, int_cmp, Some, None, sym, ap, subst, ◌∙◌, arith, vec_capacity}
 use Rattle.std.specs.Cmp.{int_cmp_total}
 use Rattle.std.specs.FinMap as map
 use Rattle.ts_core.specs.facts.Times.{IsTime}
 use Rattle.ts_raw.specs.declared.mark.Mark.{Mark}
 use Rattle.ts_raw.specs.BlockColumns.{IsColumn, IsStaged, IsStagedIfAny, CanCommit}
-use Rattle.ts_raw.specs.CodedPoints.{AreBlocks, coded_points, numbered}
+use Rattle.ts_raw.specs.CodedPoints.{coded_points, numbered}
 use Rattle.ts_raw.specs.Rewriting.{IsRewritten, marks_replaced, cut_after}
 use Rattle.ts_raw.proofs.PointMaps.{from_sorted-put}
 use Rattle.ts_raw.proofs.CutLemmas.{is_rising_behind}

@@ -3,7 +3,7 @@ use Rattle.std.specs.FinMap as map
 use Rattle.ts_raw.specs.declared.mark.Mark.{Mark}
 use Rattle.ts_raw.specs.Columns.{ColumnState, points_from}
 use Rattle.ts_raw.specs.BlockColumns.{IsColumn}
-use Rattle.ts_raw.specs.CodedPoints.{AreBlocks, CutFits, blocks_at, coded_points, numbered}
+use Rattle.ts_raw.specs.CodedPoints.{CutFits, blocks_at, coded_points, numbered}
 use Rattle.ts_raw.proofs.PointMaps.{kept_map}
 use Rattle.ts_raw.proofs.CutLemmas.{is_rising_behind}
 use Rattle.ts_raw.proofs.BlockLists.{blocks_of_marks}

@@ -6,7 +6,7 @@ use Rattle.ts_raw.specs.Columns.{ColumnState}
 use Rattle.ts_raw.specs.CodedPoints.{coded_points}
 use Rattle.ts_raw.proofs.CutLemmas.{is_rising_behind}
 use Rattle.ts_raw.proofs.ColumnBlocks.{cut_within}
-use Rattle.ts_raw.proofs.block_column.BlockColumn.all.Goals as goal
+use Rattle.ts_raw.proofs.block_column.BlockColumn.every.Goals as goal
 
 pub overflow_sub-count : goal.overflow_sub-count
 overflow_sub-count g c =
@@ -27,5 +27,5 @@ returns-clause-points g c =
     let cut : ℕ = c.self.inside.cut in
     let total = c.self.invariant.counted.total_is in
     let count : c.self.inside.total - cut ≡ length (drop cut points) = let n = length-drop cut points in omega arith in
-    c.coded.ensures ∙ c.walk.ensures ∙ (λ i. take (count i) (drop cut (coded_points (c.as_slice.ensures.value i) (c.as_slice-2.ensures.value i)))) ∙ take-length (drop cut points)
+    c.walk.ensures ∙ (λ i. take (count i) (drop cut (coded_points (c.as_slice.ensures.value i) (c.as_slice-2.ensures.value i)))) ∙ take-length (drop cut points)
     ∙ sym (entries-from_sorted int_cmp (drop cut points) (is_rising_behind cut points c.self.invariant.counted.coded.rising)) ∙ ap (λ (s : ColumnState). map.entries s.points) c.self.view_is

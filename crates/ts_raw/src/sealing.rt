@@ -1,0 +1,67 @@
+//! Appends many points as one coded block.
+ghost use Rattle.std.specs.Prelude.{◌≡◌, ◌<◌, ◌≤◌, ℕ, length, [], ◌∷◌, ◌++◌, OnOk, OnErr};
+ghost use Rattle.ts_block.specs.Blocks.{values_of, AreValues};
+ghost use Rattle.ts_raw.specs.CodedPoints.{IsCounted, OthersEndBy, CutFits, coded_points, blocks_at};
+ghost use Rattle.ts_raw.specs.Columns.{AreTimed};
+ghost use Rattle.ts_raw.specs.PlainColumns.{IsRising};
+
+use crate::mark::Mark;
+use crate::relocating::make_room;
+use crate::rewriting::push_points;
+use std::alloc::{AllocError, Allocator};
+use ts_core::{Time, reserve_eighth};
+
+/// Number of bytes that most blocks of 256 points fit in.
+const BLOCK_BYTES: usize = 2048;
+
+/// Reads all values, so that they are known to fit 64 bits.
+fn read_values(points: &[(Time, i64)])
+    ensures { AreValues (values_of points.now) }
+{
+    for point in points {
+        let _value = point.1;
+    }
+}
+
+/// Appends points after all others as one block. `total` is the number of all points; all blocks but the last end by
+/// the offset `tail`. If there is no memory, the blocks stay as they were.
+pub(crate) fn push_points_later<A: Allocator + Copy>(
+    bytes: &mut Vec<u8, A>,
+    marks: &mut Vec<Mark, A>,
+    tail: &mut usize,
+    total: &mut usize,
+    points: &[(Time, i64)],
+) -> Result<(), AllocError>
+    requires counted { IsCounted bytes.old.items marks.old.items total.old }
+    requires others { OthersEndBy tail.old marks.old.items }
+    requires some { 0 < length points.now }
+    requires few { length points.now ≤ 256 }
+    requires timed { AreTimed points.now }
+    requires rising { IsRising (coded_points bytes.old.items marks.old.items ++ points.now) }
+    ensures counted { IsCounted bytes.new.items marks.new.items total.new }
+    ensures others { OthersEndBy tail.new marks.new.items }
+    ensures pushed { OnOk result (blocks_at bytes.new.items marks.new.items ≡ blocks_at bytes.old.items marks.old.items ++ (points.now ∷ [])) }
+    ensures cut { (cut : ℕ) → CutFits cut (blocks_at bytes.old.items marks.old.items) → CutFits cut (blocks_at bytes.new.items marks.new.items) }
+    ensures unchanged { OnErr result (blocks_at bytes.new.items marks.new.items ≡ blocks_at bytes.old.items marks.old.items) }
+{
+    read_values(points);
+    if points.len() > usize::MAX - *total {
+        return Err(AllocError);
+    }
+    make_room(bytes, marks, tail, BLOCK_BYTES)?;
+    reserve_eighth(marks, 1)?;
+    let start = bytes.len();
+    let block = push_points(bytes, points)?;
+    let mark = Mark {
+        start: block.start,
+        values: block.values,
+        end: block.end,
+        count: block.count,
+        before: *total,
+        last: block.last,
+    };
+    marks.push(mark).unwrap();
+    *tail = start;
+    *total += points.len();
+    Ok(())
+}
