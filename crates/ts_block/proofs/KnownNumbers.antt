@@ -1,5 +1,5 @@
 -- Reading a number that is known to stand at the front.
-use Rattle.std.proofs.Common.{◌≡◌, ℕ, suc, ◌+◌, ◌-◌, ◌*◌, ◌<◌, ◌≤◌, cond, ltb, List, [], ◌∷◌, length, take, drop, get_or, IsOk, Ok, Err, ⊎_elim, refl, sym, subst, ◌∙◌, ap, arith}
+use Rattle.std.proofs.Common.{◌≡◌, ℕ, ◌+◌, ◌-◌, ◌*◌, ◌<◌, ◌≤◌, cond, List, [], ◌∷◌, length, take, drop, get_or, IsOk, Ok, Err, ⊎_elim, refl, sym, subst, ◌∙◌, ap, arith}
 use Rattle.std.proofs.lemmas.Bool.{lt-ltb, le-ltb, cases_lt}
 use Rattle.std.proofs.lemmas.List.{take_rest}
 use Rattle.ts_block.specs.declared.fault.BlockFault.{BlockFault}
@@ -28,7 +28,7 @@ module _ (bytes : List ℕ) (i value scale : ℕ) (found : Found) (so_far : with
     high_byte h =
         ap (λ n. with_low (value + scale * (n - 128)) (scale * 128) (digits_at (8 - (i + 1)) (drop (i + 1) bytes))) is ∙ found_on value scale i bytes found so_far byte_there (omega arith) (λ e. omega arith) (omega arith)
 
--- ---- the second to the fifth byte
+-- ---- the second to the sixth byte
 
 module _ (low : ℕ) (bytes : List ℕ) (number : IsOk (digits_at 8 bytes)) where
   abbrev found : Found
@@ -73,8 +73,20 @@ module _ (low : ℕ) (bytes : List ℕ) (number : IsOk (digits_at 8 bytes)) wher
               pub fifth_there : 3 < length bytes
               fifth_there = byte_there bytes 3 (low + 128 * (b - 128) + 16384 * (c - 128) + 2097152 * (d - 128)) 268435456 found after_fourth sound (omega arith)
 
-              pub fifth_last : (e : ℕ) → e ≡ get_or bytes 3 0 → e < 128 → Ok (low + 128 * (b - 128) + 16384 * (c - 128) + 2097152 * (d - 128) + 268435456 * e, take (length bytes - 4) (drop 4 bytes)) ≡ found
-              fifth_last e e_is = last_byte bytes 3 (low + 128 * (b - 128) + 16384 * (c - 128) + 2097152 * (d - 128)) 268435456 found after_fourth sound (omega arith) e e_is
+              module _ (e : ℕ) (e_is : e ≡ get_or bytes 3 0) where
+                pub fifth_last : e < 128 → Ok (low + 128 * (b - 128) + 16384 * (c - 128) + 2097152 * (d - 128) + 268435456 * e, take (length bytes - 4) (drop 4 bytes)) ≡ found
+                fifth_last = last_byte bytes 3 (low + 128 * (b - 128) + 16384 * (c - 128) + 2097152 * (d - 128)) 268435456 found after_fourth sound (omega arith) e e_is
+
+                module _ (e_high : 128 ≤ e) where
+                  after_fifth : with_low (low + 128 * (b - 128) + 16384 * (c - 128) + 2097152 * (d - 128) + 268435456 * (e - 128)) 34359738368 (digits_at 4 (drop 4 bytes)) ≡ found
+                  after_fifth = high_byte bytes 3 (low + 128 * (b - 128) + 16384 * (c - 128) + 2097152 * (d - 128)) 268435456 found after_fourth sound (omega arith) e e_is e_high
+
+                  pub sixth_there : 4 < length bytes
+                  sixth_there = byte_there bytes 4 (low + 128 * (b - 128) + 16384 * (c - 128) + 2097152 * (d - 128) + 268435456 * (e - 128)) 34359738368 found after_fifth sound (omega arith)
+
+                  pub sixth_last : (f : ℕ) → f ≡ get_or bytes 4 0 → f < 128
+                      → Ok (low + 128 * (b - 128) + 16384 * (c - 128) + 2097152 * (d - 128) + 268435456 * (e - 128) + 34359738368 * f, take (length bytes - 5) (drop 5 bytes)) ≡ found
+                  sixth_last f f_is = last_byte bytes 4 (low + 128 * (b - 128) + 16384 * (c - 128) + 2097152 * (d - 128) + 268435456 * (e - 128)) 34359738368 found after_fifth sound (omega arith) f f_is
 
 -- ---- the first byte
 

@@ -1,5 +1,5 @@
-use Rattle.std.proofs.Common.{rules, ◌<◌, ◌≤◌, length, arith}
-use Rattle.ts_block.proofs.KnownNumbers.{second_there, third_there, fourth_there, fifth_there, second_last, third_last, fourth_last, fifth_last}
+use Rattle.std.proofs.Common.{rules, ◌<◌, ◌≤◌, length}
+use Rattle.ts_block.proofs.KnownNumbers.{second_there, third_there, fourth_there, fifth_there, sixth_there, second_last, third_last, fourth_last, fifth_last, sixth_last}
 use Rattle.ts_block.proofs.number.take_more.Goals as goal
 
 pub bounds-bytes-0 : goal.bounds-bytes-0
@@ -49,3 +49,15 @@ slice_bounds-result-start-then-fifth-lt128 c = let h : 4 ≤ length c.args.bytes
 
 pub returns-then-fifth-lt128 : goal.returns-then-fifth-lt128
 returns-then-fifth-lt128 c = fifth_last c.args.low c.args.bytes.now c.requires.number c.from-second.result c.from-second.ensures c.if-second-lt128.false c.from-third.result c.from-third.ensures c.if-third-lt128.false c.from-fourth.result c.from-fourth.ensures c.if-fourth-lt128.false c.from-fifth.result c.from-fifth.ensures c.if-fifth-lt128.true
+
+pub bounds-bytes-4 : goal.bounds-bytes-4
+bounds-bytes-4 c = let h : 4 < length c.args.bytes.now = sixth_there c.args.low c.args.bytes.now c.requires.number c.from-second.result c.from-second.ensures c.if-second-lt128.false c.from-third.result c.from-third.ensures c.if-third-lt128.false c.from-fourth.result c.from-fourth.ensures c.if-fourth-lt128.false c.from-fifth.result c.from-fifth.ensures c.if-fifth-lt128.false in search rules
+
+pub slice_bounds-result-count-then-sixth-lt128 : goal.slice_bounds-result-count-then-sixth-lt128
+slice_bounds-result-count-then-sixth-lt128 c = sixth_there c.args.low c.args.bytes.now c.requires.number c.from-second.result c.from-second.ensures c.if-second-lt128.false c.from-third.result c.from-third.ensures c.if-third-lt128.false c.from-fourth.result c.from-fourth.ensures c.if-fourth-lt128.false c.from-fifth.result c.from-fifth.ensures c.if-fifth-lt128.false
+
+pub slice_bounds-result-start-then-sixth-lt128 : goal.slice_bounds-result-start-then-sixth-lt128
+slice_bounds-result-start-then-sixth-lt128 c = let h : 5 ≤ length c.args.bytes.now = sixth_there c.args.low c.args.bytes.now c.requires.number c.from-second.result c.from-second.ensures c.if-second-lt128.false c.from-third.result c.from-third.ensures c.if-third-lt128.false c.from-fourth.result c.from-fourth.ensures c.if-fourth-lt128.false c.from-fifth.result c.from-fifth.ensures c.if-fifth-lt128.false in search rules
+
+pub returns-then-sixth-lt128 : goal.returns-then-sixth-lt128
+returns-then-sixth-lt128 c = sixth_last c.args.low c.args.bytes.now c.requires.number c.from-second.result c.from-second.ensures c.if-second-lt128.false c.from-third.result c.from-third.ensures c.if-third-lt128.false c.from-fourth.result c.from-fourth.ensures c.if-fourth-lt128.false c.from-fifth.result c.from-fifth.ensures c.if-fifth-lt128.false c.from-sixth.result c.from-sixth.ensures c.if-sixth-lt128.true

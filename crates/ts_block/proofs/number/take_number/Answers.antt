@@ -1,4 +1,4 @@
-use Rattle.std.proofs.Common.{rules, ◌≡◌, ◌≤◌, ◌∙◌, length, arith}
+use Rattle.std.proofs.Common.{rules, ◌≤◌, ◌∙◌, length, arith}
 use Rattle.ts_block.proofs.KnownNumbers.{first_there, first_last, first_high, second_known}
 use Rattle.ts_block.proofs.number.take_number.Goals as goal
 
