@@ -54,6 +54,7 @@ impl<A: Allocator + Copy> ColumnFacts<A> {
         ensures rollups { AreRollups rules.now (map column_of self.new.columns) self.new.rollups }
         ensures cells { cells_of self.new.rollups ≡ cells_of self.old.rollups }
     {
+        let points = StoredColumn::of(points)?;
         let column = make_column(
             &mut self.index,
             &mut self.columns,
@@ -62,7 +63,7 @@ impl<A: Allocator + Copy> ColumnFacts<A> {
             series,
             field,
         )?;
-        self.columns[column.number()] = StoredColumn::of(points);
+        self.columns[column.number()] = points;
         Ok(())
     }
 

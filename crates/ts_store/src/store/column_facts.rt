@@ -22,10 +22,10 @@ use std::alloc::{AllocError, Allocator};
 use std::marker::Model;
 use ts_core::{KeyRef, Rule};
 use ts_line::Line;
-use ts_raw::{Column as _, ColumnId, Index, PlainColumn, Points, SERIES_LIMIT};
+use ts_raw::{BlockColumn, Column as _, ColumnId, Index, Points, SERIES_LIMIT};
 
-/// Type of a store's columns. Storing them in another way is a change of this line.
-pub(crate) type StoredColumn<A> = PlainColumn<A>;
+/// Type of a store's columns: coded blocks. Storing them in another way is a change of this line.
+pub(crate) type StoredColumn<A> = BlockColumn<A>;
 
 /// Index, one column per series and field, one rollup per rule, and a scratch list of the columns that the current line
 /// touches.
@@ -140,9 +140,9 @@ impl<A: Allocator + Copy> ColumnFacts<A> {
         ensures all { length (facts_in self.now.columns) ≤ result }
         ensures few_more { result ≤ length (facts_in self.now.columns) + 256 * length self.now.columns }
     {
-        let mut count = 0;
+        let mut count: u64 = 0;
         for column in &self.columns {
-            count += column.held() as u64;
+            count = count.saturating_add(column.held() as u64);
         }
         count
     }

@@ -1,18 +1,31 @@
-use Rattle.std.proofs.Common.{rules, ◌≡◌, ◌∙◌, ℤ, List, [], ◌∷◌, Some, get_or, ap, sym, refl, true, to_z, of_z, SFits, to_z-of_z}
+use Rattle.std.proofs.Common.{rules, ◌≡◌, ◌∙◌, ℤ, List, [], ◌∷◌, Some, None, get_or, ap, sym, refl, true, to_z, of_z, SFits, to_z-of_z}
 use Rattle.std.specs.Int.{w128}
 use Rattle.std.specs.FinMap as finmap
+use Rattle.std.proofs.lemmas.List.{get_or_default}
 use Rattle.ts_core.specs.facts.Facts.{Fact}
 use Rattle.ts_core.specs.settings.Settings.{Rule}
 use Rattle.ts_core.specs.store.Marks.{index_of}
 use Rattle.ts_core.specs.store.StoreData.{CellMap}
 use Rattle.ts_core.specs.moves.StoreMoves.{points_below, refolded, refolded_points}
 use Rattle.ts_cells.specs.Grids.{cell_at}
+use Rattle.ts_raw.specs.Columns.{ColumnState}
 use Rattle.ts_store.specs.store.ColumnStates.{no_column}
 use Rattle.ts_store.specs.rollup.Rollups.{RollupState, lane_at, lane_under, corrected_in}
 use Rattle.ts_store.specs.retain.RollupSteps.{facts_left}
 use Rattle.ts_store.proofs.retain.PointsFrozen.{lanes_stay}
-use Rattle.ts_store.proofs.retain.Refolds.{refolded-same, refolded-next, left_total}
+use Rattle.ts_store.proofs.retain.Refolds.{refolded-none, refolded-same, refolded-next, left_total}
 use Rattle.ts_store.proofs.retain.freezing.refold_points.Goals as goal
+
+pub loop-time-init : goal.loop-time-init
+loop-time-init g c =
+    let all : List (ℤ × ℤ) = points_below c.args.mark (finmap.entries (get_or c.args.columns.now c.args.column no_column).points) in
+    let col = c.index-columns-column.is ∙ get_or_default c.args.columns.now c.args.column c.index-columns-column.result no_column c.requires.column in
+    let points : c.into_iter-time-iterator.result ≡ all =
+    c.into_iter-time-iterator.ensures.into_iter_gives ∙ c.of-time-items.ensures ∙ ap (λ (x : ColumnState). points_below c.args.mark (finmap.entries x.points)) col in
+    record {
+      lanes = refl;
+      cells = λ cs d n at over here. refolded-none c.args.rule.now d (facts_left c.args.mark d cs c.args.columns.now) all c.args.rollup.now.grid.cells c.into_iter-time-iterator.result None points refl;
+    }
 
 pub loop-time-preserved-then-not-is_last : goal.loop-time-preserved-then-not-is_last
 loop-time-preserved-then-not-is_last g c =

@@ -1,5 +1,6 @@
 use Rattle.std.proofs.Common.{◌≡◌, ◌<◌, ◌∙◌, ◌++◌, [], ◌∷◌, ℕ, List, length, map, set, ap, sym, subst, arith}
 use Rattle.std.proofs.lemmas.List.{with_items_is}
+use Rattle.std.proofs.lemmas.Result.{IfOk-from_err}
 use Rattle.ts_core.specs.facts.Facts.{Column}
 use Rattle.ts_core.specs.lists.Numbered.{IsAt}
 use Rattle.ts_core.specs.store.StoreStates.{ColumnPoints, column_of}
@@ -30,8 +31,14 @@ invariant_of-self g c = column_refused c.self.inside.index c.make_column.new.ind
 
 pub returns-in_err-column-clause-err : goal.returns-in_err-column-clause-err
 returns-in_err-column-clause-err g c =
-    on_any_err c.from_residual.result
+    on_any_err c.from_residual-in_err-column.result
     (columns_refused c.self.inside.index c.make_column.new.index c.self.inside.columns.items c.make_column.new.columns.items c.in_err-column.ensures.column.kept ∙ ap (λ (h : StoreContent). h.columns) c.self.view_is)
+
+pub returns-in_err-column-clause-ok : goal.returns-in_err-column-clause-ok
+returns-in_err-column-clause-ok g c = λ s at. IfOk-from_err c.from_residual-in_err-column.result _ c.from_residual-in_err-column.ensures.0
+
+pub returns-in_err-column-clause-series : goal.returns-in_err-column-clause-series
+returns-in_err-column-clause-series g c = c.in_err-column.ensures.column.series ∙ ap (λ (h : StoreContent). h.series) c.self.view_is
 
 pub returns-in_err-column-clause-rollups : goal.returns-in_err-column-clause-rollups
 returns-in_err-column-clause-rollups g c =
@@ -66,10 +73,10 @@ index_mut-requires g c =
 pub invariant_of-self-2 : goal.invariant_of-self-2
 invariant_of-self-2 g c =
     let ss' : List ColumnState = c.make_column.new.columns.items in
-    subst (λ (k : ℕ). IsSoundContent c.make_column.new.index (set ss' k c.of.result)) (sym c.number.ensures)
+    subst (λ (k : ℕ). IsSoundContent c.make_column.new.index (set ss' k c.in_ok-points.points)) (sym c.number.ensures)
     (column_held _ c.self.inside.index c.make_column.new.index c.self.inside.columns.items ss' c.args.series c.in_ok-column.column c.args.field.now c.self.invariant
     (its_absent c.self.inside.index c.self.inside.columns.items c.self.inside.rollups.items c.args.self.now c.args.series c.args.field.now c.self.invariant c.self.view_is c.requires.registered c.requires.absent)
-    c.of.result c.in_ok-column.ensures.column)
+    c.in_ok-points.points c.in_ok-column.ensures.column)
 
 pub returns-clause-ok : goal.returns-clause-ok
 returns-clause-ok g c = λ s at.
@@ -78,11 +85,14 @@ returns-clause-ok g c = λ s at.
     let ss' : List ColumnState = c.make_column.new.columns.items in
     let x : ColumnPoints = record { column = record { series = s; field = c.args.field.now }; points = c.args.points.items } in
     let at' : IsAt index.series c.args.series s = subst (λ (h : StoreContent). IsAt h.series c.args.series s) (sym c.self.view_is) at in
-    ap (λ (k : ℕ). columns_in after (set ss' k c.of.result)) c.number.ensures
+    ap (λ (k : ℕ). columns_in after (set ss' k c.in_ok-points.points)) c.number.ensures
     ∙ column_added _ index after c.self.inside.columns.items ss' c.args.series c.in_ok-column.column c.args.field.now c.self.invariant
     (its_absent index c.self.inside.columns.items c.self.inside.rollups.items c.args.self.now c.args.series c.args.field.now c.self.invariant c.self.view_is c.requires.registered c.requires.absent)
-    c.of.result s c.args.points.items at' c.of.ensures.entries c.in_ok-column.ensures.column
+    c.in_ok-points.points s c.args.points.items at' c.in_ok-points.ensures.entries c.in_ok-column.ensures.column
     ∙ ap (λ (h : StoreContent). h.columns ++ x ∷ []) c.self.view_is
+
+pub returns-clause-series : goal.returns-clause-series
+returns-clause-series g c = c.in_ok-column.ensures.column.series ∙ ap (λ (h : StoreContent). h.series) c.self.view_is
 
 pub returns-clause-rollups : goal.returns-clause-rollups
 returns-clause-rollups g c =
@@ -91,13 +101,13 @@ returns-clause-rollups g c =
     let ss' : List ColumnState = c.make_column.new.columns.items in
     let counted = c.self.inside.rollups.ok.0 in
     let long : length vs ≡ c.self.inside.rollups.len = cc (c.make_column.auto.rollups, c.as_mut_slice.ensures.value, counted) in
-    let held : IsSoundContent after (set ss' c.number.result c.of.result) =
-    subst (λ (k : ℕ). IsSoundContent after (set ss' k c.of.result)) (sym c.number.ensures)
+    let held : IsSoundContent after (set ss' c.number.result c.in_ok-points.points) =
+    subst (λ (k : ℕ). IsSoundContent after (set ss' k c.in_ok-points.points)) (sym c.number.ensures)
     (column_held _ c.self.inside.index after c.self.inside.columns.items ss' c.args.series c.in_ok-column.column c.args.field.now c.self.invariant
     (its_absent c.self.inside.index c.self.inside.columns.items c.self.inside.rollups.items c.args.self.now c.args.series c.args.field.now c.self.invariant c.self.view_is c.requires.registered c.requires.absent)
-    c.of.result c.in_ok-column.ensures.column) in
-    subst (AreRollups c.args.rules.now (map column_of (columns_in after (set ss' c.number.result c.of.result)))) (sym (with_items_is c.self.inside.rollups vs long))
-    (subst (λ (cs : List Column). AreRollups c.args.rules.now cs vs) (sym (names_held after (set ss' c.number.result c.of.result) held.each)) c.in_ok-column.ensures.rollups)
+    c.in_ok-points.points c.in_ok-column.ensures.column) in
+    subst (AreRollups c.args.rules.now (map column_of (columns_in after (set ss' c.number.result c.in_ok-points.points)))) (sym (with_items_is c.self.inside.rollups vs long))
+    (subst (λ (cs : List Column). AreRollups c.args.rules.now cs vs) (sym (names_held after (set ss' c.number.result c.in_ok-points.points) held.each)) c.in_ok-column.ensures.rollups)
 
 pub returns-clause-cells : goal.returns-clause-cells
 returns-clause-cells g c =

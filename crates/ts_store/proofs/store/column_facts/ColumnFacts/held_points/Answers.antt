@@ -1,38 +1,44 @@
-use Rattle.std.proofs.Common.{rules, ◌≡◌, ◌∙◌, length, ap, sym, arith}
+use Rattle.std.proofs.Common.{rules, ◌≡◌, ◌+◌, ◌∙◌, min, length, ap, sym, arith}
 use Rattle.std.specs.FinMap as finmap
 use Rattle.std.proofs.lemmas.List.{take_all}
-use Rattle.std.proofs.lemmas.List.Sums.{sum_by_more_le}
+use Rattle.std.proofs.lemmas.List.Sums.{sum_by_more, sum_by-take-le}
 use Rattle.ts_core.specs.store.StoreStates.{facts_of}
 use Rattle.ts_raw.specs.Columns.{ColumnState}
 use Rattle.ts_store.specs.store.ColumnStates.{StoreContent}
 use Rattle.ts_store.specs.read.PointsRead.{number_of_points}
+use Rattle.ts_store.proofs.read.ColumnRefLemmas.{shown-length}
 use Rattle.ts_store.proofs.read.ColumnsReads.{facts-length}
 use Rattle.ts_store.proofs.store.column_facts.ColumnFacts.held_points.Goals as goal
 
-pub overflow_add-count : goal.overflow_add-count
-overflow_add-count g c =
+pub loop-column-preserved : goal.loop-column-preserved
+loop-column-preserved g c =
     let all : length (facts_of c.args.self.now.columns) ≡ number_of_points c.self.inside.columns.items =
     ap (λ (h : StoreContent). length (facts_of h.columns)) (sym c.self.view_is) ∙ facts-length c.self.inside.index.columns c.self.inside.columns.items c.self.invariant.each in
     let lent = ap number_of_points c.deref-column-items.ensures.value in
-    let more = sum_by_more_le (λ (s : ColumnState). finmap.len s.points) c.deref-column-items.result.now c.loop-column.column-index c.column-item.result c.loop-column-test.true in
-    let held : c.held.result ≡ finmap.len c.column-item.result.points = search rules in
-    let one = held ∙ ap (λ (s : ColumnState). finmap.len s.points) c.column-item.is in
-    omega (arith, all, lent, more, one, c.loop-column.invariant, c.requires)
+    let more = sum_by_more (λ (s : ColumnState). finmap.len s.points) c.deref-column-items.result.now c.loop-column.column-index c.column-item.result c.loop-column-test.true in
+    let within = sum_by-take-le (λ (s : ColumnState). finmap.len s.points) c.deref-column-items.result.now (c.loop-column.column-index + 1) in
+    let one = ap (λ (s : ColumnState). finmap.len s.points) c.column-item.is in
+    let added : c.saturating_add-count.result ≡ min (c.loop-column.count + c.held.result) 18446744073709551615 = search rules in
+    let before = c.loop-column.invariant in
+    record {
+      all = omega (arith, all, lent, more, within, one, added, before.all, c.held.ensures, c.requires);
+      few_more = omega (arith, all, lent, more, within, one, added, before.few_more, c.held.ensures, c.requires);
+    }
 
 pub returns-clause-all : goal.returns-clause-all
 returns-clause-all g c =
     let all : length (facts_of c.args.self.now.columns) ≡ number_of_points c.self.inside.columns.items =
     ap (λ (h : StoreContent). length (facts_of h.columns)) (sym c.self.view_is) ∙ facts-length c.self.inside.index.columns c.self.inside.columns.items c.self.invariant.each in
-    let done : c.loop-column.count ≡ number_of_points c.deref-column-items.result.now =
-    c.loop-column.invariant ∙ ap number_of_points (take_all c.loop-column.column-index c.deref-column-items.result.now (omega (arith, c.loop-column-test.false))) in
+    let done = ap number_of_points (take_all c.loop-column.column-index c.deref-column-items.result.now (omega (arith, c.loop-column-test.false))) in
     let lent = ap number_of_points c.deref-column-items.ensures.value in
-    omega (arith, all, done, lent)
+    omega (arith, all, done, lent, c.loop-column.invariant.all)
 
 pub returns-clause-few_more : goal.returns-clause-few_more
 returns-clause-few_more g c =
     let all : length (facts_of c.args.self.now.columns) ≡ number_of_points c.self.inside.columns.items =
     ap (λ (h : StoreContent). length (facts_of h.columns)) (sym c.self.view_is) ∙ facts-length c.self.inside.index.columns c.self.inside.columns.items c.self.invariant.each in
-    let done : c.loop-column.count ≡ number_of_points c.deref-column-items.result.now =
-    c.loop-column.invariant ∙ ap number_of_points (take_all c.loop-column.column-index c.deref-column-items.result.now (omega (arith, c.loop-column-test.false))) in
+    let many = shown-length c.self.inside.index.columns c.self.inside.columns.items c.args.self.now.columns (ap (λ (h : StoreContent). h.columns) c.self.view_is) c.self.invariant.each in
+    let done = ap number_of_points (take_all c.loop-column.column-index c.deref-column-items.result.now (omega (arith, c.loop-column-test.false))) in
     let lent = ap number_of_points c.deref-column-items.ensures.value in
-    omega (arith, all, done, lent)
+    let lents = ap length c.deref-column-items.ensures.value in
+    omega (arith, all, many, done, lent, lents, c.loop-column.invariant.few_more, c.loop-column.auto.column-index-end)
