@@ -29,6 +29,19 @@ loop-time-init g c =
           (folded-as c.args.rule.now d c.args.points m c.args.points m m q q empty_aggregate c.empty-folded.result refl refl none (folded-none c.args.rule.now d c.args.points m q fit));
     }
 
+pub merge-folded-requires : goal.merge-folded-requires
+merge-folded-requires g c =
+    let p : ℤ × ℤ = (c.in-Some.time, c.in-Some.value) in
+    let left : c.loop-time.time-iterator ≡ p ∷ c.next.new.self = search rules in
+    let few : c.loop-time.folded.count + length (p ∷ c.next.new.self) ≤ 2 ^ 62 = subst (λ (ps : List (ℤ × ℤ)). c.loop-time.folded.count + length ps ≤ 2 ^ 62) left c.loop-time.invariant.few in
+    let one : c.single.result.count ≡ 1 = ap (λ (a : Aggregate). a.count) c.single.ensures in
+    elim c.if-index-bucket.branch [
+      | then-index-bucket w ↦
+          let none : c.if-index-bucket.folded.count ≡ 0 = ap (λ (a : Aggregate). a.count) (w.folded-is ∙ w.empty-folded-then-index-bucket.ensures) in
+          omega (arith, none, one)
+      | else-index-bucket w ↦ let same : c.if-index-bucket.folded.count ≡ c.loop-time.folded.count = ap (λ (a : Aggregate). a.count) w.folded-is in omega (arith, few, same, one)
+    ]
+
 pub loop-time-preserved : goal.loop-time-preserved
 loop-time-preserved g c =
     let r : Rule = c.args.rule.now in

@@ -1,15 +1,19 @@
-use Rattle.std.proofs.Common.{◌≡◌, ◌+◌, ◌≤◌, ◌≤ℤ◌, ◌^◌, ℤ, List, ◌∷◌, ◌∙◌, ap, sym, subst, length, rules, arith, int_le, false}
+use Rattle.std.proofs.Common.{◌≡◌, ◌+◌, ◌≤◌, ◌≤ℤ◌, ◌^◌, ℤ, List, ◌∷◌, ◌∙◌, ap, sym, subst, length, rules, arith, int_cmp, int_le, is_ge, true, false}
+use Rattle.std.proofs.lemmas.Int.{ints}
 use Rattle.ts_core.specs.aggregates.Aggregates.{Aggregate, merged, aggregate_of_one, aggregate_of_points}
 use Rattle.ts_store.specs.rollup.LivePoints.{points_since}
 use Rattle.ts_store.proofs.rollup.LanePoints.{since_here, since_before}
 use Rattle.ts_store.proofs.rollup.LiveParts.{point_more, points_none}
 use Rattle.ts_store.proofs.rollup.live_parts.with_points_since.Goals as goal
 
+late_of : (t mark : ℤ) → is_ge (int_cmp t mark) ≡ true → mark ≤ℤ t
+late_of t mark h = grind (arith, ints, h)
+
 pub merge-all-requires : goal.merge-all-requires
 merge-all-requires c =
     let t : ℤ = c.in-Some.time in
     let v : ℤ = c.in-Some.value in
-    let late : c.args.mark ≤ℤ t = search rules in
+    let late : c.args.mark ≤ℤ t = late_of t c.args.mark (sym c.ge.ensures ∙ c.if-ge.true) in
     let part : c.single.result ≡ aggregate_of_one t v = search rules in
     let left : c.loop-time.time-iterator ≡ (t, v) ∷ c.next.new.self = search rules in
     let one = ap (λ (a : Aggregate). a.count) part in
@@ -22,7 +26,7 @@ loop-time-preserved-then-ge c =
     let t : ℤ = c.in-Some.time in
     let v : ℤ = c.in-Some.value in
     let all : Aggregate = c.loop-time.all in
-    let late : c.args.mark ≤ℤ t = search rules in
+    let late : c.args.mark ≤ℤ t = late_of t c.args.mark (sym c.ge.ensures ∙ c.if-ge.true) in
     let part : c.single.result ≡ aggregate_of_one t v = search rules in
     let left : c.loop-time.time-iterator ≡ (t, v) ∷ c.next.new.self = search rules in
     let rest : List (ℤ × ℤ) = points_since c.args.mark c.next.new.self in
