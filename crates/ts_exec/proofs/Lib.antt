@@ -18,6 +18,7 @@ mod Widths
 mod Spans
 mod NextBuckets
 mod Runs
+mod Counted
 -- Slots, Searches: the groups in order
 mod Slotted
 -- Fillings

@@ -1,5 +1,5 @@
 -- Merging parts into rows, up to 2^62 points each. (Own rules.)
-use Rattle.std.specs.Prelude.{◌≡◌, ℕ, ◌+◌, ◌^◌, ◌≤◌, min, nat_le, ℤ, pos, neg_ℤ, ◌+ℤ◌, ◌-ℤ◌, ◌≤ℤ◌, ◌<ℤ◌, List, [], ◌∷◌, set, get_or, Some, if◌then◌else◌}
+use Rattle.std.specs.Prelude.{◌≡◌, ℕ, zero, suc, ◌+◌, ◌^◌, ◌≤◌, min, nat_le, ℤ, pos, neg_ℤ, ◌+ℤ◌, ◌-ℤ◌, ◌≤ℤ◌, ◌<ℤ◌, List, [], ◌∷◌, set, get_or, Some, if◌then◌else◌}
 use Rattle.ts_core.specs.declared.aggregates.aggregate.Extremes.{Extremes}
 use Rattle.ts_core.specs.aggregates.Aggregates.{Aggregate, empty_aggregate, aggregate_of_one, merged}
 use Rattle.ts_core.specs.aggregates.Buckets.{bucket_of}
@@ -33,11 +33,20 @@ with_part i a rows = set rows i (added (get_or rows i empty_aggregate) a)
 abbrev pub wide_extremes : Extremes
 wide_extremes = record { min = neg_ℤ (pos 9223372036854775808); max = pos 9223372036854775807; first = (pos 0, pos 0); last = (pos 0, pos 0) }
 
+-- the part of n points of which the count alone is kept
+abbrev pub count_part : ℕ → Aggregate
+count_part n = record { count = n; sum = pos 0; extremes = Some wide_extremes }
+
 -- a point's part of a row; the parts that aren't kept are the same for all points
 abbrev pub part_of_point : Kept → ℤ → ℤ → Aggregate
-part_of_point CountAlone t v = record { count = 1; sum = pos 0; extremes = Some wide_extremes }
+part_of_point CountAlone t v = count_part 1
 part_of_point CountAndSum t v = record { count = 1; sum = v; extremes = Some wide_extremes }
 part_of_point Whole t v = aggregate_of_one t v
+
+-- adds n points, of which the count alone is kept, to row i
+abbrev pub with_counted : ℕ → ℕ → List Aggregate → List Aggregate
+with_counted i zero rows = rows
+with_counted i (suc n) rows = with_part i (count_part (suc n)) rows
 
 abbrev pub with_point_parts : Kept → BucketGrid → List (ℤ × ℤ) → List Aggregate → List Aggregate
 with_point_parts kept g [] rows = rows

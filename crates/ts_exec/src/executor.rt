@@ -77,7 +77,8 @@ pub fn execute<'a, A: Allocator + Copy + 'a, V: View<A> + 'a>(
 }
 
 /// Executes a checked plan over a view as `execute` does, but computes only the values of the query's functions. The
-/// other values of the result are unspecified. A count needs no values of points, and a sum no extremes.
+/// other values of the result are unspecified. A sum needs no extremes, and a count no values of points: it visits no
+/// point of a column that has many per bucket.
 pub fn execute_selected<'a, A: Allocator + Copy + 'a, V: View<A> + 'a>(
     alloc: A,
     view: &'a V,

@@ -1,9 +1,9 @@
 //! Folds of points that keep parts of an aggregate.
-ghost use Rattle.std.specs.Prelude.{◌≡◌, ◌+◌, ◌^◌, ◌<◌};
+ghost use Rattle.std.specs.Prelude.{◌≡◌, ◌+◌, ◌^◌, ◌<◌, ◌≤◌};
 ghost use Rattle.ts_core.specs.aggregates.Aggregates.{Aggregate, merged};
 ghost use Rattle.ts_exec.specs.declared.kept.Kept.{Kept};
 ghost use Rattle.ts_exec.specs.declared.kept.Kept.TheVariants.{CountAlone, CountAndSum, Whole};
-ghost use Rattle.ts_exec.specs.RowParts.{part_of_point, wide_extremes};
+ghost use Rattle.ts_exec.specs.RowParts.{count_part, part_of_point, wide_extremes};
 
 use std::marker::Model;
 use ts_core::{Agg, Extremes, Partial, Time};
@@ -62,6 +62,17 @@ impl Model for Counted {
     ghost invariant = { λ c. (0 < c.count) × (c.count ≤ 2 ^ 62) };
 
     ghost inverse = { λ v. record { count = v.count } };
+}
+
+impl Counted {
+    /// Creates the count of this many points.
+    pub(crate) fn of(count: u64) -> Counted
+        requires some { 0 < count }
+        requires few { count ≤ 2 ^ 62 }
+        ensures { result ≡ count_part count }
+    {
+        Counted { count }
+    }
 }
 
 impl Fold for Counted {

@@ -1,19 +1,21 @@
 //! Sorted table of the groups of an answer, to which cells and points are added.
-ghost use Rattle.std.specs.Prelude.{◌≡◌, ◌≤◌, true, [], length, Err, OnOk, IfOk};
+ghost use Rattle.std.specs.Prelude.{◌≡◌, ◌≤◌, ◌<◌, true, [], length, Err, OnOk, IfOk};
 ghost use Rattle.std.specs.List.Sorted.{IsSearchInRange};
+ghost use Rattle.ts_store.specs.read.ViewResults.{points_at};
 ghost use Rattle.ts_exec.specs.Lent.{lent};
 ghost use Rattle.ts_exec.specs.Searches.{IsPlaceOfGroup, HoldsGroup};
 ghost use Rattle.ts_exec.specs.Slots.{AreSlots, made};
 ghost use Rattle.ts_exec.specs.GroupTables.{with_column_parts, with_cell_part};
 
 use crate::buckets::Buckets;
+use crate::column::ColumnRange;
 use crate::kept::Kept;
 use crate::slot::Slot;
 use std::alloc::{AllocError, Allocator};
 use std::cmp::Ordering;
 use std::marker::Model;
 use ts_core::Agg;
-use ts_raw::Points;
+use ts_store::View;
 
 /// A group: the values of its tags, and one row per bucket.
 #[derive(Drop)]
@@ -191,24 +193,26 @@ impl<'a, A: Allocator + Copy> Groups<'a, A> {
         self.slots[at].add_part(width, place, part)
     }
 
-    /// Adds points to a group, inserting it if needed, and keeps these parts of them. Tries the slot `guess` first.
-    /// Without points, inserts no group.
-    pub(crate) fn add_points(
+    /// Adds the points of a range to a group, inserting it if needed, and keeps these parts of them. Tries the slot
+    /// `guess` first. Without points, inserts no group.
+    pub(crate) fn add_points<V: View<A>>(
         &mut self,
         guess: usize,
         kept: Kept,
         width: usize,
         values: &[&'a str],
         buckets: &mut Buckets,
-        mut points: Points<'_>,
+        range: &ColumnRange<'_, V>,
     ) -> Result<(), AllocError>
-        ensures value { OnOk result (self.new ≡ with_column_parts kept buckets.old width (lent values.now) points.entry self.old) }
+        requires { range.now.column < length (V.seen range.now.view.now).columns }
+        ensures value { OnOk result (self.new ≡ with_column_parts kept buckets.old width (lent values.now) (points_at (V.seen range.now.view.now).columns range.now.column range.now.from range.now.to) self.old) }
         ensures same { buckets.new ≡ buckets.old }
     {
+        let mut points = range.view.raw_range(range.column, range.from, range.to);
         let Some(first) = points.next() else {
             return Ok(());
         };
         let at = expect(&mut self.slots, guess, values)?;
-        self.slots[at].add_points(kept, width, buckets, first, points)
+        self.slots[at].add_points(kept, width, buckets, range, first, points)
     }
 }

@@ -24,6 +24,7 @@
 #![tactic(auto)]
 
 mod buckets;
+mod column;
 mod counting;
 mod executor;
 mod fault;

@@ -14,6 +14,7 @@ ghost use Rattle.ts_exec.specs.Lent.{lent};
 ghost use Rattle.ts_exec.specs.GroupTables.{with_cell, with_cell_parts, with_source, with_pieces, is_cell_taken};
 
 use crate::buckets::{Buckets, width};
+use crate::column::ColumnRange;
 use crate::groups::Groups;
 use crate::kept::Kept;
 use crate::selection::selected_columns;
@@ -140,14 +141,19 @@ fn add_raw<'a, A: Allocator + Copy + 'a, V: View<A> + 'a>(
         read_values(&mut scan.values, column.key, scan.query.group_tags())?;
         let guess = places.get(number).copied().unwrap_or(0);
         number = number.saturating_add(1);
-        let points = view.raw_range(column.id, from, to);
+        let range = ColumnRange {
+            view,
+            column: column.id,
+            from,
+            to,
+        };
         groups.add_points(
             guess,
             kept,
             scan.width,
             &scan.values,
             &mut scan.buckets,
-            points,
+            &range,
         )?;
     }
     Ok(())

@@ -4,8 +4,7 @@ ghost use Rattle.ts_core.specs.aggregates.Aggregates.{empty_aggregate};
 ghost use Rattle.ts_exec.specs.RowParts.{IsRun, added, part_of_point, place_at, with_part, with_point_parts};
 
 use crate::buckets::{Buckets, Span};
-use crate::fold::{Counted, Fold, Summed};
-use crate::kept::Kept;
+use crate::fold::Fold;
 use ts_core::{Agg, MAX_COUNT, Partial, Time};
 use ts_raw::Points;
 
@@ -30,7 +29,7 @@ pub(crate) fn add_part(rows: &mut [Agg], place: usize, part: Agg)
 }
 
 /// Returns true if the row with this index has room for a point and `others` more.
-fn has_room(rows: &[Agg], place: usize, others: u64) -> bool
+pub(crate) fn has_room(rows: &[Agg], place: usize, others: u64) -> bool
     ensures { result ≡ true → (get_or rows.now place empty_aggregate).count + (others + 1) ≤ 2 ^ 62 }
 {
     let count = match rows.get(place) {
@@ -82,7 +81,7 @@ fn begin_run<F: Fold>(
 }
 
 /// Adds points, each to the row of its bucket. Folds each run of points in one bucket, and merges it into its row.
-fn add_runs<F: Fold>(
+pub(crate) fn add_runs<F: Fold>(
     rows: &mut [Agg],
     buckets: &mut Buckets,
     first: (Time, i64),
@@ -103,22 +102,4 @@ fn add_runs<F: Fold>(
         }
     }
     add_part(rows, run.place, run.fold.part());
-}
-
-/// Adds the point `first` and then the others, each to the row of its bucket. Keeps these parts of them.
-pub(crate) fn add_points(
-    rows: &mut [Agg],
-    kept: Kept,
-    buckets: &mut Buckets,
-    first: (Time, i64),
-    others: Points<'_>,
-)
-    ensures value { rows.new ≡ with_point_parts kept buckets.old (first ∷ others.entry) rows.old }
-    ensures same { buckets.new ≡ buckets.old }
-{
-    match kept {
-        Kept::CountAlone => add_runs::<Counted>(rows, buckets, first, others),
-        Kept::CountAndSum => add_runs::<Summed>(rows, buckets, first, others),
-        Kept::Whole => add_runs::<Agg>(rows, buckets, first, others),
-    }
 }

@@ -1,18 +1,21 @@
 //! Slot of the group table: a group that may be empty.
-ghost use Rattle.std.specs.Prelude.{◌≡◌, ◌∷◌, None, Some, OnOk, OnErr, option_map};
+ghost use Rattle.std.specs.Prelude.{◌≡◌, ◌∷◌, ◌<◌, length, None, Some, OnOk, OnErr, option_map};
 ghost use Rattle.ts_core.specs.queries.Answers.{group_cmp};
+ghost use Rattle.ts_store.specs.read.ViewResults.{points_at};
 ghost use Rattle.ts_exec.specs.Lent.{lent};
 ghost use Rattle.ts_exec.specs.RowParts.{with_part, with_point_parts};
 ghost use Rattle.ts_exec.specs.GroupTables.{rows_or};
 
 use crate::buckets::Buckets;
+use crate::column::{ColumnRange, add_points};
 use crate::kept::Kept;
-use crate::rows::{add_part, add_points};
+use crate::rows::add_part;
 use std::alloc::{AllocError, Allocator};
 use std::cmp::Ordering;
 use std::marker::Model;
 use ts_core::{Agg, Partial, Time};
 use ts_raw::Points;
+use ts_store::View;
 
 /// Tag values of a group, with its rows, one per bucket, if it has data.
 #[derive(Drop)]
@@ -82,22 +85,26 @@ impl<'a, A: Allocator + Copy> Slot<'a, A> {
         Ok(())
     }
 
-    /// Adds the point `first` and then the others, each to the row of its bucket. Keeps these parts of them.
-    pub(crate) fn add_points(
+    /// Adds the points of a range, which are `first` and then the others, each to the row of its bucket. Keeps these
+    /// parts of them.
+    pub(crate) fn add_points<V: View<A>>(
         &mut self,
         kept: Kept,
         width: usize,
         buckets: &mut Buckets,
+        range: &ColumnRange<'_, V>,
         first: (Time, i64),
         others: Points<'_>,
     ) -> Result<(), AllocError>
+        requires column { range.now.column < length (V.seen range.now.view.now).columns }
+        requires points { points_at (V.seen range.now.view.now).columns range.now.column range.now.from range.now.to ≡ first ∷ others }
         ensures rows { OnOk result (self.new.1 ≡ Some (with_point_parts kept buckets.old (first ∷ others.entry) (rows_or width self.old.1))) }
         ensures key { self.new.0 ≡ self.old.0 }
         ensures same { buckets.new ≡ buckets.old }
     {
         self.make_rows(width)?;
         if let Some(rows) = &mut self.rows {
-            add_points(rows.as_mut_slice(), kept, buckets, first, others);
+            add_points(rows.as_mut_slice(), kept, buckets, range, first, others);
         }
         Ok(())
     }

@@ -1,6 +1,8 @@
 use Rattle.std.proofs.Common.{rules, ◌≡◌, ◌∷◌, ◌∙◌, ap, sym, List, ℤ}
 use Rattle.std.proofs.lemmas.Result.{on_ok_weaker}
 use Rattle.ts_core.specs.facts.Facts.{Text}
+use Rattle.ts_core.specs.store.StoreStates.{ColumnPoints}
+use Rattle.ts_store.specs.read.ViewResults.{points_at}
 use Rattle.ts_exec.specs.Lent.{lent}
 use Rattle.ts_exec.specs.RowParts.{with_point_parts}
 use Rattle.ts_exec.specs.Slots.{Slots}
@@ -17,7 +19,9 @@ returns-clause-value g c =
     let k : List Text = lent c.args.values.now in
     let t : Slots = c.expect.new.slots.items in
     let all : List (ℤ × ℤ) = c.in-Some.first ∷ c.next.new.self in
-    let left : c.args.points ≡ all = search rules in
+    let cs : List ColumnPoints = (g.V.View.seen c.args.range.now.view.now).columns in
+    let points : List (ℤ × ℤ) = points_at cs c.args.range.now.column c.args.range.now.from c.args.range.now.to in
+    let left : points ≡ all = search rules in
     on_ok_weaker c.add_points.result (λ rows.
     written-made t c.expect.ensures.slots k c.in_ok-at.at c.in_ok-at.ensures.place c.index_mut.result.now c.add_points.new.self c.index_mut.ensures.value c.add_points.ensures.key (with_point_parts c.args.kept c.args.buckets.now all) c.args.width rows
     ∙ ap (λ (x : Table). with_column_parts c.args.kept c.args.buckets.now c.args.width k all x) (c.expect.ensures.made ∙ c.self.view_is)

@@ -1,0 +1,118 @@
+//! Adds the points of a column to the rows of a group.
+ghost use Rattle.std.specs.Prelude.{◌≡◌, ◌∷◌, ◌+◌, ◌^◌, ◌<◌, ◌≤◌, ◌≤ℤ◌, ◌<ℤ◌, length, get_or};
+ghost use Rattle.ts_core.specs.aggregates.Aggregates.{empty_aggregate};
+ghost use Rattle.ts_store.specs.read.ViewResults.{points_at};
+ghost use Rattle.ts_exec.specs.declared.kept.Kept.TheVariants.{CountAlone};
+ghost use Rattle.ts_exec.specs.RowParts.{with_counted, with_point_parts};
+
+use crate::buckets::Buckets;
+use crate::fold::{Counted, Fold, Summed};
+use crate::kept::Kept;
+use crate::rows::{add_part, add_runs, has_room};
+use std::alloc::Allocator;
+use ts_core::{Agg, Time};
+use ts_raw::{ColumnId, Points};
+use ts_store::View;
+
+/// Points of a column of a view from `from`, inclusive, to `to`, exclusive.
+#[derive(Drop)]
+pub(crate) struct ColumnRange<'a, V> {
+    pub view: &'a V,
+    pub column: ColumnId,
+    pub from: i64,
+    pub to: i64,
+}
+
+/// Adds the points one by one.
+fn visit(rows: &mut [Agg], buckets: &mut Buckets, mut points: Points<'_>)
+    ensures value { rows.new ≡ with_point_parts CountAlone buckets.old points.entry rows.old }
+    ensures same { buckets.new ≡ buckets.old }
+{
+    if let Some(first) = points.next() {
+        add_runs::<Counted>(rows, buckets, first, points);
+    }
+}
+
+/// Adds the number of points of a bucket to its row, which must have room for them.
+fn add_count(rows: &mut [Agg], place: usize, count: u64)
+    requires { (get_or rows.old place empty_aggregate).count + (count + 1) ≤ 2 ^ 62 }
+    ensures { rows.new ≡ with_counted place count rows.old }
+{
+    if count > 0 {
+        add_part(rows, place, Counted::of(count).part());
+    }
+}
+
+/// Adds the points from `from` on that are in one bucket, without visiting them; visits all that are left if the
+/// bucket's row has no room for them. Returns the end of those added.
+fn count_next<A: Allocator, V: View<A>>(
+    rows: &mut [Agg],
+    buckets: &mut Buckets,
+    range: &ColumnRange<'_, V>,
+    from: i64,
+) -> i64
+    requires column { range.now.column < length (V.seen range.now.view.now).columns }
+    requires some { from <ℤ range.now.to }
+    ensures value { rows.new ≡ with_point_parts CountAlone buckets.old (points_at (V.seen range.now.view.now).columns range.now.column from result) rows.old }
+    ensures more { from <ℤ result }
+    ensures end { result ≤ℤ range.now.to }
+    ensures same { buckets.new ≡ buckets.old }
+{
+    let _width = rows.len();
+    let span = buckets.span(from);
+    let end = span.high.min(range.to);
+    if span.low <= from && from < end {
+        let count = range.view.raw_range(range.column, from, end).len() as u64;
+        if has_room(rows, span.place, count) {
+            add_count(rows, span.place, count);
+            return end;
+        }
+    }
+    let points = range.view.raw_range(range.column, from, range.to);
+    visit(rows, buckets, points);
+    range.to
+}
+
+/// Adds the points bucket by bucket, without visiting them.
+fn count<A: Allocator, V: View<A>>(
+    rows: &mut [Agg],
+    buckets: &mut Buckets,
+    range: &ColumnRange<'_, V>,
+)
+    requires { range.now.column < length (V.seen range.now.view.now).columns }
+    ensures value { rows.new ≡ with_point_parts CountAlone buckets.old (points_at (V.seen range.now.view.now).columns range.now.column range.now.from range.now.to) rows.old }
+    ensures same { buckets.new ≡ buckets.old }
+{
+    let mut from = range.from;
+    while from < range.to {
+        from = count_next(rows, buckets, range, from);
+    }
+}
+
+/// Adds the points of a range, which are `first` and then the others, each to the row of its bucket. Keeps these parts
+/// of them.
+pub(crate) fn add_points<A: Allocator, V: View<A>>(
+    rows: &mut [Agg],
+    kept: Kept,
+    buckets: &mut Buckets,
+    range: &ColumnRange<'_, V>,
+    first: (Time, i64),
+    others: Points<'_>,
+)
+    requires column { range.now.column < length (V.seen range.now.view.now).columns }
+    requires points { points_at (V.seen range.now.view.now).columns range.now.column range.now.from range.now.to ≡ first ∷ others }
+    ensures value { rows.new ≡ with_point_parts kept buckets.old (first ∷ others.entry) rows.old }
+    ensures same { buckets.new ≡ buckets.old }
+{
+    match kept {
+        Kept::CountAlone => {
+            if buckets.are_full(others.len(), range.from, range.to) {
+                count(rows, buckets, range);
+            } else {
+                add_runs::<Counted>(rows, buckets, first, others);
+            }
+        }
+        Kept::CountAndSum => add_runs::<Summed>(rows, buckets, first, others),
+        Kept::Whole => add_runs::<Agg>(rows, buckets, first, others),
+    }
+}
