@@ -11,3 +11,7 @@ returns-in_err-staged-clause-unchanged g c =
 pub returns-clause-unchanged : goal.returns-clause-unchanged
 returns-clause-unchanged g c =
     ap (λ (x : List (ℤ × ℤ)). map.from_sorted {R = int_cmp} (drop c.self.inside.cut x)) (same_points _ _ _ _ c.stage.ensures.blocks) ∙ ap (λ (s : ColumnState). s.points) c.self.view_is
+
+pub returns-in_err-new-clause-unchanged : goal.returns-in_err-new-clause-unchanged
+returns-in_err-new-clause-unchanged g c =
+    ap (λ (x : List (ℤ × ℤ)). map.from_sorted {R = int_cmp} (drop c.self.inside.cut x)) (same_points _ _ _ _ c.stage.ensures.blocks) ∙ ap (λ (s : ColumnState). s.points) c.self.view_is
