@@ -1,5 +1,5 @@
 -- Adding a rule by its text: success, or refusal of the text.
-use Rattle.std.proofs.Common.{◌≡◌, ◌⊎◌, ⊎_elim, ◌∙◌, ◌≤◌, ℤ, length, sym, ap, subst, refl, Option, Some, None, Result, Ok, Err, IfSome}
+use Rattle.std.proofs.Common.{◌≡◌, ⊎_elim, ◌∙◌, ◌≤◌, ℤ, length, sym, ap, subst, refl, Option, Some, None, Result, Ok, Err, IfSome}
 use Rattle.ts_core.specs.facts.Facts.{Text}
 use Rattle.ts_core.specs.settings.Settings.{Rule, Settings}
 use Rattle.ts_core.specs.settings.SettingsFaults.{added_fault}
