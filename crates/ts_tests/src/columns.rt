@@ -1,10 +1,13 @@
 //! One list of calls with their expected results, for each kind of column.
+ghost use Rattle.std.specs.Prelude.{IfOk};
+ghost use Rattle.ts_raw.specs.Columns.{AreTimed};
+ghost use Rattle.ts_raw.specs.PlainColumns.{IsRising};
 
-use std::alloc::Global;
+use std::alloc::{AllocError, Global};
 use std::test::Fail;
 use ts_block::check;
 use ts_core::Time;
-use ts_raw::{BlockColumn, Column, PlainColumn};
+use ts_raw::{BlockColumn, BufferedColumn, Column, PlainColumn, Points};
 
 /// Times: the first one, the distance of each to the next, and their number.
 #[derive(Clone, Copy)]
@@ -35,7 +38,7 @@ const LEAST: i64 = -9_223_372_036_854_775_806;
 const GREATEST: i64 = 9_223_372_036_854_775_806;
 
 /// Lists of calls, each for a new column.
-const ROWS: [&[Call]; 6] = [
+const ROWS: [&[Call]; 12] = [
     // ten minutes and a retention run in their middle
     &[
         Call::Range(i64::MIN, i64::MAX, Times(0, 1, 0)),
@@ -100,7 +103,100 @@ const ROWS: [&[Call]; 6] = [
         Call::DropBelow(999),
         Call::Range(i64::MIN, i64::MAX, Times(999, 1, 301)),
     ],
+    // late points among 2,000: in a block, in place of one there, between the last block and the buffer, and first
+    &[
+        Call::Put(Times(2, 2, 2_000)),
+        Call::Range(0, 5_000, Times(2, 2, 2_000)),
+        Call::PutOne(701, -1),
+        Call::Live(2_001),
+        Call::Range(0, 701, Times(2, 2, 350)),
+        Call::One(701, 702, 701, -1),
+        Call::Range(702, 5_000, Times(702, 2, 1_650)),
+        Call::PutOne(1_000, 7),
+        Call::Live(2_001),
+        Call::Range(702, 1_000, Times(702, 2, 149)),
+        Call::One(1_000, 1_001, 1_000, 7),
+        Call::Range(1_001, 5_000, Times(1_002, 2, 1_500)),
+        Call::PutOne(3_073, 8),
+        Call::Live(2_002),
+        Call::Range(1_001, 3_073, Times(1_002, 2, 1_036)),
+        Call::One(3_073, 3_074, 3_073, 8),
+        Call::Range(3_074, 5_000, Times(3_074, 2, 464)),
+        Call::PutOne(1, 9),
+        Call::Live(2_003),
+        Call::One(i64::MIN, 2, 1, 9),
+        Call::Range(2, 701, Times(2, 2, 350)),
+    ],
+    // a late point between any two of 2,000
+    &[
+        Call::Put(Times(2, 2, 2_000)),
+        Call::Put(Times(3_999, -2, 2_000)),
+        Call::Live(4_000),
+        Call::Range(0, 5_000, Times(1, 1, 4_000)),
+    ],
+    // marks within a block, between the last block and the buffer, within the buffer, and after all points
+    &[
+        Call::Put(Times(1, 1, 2_000)),
+        Call::DropBelow(300),
+        Call::Live(1_701),
+        Call::Range(0, 3_000, Times(300, 1, 1_701)),
+        Call::DropBelow(1_537),
+        Call::Live(464),
+        Call::Range(0, 3_000, Times(1_537, 1, 464)),
+        Call::DropBelow(1_700),
+        Call::Live(301),
+        Call::Range(0, 3_000, Times(1_700, 1, 301)),
+        Call::Put(Times(2_001, 1, 1)),
+        Call::Range(0, 3_000, Times(1_700, 1, 302)),
+        Call::DropBelow(GREATEST),
+        Call::Live(0),
+        Call::Put(Times(5, 1, 3)),
+        Call::Range(0, 3_000, Times(5, 1, 3)),
+    ],
+    // late points before the only one left in a block, and before those left in the buffer
+    &[
+        Call::Put(Times(1, 1, 2_000)),
+        Call::DropBelow(1_536),
+        Call::Range(0, 3_000, Times(1_536, 1, 465)),
+        Call::Put(Times(1_535, -1, 500)),
+        Call::Range(0, 3_000, Times(1_036, 1, 965)),
+        Call::DropBelow(1_900),
+        Call::Put(Times(1_899, -1, 5)),
+        Call::Range(0, 3_000, Times(1_895, 1, 106)),
+        Call::Put(Times(2_001, 1, 2_000)),
+        Call::Range(0, 5_000, Times(1_895, 1, 2_106)),
+        Call::DropBelow(4_001),
+        Call::Live(0),
+        Call::Put(Times(3, 1, 1_000)),
+        Call::Range(i64::MIN, i64::MAX, Times(3, 1, 1_000)),
+    ],
+    // a staged late point is replaced by a new one, and the other way round
+    &[
+        Call::Put(Times(2, 2, 2_000)),
+        Call::Stage(3, 1),
+        Call::Live(2_000),
+        Call::Stage(5_000, 2),
+        Call::Range(0, 9_000, Times(2, 2, 2_000)),
+        Call::Put(Times(4_002, 2, 1)),
+        Call::Range(0, 9_000, Times(2, 2, 2_001)),
+        Call::Stage(5_000, 2),
+        Call::Put(Times(3, 1, 1)),
+        Call::Live(2_002),
+        Call::Range(0, 5, Times(2, 1, 3)),
+        Call::Stage(5, 1),
+        Call::DropBelow(4),
+        Call::Range(0, 9_000, Times(4, 2, 2_000)),
+    ],
+    // 3,000 points in reversed order
+    &[
+        Call::Put(Times(3_000, -1, 3_000)),
+        Call::Live(3_000),
+        Call::Range(0, 5_000, Times(1, 1, 3_000)),
+    ],
 ];
+
+/// Numbers of points to make columns of. From 512 on, a buffered column has blocks.
+const COUNTS: [usize; 6] = [0, 1, 511, 512, 513, 2_000];
 
 /// Stages a point.
 fn stage<C: Column>(column: &mut C, time: i64, value: i64) -> Result<(), Fail> {
@@ -206,6 +302,55 @@ fn first_wrong_coded(alloc: Global, calls: &[Call]) -> Result<Option<usize>, Fai
 fn coded_columns_answer(rt: HostRuntime) -> Result<(), Fail> {
     for (row, calls) in ROWS.iter().enumerate() {
         assert_eq!(rt; first_wrong_coded(rt.alloc(), calls)?, None, "{row}");
+    }
+    Ok(())
+}
+
+/// Returns the index of the first call with an unexpected result on a column of blocks behind a buffer.
+fn first_wrong_buffered(alloc: Global, calls: &[Call]) -> Result<Option<usize>, Fail> {
+    let mut column = BufferedColumn::new(alloc);
+    first_wrong(&mut column, calls)
+}
+
+#[test]
+fn buffered_columns_answer(rt: HostRuntime) -> Result<(), Fail> {
+    for (row, calls) in ROWS.iter().enumerate() {
+        assert_eq!(rt; first_wrong_buffered(rt.alloc(), calls)?, None, "{row}");
+    }
+    Ok(())
+}
+
+/// Returns the points of a column as a vector.
+fn vector_of(alloc: Global, column: &PlainColumn<Global>) -> Result<Vec<(Time, i64)>, AllocError>
+    ensures rising { IfOk result (λ points. IsRising points.items) }
+    ensures timed { IfOk result (λ points. AreTimed points.items) }
+{
+    column.all().collect(alloc)
+}
+
+/// Returns true if two columns have the same points.
+fn are_equal(one: Points<'_>, other: Points<'_>) -> bool {
+    one.len() == other.len() && one.zip(other).all(|(point, same)| point == same)
+}
+
+/// Returns true if a buffered column made of points at once has those of a plain one, and at most 255 removed ones.
+fn is_made_equal(alloc: Global, count: usize) -> Result<bool, Fail> {
+    let mut column = PlainColumn::new(alloc);
+    put_all(&mut column, Times(1, 1, count))?;
+    let plain = PlainColumn::of(vector_of(alloc, &column)?);
+    let buffered = BufferedColumn::of(vector_of(alloc, &column)?)?;
+    let more = buffered.held().checked_sub(buffered.live());
+    Ok(
+        buffered.live() == count
+            && more.is_some_and(|more| more <= 255)
+            && are_equal(plain.all(), buffered.all()),
+    )
+}
+
+#[test]
+fn buffered_columns_are_made_of_points(rt: HostRuntime) -> Result<(), Fail> {
+    for count in COUNTS {
+        assert!(rt; is_made_equal(rt.alloc(), count)?, "{count}");
     }
     Ok(())
 }
