@@ -19,7 +19,7 @@ use std::alloc::Allocator;
 use ts_core::Time;
 use ts_store::{StepAnswer, Store, View};
 
-/// The most steps that a request may take.
+/// Number of steps that a request may take at most.
 const MAX_STEPS: usize = 10_000;
 
 /// The steps that a request took.

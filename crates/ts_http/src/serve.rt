@@ -44,7 +44,7 @@ pub enum Served {
 pub enum IoFault {
     /// The reader failed. Nothing was executed.
     Reader,
-    /// The writer failed. The request was executed, and a prefix of the reply was sent.
+    /// Failure of the writer. The request was executed, and a prefix of the reply was sent.
     Writer,
 }
 

@@ -11,7 +11,7 @@ pub(crate) enum FieldFault {
     Misshapen(u64),
     /// A read failed.
     Device,
-    /// The limit of reads was reached without an end of input.
+    /// Limit of reads, reached without an end of input.
     Turns,
     /// Out of memory.
     OutOfMemory,

@@ -28,7 +28,7 @@ pub enum LoadFault {
     /// A read failed.
     #[error("{}", FaultCode::ImageDevice.words())]
     Device,
-    /// The limit of reads was reached without an end of input.
+    /// Limit of reads, reached without an end of input.
     #[error("{}", FaultCode::EndlessImage.words())]
     Turns,
     /// Out of memory.

@@ -15,7 +15,7 @@ const BUFFER_SIZE: usize = 65_536;
 pub enum ReadFault {
     /// A read failed.
     Device,
-    /// The limit of reads was reached without an end of input.
+    /// Limit of reads, reached without an end of input.
     Turns,
 }
 
