@@ -38,10 +38,6 @@ pub before_too : (t u : ℤ) (xs : List (ℤ × ℤ)) → t ≤ℤ u → AreBefo
 before_too t u [] l h = tt
 before_too t u (x ∷ xs) l h = (let a = h.0 in grind (arith, ints, l, a), before_too t u xs l h.1)
 
-pub rising_second : (xs ys : List (ℤ × ℤ)) → IsRising (xs ++ ys) → IsRising ys
-rising_second [] ys s = s
-rising_second (x ∷ xs) ys s = rising_second xs ys (both_of _ _ s).1
-
 -- ---- a point is put into one of them
 
 pub put_late : (t v : ℤ) (xs ys : List (ℤ × ℤ)) → AreAfter t ys → put int_cmp t v (xs ++ ys) ≡ put int_cmp t v xs ++ ys

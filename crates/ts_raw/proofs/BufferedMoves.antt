@@ -9,7 +9,7 @@ use Rattle.std.specs.FinMap.{put, entries, entries-insert}
 use Rattle.std.specs.FinMap.Entries.{where_key, is_sorted-where_key}
 use Rattle.ts_raw.specs.Columns.{ColumnState, points_from}
 use Rattle.ts_raw.specs.PlainColumns.{IsRising}
-use Rattle.ts_raw.specs.BufferedColumns.{both_points, one_aside, AreBefore, IsLate, IsBuffered}
+use Rattle.ts_raw.specs.BufferedColumns.{both_points, one_aside, AreBefore, IsLate, IsBufferedColumn}
 use Rattle.ts_raw.proofs.PointMaps.{from_sorted-put, rising-put, kept_map}
 use Rattle.ts_raw.proofs.RewriteLemmas.{put_after, length_put}
 use Rattle.ts_raw.proofs.BufferedLemmas.{put_late, from_entries_at, none_kept}
@@ -21,7 +21,7 @@ none_some x e h = true≢false (sym h ∙ ap is_some e)
 
 module _ (b u : ColumnState) (b_none : b.aside ≡ None) (u_none : u.aside ≡ None) where
   pub settled : IsRising (entries b.points ++ entries u.points) → (length (entries u.points) ≡ 0 → length (entries b.points) ≡ 0)
-      → length (entries b.points) + length (entries u.points) ≤ 18446744073709551615 → IsBuffered b u
+      → length (entries b.points) + length (entries u.points) ≤ 18446744073709551615 → IsBufferedColumn b u
   settled rising some few = record {
     rising = rising;
     some = some;
@@ -32,7 +32,7 @@ module _ (b u : ColumnState) (b_none : b.aside ≡ None) (u_none : u.aside ≡ N
   }
 
 -- the same points, and none is staged
-pub unstaged : (b u c v : ColumnState) → IsBuffered b u → c.points ≡ b.points → v.points ≡ u.points → c.aside ≡ None → v.aside ≡ None → IsBuffered c v
+pub unstaged : (b u c v : ColumnState) → IsBufferedColumn b u → c.points ≡ b.points → v.points ≡ u.points → c.aside ≡ None → v.aside ≡ None → IsBufferedColumn c v
 unstaged b u c v h e f c_none v_none =
     let xs : entries c.points ≡ entries b.points = ap entries e in
     let ys : entries v.points ≡ entries u.points = ap entries f in
@@ -46,7 +46,7 @@ unstaged b u c v h e f c_none v_none =
 
 -- ---- the staged point is inserted
 
-module _ (b u : ColumnState) (p : ℤ × ℤ) (h : IsBuffered b u) where
+module _ (b u : ColumnState) (p : ℤ × ℤ) (h : IsBufferedColumn b u) where
   abbrev xs : List (ℤ × ℤ)
   xs = entries b.points
 
@@ -63,7 +63,7 @@ module _ (b u : ColumnState) (p : ℤ × ℤ) (h : IsBuffered b u) where
     there : entries c.points ++ ys ≡ put int_cmp p.0 p.1 (xs ++ ys)
     there = ap (λ (z : List (ℤ × ℤ)). z ++ ys) (ap entries is ∙ entries-insert int_cmp_total b.points p.0 p.1) ∙ sym (put_late p.0 p.1 xs ys late.after)
 
-    pub late_kept : IsBuffered c u
+    pub late_kept : IsBufferedColumn c u
     late_kept =
         let size = length_put p.0 p.1 xs in
         let n : length (entries c.points) ≡ length (put int_cmp p.0 p.1 xs) = ap length (ap entries is ∙ entries-insert int_cmp_total b.points p.0 p.1) in
@@ -84,7 +84,7 @@ module _ (b u : ColumnState) (p : ℤ × ℤ) (h : IsBuffered b u) where
     here : xs ++ entries v.points ≡ put int_cmp p.0 p.1 (xs ++ ys)
     here = ap (λ (z : List (ℤ × ℤ)). xs ++ z) (ap entries is ∙ entries-insert int_cmp_total u.points p.0 p.1) ∙ sym (put_after p.0 p.1 xs ys before)
 
-    pub latest_kept : IsBuffered b v
+    pub latest_kept : IsBufferedColumn b v
     latest_kept =
         let size = length_put p.0 p.1 ys in
         let n : length (entries v.points) ≡ length (put int_cmp p.0 p.1 ys) = ap length (ap entries is ∙ entries-insert int_cmp_total u.points p.0 p.1) in
@@ -99,24 +99,24 @@ module _ (b u : ColumnState) (p : ℤ × ℤ) (h : IsBuffered b u) where
 
 -- ---- the same where it is asked which of the two has a staged point
 
-module _ (b u : ColumnState) (h : IsBuffered b u) where
+module _ (b u : ColumnState) (h : IsBufferedColumn b u) where
   abbrev IsPutBoth : ColumnState → ColumnState → Type 0
   IsPutBoth c v = IfSome (one_aside b.aside u.aside) (λ p. both_points c.points v.points ≡ map.insert (both_points b.points u.points) p.0 p.1)
 
-  pub commit_late : (c : ColumnState) → is_some b.aside ≡ true → IfSome b.aside (λ p. c.points ≡ map.insert b.points p.0 p.1) → c.aside ≡ None → IsBuffered c u × IsPutBoth c u
+  pub commit_late : (c : ColumnState) → is_some b.aside ≡ true → IfSome b.aside (λ p. c.points ≡ map.insert b.points p.0 p.1) → c.aside ≡ None → IsBufferedColumn c u × IsPutBoth c u
   commit_late c some put none = by_aside b.aside refl some put
     where
-      by_aside : (x : Option (ℤ × ℤ)) → b.aside ≡ x → is_some x ≡ true → IfSome x (λ p. c.points ≡ map.insert b.points p.0 p.1) → IsBuffered c u × IsPutBoth c u
+      by_aside : (x : Option (ℤ × ℤ)) → b.aside ≡ x → is_some x ≡ true → IfSome x (λ p. c.points ≡ map.insert b.points p.0 p.1) → IsBufferedColumn c u × IsPutBoth c u
       by_aside None e some put = absurd (true≢false (sym some))
       by_aside (Some p) e some put = (
         late_kept b u p h c e put none,
         subst (λ (x : Option (ℤ × ℤ)). IfSome (one_aside x u.aside) (λ q. both_points c.points u.points ≡ map.insert (both_points b.points u.points) q.0 q.1)) (sym e) (late_put b u p h c e put none),
       )
 
-  pub commit_latest : (v : ColumnState) → is_some b.aside ≡ false → IsSome (one_aside b.aside u.aside) → IfSome u.aside (λ p. v.points ≡ map.insert u.points p.0 p.1) → v.aside ≡ None → IsBuffered b v × IsPutBoth b v
+  pub commit_latest : (v : ColumnState) → is_some b.aside ≡ false → IsSome (one_aside b.aside u.aside) → IfSome u.aside (λ p. v.points ≡ map.insert u.points p.0 p.1) → v.aside ≡ None → IsBufferedColumn b v × IsPutBoth b v
   commit_latest v off some put none = by_asides b.aside u.aside refl refl off some put
     where
-      by_asides : (x y : Option (ℤ × ℤ)) → b.aside ≡ x → u.aside ≡ y → is_some x ≡ false → IsSome (one_aside x y) → IfSome y (λ p. v.points ≡ map.insert u.points p.0 p.1) → IsBuffered b v × IsPutBoth b v
+      by_asides : (x y : Option (ℤ × ℤ)) → b.aside ≡ x → u.aside ≡ y → is_some x ≡ false → IsSome (one_aside x y) → IfSome y (λ p. v.points ≡ map.insert u.points p.0 p.1) → IsBufferedColumn b v × IsPutBoth b v
       by_asides (Some p) y e f off some put = absurd (true≢false off)
       by_asides None None e f off some put = absurd (true≢false (sym some))
       by_asides None (Some p) e f off some put = (
@@ -126,7 +126,7 @@ module _ (b u : ColumnState) (h : IsBuffered b u) where
 
 -- ---- the first points of the buffer are moved into a block
 
-module _ (b u c v : ColumnState) (h : IsBuffered b u) (k : ℕ) (more : k < length (entries u.points))
+module _ (b u c v : ColumnState) (h : IsBufferedColumn b u) (k : ℕ) (more : k < length (entries u.points))
     (pushed : entries c.points ≡ entries b.points ++ take k (entries u.points)) (left : entries v.points ≡ drop k (entries u.points)) where
   same : entries c.points ++ entries v.points ≡ entries b.points ++ entries u.points
   same =
@@ -136,7 +136,7 @@ module _ (b u c v : ColumnState) (h : IsBuffered b u) (k : ℕ) (more : k < leng
   pub moved_points : both_points c.points v.points ≡ both_points b.points u.points
   moved_points = ap (map.from_sorted {R = int_cmp}) same
 
-  pub moved_kept : c.aside ≡ None → v.aside ≡ None → IsBuffered c v
+  pub moved_kept : c.aside ≡ None → v.aside ≡ None → IsBufferedColumn c v
   moved_kept c_none v_none =
       let n = ap length same in
       let a = length-append (entries c.points) (entries v.points) in
@@ -150,7 +150,7 @@ module _ (b u c v : ColumnState) (h : IsBuffered b u) (k : ℕ) (more : k < leng
 pub fewer : (p : ℤ × ℤ → Bool) (xs : List (ℤ × ℤ)) → length (filter p xs) ≤ length xs
 fewer p xs = let e = length-filter_both p (λ x. not (p x)) (λ x. refl) xs in omega arith
 
-module _ (b u c v : ColumnState) (h : IsBuffered b u) (mark : ℤ) (e : c.points ≡ points_from b.points mark) (f : v.points ≡ points_from u.points mark) where
+module _ (b u c v : ColumnState) (h : IsBufferedColumn b u) (mark : ℤ) (e : c.points ≡ points_from b.points mark) (f : v.points ≡ points_from u.points mark) where
   parts : entries c.points ++ entries v.points ≡ where_key int_cmp (int_le mark) (entries b.points ++ entries u.points)
   parts =
       (λ i. (ap entries e ∙ from_entries_at b.points mark) i ++ (ap entries f ∙ from_entries_at u.points mark) i)
@@ -159,7 +159,7 @@ module _ (b u c v : ColumnState) (h : IsBuffered b u) (mark : ℤ) (e : c.points
   pub dropped_points : both_points c.points v.points ≡ points_from (both_points b.points u.points) mark
   dropped_points = ap (map.from_sorted {R = int_cmp}) parts ∙ kept_map (entries b.points ++ entries u.points) h.rising (int_le mark)
 
-  pub dropped_kept : c.aside ≡ None → v.aside ≡ None → IsBuffered c v
+  pub dropped_kept : c.aside ≡ None → v.aside ≡ None → IsBufferedColumn c v
   dropped_kept c_none v_none =
       let n = ap length (ap entries e ∙ from_entries_at b.points mark) in
       let m = ap length (ap entries f ∙ from_entries_at u.points mark) in

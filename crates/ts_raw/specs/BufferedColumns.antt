@@ -29,7 +29,7 @@ pub record IsLate (p : ℤ × ℤ) (buffer : ColumnState) : Type 0 where
   pub after : AreAfter p.0 (map.entries buffer.points)
 
 -- the buffer's points are after those of the blocks, and it has some if the blocks have
-pub record IsBuffered (blocks buffer : ColumnState) : Type 0 where
+pub record IsBufferedColumn (blocks buffer : ColumnState) : Type 0 where
   pub rising : IsRising (map.entries blocks.points ++ map.entries buffer.points)
   pub some : length (map.entries buffer.points) ≡ 0 → length (map.entries blocks.points) ≡ 0
   pub few : length (map.entries blocks.points) + length (map.entries buffer.points) ≤ 18446744073709551615

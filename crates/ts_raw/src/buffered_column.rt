@@ -1,18 +1,18 @@
 //! A column whose latest points are plain, and whose older ones are coded blocks.
 ghost use Rattle.std.specs.Prelude.{◌≡◌, ◌+◌, ◌*◌, ◌<◌, ◌≤◌, length, take, drop, Some, None, true, false, is_ok, IfOk, OnOk, OnErr, if◌then◌else◌};
 ghost use Rattle.std.specs.FinMap as map;
-ghost use Rattle.ts_raw.specs.BufferedColumns.{both_points, one_aside, AreAfter, AreBefore, IsBuffered};
+ghost use Rattle.ts_raw.specs.BufferedColumns.{both_points, one_aside, AreAfter, AreBefore, IsBufferedColumn};
 ghost use Rattle.ts_raw.specs.Columns.{AreTimed, points_within};
 ghost use Rattle.ts_raw.specs.PlainColumns.{IsRising};
 
 use crate::appending::BLOCK_POINTS;
-use crate::block_column::{BlockColumn, near};
+use crate::block_column::{BlockColumn, bounds_of};
 use crate::column::Column;
 use crate::plain_column::PlainColumn;
 use crate::points::Points;
 use std::alloc::{AllocError, Allocator};
 use std::marker::Model;
-use ts_core::{Buckets, Time};
+use ts_core::Time;
 
 /// Number of points at which the first 256 of a buffer are moved into a block. So the latest 256 points stay plain.
 const BUFFER_POINTS: usize = 512;
@@ -28,7 +28,7 @@ pub struct BufferedColumn<A: Allocator> {
 
 impl<A: Allocator> Model for BufferedColumn<A> {
     ghost use Rattle.ts_raw.specs.Columns.{ColumnState, coded_column_state};
-    ghost use Rattle.ts_raw.specs.BufferedColumns.{both_points, one_aside, IsBuffered};
+    ghost use Rattle.ts_raw.specs.BufferedColumns.{both_points, one_aside, IsBufferedColumn};
 
     ghost Value = { ColumnState };
 
@@ -36,7 +36,7 @@ impl<A: Allocator> Model for BufferedColumn<A> {
 
     ghost view = { λ c. record { points = both_points c.blocks.points c.buffer.points; aside = one_aside c.blocks.aside c.buffer.aside } };
 
-    ghost invariant = { λ c. IsBuffered c.blocks c.buffer };
+    ghost invariant = { λ c. IsBufferedColumn c.blocks c.buffer };
 }
 
 /// Returns true if a time is before the buffer and there are points in blocks.
@@ -45,7 +45,7 @@ fn is_late<A: Allocator + Copy>(
     buffer: &PlainColumn<A>,
     time: Time,
 ) -> bool
-    requires { IsBuffered blocks.now buffer.now }
+    requires { IsBufferedColumn blocks.now buffer.now }
     ensures some { result ≡ true → 0 < length (map.entries buffer.now.points) }
     ensures late { result ≡ true → AreAfter time (map.entries buffer.now.points) }
     ensures latest { result ≡ false → AreBefore time (map.entries blocks.now.points) }
@@ -62,10 +62,10 @@ fn move_block<A: Allocator + Copy>(
     blocks: &mut BlockColumn<A>,
     buffer: &mut PlainColumn<A>,
 ) -> Result<(), AllocError>
-    requires buffered { IsBuffered blocks.old buffer.old }
+    requires buffered { IsBufferedColumn blocks.old buffer.old }
     requires no_late { blocks.old.aside ≡ None }
     requires none_aside { buffer.old.aside ≡ None }
-    ensures buffered { IsBuffered blocks.new buffer.new }
+    ensures buffered { IsBufferedColumn blocks.new buffer.new }
     ensures points { both_points blocks.new.points buffer.new.points ≡ both_points blocks.old.points buffer.old.points }
     ensures no_late { blocks.new.aside ≡ None }
     ensures none_aside { buffer.new.aside ≡ None }
@@ -85,11 +85,11 @@ fn stage<A: Allocator + Copy>(
     time: Time,
     value: i64,
 ) -> Result<(), AllocError>
-    requires buffered { IsBuffered blocks.old buffer.old }
+    requires buffered { IsBufferedColumn blocks.old buffer.old }
     requires no_late { blocks.old.aside ≡ None }
     requires none_aside { buffer.old.aside ≡ None }
     requires one_more { length (map.entries blocks.old.points) + length (map.entries buffer.old.points) < 18446744073709551615 }
-    ensures buffered { IsBuffered blocks.new buffer.new }
+    ensures buffered { IsBufferedColumn blocks.new buffer.new }
     ensures points { both_points blocks.new.points buffer.new.points ≡ both_points blocks.old.points buffer.old.points }
     ensures aside { one_aside blocks.new.aside buffer.new.aside ≡ (if is_ok result then Some (time, value) else None) }
 {
@@ -238,8 +238,8 @@ impl<A: Allocator + Copy> Column for BufferedColumn<A> {
     }
 
     fn bucket(&self, index: &i128, interval: i64, offset: i64) -> Points<'_> {
-        let (first, next) = Buckets { interval, offset }.edges(*index);
-        self.window(near(&first), near(&next))
+        let (from, to) = bounds_of(index, interval, offset);
+        self.window(from, to)
     }
 
     fn drop_below(&mut self, mark: Time) {

@@ -6,7 +6,8 @@ use Rattle.std.specs.FinMap as map
 use Rattle.std.specs.FinMap.{len-entries}
 use Rattle.ts_raw.specs.PlainColumns.{IsRising}
 use Rattle.ts_raw.specs.BufferedColumns.{AreAfter}
-use Rattle.ts_raw.proofs.BufferedLemmas.{after_first, before_first_of, before_too, rising_second, starts_with, nothing_before}
+use Rattle.ts_raw.proofs.ColumnBlocks.{rising_rest}
+use Rattle.ts_raw.proofs.BufferedLemmas.{after_first, before_first_of, before_too, starts_with, nothing_before}
 use Rattle.ts_raw.proofs.buffered_column.is_late.Given.{Over}
 use Rattle.ts_raw.proofs.buffered_column.is_late.Goals.{In-Some}
 use Rattle.ts_raw.proofs.buffered_column.is_late.Goals as goal
@@ -30,7 +31,7 @@ returns-then-lt-clause-late g c =
     let a = (goal.at.returns-then-lt-clause-late g c).In-Some in
     let ys : List (ℤ × ℤ) = map.entries c.args.buffer.now.points in
     λ h. subst (AreAfter c.args.time) (sym (starts g a))
-    (after_first c.args.time c.in-Some.first.now (drop 1 ys) (subst IsRising (starts g a) (rising_second (map.entries c.args.blocks.now.points) ys c.requires.rising)) (less_of c.args.time c.in-Some.first.now.0 (sym c.lt.ensures ∙ c.if-lt.true)))
+    (after_first c.args.time c.in-Some.first.now (drop 1 ys) (subst IsRising (starts g a) (rising_rest (map.entries c.args.blocks.now.points) ys c.requires.rising)) (less_of c.args.time c.in-Some.first.now.0 (sym c.lt.ensures ∙ c.if-lt.true)))
 
 pub returns-then-lt-clause-latest : goal.returns-then-lt-clause-latest
 returns-then-lt-clause-latest g c =

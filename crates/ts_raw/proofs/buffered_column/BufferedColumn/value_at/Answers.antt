@@ -6,7 +6,8 @@ use Rattle.std.specs.FinMap.{entries, get-from_sorted, get-entries, find}
 use Rattle.ts_raw.specs.Columns.{ColumnState}
 use Rattle.ts_raw.specs.PlainColumns.{IsRising}
 use Rattle.ts_raw.specs.BufferedColumns.{AreAfter, AreBefore}
-use Rattle.ts_raw.proofs.BufferedLemmas.{after_first, before_first_of, before_too, rising_second, starts_with, nothing_at, find_second, find_in_first}
+use Rattle.ts_raw.proofs.ColumnBlocks.{rising_rest}
+use Rattle.ts_raw.proofs.BufferedLemmas.{after_first, before_first_of, before_too, starts_with, nothing_at, find_second, find_in_first}
 use Rattle.ts_raw.proofs.buffered_column.BufferedColumn.value_at.Given.{Over}
 use Rattle.ts_raw.proofs.buffered_column.BufferedColumn.value_at.Goals.{After-first, In_ok-first}
 use Rattle.ts_raw.proofs.buffered_column.BufferedColumn.value_at.Goals as goal
@@ -55,5 +56,5 @@ returns-else-le g c =
     let xs : List (ℤ × ℤ) = entries c.self.inside.blocks.points in
     let ys : List (ℤ × ℤ) = entries c.self.inside.buffer.points in
     let p : ℤ × ℤ = c.in_ok-first.first.now in
-    let after : AreAfter t ys = subst (AreAfter t) (sym (starts g a)) (after_first t p (drop 1 ys) (subst IsRising (starts g a) (rising_second xs ys c.self.invariant.rising)) (less_of t p.0 (sym c.le.ensures ∙ c.if-le.false))) in
+    let after : AreAfter t ys = subst (AreAfter t) (sym (starts g a)) (after_first t p (drop 1 ys) (subst IsRising (starts g a) (rising_rest xs ys c.self.invariant.rising)) (less_of t p.0 (sym c.le.ensures ∙ c.if-le.false))) in
     c.value_at-else-le.ensures ∙ get-entries c.self.inside.blocks.points t ∙ sym (looked_up g b ∙ find_in_first t xs ys after)
