@@ -6,7 +6,7 @@ ghost use Rattle.ts_raw.specs.Columns.{AreTimed, points_within};
 ghost use Rattle.ts_raw.specs.PlainColumns.{IsRising};
 
 use crate::appending::BLOCK_POINTS;
-use crate::block_column::{BlockColumn, bounds_of};
+use crate::block_column::BlockColumn;
 use crate::column::Column;
 use crate::plain_column::PlainColumn;
 use crate::points::Points;
@@ -234,11 +234,6 @@ impl<A: Allocator + Copy> Column for BufferedColumn<A> {
     }
 
     fn range(&self, from: i64, to: i64) -> Points<'_> {
-        self.window(from, to)
-    }
-
-    fn bucket(&self, index: &i128, interval: i64, offset: i64) -> Points<'_> {
-        let (from, to) = bounds_of(index, interval, offset);
         self.window(from, to)
     }
 

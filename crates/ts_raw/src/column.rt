@@ -3,6 +3,7 @@ ghost use Rattle.std.specs.Prelude.{◌≡◌, ◌+◌, ◌≤◌, ◌≤ℤ◌,
 ghost use Rattle.std.specs.FinMap as map;
 ghost use Rattle.ts_raw.specs.Columns.{PointMap, AreTimed, points_within, points_from, points_in_bucket};
 
+use crate::bounds::bounds_of;
 use crate::points::Points;
 use std::alloc::AllocError;
 use ts_core::Time;
@@ -32,13 +33,18 @@ pub trait Column {
     /// `from` is below `to`.
     fn range(&self, from: i64, to: i64) -> Points<'_>
         ensures points { result ≡ points_within (points self.now) from to }
-        ensures timed { AreTimed result };
+        ensures timed { AreTimed result }
+        ensures all_timed { AreTimed (map.entries (points self.now)) };
 
     /// Returns the points of the bucket with this index, ordered by time. `interval` and `offset` are in nanoseconds.
     fn bucket(&self, index: &i128, interval: i64, offset: i64) -> Points<'_>
         requires { pos 1 ≤ℤ interval }
         ensures points { result ≡ points_in_bucket (points self.now) index.now interval offset }
-        ensures timed { AreTimed result };
+        ensures timed { AreTimed result }
+    {
+        let (from, to) = bounds_of(index, interval, offset);
+        self.range(from, to)
+    }
 
     /// Removes the points before the mark. No point is staged afterwards.
     fn drop_below(&mut self, mark: Time)

@@ -4,8 +4,6 @@ ghost use Rattle.std.specs.Ordering.{int_cmp, int_eq};
 ghost use Rattle.std.specs.FinMap as map;
 ghost use Rattle.std.specs.FinMap.{put, find};
 ghost use Rattle.std.specs.List.Sorted.{IsSearchInRange};
-ghost use Rattle.ts_core.specs.aggregates.Buckets.{bucket_of};
-ghost use Rattle.ts_core.specs.aggregates.Edges.{IsEdgeAt};
 ghost use Rattle.ts_core.specs.facts.Facts.{is_within};
 ghost use Rattle.ts_raw.specs.Columns.{AreTimed, points_within};
 ghost use Rattle.ts_raw.specs.PlainColumns.{IsRising, IsPlaceOf, IsStartOf};
@@ -14,7 +12,7 @@ use crate::column::Column;
 use crate::points::Points;
 use std::alloc::{AllocError, Allocator};
 use std::marker::Model;
-use ts_core::{Buckets, Time};
+use ts_core::Time;
 
 /// Points in a vector sorted by time. A point after all others is appended; any other insertion moves those after it.
 #[derive(Drop)]
@@ -88,43 +86,6 @@ fn between<'a>(points: &'a [(Time, i64)], from: i64, to: i64) -> &'a [(Time, i64
 {
     let start = count_before(points, from);
     let end = count_before(points, to);
-    if start < end {
-        &points[start..end]
-    } else {
-        &[]
-    }
-}
-
-/// Returns true if a time is before a bound.
-fn is_before(time: Time, edge: &i128) -> bool
-    ensures { (moment : ℤ) → IsEdgeAt moment edge.now → result ≡ int_lt time moment }
-{
-    i128::from(time.nanos()) < *edge
-}
-
-/// Returns the number of points before a bucket's bound, by binary search.
-fn count_before_edge(points: &[(Time, i64)], edge: &i128) -> usize
-    requires { IsRising points.now }
-    ensures bound { result ≤ length points.now }
-    ensures start { (moment : ℤ) → IsEdgeAt moment edge.now → IsStartOf moment points.now result }
-{
-    points.partition_point(|point| is_before(point.0, edge))
-}
-
-/// Returns the points of the bucket with this index. `interval` and `offset` are in nanoseconds.
-fn inside<'a>(
-    points: &'a [(Time, i64)],
-    index: &i128,
-    interval: i64,
-    offset: i64,
-) -> &'a [(Time, i64)]
-    requires rising { IsRising points.now }
-    requires interval { pos 1 ≤ℤ interval }
-    ensures { result.now ≡ filter (λ p. int_eq (bucket_of p.0 interval offset) index.now) points.now }
-{
-    let (first, next) = Buckets { interval, offset }.edges(*index);
-    let start = count_before_edge(points, &first);
-    let end = count_before_edge(points, &next);
     if start < end {
         &points[start..end]
     } else {
@@ -259,10 +220,6 @@ impl<A: Allocator> Column for PlainColumn<A> {
 
     fn range(&self, from: i64, to: i64) -> Points<'_> {
         Points::plain(self.window(from, to))
-    }
-
-    fn bucket(&self, index: &i128, interval: i64, offset: i64) -> Points<'_> {
-        Points::plain(inside(self.points.as_slice(), index, interval, offset))
     }
 
     fn drop_below(&mut self, mark: Time) {

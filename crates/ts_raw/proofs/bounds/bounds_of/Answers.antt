@@ -5,7 +5,7 @@ use Rattle.ts_core.specs.aggregates.Edges.{IsEdgeAt}
 use Rattle.ts_core.specs.facts.Facts.{is_within}
 use Rattle.ts_raw.proofs.EdgesLemmas.{filter-inside}
 use Rattle.ts_raw.proofs.CutLemmas.{edges_within}
-use Rattle.ts_raw.proofs.block_column.bounds_of.Goals as goal
+use Rattle.ts_raw.proofs.bounds.bounds_of.Goals as goal
 
 pub returns : goal.returns
 returns c = λ points timed.
