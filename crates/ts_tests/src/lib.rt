@@ -23,6 +23,8 @@ mod index_limits;
 #[cfg(test)]
 mod line_spans;
 #[cfg(test)]
+mod many_series;
+#[cfg(test)]
 mod messages;
 #[cfg(test)]
 mod refused;
