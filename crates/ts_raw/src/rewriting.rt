@@ -12,7 +12,7 @@ use crate::mark::Mark;
 use crate::plain_column::put_point;
 use crate::walk::decoder_of;
 use std::alloc::{AllocError, Allocator};
-use ts_block::{encode, values_offset};
+use ts_block::encode_with_offset;
 use ts_core::{Time, reserve_eighth};
 
 /// Number of points above which a block is halved when a point is inserted or replaced. Late points mostly come near
@@ -70,10 +70,9 @@ pub(crate) fn push_points<A: Allocator + Copy>(
     ensures kept { take (vec_len bytes.old) bytes.new.items ≡ bytes.old.items }
     ensures block { IfOk result (λ mark. IsEncoded bytes.new.items mark points.now) }
 {
-    let block = encode(*bytes.allocator(), points)?;
+    let (block, values) = encode_with_offset(*bytes.allocator(), points)?;
     reserve_eighth(bytes, block.len())?;
     let start = bytes.len();
-    let values = values_offset(block.as_slice());
     bytes.extend_from_slice(block.as_slice()).unwrap();
     Ok(Mark {
         start,
