@@ -7,7 +7,7 @@ use Rattle.std.specs.FinMap as map
 use Rattle.std.specs.FinMap.{put, find, entries, entries_sorted, entries-from_sorted, same_entries_map}
 use Rattle.std.specs.FinMap.Entries.{below_all, by_order, where_key, is_sorted-where_key}
 use Rattle.ts_core.proofs.lists.Places.{both_of}
-use Rattle.ts_raw.specs.Columns.{PointMap, AreTimed, points_from}
+use Rattle.ts_raw.specs.Columns.{PointMap, points_from}
 use Rattle.ts_raw.specs.PlainColumns.{IsRising}
 use Rattle.ts_raw.specs.BufferedColumns.{both_points, AreAfter, AreBefore}
 use Rattle.ts_raw.proofs.PointMaps.{kept_map, len-from_sorted, from_sorted-nothing}
@@ -127,10 +127,6 @@ first_rising xs ys k s = subst IsRising (take-append-add xs ys k) (rising_first 
 
 pub entries_nothing : (m : PointMap) → m ≡ map.empty → entries m ≡ []
 entries_nothing m e = ap entries (e ∙ sym (from_sorted-nothing int_cmp [] refl)) ∙ entries-from_sorted int_cmp [] tt
-
-pub timed_both : (xs ys : List (ℤ × ℤ)) → AreTimed xs → AreTimed ys → AreTimed (xs ++ ys)
-timed_both [] ys h k = k
-timed_both (x ∷ xs) ys h k = (h.0, timed_both xs ys h.1 k)
 
 -- without a first point in the second list there is none at all
 pub nothing_at : (t : ℤ) (xs ys : List (ℤ × ℤ)) → slice_get ys 0 ≡ None → (length ys ≡ 0 → length xs ≡ 0) → find int_cmp t (xs ++ ys) ≡ None

@@ -18,7 +18,7 @@ use Rattle.ts_raw.proofs.ColumnBlocks.{rising_rest, ordered_from}
 abbrev pub counted_mark : Mark → ℕ → Mark
 counted_mark m before = record { start = m.start; values = m.values; end = m.end; count = m.count; before = before; last = m.last }
 
-timed_join : (ps qs : List (ℤ × ℤ)) → AreTimed ps → AreTimed qs → AreTimed (ps ++ qs)
+pub timed_join : (ps qs : List (ℤ × ℤ)) → AreTimed ps → AreTimed qs → AreTimed (ps ++ qs)
 timed_join [] qs h k = k
 timed_join (p ∷ ps) qs h k = (h.0, timed_join ps qs h.1 k)
 

@@ -3,7 +3,8 @@ use Rattle.std.proofs.lemmas.List.Elements.{filter-append}
 use Rattle.std.specs.FinMap as map
 use Rattle.ts_core.specs.facts.Facts.{is_within}
 use Rattle.ts_raw.specs.Columns.{ColumnState, AreTimed, points_within}
-use Rattle.ts_raw.proofs.BufferedLemmas.{both_entries, timed_both}
+use Rattle.ts_raw.proofs.SealingLemmas.{timed_join}
+use Rattle.ts_raw.proofs.BufferedLemmas.{both_entries}
 use Rattle.ts_raw.proofs.BufferedMoves.{fewer}
 use Rattle.ts_raw.proofs.buffered_column.BufferedColumn.window.Goals.{After-window-2}
 use Rattle.ts_raw.proofs.buffered_column.BufferedColumn.window.Goals as goal
@@ -33,11 +34,11 @@ returns-clause-points g c =
     ∙ ap (λ (s : ColumnState). points_within s.points c.args.from c.args.to) c.self.view_is
 
 pub returns-clause-timed : goal.returns-clause-timed
-returns-clause-timed g c = subst AreTimed (sym c.both.ensures) (timed_both c.window.result c.window-2.result.now c.window.ensures.timed c.window-2.ensures.timed)
+returns-clause-timed g c = subst AreTimed (sym c.both.ensures) (timed_join c.window.result c.window-2.result.now c.window.ensures.timed c.window-2.ensures.timed)
 
 pub returns-clause-all_timed : goal.returns-clause-all_timed
 returns-clause-all_timed g c =
     let xs : List (ℤ × ℤ) = map.entries c.self.inside.blocks.points in
     let ys : List (ℤ × ℤ) = map.entries c.self.inside.buffer.points in
     subst AreTimed (sym (both_entries c.self.inside.blocks.points c.self.inside.buffer.points c.self.invariant.rising) ∙ ap (λ (s : ColumnState). map.entries s.points) c.self.view_is)
-    (timed_both xs ys c.window.ensures.all_timed c.window-2.ensures.all_timed)
+    (timed_join xs ys c.window.ensures.all_timed c.window-2.ensures.all_timed)
