@@ -67,6 +67,7 @@ fn move_block<A: Allocator + Copy>(
     requires none_aside { buffer.old.aside ≡ None }
     ensures buffered { IsBufferedColumn blocks.new buffer.new }
     ensures points { both_points blocks.new.points buffer.new.points ≡ both_points blocks.old.points buffer.old.points }
+    ensures moved { OnOk result (512 ≤ length (map.entries buffer.old.points) → length (map.entries buffer.new.points) + 256 ≡ length (map.entries buffer.old.points)) }
     ensures no_late { blocks.new.aside ≡ None }
     ensures none_aside { buffer.new.aside ≡ None }
 {
@@ -104,6 +105,7 @@ fn stage<A: Allocator + Copy>(
 /// some.
 fn blocks_for(count: usize) -> usize
     ensures bound { result * 256 ≤ count }
+    ensures enough { count < result * 256 + 512 }
     ensures some { 0 < result → result * 256 < count }
 {
     if count < BUFFER_POINTS {
